@@ -1,0 +1,10 @@
+pub mod Names
+pub mod Places
+pub mod Faults
+pub mod Paths
+pub mod Keys
+pub mod Resolved
+pub mod Views
+pub mod ResolvedCode
+pub mod Scores
+pub mod PathEq

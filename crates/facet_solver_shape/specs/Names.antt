@@ -1,0 +1,24 @@
+-- Names, as lists of bytes.
+use Rattle.std.specs.Prelude.{ℕ, List, Option, Some, None}
+use Rattle.std.specs.declared.string.String.{String}
+use Rattle.std.specs.declared.alloc.Global.{Global}
+use Rattle.std.specs.String.{string_bytes}
+use Rattle.facet_solver_shape.specs.declared.shape.Field.{Field}
+
+-- a name, by its bytes
+abbrev pub Name : Type 0
+Name = List ℕ
+
+-- a name that may be absent
+abbrev pub optional_name : Option (String Global) → Option Name
+optional_name None = None
+optional_name (Some s) = Some (string_bytes s)
+
+-- a new name, or else the one declared
+abbrev pub name_or : Option (String Global) → String Global → Name
+name_or None declared = string_bytes declared
+name_or (Some name) declared = string_bytes name
+
+-- the name that a field goes by in a document
+abbrev pub effective_name : Field → Name
+effective_name f = name_or f.rename f.name

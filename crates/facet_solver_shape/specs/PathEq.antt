@@ -1,0 +1,53 @@
+-- Whether two paths have the same steps.
+use Rattle.std.specs.Prelude.{◌≡◌, Bool, true, false, ◌&&◌, List, nat_eq, refl}
+use Rattle.std.proofs.lemmas.Bool.{false≢true}
+use lib.Pointwise.{pointwise}
+use Rattle.std.specs.Cmp.{IsEquivalence}
+use Rattle.std.specs.Cmp.Lexicographic.{nat_list_eq_equiv, lists_equiv}
+use Rattle.facet_solver_shape.specs.Names.{Name}
+use Rattle.facet_solver_shape.specs.Paths.{Step, by_field, by_variant}
+
+abbrev pub name_eq : Name → Name → Bool
+name_eq = pointwise nat_eq
+
+abbrev pub step_eq : Step → Step → Bool
+step_eq (by_field a) (by_field b) = name_eq a b
+step_eq (by_variant a v) (by_variant b w) = name_eq a b && name_eq v w
+step_eq _ _ = false
+
+abbrev pub path_eq : List Step → List Step → Bool
+path_eq = pointwise step_eq
+
+pub step_eq_equiv : IsEquivalence step_eq
+step_eq_equiv = record { refl = itself; symm = either_way; congr = alike }
+  where
+    both : (a b : Bool) → a ≡ true → b ≡ true → (a && b) ≡ true
+    both true b p q = q
+    both false b p q = p
+
+    parts : (a b : Bool) → (a && b) ≡ true → (a ≡ true) × (b ≡ true)
+    parts true b p = (refl, p)
+    parts false b p = absurd (false≢true p)
+
+    itself : (x : Step) → step_eq x x ≡ true
+    itself (by_field a) = nat_list_eq_equiv.refl a
+    itself (by_variant a v) = both _ _ (nat_list_eq_equiv.refl a) (nat_list_eq_equiv.refl v)
+
+    either_way : (x y : Step) → step_eq x y ≡ step_eq y x
+    either_way (by_field a) (by_field b) = nat_list_eq_equiv.symm a b
+    either_way (by_field a) (by_variant b w) = refl
+    either_way (by_variant a v) (by_field b) = refl
+    either_way (by_variant a v) (by_variant b w) = λ i. nat_list_eq_equiv.symm a b i && nat_list_eq_equiv.symm v w i
+
+    alike : (x y z : Step) → step_eq x y ≡ true → step_eq x z ≡ step_eq y z
+    alike (by_field a) (by_field b) (by_field c) p = nat_list_eq_equiv.congr a b c p
+    alike (by_field a) (by_field b) (by_variant c u) p = refl
+    alike (by_field a) (by_variant b w) z p = absurd (false≢true p)
+    alike (by_variant a v) (by_field b) z p = absurd (false≢true p)
+    alike (by_variant a v) (by_variant b w) (by_field c) p = refl
+    alike (by_variant a v) (by_variant b w) (by_variant c u) p =
+        let q = parts (name_eq a b) (name_eq v w) p in
+        λ i. nat_list_eq_equiv.congr a b c q.0 i && nat_list_eq_equiv.congr v w u q.1 i
+
+pub path_eq_equiv : IsEquivalence path_eq
+path_eq_equiv = lists_equiv step_eq_equiv

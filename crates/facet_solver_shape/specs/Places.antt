@@ -1,0 +1,46 @@
+-- The places that a shape names.
+use Rattle.std.specs.Prelude.{ℕ, ◌<◌, List, [], ◌∷◌, ◌++◌, map, ⊤}
+use Rattle.std.specs.Option.{option_to_list, ForSome}
+use Rattle.std.specs.List.{flat_map, All}
+use Rattle.facet_solver_shape.specs.declared.shape.Shape.{Shape}
+use Rattle.facet_solver_shape.specs.declared.shape.Field.{Field}
+use Rattle.facet_solver_shape.specs.declared.shape.ShapeKind.{ShapeKind}
+use Rattle.facet_solver_shape.specs.declared.shape.ShapeKind.TheVariants.{Struct, Enum, Option as OptionOf, Pointer, List as ListOf, Array, Slice, Set, Map}
+
+-- by fields
+abbrev pub field_places : List Field → List ℕ
+field_places fields = map (λ f. f.shape) fields
+
+-- by a kind, where the place has to be an earlier one: fields, fields of variants, the inside of an option
+abbrev pub early_places_of_kind : ShapeKind → List ℕ
+early_places_of_kind (Struct kind fields) = field_places fields.items
+early_places_of_kind (Enum variants) = flat_map (λ v. field_places v.fields.items) variants.items
+early_places_of_kind (OptionOf inside) = inside ∷ []
+early_places_of_kind _ = []
+
+-- by a kind, where any place of the catalogue will do: pointees, items, keys and values
+abbrev pub late_places_of_kind : ShapeKind → List ℕ
+late_places_of_kind (Pointer pointee) = option_to_list pointee
+late_places_of_kind (ListOf item) = item ∷ []
+late_places_of_kind (Array item) = item ∷ []
+late_places_of_kind (Slice item) = item ∷ []
+late_places_of_kind (Set item) = item ∷ []
+late_places_of_kind (Map key value) = key ∷ value ∷ []
+late_places_of_kind _ = []
+
+-- all that has to be earlier
+abbrev pub early_places : Shape → List ℕ
+early_places s = early_places_of_kind s.kind ++ (option_to_list s.inner ++ option_to_list s.proxy)
+
+-- what a kind names that has to be earlier is below place
+abbrev pub NamesBelow : ℕ → ShapeKind → Type 0
+NamesBelow place (Struct kind fields) = All (λ f. f.shape < place) fields.items
+NamesBelow place (Enum variants) = All (λ v. All (λ f. f.shape < place) v.fields.items) variants.items
+NamesBelow place (OptionOf inside) = inside < place
+NamesBelow place _ = ⊤
+
+-- what a shape at place names that has to be earlier is below it
+pub record IsEarlierThan (place : ℕ) (s : Shape) : Type 0 where
+  pub kind : NamesBelow place s.kind
+  pub inner : ForSome s.inner (λ p. p < place)
+  pub proxy : ForSome s.proxy (λ p. p < place)

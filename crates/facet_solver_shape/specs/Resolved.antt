@@ -1,0 +1,80 @@
+-- What one choice of variants resolves to, with no word of where its names lie.
+use Rattle.std.specs.Prelude.{◌≡◌, ℕ, List, [], Bool, if◌then◌else◌, None, IsSome, IsSomeAnd}
+use Rattle.std.specs.Option.{option_or}
+use Rattle.std.specs.Ordering.{nat_cmp}
+use Rattle.std.specs.Cmp.Lexicographic.{slice_cmp}
+use Rattle.std.specs.FinMap as map
+use Rattle.std.specs.FinSet as set
+use Rattle.facet_solver_shape.specs.declared.shape.Field.{Field}
+use Rattle.facet_solver_shape.specs.declared.resolution.key.FieldCategory.{FieldCategory}
+use Rattle.facet_solver_shape.specs.Names.{Name}
+use Rattle.facet_solver_shape.specs.Paths.{Step}
+use Rattle.facet_solver_shape.specs.Keys.{Key, key_cmp, stored_key}
+
+-- a field of a resolution
+pub record FieldView : Type 0 where
+  pub name : Name
+  pub path : List Step
+  pub is_required : Bool
+  pub shape : ℕ
+  pub field : Field
+  pub category : FieldCategory
+
+-- a variant that was picked for an enum
+pub record Pick : Type 0 where
+  pub path : List Step
+  pub enum_name : Name
+  pub variant_name : Name
+
+-- a resolution
+pub record Resolved : Type 0 where
+  pub fields : map.FinMap key_cmp FieldView
+  pub required_names : set.FinSet (slice_cmp nat_cmp)
+  pub key_paths : set.FinSet (slice_cmp (slice_cmp nat_cmp))
+  pub picks : List Pick
+  pub catch_alls : map.FinMap nat_cmp FieldView
+
+-- nothing in it
+abbrev pub nothing : Resolved
+nothing = record { fields = map.empty; required_names = set.empty; key_paths = set.empty; picks = []; catch_alls = map.empty }
+
+-- the key of a field
+abbrev pub key_of_field : FieldView → Key
+key_of_field f = stored_key f.category f.name
+
+-- with one more field
+abbrev pub with_field : Resolved → FieldView → Resolved
+with_field r f = record r {
+  fields = map.insert r.fields (key_of_field f) f;
+  required_names = if f.is_required then set.insert r.required_names f.name else r.required_names;
+}
+
+-- new is old with the field f, whose key old had not
+pub record IsAdded (old : Resolved) (f : FieldView) (new : Resolved) : Type 0 where
+  pub fresh : map.get old.fields (key_of_field f) ≡ None
+  pub after : new ≡ with_field old f
+
+-- a refusal of one more field: its key is taken, and these are the name and the two paths
+pub record IsClash (old : Resolved) (f : FieldView) (name : Name) (first second : List Step) : Type 0 where
+  pub taken : IsSomeAnd (map.get old.fields (key_of_field f)) (λ present. present.path ≡ first)
+  pub same_name : name ≡ f.name
+  pub same_path : second ≡ f.path
+
+-- with one more key path
+abbrev pub with_key_path : Resolved → List Name → Resolved
+with_key_path r path = record r { key_paths = set.insert r.key_paths path }
+
+-- with one more required field under a key
+abbrev pub with_required : Resolved → Key → FieldView → Resolved
+with_required r key f = record r { fields = map.insert r.fields key f; required_names = set.insert r.required_names f.name }
+
+-- made has what first or second has, and no key is in both
+pub record IsUnionOf (first second made : map.FinMap key_cmp FieldView) : Type 0 where
+  pub apart : (k : Key) → IsSome (map.get first k) → map.get second k ≡ None
+  pub joined : (k : Key) → map.get made k ≡ option_or (map.get first k) (map.get second k)
+
+-- made has what old has and then what other has, which has no key of old
+pub record IsMerged (old other made : Resolved) : Type 0 where
+  pub fields : IsUnionOf old.fields other.fields made.fields
+  pub required_names : made.required_names ≡ set.union old.required_names other.required_names
+  pub key_paths : made.key_paths ≡ set.union old.key_paths other.key_paths

@@ -1,0 +1,76 @@
+-- A resolution is stored as the tuple of its parts.
+use Rattle.std.specs.Prelude.{ℕ, List, Bool, Option, ◌⊎◌, ◌≡◌, refl}
+use Rattle.std.specs.Coded.{Coded, code_by, coded×, coded⊎, coded_ℕ, coded_bool, coded_list, coded_option}
+use Rattle.std.proofs.Common.{inl, inr}
+use Rattle.std.specs.Ordering.{nat_cmp}
+use Rattle.std.specs.Cmp.Lexicographic.{slice_cmp}
+use Rattle.std.specs.FinMap as map
+use Rattle.std.specs.FinSet as set
+use Rattle.facet_solver_shape.specs.declared.shape.Field.{Field}
+use Rattle.facet_solver_shape.specs.contracts.shape.Field as field
+use Rattle.facet_solver_shape.specs.declared.resolution.key.FieldCategory.{FieldCategory}
+use Rattle.facet_solver_shape.specs.contracts.resolution.key.FieldCategory as category
+use Rattle.facet_solver_shape.specs.Names.{Name}
+use Rattle.facet_solver_shape.specs.Paths.{Step, by_field, by_variant}
+use Rattle.facet_solver_shape.specs.Keys.{Key, key_cmp}
+use Rattle.facet_solver_shape.specs.Resolved.{FieldView, Pick, Resolved}
+
+abbrev name_code : Coded Name
+name_code = coded_list coded_ℕ
+
+abbrev step_parts : Step → Name ⊎ (Name × Name)
+step_parts (by_field name) = inl name
+step_parts (by_variant field variant) = inr (field, variant)
+
+abbrev step_from : Name ⊎ (Name × Name) → Step
+step_from (inl name) = by_field name
+step_from (inr names) = by_variant names.0 names.1
+
+pub step_back : (s : Step) → step_from (step_parts s) ≡ s
+step_back (by_field name) = refl
+step_back (by_variant field variant) = refl
+
+abbrev path_code : Coded (List Step)
+path_code = coded_list (code_by (Name ⊎ (Name × Name)) (coded⊎ name_code (coded× name_code name_code)) step_parts step_from step_back)
+
+abbrev pub field_view_code : Coded FieldView
+field_view_code =
+    code_by ((Name × (List Step)) × ((Bool × ℕ) × (Field × FieldCategory)))
+    (coded× (coded× name_code path_code) (coded× (coded× coded_bool coded_ℕ) (coded× field.the_row.coded category.the_row.coded)))
+    (λ f. ((f.name, f.path), ((f.is_required, f.shape), (f.field, f.category))))
+    (λ p. record { name = p.0.0; path = p.0.1; is_required = p.1.0.0; shape = p.1.0.1; field = p.1.1.0; category = p.1.1.1 })
+    (λ _. refl)
+
+abbrev pub pick_code : Coded Pick
+pick_code =
+    code_by (List Step × (Name × Name)) (coded× path_code (coded× name_code name_code))
+    (λ p. (p.path, (p.enum_name, p.variant_name)))
+    (λ p. record { path = p.0; enum_name = p.1.0; variant_name = p.1.1 })
+    (λ _. refl)
+
+abbrev pub key_code : Coded Key
+key_code =
+    code_by (Option FieldCategory × Name) (coded× (coded_option category.the_row.coded) name_code)
+    (λ k. (k.dom, k.name))
+    (λ p. record { dom = p.0; name = p.1 })
+    (λ _. refl)
+
+abbrev pub field_map_code : Coded (map.FinMap key_cmp FieldView)
+field_map_code = map.code key_code field_view_code
+
+abbrev pub name_set_code : Coded (set.FinSet (slice_cmp nat_cmp))
+name_set_code = set.code name_code
+
+abbrev pub key_path_set_code : Coded (set.FinSet (slice_cmp (slice_cmp nat_cmp)))
+key_path_set_code = set.code (coded_list name_code)
+
+abbrev pub catch_alls_code : Coded (map.FinMap nat_cmp FieldView)
+catch_alls_code = map.code coded_ℕ field_view_code
+
+abbrev pub resolved_code : Coded Resolved
+resolved_code =
+    code_by ((map.FinMap key_cmp FieldView × set.FinSet (slice_cmp nat_cmp)) × (set.FinSet (slice_cmp (slice_cmp nat_cmp)) × (List Pick × map.FinMap nat_cmp FieldView)))
+    (coded× (coded× field_map_code name_set_code) (coded× key_path_set_code (coded× (coded_list pick_code) catch_alls_code)))
+    (λ r. ((r.fields, r.required_names), (r.key_paths, (r.picks, r.catch_alls))))
+    (λ p. record { fields = p.0.0; required_names = p.0.1; key_paths = p.1.0; picks = p.1.1.0; catch_alls = p.1.1.1 })
+    (λ _. refl)

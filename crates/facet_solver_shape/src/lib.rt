@@ -1,0 +1,16 @@
+//! Shapes of types, and what one choice of variants resolves to.
+#![tactic(auto)]
+
+pub mod resolution;
+pub mod shape;
+pub mod variants;
+
+pub use resolution::{
+    DuplicateFieldError, FieldCategory, FieldInfo, FieldKey, FieldPath, KeyPath, PathSegment,
+    Resolution, SchemaError, VariantSelection,
+};
+pub use shape::{
+    CatalogueError, DomMark, Field, ScalarType, Shape, ShapeId, ShapeKind, Shapes, StructKind,
+    Variant,
+};
+pub use variants::specificity_score;

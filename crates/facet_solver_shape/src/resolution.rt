@@ -1,0 +1,145 @@
+//! What one choice of variants resolves to: paths, keys, fields, and the resolution itself.
+ghost use Rattle.std.specs.Prelude.{◌≡◌, IfErr, OnOk, OnErr, IsTrue, map};
+ghost use Rattle.facet_solver_shape.specs.Keys.{key_of};
+ghost use Rattle.facet_solver_shape.specs.Resolved.{nothing, IsAdded, with_key_path, with_required, IsUnionOf};
+ghost use Rattle.facet_solver_shape.specs.Views.{field_view, IsRefusalOf, field_entries_view, names_view, key_paths_view};
+ghost use Rattle.facet_solver_shape.specs.declared.resolution.error.SchemaError.TheVariants.{OutOfMemory};
+
+pub mod error;
+pub mod field;
+pub mod key;
+pub mod path;
+mod tables;
+
+pub use error::{DuplicateFieldError, SchemaError};
+pub use field::{FieldInfo, KeyPath, VariantSelection};
+pub use key::{FieldCategory, FieldKey};
+pub use path::{FieldPath, PathSegment};
+use std::alloc::{AllocError, Global};
+use std::collections::{BTreeMap, BTreeSet};
+use std::marker::Model;
+use std::mem;
+use tables::{FieldMap, KeyPathSet, NameSet};
+
+/// What one choice of variants resolves to.
+#[derive(Debug, Drop)]
+pub struct Resolution<'c> {
+    fields: FieldMap<'c>,
+    required: NameSet<'c>,
+    key_paths: KeyPathSet<'c>,
+    picks: Vec<VariantSelection<'c>>,
+    catch_alls: BTreeMap<FieldCategory, FieldInfo<'c>>,
+}
+
+impl<'c> Model for Resolution<'c> {
+    ghost use Rattle.std.specs.Prelude.{map};
+    ghost use Rattle.facet_solver_shape.specs.Resolved.{Resolved};
+    ghost use Rattle.facet_solver_shape.specs.ResolvedCode.{resolved_code};
+    ghost use Rattle.facet_solver_shape.specs.Views.{pick_view, catch_alls_view};
+
+    ghost Value = { Resolved };
+
+    ghost coded = { resolved_code };
+
+    ghost view = { λ r. record {
+      fields = r.fields;
+      required_names = r.required;
+      key_paths = r.key_paths;
+      picks = map pick_view r.picks.items;
+      catch_alls = catch_alls_view r.catch_alls.entries;
+    } };
+}
+
+impl<'c> Resolution<'c> {
+    pub fn new(alloc: Global) -> Self
+        ensures { result ≡ nothing }
+    {
+        Resolution {
+            fields: FieldMap::new(alloc),
+            required: NameSet::new(alloc),
+            key_paths: KeyPathSet::new(alloc),
+            picks: Vec::new(alloc),
+            catch_alls: BTreeMap::new(alloc),
+        }
+    }
+
+    pub fn fields(&self) -> &BTreeMap<FieldKey<'c>, FieldInfo<'c>>
+        ensures { field_entries_view result.now.entries ≡ self.now.fields }
+    {
+        self.fields.as_map()
+    }
+
+    pub fn required_field_names(&self) -> &BTreeSet<&'c str>
+        ensures { names_view result.now.keys ≡ self.now.required_names }
+    {
+        self.required.as_set()
+    }
+
+    pub fn known_paths(&self) -> &BTreeSet<KeyPath<'c>>
+        ensures { key_paths_view result.now.keys ≡ self.now.key_paths }
+    {
+        self.key_paths.as_set()
+    }
+
+    /// Adds a field, unless its key is taken.
+    pub fn add_field(&mut self, info: FieldInfo<'c>) -> Result<(), SchemaError<'c>>
+        ensures ok { OnOk result (IsAdded self.old (field_view info.entry) self.new) }
+        ensures refused { IfErr result (IsRefusalOf self.old (field_view info.entry)) }
+        ensures err { OnErr result (self.new ≡ self.old) }
+    {
+        let key = info.key();
+        if let Some(present) = self.fields.get(&key) {
+            return Err(SchemaError::DuplicateField(DuplicateFieldError {
+                field_name: info.serialized_name,
+                first_path: present.path.clone()?,
+                second_path: info.path,
+            }));
+        }
+        if info.required {
+            self.add_required(key, info)
+        } else {
+            Ok(self.fields.insert(key, info)?)
+        }
+    }
+
+    // Adds a required field, whose key is new.
+    fn add_required(
+        &mut self,
+        key: FieldKey<'c>,
+        info: FieldInfo<'c>,
+    ) -> Result<(), SchemaError<'c>>
+        requires { IsTrue info.required }
+        ensures ok { OnOk result (self.new ≡ with_required self.old (key_of key.entry) (field_view info.entry)) }
+        ensures refused { IfErr result (λ e. e ≡ OutOfMemory) }
+        ensures err { OnErr result (self.new ≡ self.old) }
+    {
+        let name = info.serialized_name;
+        let is_new = self.required.insert(name)?;
+        if let Err(refused) = self.fields.insert(key, info) {
+            if is_new {
+                self.required.remove(name);
+            }
+            return Err(SchemaError::from(refused));
+        }
+        Ok(())
+    }
+
+    /// Adds the path of a nested key.
+    pub fn add_key_path(&mut self, path: KeyPath<'c>) -> Result<(), AllocError>
+        ensures ok { OnOk result (self.new ≡ with_key_path self.old (map (λ n. n.now) path.entry.items)) }
+        ensures err { OnErr result (self.new ≡ self.old) }
+    {
+        self.key_paths.insert(path)
+    }
+
+    /// Adds the fields of another resolution, unless a key is taken.
+    pub fn merge_fields(&mut self, other: &Resolution<'c>) -> Result<(), SchemaError<'c>>
+        ensures ok { OnOk result (IsUnionOf self.old.fields other.now.fields self.new.fields) }
+        ensures others { OnOk result (self.new ≡ record self.old { fields = self.new.fields }) }
+        ensures err { OnErr result (self.new ≡ self.old) }
+    {
+        let fields = self.fields.joined(*self.picks.allocator(), &other.fields)?;
+        drop(mem::replace(&mut self.fields, fields));
+        Ok(())
+    }
+}

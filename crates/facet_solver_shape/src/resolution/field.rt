@@ -1,0 +1,41 @@
+//! Fields of a resolution, nested keys and picked variants.
+ghost use Rattle.std.specs.Prelude.{◌≡◌};
+ghost use Rattle.facet_solver_shape.specs.Keys.{key_of};
+ghost use Rattle.facet_solver_shape.specs.Resolved.{key_of_field};
+ghost use Rattle.facet_solver_shape.specs.Views.{field_view};
+
+use crate::resolution::key::{FieldCategory, FieldKey};
+use crate::resolution::path::FieldPath;
+use crate::shape::{Field, ShapeId};
+
+/// The names from the root to a nested key.
+pub type KeyPath<'c> = Vec<&'c str>;
+
+#[derive(Clone, Debug, Drop)]
+pub struct FieldInfo<'c> {
+    pub serialized_name: &'c str,
+    pub path: FieldPath<'c>,
+    pub required: bool,
+    pub value_shape: ShapeId,
+    pub field: &'c Field,
+    pub category: FieldCategory,
+}
+
+#[derive(Debug, Drop)]
+pub struct VariantSelection<'c> {
+    pub path: FieldPath<'c>,
+    pub enum_name: &'c str,
+    pub variant_name: &'c str,
+}
+
+impl<'c> FieldInfo<'c> {
+    /// The key under which a resolution keeps the field.
+    pub fn key(&self) -> FieldKey<'c>
+        ensures { key_of result ≡ key_of_field (field_view self.now) }
+    {
+        match self.category {
+            FieldCategory::Flat => FieldKey::Flat(self.serialized_name),
+            category => FieldKey::Dom(category, self.serialized_name),
+        }
+    }
+}

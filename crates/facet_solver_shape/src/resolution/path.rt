@@ -1,0 +1,133 @@
+//! Paths from the root to a field or an enum.
+ghost use Rattle.std.specs.Prelude.{◌≡◌, map, [], ◌∷◌, ◌++◌, length, codes, IfOk, Some};
+ghost use Rattle.std.specs.List.{flat_map};
+ghost use Rattle.std.specs.Cmp.{partial_equiv_from_equiv};
+ghost use Rattle.facet_solver_shape.specs.Paths.{step_of, by_field, by_variant, step_text, path_text};
+ghost use Rattle.facet_solver_shape.specs.PathEq.{path_eq, path_eq_equiv};
+
+use std::alloc::{AllocError, Global};
+use std::fmt;
+use std::marker::Model;
+
+/// One step of a path.
+#[derive(Clone, Copy, PartialEq, Eq, Debug)]
+pub enum PathSegment<'c> {
+    Field(&'c str),
+    Variant(&'c str, &'c str),
+}
+
+/// Where a field or an enum stands.
+#[derive(Clone, Debug, Drop)]
+pub struct FieldPath<'c> {
+    segments: Vec<PathSegment<'c>>,
+}
+
+impl<'c> Model for FieldPath<'c> {
+    ghost use Rattle.std.specs.Prelude.{List, map};
+    ghost use Rattle.facet_solver_shape.specs.Paths.{Step, step_of};
+
+    ghost Value = { List Step };
+
+    ghost view = { λ a. map step_of a.segments.items };
+}
+
+impl PartialEq for FieldPath<'_> {
+    ghost eq = { path_eq };
+
+    ghost laws = { partial_equiv_from_equiv path_eq_equiv };
+
+    fn eq(&self, other: &Self) -> bool {
+        self.segments == other.segments
+    }
+}
+
+impl Eq for FieldPath<'_> {
+    ghost laws = { path_eq_equiv };
+}
+
+impl<'c> FieldPath<'c> {
+    pub fn empty(alloc: Global) -> Self
+        ensures { result ≡ [] }
+    {
+        FieldPath {
+            segments: Vec::new(alloc),
+        }
+    }
+
+    pub fn push_field(&self, alloc: Global, name: &'c str) -> Result<Self, AllocError>
+        ensures { IfOk result (λ path. path ≡ self.now ++ by_field name.now ∷ []) }
+    {
+        self.pushed(alloc, PathSegment::Field(name))
+    }
+
+    pub fn push_variant(
+        &self,
+        alloc: Global,
+        field: &'c str,
+        variant: &'c str,
+    ) -> Result<Self, AllocError>
+        ensures { IfOk result (λ path. path ≡ self.now ++ by_variant field.now variant.now ∷ []) }
+    {
+        self.pushed(alloc, PathSegment::Variant(field, variant))
+    }
+
+    fn pushed(&self, alloc: Global, segment: PathSegment<'c>) -> Result<Self, AllocError>
+        ensures { IfOk result (λ path. path ≡ self.now ++ step_of segment.entry ∷ []) }
+    {
+        let mut segments = Vec::from_slice(alloc, &self.segments)?;
+        segments.push(segment)?;
+        Ok(FieldPath { segments })
+    }
+
+    pub fn depth(&self) -> usize
+        ensures { result ≡ length self.now }
+    {
+        self.segments.len()
+    }
+
+    pub fn segments(&self) -> &[PathSegment<'c>]
+        ensures { map step_of result.now ≡ self.now }
+    {
+        &self.segments
+    }
+}
+
+impl fmt::Display for PathSegment<'_> {
+    ghost output = { λ s. Some (step_text (step_of s)) };
+
+    fn fmt<W: fmt::Write>(&self, f: &mut fmt::Formatter<W>) -> fmt::Result {
+        match self {
+            PathSegment::Field(name) => write!(f, "{name}"),
+            PathSegment::Variant(field, variant) => write!(f, "{field}::{variant}"),
+        }
+    }
+}
+
+// Segments with a dot before each.
+#[derive(Drop)]
+struct Dotted<'s, 'c>(&'s [PathSegment<'c>]);
+
+impl fmt::Display for Dotted<'_, '_> {
+    ghost output = { λ d. Some (flat_map (λ s. codes "." ++ step_text (step_of s)) d.0.now) };
+
+    fn fmt<W: fmt::Write>(&self, f: &mut fmt::Formatter<W>) -> fmt::Result {
+        for segment in self.0 {
+            write!(f, ".{segment}")?;
+        }
+        Ok(())
+    }
+}
+
+impl fmt::Display for FieldPath<'_> {
+    ghost output = { λ p. Some (path_text p) };
+
+    fn fmt<W: fmt::Write>(&self, f: &mut fmt::Formatter<W>) -> fmt::Result {
+        match self.segments.split_first() {
+            None => write!(f, "<root>"),
+            Some((first, rest)) => {
+                let rest = Dotted(rest);
+                write!(f, "{first}{rest}")
+            }
+        }
+    }
+}
