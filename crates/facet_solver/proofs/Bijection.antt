@@ -1,0 +1,234 @@
+-- The list of choices by parts lists the choices of the walk, each once and in order.
+use Rattle.std.proofs.Common.{◌≡◌, ℕ, zero, suc, ◌+◌, ◌<◌, ◌⊎◌, inl, inr, List, [], ◌∷◌, ◌++◌, map, Option, Some, None, Bool, true, false, sym, refl, ap, ◌∙◌, subst, slice_get, length, get_or, append-nil, arith}
+use Rattle.std.specs.Prelude.{if◌then◌else◌, Contains, AllPairs}
+use Rattle.facet_solver_shape.specs.declared.shape.Shape.{Shape}
+use Rattle.facet_solver_shape.specs.declared.shape.ShapeKind.{ShapeKind}
+use Rattle.facet_solver_shape.specs.declared.shape.ShapeKind.TheVariants.{Struct, Enum}
+use Rattle.facet_solver_shape.specs.declared.shape.Field.{Field}
+use Rattle.facet_solver_shape.specs.declared.shape.Variant.{Variant}
+use Rattle.facet_solver.specs.Targets.{Catalogue}
+use Rattle.facet_solver.specs.Emissions.{Path, variant_emissions, variant_path, unwrapped_at, pick_of}
+use Rattle.facet_solver.specs.Walk.{Walk, emit, walk_variant, walk_content, walk_role, walk_fields, walk_within, walk, walk_root, walk_root_shape, walk_root_kind, root_variant, walk_inside}
+use Rattle.facet_solver.specs.Representation.{Settings, is_walked, repr_for}
+use Rattle.facet_solver.specs.Roles.{Role, a_regular, a_block, some_alternatives, a_rest, a_leaf, role_of}
+use Rattle.facet_solver.specs.Listing.{Choices, no_choice, product, numbered, choices_of_variant, choices_of_role, choices_of_fields, choices_within, choices_below, choices_of_root, choices_of_root_shape, choices_of_root_kind}
+use Rattle.facet_solver.specs.Choice.{IsBefore, ListsChoices}
+use Rattle.facet_solver.proofs.Exact.{In, In-append, In-map_from, In-product_from, IsExact, IsExact-none, IsExact-emit, IsExact-put_before, IsExact-and_then, IsExact-choose}
+
+-- a walk of lists of fields, at any path and flag, agrees with the choices of each
+abbrev AllExact : Walk → (List Field → Choices) → Type 0
+AllExact below choices = (fs : List Field) (p : Path) (o : Bool) → IsExact (below fs p o) (choices fs)
+
+module _ (settings : Settings) (cat : Catalogue) where
+  exact_content : (walked : Bool) (below : Walk) (choices : List Field → Choices) (v : Variant) (q : Path) (o : Bool) → AllExact below choices
+      → IsExact (λ ns. if walked then walk_content below cat v q o ns else emit [] ns) (choices_of_variant choices cat walked v)
+  exact_content true below choices v q o x = x _ _ o
+  exact_content false below choices v q o x = IsExact-emit []
+
+  exact_role : (below : Walk) (choices : List Field → Choices) (f : Field) (p : Path) (o : Bool) (r : Role) → AllExact below choices
+      → IsExact (λ ns. walk_role below settings cat f p o ns r) (choices_of_role choices settings cat r)
+  exact_role below choices f p o a_regular x = IsExact-emit _
+  exact_role below choices f p o (a_block fs) x = x fs _ _
+  exact_role below choices f p o (some_alternatives s vs) x =
+      IsExact-choose (λ v rest. walk_variant below settings cat f s v p o rest) (choices_of_variant choices cat (is_walked (repr_for settings s)))
+      (λ v. IsExact-put_before (variant_emissions settings cat f s v p o) _ _ (exact_content (is_walked (repr_for settings s)) below choices v (variant_path p f v) (unwrapped_at cat f o) x)) vs
+  exact_role below choices f p o a_rest x = IsExact-emit _
+  exact_role below choices f p o a_leaf x = IsExact-emit _
+
+  exact_fields : (below : Walk) (choices : List Field → Choices) → AllExact below choices → AllExact (walk_fields below settings cat) (choices_of_fields choices settings cat)
+  unfolding walk_fields choices_of_fields
+  exact_fields below choices x [] p o = IsExact-emit []
+  exact_fields below choices x (f ∷ fs) p o =
+      IsExact-and_then (λ ns. walk_role below settings cat f p o ns (role_of cat f)) _ _ _ (exact_role below choices f p o (role_of cat f) x) (exact_fields below choices x fs p o)
+
+  exact_within : (n : ℕ) → AllExact (walk_within n settings cat) (choices_within n settings cat)
+  unfolding walk_within choices_within
+  exact_within zero fs p o = IsExact-none
+  exact_within (suc n) fs p o = exact_fields (walk_within n settings cat) (choices_within n settings cat) (exact_within n) fs p o
+
+  pub exact_below : AllExact (walk settings cat) (λ fs. choices_below settings cat fs)
+  unfolding walk choices_below
+  exact_below fs p o = exact_within (suc (length cat)) fs p o
+
+  exact_root_variant : (s : Shape) (v : Variant) → IsExact (λ ns. root_variant settings cat s v ns) (choices_of_variant (choices_below settings cat) cat true v)
+  unfolding root_variant walk_inside
+  exact_root_variant s v = IsExact-put_before (pick_of s v [] ∷ []) _ _ (exact_below _ _ false)
+
+  exact_root_kind : (s : Shape) (k : ShapeKind) → IsExact (λ ns. walk_root_kind settings cat s k ns) (choices_of_root_kind settings cat k)
+  exact_root_kind s (Struct kind fs) = exact_below fs.items [] false
+  exact_root_kind s (Enum vs) = IsExact-choose (root_variant settings cat s) (choices_of_variant (choices_below settings cat) cat true) (exact_root_variant s) vs.items
+  exact_root_kind s _ = IsExact-emit []
+
+  exact_root_shape : (s : Option Shape) → IsExact (λ ns. walk_root_shape settings cat s ns) (choices_of_root_shape settings cat s)
+  exact_root_shape None = IsExact-none
+  exact_root_shape (Some s) = exact_root_kind s s.kind
+
+  pub exact_root : (root : ℕ) → IsExact (walk_root settings cat root) (choices_of_root settings cat root)
+  unfolding walk_root choices_of_root
+  exact_root root = exact_root_shape (slice_get cat root)
+
+-- the first fork of two lists of numbers goes to a smaller number in the first: stronger than the
+-- lexicographic order, for neither begins the other
+abbrev pub Forks : List ℕ → List ℕ → Type 0
+Forks [] ns = ⊥
+Forks (m ∷ ms) [] = ⊥
+Forks (m ∷ ms) (n ∷ ns) = (m < n) ⊎ ((m ≡ n) × Forks ms ns)
+
+pub before_from_forks : (ms ns : List ℕ) → Forks ms ns → IsBefore ms ns
+before_from_forks [] ns h = absurd h
+before_from_forks (m ∷ ms) [] h = h
+before_from_forks (m ∷ ms) (n ∷ ns) (inl h) = inl h
+before_from_forks (m ∷ ms) (n ∷ ns) (inr h) = inr (h.0, before_from_forks ms ns h.1)
+
+forks_after : (c ms ns : List ℕ) → Forks ms ns → Forks (c ++ ms) (c ++ ns)
+forks_after [] ms ns h = h
+forks_after (k ∷ c) ms ns h = inr (refl, forks_after c ms ns h)
+
+forks_longer : (ms ns xs ys : List ℕ) → Forks ms ns → Forks (ms ++ xs) (ns ++ ys)
+forks_longer [] ns xs ys h = absurd h
+forks_longer (m ∷ ms) [] xs ys h = absurd h
+forks_longer (m ∷ ms) (n ∷ ns) xs ys (inl h) = inl h
+forks_longer (m ∷ ms) (n ∷ ns) xs ys (inr h) = inr (h.0, forks_longer ms ns xs ys h.1)
+
+-- each forks below each later one
+abbrev pub Rising : Choices → Type 0
+Rising [] = Unit {0}
+Rising (c ∷ cs) = ((d : List ℕ) → In d cs → Forks c d) × Rising cs
+
+Rising-append : (cs ds : Choices) → Rising cs → Rising ds → ((c d : List ℕ) → In c cs → In d ds → Forks c d) → Rising (cs ++ ds)
+Rising-append [] ds h k x = k
+Rising-append (c ∷ cs) ds h k x = (
+  λ d i. elim (In-append d cs ds i) [ inl a ↦ h.0 d a | inr b ↦ x c d (inl refl) b ],
+  Rising-append cs ds h.1 k (λ a b i j. x a b (inr i) j),
+)
+
+Rising-after : (c : List ℕ) (ds : Choices) → Rising ds → Rising (map (λ d. c ++ d) ds)
+Rising-after c [] h = h
+Rising-after c (d ∷ ds) h = (
+  λ x i. let r = In-map_from (λ d. c ++ d) x ds i in subst (Forks (c ++ d)) r.2 (forks_after c d r.0 (h.0 r.0 r.1)),
+  Rising-after c ds h.1,
+)
+
+Rising-product : (cs ds : Choices) → Rising cs → Rising ds → Rising (product cs ds)
+unfolding product
+Rising-product [] ds h k = tt
+Rising-product (c ∷ cs) ds h k =
+    Rising-append (map (λ d. c ++ d) ds) (product cs ds) (Rising-after c ds k) (Rising-product cs ds h.1 k)
+    (λ x y i j.
+    let a = In-map_from (λ d. c ++ d) x ds i in
+    let b = In-product_from y cs ds j in
+    let f = forks_longer c b.0 a.0 b.1 (h.0 b.0 b.2) in
+    let g = subst (λ z. Forks z (b.0 ++ b.1)) a.2 f in
+    subst (Forks x) b.4 g)
+
+pub Rising-before : (k : ℕ) (ds : Choices) → Rising ds → Rising (map (λ d. k ∷ d) ds)
+Rising-before k [] h = tt
+Rising-before k (d ∷ ds) h = (
+  λ x i. let r = In-map_from (λ d. k ∷ d) x ds i in subst (Forks (k ∷ d)) r.2 (inr (refl, h.0 r.0 r.1)),
+  Rising-before k ds h.1,
+)
+
+-- what is numbered from place k begins with k or more
+numbered_heads : (choices : Variant → Choices) (k : ℕ) (c : List ℕ) (vs : List Variant) → In c (numbered k choices vs) → (i : ℕ) × (d : List ℕ) × ((k + i) ∷ d ≡ c)
+unfolding numbered
+numbered_heads choices k c [] h = absurd h
+numbered_heads choices k c (v ∷ vs) h = elim (In-append c (map (λ c. k ∷ c) (choices v)) _ h) [
+  | inl a ↦ (let r = In-map_from (λ c. k ∷ c) c (choices v) a in (0, r.0, ap (λ (n : ℕ). n ∷ r.0) (omega arith) ∙ r.2))
+  | inr t ↦ (let r = numbered_heads choices (suc k) c vs t in (suc r.0, r.1, ap (λ (n : ℕ). n ∷ r.1) (omega arith) ∙ r.2))
+]
+
+forks_by_head : (k i : ℕ) (ms ns : List ℕ) → Forks (k ∷ ms) ((suc k + i) ∷ ns)
+forks_by_head k i ms ns = inl (omega arith)
+
+Rising-numbered : (k : ℕ) (choices : Variant → Choices) → ((v : Variant) → Rising (choices v)) → (vs : List Variant) → Rising (numbered k choices vs)
+unfolding numbered
+Rising-numbered k choices h [] = tt
+Rising-numbered k choices h (v ∷ vs) =
+    Rising-append (map (λ c. k ∷ c) (choices v)) (numbered (suc k) choices vs) (Rising-before k (choices v) (h v)) (Rising-numbered (suc k) choices h vs)
+    (λ x y i j.
+    let a = In-map_from (λ c. k ∷ c) x (choices v) i in
+    let b = numbered_heads choices (suc k) y vs j in
+    let f = forks_by_head k b.0 a.0 b.1 in
+    let g = subst (λ z. Forks z ((suc k + b.0) ∷ b.1)) a.2 f in
+    subst (Forks x) b.2 g)
+
+Rising-one : Rising no_choice
+Rising-one = (λ d i. absurd i, tt)
+
+-- the choices of every list of fields rise
+abbrev AllRise : (List Field → Choices) → Type 0
+AllRise choices = (fs : List Field) → Rising (choices fs)
+
+module _ (settings : Settings) (cat : Catalogue) where
+  rise_variant : (walked : Bool) (choices : List Field → Choices) (v : Variant) → AllRise choices → Rising (choices_of_variant choices cat walked v)
+  rise_variant true choices v x = x _
+  rise_variant false choices v x = Rising-one
+
+  rise_role : (choices : List Field → Choices) (r : Role) → AllRise choices → Rising (choices_of_role choices settings cat r)
+  rise_role choices a_regular x = Rising-one
+  rise_role choices (a_block fs) x = x fs
+  rise_role choices (some_alternatives s vs) x = Rising-numbered 0 _ (λ v. rise_variant (is_walked (repr_for settings s)) choices v x) vs
+  rise_role choices a_rest x = Rising-one
+  rise_role choices a_leaf x = Rising-one
+
+  rise_fields : (choices : List Field → Choices) → AllRise choices → AllRise (choices_of_fields choices settings cat)
+  unfolding choices_of_fields
+  rise_fields choices x [] = Rising-one
+  rise_fields choices x (f ∷ fs) = Rising-product _ _ (rise_role choices (role_of cat f) x) (rise_fields choices x fs)
+
+  rise_within : (n : ℕ) → AllRise (choices_within n settings cat)
+  unfolding choices_within
+  rise_within zero fs = tt
+  rise_within (suc n) fs = rise_fields (choices_within n settings cat) (rise_within n) fs
+
+  rise_below : AllRise (λ fs. choices_below settings cat fs)
+  unfolding choices_below
+  rise_below fs = rise_within (suc (length cat)) fs
+
+  rise_root_kind : (k : ShapeKind) → Rising (choices_of_root_kind settings cat k)
+  rise_root_kind (Struct kind fs) = rise_below fs.items
+  rise_root_kind (Enum vs) = Rising-numbered 0 _ (λ v. rise_below _) vs.items
+  rise_root_kind _ = Rising-one
+
+  rise_root_shape : (s : Option Shape) → Rising (choices_of_root_shape settings cat s)
+  rise_root_shape None = tt
+  rise_root_shape (Some s) = rise_root_kind s.kind
+
+  pub rise_root : (root : ℕ) → Rising (choices_of_root settings cat root)
+  unfolding choices_of_root
+  rise_root root = rise_root_shape (slice_get cat root)
+
+-- from membership by recursion to that by index, and back
+contains_from_In : {X : Type 0} (x : X) (xs : List X) → In x xs → Contains xs x
+contains_from_In x [] h = absurd h
+contains_from_In x (y ∷ xs) (inl e) = (0, omega arith, e)
+contains_from_In x (y ∷ xs) (inr h) = let r = contains_from_In x xs h in (suc r.0, omega arith, r.2)
+
+pub In-get_or : {X : Type 0} (xs : List X) (k : ℕ) (d : X) → k < length xs → In (get_or xs k d) xs
+In-get_or [] k d h = absurd (omega arith)
+In-get_or (y ∷ xs) zero d h = inl refl
+In-get_or (y ∷ xs) (suc k) d h = inr (In-get_or xs k d (omega arith))
+
+pub In_from_contains : {X : Type 0} (x : X) (xs : List X) → Contains xs x → In x xs
+In_from_contains x xs h = subst (λ y. In y xs) h.2 (In-get_or xs h.0 x h.1)
+
+pairs_from_rising : (cs : Choices) → Rising cs → AllPairs IsBefore cs
+pairs_from_rising [] h i j d a b = absurd (omega arith)
+pairs_from_rising (c ∷ cs) h i zero d a b = absurd (omega arith)
+pairs_from_rising (c ∷ cs) h zero (suc j) d a b = before_from_forks c (get_or cs j d) (h.0 (get_or cs j d) (In-get_or cs j d (omega arith)))
+pairs_from_rising (c ∷ cs) h (suc i) (suc j) d a b = pairs_from_rising cs h.1 i j d (omega arith) (omega arith)
+
+-- the list by parts lists the choices
+pub choices_listed : (settings : Settings) (cat : Catalogue) (root : ℕ) → ListsChoices settings cat root (choices_of_root settings cat root)
+choices_listed settings cat root =
+    let x = exact_root settings cat root in
+    record {
+      each_is = λ c h.
+          let s = x.sound c (In_from_contains c _ h) in
+          (s.0, ap (walk_root settings cat root) (sym (append-nil c)) ∙ s.1 []);
+      complete = λ c h.
+          let r = x.complete c h.0 [] h.1 in
+          let same : r.0 ≡ c = sym (append-nil r.0) ∙ r.2 in
+          contains_from_In c _ (subst (λ y. In y (choices_of_root settings cat root)) same r.1);
+      in_order = pairs_from_rising _ (rise_root settings cat root);
+    }

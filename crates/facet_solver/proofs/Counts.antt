@@ -1,0 +1,84 @@
+-- The number of choices is the length of their list.
+use Rattle.std.proofs.Common.{◌≡◌, ℕ, zero, suc, ◌+◌, ◌*◌, List, [], ◌∷◌, ◌++◌, map, Option, Some, None, Bool, true, false, sym, refl, ap, ◌∙◌, slice_get, length, length-append}
+use Rattle.std.specs.Prelude.{sum_by}
+use Rattle.std.proofs.lemmas.List.Sums.{sum_by-cons}
+use Rattle.std.proofs.Math.Nat.{zero-mul, suc-mul, add_comm}
+use Rattle.facet_solver_shape.specs.declared.shape.Shape.{Shape}
+use Rattle.facet_solver_shape.specs.declared.shape.ShapeKind.{ShapeKind}
+use Rattle.facet_solver_shape.specs.declared.shape.ShapeKind.TheVariants.{Struct, Enum}
+use Rattle.facet_solver_shape.specs.declared.shape.Field.{Field}
+use Rattle.facet_solver_shape.specs.declared.shape.Variant.{Variant}
+use Rattle.facet_solver.specs.Targets.{Catalogue}
+use Rattle.facet_solver.specs.Representation.{Settings, is_walked, repr_for}
+use Rattle.facet_solver.specs.Roles.{Role, a_regular, a_block, some_alternatives, a_rest, a_leaf, role_of}
+use Rattle.facet_solver.specs.Content.{content_of}
+use Rattle.facet_solver.specs.Listing.{Choices, product, numbered, choices_of_variant, choices_of_role, choices_of_fields, choices_within, choices_below, choices_of_root, choices_of_root_shape, choices_of_root_kind}
+use Rattle.facet_solver.specs.Count.{Count, count_variant, count_role, count_fields, count_within, count_below, count_of_root, count_of_shape, count_of_kind}
+
+length-map' : {X Y : Type 0} (f : X → Y) (xs : List X) → length (map f xs) ≡ length xs
+length-map' f [] = refl
+length-map' f (x ∷ xs) = ap suc (length-map' f xs)
+
+length-product : (cs ds : Choices) → length (product cs ds) ≡ length cs * length ds
+unfolding product
+length-product [] ds = sym (zero-mul (length ds))
+length-product (c ∷ cs) ds =
+    length-append (map (λ d. c ++ d) ds) (product cs ds)
+    ∙ ap (λ (n : ℕ). n + length (product cs ds)) (length-map' (λ d. c ++ d) ds)
+    ∙ ap (λ (n : ℕ). length ds + n) (length-product cs ds)
+    ∙ sym (suc-mul (length cs) (length ds) ∙ add_comm (length cs * length ds) (length ds))
+
+length-numbered : (k : ℕ) (choices : Variant → Choices) (count : Variant → ℕ) → ((v : Variant) → length (choices v) ≡ count v) → (vs : List Variant) → length (numbered k choices vs) ≡ sum_by count vs
+unfolding numbered
+length-numbered k choices count h [] = refl
+length-numbered k choices count h (v ∷ vs) =
+    length-append (map (λ c. k ∷ c) (choices v)) (numbered (suc k) choices vs)
+    ∙ ap (λ (n : ℕ). n + length (numbered (suc k) choices vs)) (length-map' (λ c. k ∷ c) (choices v) ∙ h v)
+    ∙ ap (λ (n : ℕ). count v + n) (length-numbered (suc k) choices count h vs)
+    ∙ sym (sum_by-cons count v vs)
+
+-- a count is the length of each list of choices
+abbrev AllCount : (List Field → Choices) → Count → Type 0
+AllCount choices count = (fs : List Field) → length (choices fs) ≡ count fs
+
+module _ (settings : Settings) (cat : Catalogue) where
+  variant_count : (walked : Bool) (choices : List Field → Choices) (count : Count) (v : Variant) → AllCount choices count → length (choices_of_variant choices cat walked v) ≡ count_variant count cat walked v
+  variant_count true choices count v h = h _
+  variant_count false choices count v h = refl
+
+  role_count : (choices : List Field → Choices) (count : Count) (r : Role) → AllCount choices count → length (choices_of_role choices settings cat r) ≡ count_role count settings cat r
+  role_count choices count a_regular h = refl
+  role_count choices count (a_block fs) h = h fs
+  role_count choices count (some_alternatives s vs) h = length-numbered 0 _ _ (λ v. variant_count (is_walked (repr_for settings s)) choices count v h) vs
+  role_count choices count a_rest h = refl
+  role_count choices count a_leaf h = refl
+
+  fields_count : (choices : List Field → Choices) (count : Count) → AllCount choices count → AllCount (choices_of_fields choices settings cat) (count_fields count settings cat)
+  unfolding choices_of_fields count_fields
+  fields_count choices count h [] = refl
+  fields_count choices count h (f ∷ fs) =
+      length-product (choices_of_role choices settings cat (role_of cat f)) (choices_of_fields choices settings cat fs)
+      ∙ ap (λ (n : ℕ). n * length (choices_of_fields choices settings cat fs)) (role_count choices count (role_of cat f) h)
+      ∙ ap (λ (n : ℕ). count_role count settings cat (role_of cat f) * n) (fields_count choices count h fs)
+
+  within_count : (n : ℕ) → AllCount (choices_within n settings cat) (count_within n settings cat)
+  unfolding choices_within count_within
+  within_count zero fs = refl
+  within_count (suc n) fs = fields_count (choices_within n settings cat) (count_within n settings cat) (within_count n) fs
+
+  below_count : AllCount (λ fs. choices_below settings cat fs) (λ fs. count_below settings cat fs)
+  unfolding choices_below count_below
+  below_count fs = within_count (suc (length cat)) fs
+
+  kind_count : (k : ShapeKind) → length (choices_of_root_kind settings cat k) ≡ count_of_kind settings cat k
+  kind_count (Struct kind fs) = below_count fs.items
+  kind_count (Enum vs) = length-numbered 0 _ _ (λ v. below_count (content_of cat v).fields) vs.items
+  kind_count _ = refl
+
+  shape_count : (s : Option Shape) → length (choices_of_root_shape settings cat s) ≡ count_of_shape settings cat s
+  shape_count None = refl
+  shape_count (Some s) = kind_count s.kind
+
+  pub root_count : (root : ℕ) → length (choices_of_root settings cat root) ≡ count_of_root settings cat root
+  unfolding choices_of_root count_of_root
+  root_count root = shape_count (slice_get cat root)

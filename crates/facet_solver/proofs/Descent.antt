@@ -1,0 +1,136 @@
+-- What goes down a checked catalogue ends: definitions by levels don't depend on the levels that are left.
+use Rattle.std.proofs.Common.{◌≡◌, ℕ, zero, suc, ◌<◌, ◌≤◌, List, [], ◌∷◌, Option, Some, None, Bool, true, false, sym, refl, ◌∙◌, slice_get, length, arith, string_bytes}
+use Rattle.std.specs.Prelude.{if◌then◌else◌}
+use Rattle.std.specs.Option.{option_or}
+use Rattle.facet_solver_shape.specs.declared.shape.Shape.{Shape}
+use Rattle.facet_solver_shape.specs.declared.shape.ShapeKind.{ShapeKind}
+use Rattle.facet_solver_shape.specs.declared.shape.ShapeKind.TheVariants.{Struct, Enum, Option as OptionOf}
+use Rattle.facet_solver_shape.specs.declared.shape.Field.{Field}
+use Rattle.facet_solver_shape.specs.declared.shape.Variant.{Variant}
+use Rattle.facet_solver.specs.Targets.{Catalogue, kind_of, kind_at, target_of, or_else, option_inside, effective, effective_within, go_on, next_inside}
+use Rattle.facet_solver.specs.Below.{FieldsBelow, VariantsBelow, KindBelow, IdBelow, NamesEarlier}
+use Rattle.facet_solver.specs.Roles.{Role, a_regular, a_block, some_alternatives, a_rest, a_leaf, role_of, role_of_target, role_by_kind}
+use Rattle.facet_solver.specs.Content.{struct_fields, newtype_fields, content_of, content_or, is_zero}
+
+-- a limit may rise
+pub FieldsBelow-mono : (m n : ℕ) (fs : List Field) → m ≤ n → FieldsBelow m fs → FieldsBelow n fs
+FieldsBelow-mono m n [] le h = tt
+FieldsBelow-mono m n (f ∷ fs) le h = (omega arith, FieldsBelow-mono m n fs le h.1)
+
+pub VariantsBelow-mono : (m n : ℕ) (vs : List Variant) → m ≤ n → VariantsBelow m vs → VariantsBelow n vs
+VariantsBelow-mono m n [] le h = tt
+VariantsBelow-mono m n (v ∷ vs) le h = (FieldsBelow-mono m n v.fields.items le h.0, VariantsBelow-mono m n vs le h.1)
+
+-- what a flattened field leads to names places below the limit
+abbrev pub RoleBelow : ℕ → Role → Type 0
+RoleBelow limit a_regular = Unit {0}
+RoleBelow limit (a_block fs) = FieldsBelow limit fs
+RoleBelow limit (some_alternatives s vs) = VariantsBelow limit vs
+RoleBelow limit a_rest = Unit {0}
+RoleBelow limit a_leaf = Unit {0}
+
+RoleBelow-mono : (m n : ℕ) (r : Role) → m ≤ n → RoleBelow m r → RoleBelow n r
+RoleBelow-mono m n a_regular le h = tt
+RoleBelow-mono m n (a_block fs) le h = FieldsBelow-mono m n fs le h
+RoleBelow-mono m n (some_alternatives s vs) le h = VariantsBelow-mono m n vs le h
+RoleBelow-mono m n a_rest le h = tt
+RoleBelow-mono m n a_leaf le h = tt
+
+role_by_kind-below : (limit : ℕ) (s : Shape) (k : ShapeKind) → KindBelow limit k → RoleBelow limit (role_by_kind s k)
+role_by_kind-below limit s (Struct kind fs) h = h
+role_by_kind-below limit s (Enum vs) h = h
+role_by_kind-below limit s _ h = tt
+
+module _ (cat : Catalogue) (checked : NamesEarlier cat) where
+  role_of_target-below : (id : ℕ) (o : Option Shape) → slice_get cat id ≡ o → RoleBelow id (role_of_target o)
+  role_of_target-below id None e = tt
+  role_of_target-below id (Some s) e = role_by_kind-below id s s.kind (checked id s e).by_kind
+
+  -- an option's inside stands before it
+  or_else-inside-le : (limit : ℕ) (id : ℕ) (k : ShapeKind) → KindBelow limit k → limit ≤ id → or_else (option_inside k) id ≤ id
+  or_else-inside-le limit id (Struct kind fs) h le = omega arith
+  or_else-inside-le limit id (Enum vs) h le = omega arith
+  or_else-inside-le limit id _ h le = omega arith
+
+  kind_of-below : (id : ℕ) (o : Option Shape) → slice_get cat id ≡ o → KindBelow id (kind_of o)
+  kind_of-below id None e = tt
+  kind_of-below id (Some s) e = (checked id s e).by_kind
+
+  pub target_of-le : (f : Field) → (target_of cat f) ≤ f.shape
+  target_of-le f = or_else-inside-le f.shape f.shape (kind_at cat f.shape) (kind_of-below f.shape (slice_get cat f.shape) refl) (omega arith)
+
+  role_if-below : (b : Bool) (limit : ℕ) (r : Role) → RoleBelow limit r → RoleBelow limit (if b then r else a_regular)
+  role_if-below true limit r h = h
+  role_if-below false limit r h = tt
+
+  pub role_of-below : (f : Field) → RoleBelow f.shape (role_of cat f)
+  role_of-below f =
+      role_if-below f.flattened f.shape _
+      (RoleBelow-mono (target_of cat f) f.shape (role_of_target (slice_get cat (target_of cat f))) (target_of-le f)
+      (role_of_target-below (target_of cat f) (slice_get cat (target_of cat f)) refl))
+
+  pub next_inside-below : (id : ℕ) (o : Option Shape) → slice_get cat id ≡ o → IdBelow id (next_inside o)
+  next_inside-below id None e = tt
+  next_inside-below id (Some s) e = both s.inner s.proxy (checked id s e).by_inner (checked id s e).by_proxy
+    where
+      both : (a b : Option ℕ) → IdBelow id a → IdBelow id b → IdBelow id (option_or a b)
+      both None b h k = k
+      both (Some a) b h k = h
+
+  effective_within-le : (n : ℕ) (id : ℕ) → effective_within n cat id ≤ id
+  effective_within-le zero id = omega arith
+  effective_within-le (suc n) id = go (next_inside (slice_get cat id)) (next_inside-below id (slice_get cat id) refl) (λ next. effective_within-le n next)
+    where
+      go : (o : Option ℕ) → IdBelow id o → ((next : ℕ) → effective_within n cat next ≤ next) → go_on (effective_within n cat) id o ≤ id
+      go None h below = omega arith
+      go (Some next) h below = omega (arith, below next)
+
+  pub effective-le : (id : ℕ) → effective cat id ≤ id
+  effective-le id = effective_within-le (length cat) id
+
+  -- the fields of a variant's content
+  struct_fields-below : (limit : ℕ) (k : ShapeKind) (v : Variant) → FieldsBelow limit v.fields.items → KindBelow limit k → FieldsBelow limit (content_or v (struct_fields k)).fields
+  struct_fields-below limit (Struct kind fs) v h b = b
+  struct_fields-below limit (Enum vs) v h b = h
+  struct_fields-below limit _ v h b = h
+
+  KindBelow-mono : (m n : ℕ) (k : ShapeKind) → m ≤ n → KindBelow m k → KindBelow n k
+  KindBelow-mono m n (Struct kind fs) le h = FieldsBelow-mono m n fs.items le h
+  KindBelow-mono m n (Enum vs) le h = VariantsBelow-mono m n vs.items le h
+  KindBelow-mono m n (OptionOf i) le h = omega arith
+  KindBelow-mono m n _ le h = tt
+
+  pub content_of-below : (limit : ℕ) (v : Variant) → FieldsBelow limit v.fields.items → FieldsBelow limit (content_of cat v).fields
+  content_of-below limit v h = go v.fields.items h
+    where
+      by_name : (b : Bool) (f : Field) → f.shape < limit → FieldsBelow limit (content_or v (if b then struct_fields (kind_at cat (effective cat f.shape)) else None)).fields
+      by_name true f lt =
+          let id = (effective cat f.shape) in
+          struct_fields-below limit (kind_at cat (effective cat f.shape)) v h
+          (KindBelow-mono id limit (kind_of (slice_get cat id)) (omega (arith, effective-le f.shape)) (kind_of-below id (slice_get cat id) refl))
+      by_name false f lt = h
+
+      go : (fs : List Field) → FieldsBelow limit fs → FieldsBelow limit (content_or v (newtype_fields cat fs)).fields
+      go [] b = h
+      go (f ∷ []) b = by_name (is_zero (string_bytes f.name)) f b.0
+      go (f ∷ g ∷ fs) b = h
+
+-- a step of a definition by levels looks only at fields that name smaller places
+abbrev pub IsLocal : {X : Type 0} → ((List Field → X) → List Field → X) → Type 0
+IsLocal {X} step = (g h : List Field → X) (limit : ℕ) (fs : List Field) → FieldsBelow limit fs → ((m : ℕ) (gs : List Field) → m < limit → FieldsBelow m gs → g gs ≡ h gs) → step g fs ≡ step h fs
+
+module _ {X : Type 0} (step : (List Field → X) → List Field → X) (by_level : ℕ → List Field → X) (is_step : (n : ℕ) (fs : List Field) → by_level (suc n) fs ≡ step (by_level n) fs) (local : IsLocal step) where
+  -- more levels change nothing
+  pub same_levels : (n m limit : ℕ) (fs : List Field) → limit < n → limit < m → FieldsBelow limit fs → by_level n fs ≡ by_level m fs
+  same_levels zero m limit fs p q h = absurd (omega arith)
+  same_levels (suc n) zero limit fs p q h = absurd (omega arith)
+  same_levels (suc n) (suc m) limit fs p q h =
+      is_step n fs
+      ∙ local (by_level n) (by_level m) limit fs h (λ k gs lt b. same_levels n m k gs (omega arith) (omega arith) b)
+      ∙ sym (is_step m fs)
+
+  -- so with enough levels the definition is its own step
+  pub one_step : (limit : ℕ) (fs : List Field) → FieldsBelow limit fs → by_level (suc limit) fs ≡ step (by_level (suc limit)) fs
+  one_step limit fs h =
+      is_step limit fs
+      ∙ local (by_level limit) (by_level (suc limit)) limit fs h (λ k gs lt b. same_levels limit (suc limit) k gs lt (omega arith) b)

@@ -1,0 +1,137 @@
+-- On a checked catalogue the walk and the choices of a list of fields are their own steps.
+use Rattle.std.proofs.Common.{◌⊎◌, inl, inr, ◌≡◌, ℕ, zero, suc, ◌<◌, ◌≤◌, List, [], ◌∷◌, ◌++◌, map, Option, Some, None, Bool, true, false, sym, refl, ap, ◌∙◌, slice_get, length, arith}
+use Rattle.std.specs.Prelude.{if◌then◌else◌}
+use Rattle.facet_solver_shape.specs.declared.shape.Shape.{Shape}
+use Rattle.facet_solver_shape.specs.declared.shape.Field.{Field}
+use Rattle.facet_solver_shape.specs.declared.shape.Variant.{Variant}
+use Rattle.facet_solver.specs.Targets.{Catalogue, effective, effective_within, go_on, next_inside}
+use Rattle.facet_solver.specs.Below.{FieldsBelow, VariantsBelow, IdBelow, NamesEarlier}
+use Rattle.facet_solver.specs.Emissions.{Path, variant_emissions, variant_path, unwrapped_at, field_path}
+use Rattle.facet_solver.specs.Walk.{Walked, Walk, put_before, and_then, emit, choose, at_chosen, walk_variant, walk_content, walk_role, walk_fields, walk_within, walk}
+use Rattle.facet_solver.specs.Representation.{Settings, is_walked, repr_for}
+use Rattle.facet_solver.specs.Roles.{Role, a_regular, a_block, some_alternatives, a_rest, a_leaf, role_of}
+use Rattle.facet_solver.specs.Content.{content_of}
+use Rattle.facet_solver.specs.Listing.{Choices, product, numbered, choices_of_variant, choices_of_role, choices_of_fields, choices_within, choices_below}
+use Rattle.facet_solver.proofs.Descent.{RoleBelow, role_of-below, content_of-below, IsLocal, one_step, next_inside-below}
+
+module _ (settings : Settings) (cat : Catalogue) (checked : NamesEarlier cat) where
+  numbered-same : (k limit : ℕ) (g h : Variant → Choices) (vs : List Variant) → VariantsBelow limit vs → ((v : Variant) → FieldsBelow limit v.fields.items → g v ≡ h v) → numbered k g vs ≡ numbered k h vs
+  unfolding numbered
+  numbered-same k limit g h [] b x = refl
+  numbered-same k limit g h (v ∷ vs) b x =
+      ap (λ (cs : Choices). map (λ c. k ∷ c) cs ++ numbered (suc k) g vs) (x v b.0)
+      ∙ ap (λ (cs : Choices). map (λ c. k ∷ c) (h v) ++ cs) (numbered-same (suc k) limit g h vs b.1 x)
+
+  choices_of_variant-same : (walked : Bool) (g h : List Field → Choices) (limit : ℕ) (v : Variant) → FieldsBelow limit v.fields.items → ((gs : List Field) → FieldsBelow limit gs → g gs ≡ h gs) → choices_of_variant g cat walked v ≡ choices_of_variant h cat walked v
+  choices_of_variant-same true g h limit v b x = x (content_of cat v).fields (content_of-below cat checked limit v b)
+  choices_of_variant-same false g h limit v b x = refl
+
+  choices_of_role-same : (g h : List Field → Choices) (limit : ℕ) (r : Role) → RoleBelow limit r → ((gs : List Field) → FieldsBelow limit gs → g gs ≡ h gs) → choices_of_role g settings cat r ≡ choices_of_role h settings cat r
+  choices_of_role-same g h limit a_regular b x = refl
+  choices_of_role-same g h limit (a_block fs) b x = x fs b
+  choices_of_role-same g h limit (some_alternatives s vs) b x = numbered-same 0 limit _ _ vs b (λ v below. choices_of_variant-same (is_walked (repr_for settings s)) g h limit v below x)
+  choices_of_role-same g h limit a_rest b x = refl
+  choices_of_role-same g h limit a_leaf b x = refl
+
+  choices-local : IsLocal (λ below fs. choices_of_fields below settings cat fs)
+  unfolding choices_of_fields
+  choices-local g h limit [] b x = refl
+  choices-local g h limit (f ∷ fs) b x =
+      ap (λ (cs : Choices). product cs (choices_of_fields g settings cat fs)) (choices_of_role-same g h f.shape (role_of cat f) (role_of-below cat checked f) (λ gs below. x f.shape gs b.0 below))
+      ∙ ap (λ (cs : Choices). product (choices_of_role h settings cat (role_of cat f)) cs) (choices-local g h limit fs b.1 x)
+
+  choices-step : (n : ℕ) (fs : List Field) → choices_within (suc n) settings cat fs ≡ choices_of_fields (choices_within n settings cat) settings cat fs
+  unfolding choices_within
+  choices-step n fs = refl
+
+  -- the choices of fields, by those of what is flattened into them
+  pub choices_below-step : (fs : List Field) → FieldsBelow (length cat) fs → choices_below settings cat fs ≡ choices_of_fields (choices_below settings cat) settings cat fs
+  unfolding choices_below
+  choices_below-step fs b = one_step (λ below gs. choices_of_fields below settings cat gs) (λ n gs. choices_within n settings cat gs) choices-step choices-local (length cat) fs b
+
+  -- the same of the walk
+  content-same : (walked : Bool) (g h : Walk) (limit : ℕ) (v : Variant) (q : Path) (o : Bool) (ns : List ℕ) → FieldsBelow limit v.fields.items → ((gs : List Field) → FieldsBelow limit gs → g gs ≡ h gs)
+      → (if walked then walk_content g cat v q o ns else emit [] ns) ≡ (if walked then walk_content h cat v q o ns else emit [] ns)
+  content-same true g h limit v q o ns b x = ap (λ (w : Path → Bool → List ℕ → Walked). w (q ++ (content_of cat v).path) o ns) (x (content_of cat v).fields (content_of-below cat checked limit v b))
+  content-same false g h limit v q o ns b x = refl
+
+  choose-same : (limit : ℕ) (vs : List Variant) (ns : List ℕ) (g h : Variant → List ℕ → Walked) → VariantsBelow limit vs → ((v : Variant) (ns : List ℕ) → FieldsBelow limit v.fields.items → g v ns ≡ h v ns) → choose vs ns g ≡ choose vs ns h
+  choose-same limit vs [] g h b x = refl
+  choose-same limit vs (k ∷ ns) g h b x = go vs k b
+    where
+      go : (vs : List Variant) (k : ℕ) → VariantsBelow limit vs → at_chosen (slice_get vs k) (λ v. g v ns) ≡ at_chosen (slice_get vs k) (λ v. h v ns)
+      go [] k b = refl
+      go (v ∷ vs) zero b = x v ns b.0
+      go (v ∷ vs) (suc k) b = go vs k b.1
+
+  walk_role-same : (g h : Walk) (limit : ℕ) (f : Field) (p : Path) (o : Bool) (ns : List ℕ) (r : Role) → RoleBelow limit r → ((gs : List Field) → FieldsBelow limit gs → g gs ≡ h gs) → walk_role g settings cat f p o ns r ≡ walk_role h settings cat f p o ns r
+  walk_role-same g h limit f p o ns a_regular b x = refl
+  walk_role-same g h limit f p o ns (a_block fs) b x = ap (λ (w : Path → Bool → List ℕ → Walked). w (field_path p f) (unwrapped_at cat f o) ns) (x fs b)
+  walk_role-same g h limit f p o ns (some_alternatives s vs) b x =
+      choose-same limit vs ns (λ v rest. walk_variant g settings cat f s v p o rest) (λ v rest. walk_variant h settings cat f s v p o rest) b
+      (λ v rest below. ap (put_before (variant_emissions settings cat f s v p o)) (content-same (is_walked (repr_for settings s)) g h limit v (variant_path p f v) (unwrapped_at cat f o) rest below x))
+  walk_role-same g h limit f p o ns a_rest b x = refl
+  walk_role-same g h limit f p o ns a_leaf b x = refl
+
+  walk-local_at : (g h : Walk) (limit : ℕ) (fs : List Field) (p : Path) (o : Bool) (ns : List ℕ) → FieldsBelow limit fs → ((m : ℕ) (gs : List Field) → m < limit → FieldsBelow m gs → g gs ≡ h gs) → walk_fields g settings cat fs p o ns ≡ walk_fields h settings cat fs p o ns
+  unfolding walk_fields
+  walk-local_at g h limit [] p o ns b x = refl
+  walk-local_at g h limit (f ∷ fs) p o ns b x =
+      ap (λ (w : Walked). and_then w (λ rest. walk_fields g settings cat fs p o rest)) (walk_role-same g h f.shape f p o ns (role_of cat f) (role_of-below cat checked f) (λ gs below. x f.shape gs b.0 below))
+      ∙ ap (and_then (walk_role h settings cat f p o ns (role_of cat f))) (λ i rest. walk-local_at g h limit fs p o rest b.1 x i)
+
+  walk-local : IsLocal (λ below fs. walk_fields below settings cat fs)
+  walk-local g h limit fs b x = λ i p o ns. walk-local_at g h limit fs p o ns b x i
+
+  walk-step : (n : ℕ) (fs : List Field) → (λ p o ns. walk_within (suc n) settings cat fs p o ns) ≡ walk_fields (walk_within n settings cat) settings cat fs
+  unfolding walk_within
+  walk-step n fs = refl
+
+  -- the walk of fields, by that of what is flattened into them
+  pub walk_step : (fs : List Field) (p : Path) (o : Bool) (ns : List ℕ) → FieldsBelow (length cat) fs → walk settings cat fs p o ns ≡ walk_fields (walk settings cat) settings cat fs p o ns
+  unfolding walk
+  walk_step fs p o ns b = ap (λ (w : Path → Bool → List ℕ → Walked). w p o ns) (one_step (λ below gs. walk_fields below settings cat gs) (λ n gs. walk_within n settings cat gs) walk-step walk-local (length cat) fs b)
+
+-- the effective shape is that of what is inside
+module _ (cat : Catalogue) (checked : NamesEarlier cat) where
+  next-below : (id : ℕ) → IdBelow id (next_inside (slice_get cat id))
+  next-below id = next_inside-below cat checked id (slice_get cat id) refl
+
+  same_effective : (n m : ℕ) (id : ℕ) → id ≤ n → id ≤ m → effective_within n cat id ≡ effective_within m cat id
+  same_effective zero zero id p q = refl
+  same_effective zero (suc m) id p q = go (next_inside (slice_get cat id)) (next-below id)
+    where
+      go : (o : Option ℕ) → IdBelow id o → id ≡ go_on (effective_within m cat) id o
+      go None b = refl
+      go (Some next) b = absurd (omega arith)
+  same_effective (suc n) zero id p q = go (next_inside (slice_get cat id)) (next-below id)
+    where
+      go : (o : Option ℕ) → IdBelow id o → go_on (effective_within n cat) id o ≡ id
+      go None b = refl
+      go (Some next) b = absurd (omega arith)
+  same_effective (suc n) (suc m) id p q = go (next_inside (slice_get cat id)) (next-below id) (λ next b. same_effective n m next (omega arith) (omega arith))
+    where
+      go : (o : Option ℕ) → IdBelow id o → ((next : ℕ) → next < id → effective_within n cat next ≡ effective_within m cat next) → go_on (effective_within n cat) id o ≡ go_on (effective_within m cat) id o
+      go None b x = refl
+      go (Some next) b x = x next b
+
+  past_end : (xs : List Shape) (i : ℕ) → length xs ≤ i → slice_get xs i ≡ None
+  past_end [] i h = refl
+  past_end (x ∷ xs) zero h = absurd (omega arith)
+  past_end (x ∷ xs) (suc i) h = past_end xs i (omega arith)
+
+  pub effective-step : (id : ℕ) → effective cat id ≡ go_on (effective cat) id (next_inside (slice_get cat id))
+  effective-step id = elim (le_or_lt (length cat) id) [ inl past ↦ outside past | inr inside ↦ within inside ]
+    where
+      le_or_lt : (m n : ℕ) → (m ≤ n) ⊎ (n < m)
+      le_or_lt m n = grind arith
+
+      none : (n : ℕ) → slice_get cat id ≡ None → effective_within n cat id ≡ id
+      none zero e = refl
+      none (suc n) e = ap (λ (o : Option Shape). go_on (effective_within n cat) id (next_inside o)) e
+
+      outside : length cat ≤ id → effective cat id ≡ go_on (effective cat) id (next_inside (slice_get cat id))
+      outside h = none (length cat) (past_end cat id h) ∙ sym (ap (λ (o : Option Shape). go_on (effective cat) id (next_inside o)) (past_end cat id h))
+
+      within : id < length cat → effective cat id ≡ go_on (effective cat) id (next_inside (slice_get cat id))
+      within h = same_effective (length cat) (suc (length cat)) id (omega arith) (omega arith)

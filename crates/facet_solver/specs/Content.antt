@@ -1,0 +1,41 @@
+-- The content of a variant.
+use Rattle.std.specs.Prelude.{Bool, false, if◌then◌else◌, List, [], ◌∷◌, Option, Some, None, string_bytes, codes, nat_eq}
+use Rattle.facet_solver_shape.specs.declared.shape.Field.{Field}
+use Rattle.facet_solver_shape.specs.declared.shape.Variant.{Variant}
+use Rattle.facet_solver_shape.specs.declared.shape.ShapeKind.{ShapeKind}
+use Rattle.facet_solver_shape.specs.declared.shape.ShapeKind.TheVariants.{Struct}
+use Rattle.facet_solver_shape.specs.Names.{Name}
+use Rattle.facet_solver_shape.specs.Paths.{Step, by_field}
+use Rattle.facet_solver.specs.Targets.{Catalogue, kind_at, effective}
+
+-- the fields of a struct
+abbrev pub struct_fields : ShapeKind → Option (List Field)
+struct_fields (Struct kind fields) = Some fields.items
+struct_fields _ = None
+
+-- whether a name is `0`, as that of a newtype's only field is
+abbrev pub is_zero : Name → Bool
+is_zero [] = false
+is_zero (c ∷ []) = nat_eq c 48
+is_zero (c ∷ d ∷ cs) = false
+
+-- the fields of the struct that is the effective shape of a single field `0`
+abbrev pub newtype_fields : Catalogue → List Field → Option (List Field)
+newtype_fields cat [] = None
+newtype_fields cat (f ∷ []) =
+    if is_zero (string_bytes f.name) then struct_fields (kind_at cat (effective cat f.shape)) else None
+newtype_fields cat (f ∷ g ∷ fs) = None
+
+-- fields, and what their path has more than the variant's
+pub record Content : Type 0 where
+  pub fields : List Field
+  pub path : List Step
+
+-- the fields of a newtype's struct behind the field `0`, or else the variant's own
+abbrev pub content_or : Variant → Option (List Field) → Content
+content_or v None = record { fields = v.fields.items; path = [] }
+content_or v (Some fs) = record { fields = fs; path = by_field (codes "0") ∷ [] }
+
+-- the content of a variant
+abbrev pub content_of : Catalogue → Variant → Content
+content_of cat v = content_or v (newtype_fields cat v.fields.items)

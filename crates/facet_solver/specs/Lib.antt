@@ -1,0 +1,13 @@
+pub mod Below
+pub mod Targets
+pub mod Representation
+pub mod Categories
+pub mod Content
+pub mod Nested
+pub mod Roles
+pub mod Emissions
+pub mod Walk
+pub mod Choice
+pub mod Count
+pub mod Listing
+pub mod Outcome

@@ -1,0 +1,4 @@
+//! A solver that tells from the keys of a document which variants of flattened and untagged enums it means.
+#![tactic(auto)]
+
+pub mod build;
