@@ -13,7 +13,7 @@ use Rattle.facet_solver_shape.specs.declared.resolution.key.FieldKey.{FieldKey}
 use Rattle.facet_solver_shape.specs.declared.resolution.key.FieldKey.TheVariants.{Flat as FlatKey, Dom as DomKey}
 use Rattle.facet_solver_shape.specs.contracts.resolution.key.FieldKeyOrd.TheImpl as key_order
 use Rattle.facet_solver_shape.specs.contracts.resolution.key.FieldCategoryOrd.TheImpl as category_order
-use Rattle.facet_solver_shape.specs.Keys.{Key, rank, key_cmp, key_of, category_index}
+use Rattle.facet_solver_shape.specs.Keys.{Key, rank, key_cmp, key_of, category_index, category_cmp}
 
 pub key_cmp_total : IsTotalOrder key_cmp
 key_cmp_total = then_total (on_total (λ (k : Key). rank k.dom) nat_cmp_total) (on_total (λ (k : Key). k.name) nat_list_cmp_total)
@@ -50,6 +50,12 @@ rank_same (Some c) (Some d) e =
     let same : category_index c ≡ category_index d = omega arith in
     ap (λ c. Some c) (sym (category_back c) ∙ ap category_from same ∙ category_back d)
 
+pub category_cmp_total : IsTotalOrder category_cmp
+category_cmp_total = on_total category_index nat_cmp_total
+
+pub category_cmp_same : IsAntisymmetric category_cmp
+category_cmp_same c d e = sym (category_back c) ∙ ap category_from (nat_cmp-IsAntisymmetric (category_index c) (category_index d) e) ∙ category_back d
+
 pub key_cmp_same : IsAntisymmetric key_cmp
 key_cmp_same x y e =
     let parts = both_equal (nat_cmp (rank x.dom) (rank y.dom)) (slice_cmp nat_cmp x.name y.name) e in
@@ -71,6 +77,20 @@ category_agrees Tag Flat = refl
 category_agrees Tag _ = refl
 category_agrees Elements Flat = refl
 category_agrees Elements _ = refl
+
+pub category_cmp_agrees : (x y : FieldCategory) → (category_order.ghosts).cmp x y ≡ category_cmp x y
+category_cmp_agrees Flat Flat = refl
+category_cmp_agrees Flat _ = refl
+category_cmp_agrees Attribute Flat = refl
+category_cmp_agrees Attribute _ = refl
+category_cmp_agrees Element Flat = refl
+category_cmp_agrees Element _ = refl
+category_cmp_agrees Text Flat = refl
+category_cmp_agrees Text _ = refl
+category_cmp_agrees Tag Flat = refl
+category_cmp_agrees Tag _ = refl
+category_cmp_agrees Elements Flat = refl
+category_cmp_agrees Elements _ = refl
 
 flat_first : (x : FieldCategory) → Less ≡ nat_cmp 0 (category_index x + 1)
 flat_first Flat = refl

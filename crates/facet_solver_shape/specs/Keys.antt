@@ -23,6 +23,10 @@ category_index Text = 3
 category_index Tag = 4
 category_index Elements = 5
 
+-- the order of categories
+abbrev pub category_cmp : FieldCategory → FieldCategory → Ordering
+category_cmp = on category_index nat_cmp
+
 -- where a key stands by its category alone
 abbrev pub rank : Option FieldCategory → ℕ
 rank None = 0

@@ -9,7 +9,7 @@ use Rattle.facet_solver_shape.specs.declared.shape.Field.{Field}
 use Rattle.facet_solver_shape.specs.declared.resolution.key.FieldCategory.{FieldCategory}
 use Rattle.facet_solver_shape.specs.Names.{Name}
 use Rattle.facet_solver_shape.specs.Paths.{Step}
-use Rattle.facet_solver_shape.specs.Keys.{Key, key_cmp, category_index, stored_key}
+use Rattle.facet_solver_shape.specs.Keys.{Key, key_cmp, category_cmp, stored_key}
 
 -- a field of a resolution
 pub record FieldView : Type 0 where
@@ -32,7 +32,7 @@ pub record Resolved : Type 0 where
   pub required_names : set.FinSet (slice_cmp nat_cmp)
   pub key_paths : set.FinSet (slice_cmp (slice_cmp nat_cmp))
   pub picks : List Pick
-  pub catch_alls : map.FinMap nat_cmp FieldView
+  pub catch_alls : map.FinMap category_cmp FieldView
 
 -- nothing in it
 abbrev pub nothing : Resolved
@@ -64,13 +64,13 @@ pub record IsClash (old : Resolved) (f : FieldView) (name : Name) (first second 
 abbrev pub with_key_path : Resolved → List Name → Resolved
 with_key_path r path = record r { key_paths = set.insert r.key_paths path }
 
--- with one more pick, behind the others
+-- with one more picked variant, after the others
 abbrev pub with_pick : Resolved → Pick → Resolved
 with_pick r pick = record r { picks = r.picks ++ pick ∷ [] }
 
--- with a catch-all of a category, in place of an earlier one
+-- with a field that takes the members of a category that no other field takes, in place of an earlier one
 abbrev pub with_catch_all : Resolved → FieldCategory → FieldView → Resolved
-with_catch_all r category f = record r { catch_alls = map.insert r.catch_alls (category_index category) f }
+with_catch_all r category f = record r { catch_alls = map.insert r.catch_alls category f }
 
 -- with one more required field under a key
 abbrev pub with_required : Resolved → Key → FieldView → Resolved

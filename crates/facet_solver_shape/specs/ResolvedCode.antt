@@ -12,7 +12,7 @@ use Rattle.facet_solver_shape.specs.declared.resolution.key.FieldCategory.{Field
 use Rattle.facet_solver_shape.specs.contracts.resolution.key.FieldCategory as category
 use Rattle.facet_solver_shape.specs.Names.{Name}
 use Rattle.facet_solver_shape.specs.Paths.{Step, by_field, by_variant}
-use Rattle.facet_solver_shape.specs.Keys.{Key, key_cmp}
+use Rattle.facet_solver_shape.specs.Keys.{Key, key_cmp, category_cmp}
 use Rattle.facet_solver_shape.specs.Resolved.{FieldView, Pick, Resolved}
 
 abbrev name_code : Coded Name
@@ -64,12 +64,12 @@ name_set_code = set.code name_code
 abbrev pub key_path_set_code : Coded (set.FinSet (slice_cmp (slice_cmp nat_cmp)))
 key_path_set_code = set.code (coded_list name_code)
 
-abbrev pub catch_alls_code : Coded (map.FinMap nat_cmp FieldView)
-catch_alls_code = map.code coded_ℕ field_view_code
+abbrev pub catch_alls_code : Coded (map.FinMap category_cmp FieldView)
+catch_alls_code = map.code category.the_row.coded field_view_code
 
 abbrev pub resolved_code : Coded Resolved
 resolved_code =
-    code_by ((map.FinMap key_cmp FieldView × set.FinSet (slice_cmp nat_cmp)) × (set.FinSet (slice_cmp (slice_cmp nat_cmp)) × (List Pick × map.FinMap nat_cmp FieldView)))
+    code_by ((map.FinMap key_cmp FieldView × set.FinSet (slice_cmp nat_cmp)) × (set.FinSet (slice_cmp (slice_cmp nat_cmp)) × (List Pick × map.FinMap category_cmp FieldView)))
     (coded× (coded× field_map_code name_set_code) (coded× key_path_set_code (coded× (coded_list pick_code) catch_alls_code)))
     (λ r. ((r.fields, r.required_names), (r.key_paths, (r.picks, r.catch_alls))))
     (λ p. record { fields = p.0.0; required_names = p.0.1; key_paths = p.1.0; picks = p.1.1.0; catch_alls = p.1.1.1 })

@@ -13,7 +13,7 @@ use Rattle.facet_solver_shape.specs.declared.resolution.key.FieldKey.{FieldKey}
 use Rattle.facet_solver_shape.specs.declared.resolution.key.FieldCategory.{FieldCategory}
 use Rattle.facet_solver_shape.specs.declared.resolution.field.VariantSelection.{VariantSelection}
 use Rattle.facet_solver_shape.specs.Names.{Name}
-use Rattle.facet_solver_shape.specs.Keys.{key_cmp, key_of, category_index}
+use Rattle.facet_solver_shape.specs.Keys.{key_cmp, key_of, category_cmp}
 use Rattle.facet_solver_shape.specs.Resolved.{FieldView, Pick, Resolved, IsClash}
 use Rattle.facet_solver_shape.specs.declared.resolution.error.SchemaError.{SchemaError}
 use Rattle.facet_solver_shape.specs.declared.resolution.error.SchemaError.TheVariants.{DuplicateField, OutOfMemory}
@@ -49,8 +49,8 @@ abbrev pub key_paths_view : List (Vec (Bor Name) Global) → set.FinSet (slice_c
 key_paths_view ps = set.from_list (map (λ p. map (λ n. n.now) p.items) ps)
 
 -- entries of a map of catch-alls
-abbrev pub catch_alls_view : List (FieldCategory × FieldInfo) → tree.FinMap nat_cmp FieldView
-catch_alls_view es = tree.from_entries (map (λ e. (category_index e.0, field_view e.1)) es)
+abbrev pub catch_alls_view : List (FieldCategory × FieldInfo) → tree.FinMap category_cmp FieldView
+catch_alls_view es = tree.from_entries (map (λ e. (e.0, field_view e.1)) es)
 
 -- the order of names behind references
 abbrev pub name_ref_cmp : Bor Name → Bor Name → Ordering

@@ -1,7 +1,7 @@
 //! What one choice of variants resolves to: paths, keys, fields, and the resolution itself.
 ghost use Rattle.std.specs.Prelude.{◌≡◌, IfErr, OnOk, OnErr, IsTrue, map};
 ghost use Rattle.facet_solver_shape.specs.Keys.{key_of};
-ghost use Rattle.facet_solver_shape.specs.Resolved.{nothing, IsAdded, with_key_path, with_required, IsUnionOf};
+ghost use Rattle.facet_solver_shape.specs.Resolved.{nothing, IsAdded, with_key_path, with_pick, with_catch_all, with_required, IsUnionOf};
 ghost use Rattle.facet_solver_shape.specs.Views.{field_view, IsRefusalOf, field_entries_view, names_view, key_paths_view};
 ghost use Rattle.facet_solver_shape.specs.declared.resolution.error.SchemaError.TheVariants.{OutOfMemory};
 
@@ -19,7 +19,7 @@ use std::alloc::{AllocError, Global};
 use std::collections::{BTreeMap, BTreeSet};
 use std::marker::Model;
 use std::mem;
-use tables::{FieldMap, KeyPathSet, NameSet};
+use tables::{CatchAlls, FieldMap, KeyPathSet, NameSet};
 
 /// What one choice of variants resolves to.
 #[derive(Debug, Drop)]
@@ -28,14 +28,14 @@ pub struct Resolution<'c> {
     required: NameSet<'c>,
     key_paths: KeyPathSet<'c>,
     picks: Vec<VariantSelection<'c>>,
-    catch_alls: BTreeMap<FieldCategory, FieldInfo<'c>>,
+    catch_alls: CatchAlls<'c>,
 }
 
 impl<'c> Model for Resolution<'c> {
     ghost use Rattle.std.specs.Prelude.{map};
     ghost use Rattle.facet_solver_shape.specs.Resolved.{Resolved};
     ghost use Rattle.facet_solver_shape.specs.ResolvedCode.{resolved_code};
-    ghost use Rattle.facet_solver_shape.specs.Views.{pick_view, catch_alls_view};
+    ghost use Rattle.facet_solver_shape.specs.Views.{pick_view};
 
     ghost Value = { Resolved };
 
@@ -46,7 +46,7 @@ impl<'c> Model for Resolution<'c> {
       required_names = r.required;
       key_paths = r.key_paths;
       picks = map pick_view r.picks.items;
-      catch_alls = catch_alls_view r.catch_alls.entries;
+      catch_alls = r.catch_alls;
     } };
 }
 
@@ -59,7 +59,7 @@ impl<'c> Resolution<'c> {
             required: NameSet::new(alloc),
             key_paths: KeyPathSet::new(alloc),
             picks: Vec::new(alloc),
-            catch_alls: BTreeMap::new(alloc),
+            catch_alls: CatchAlls::new(alloc),
         }
     }
 
@@ -91,7 +91,7 @@ impl<'c> Resolution<'c> {
         if let Some(present) = self.fields.get(&key) {
             return Err(SchemaError::DuplicateField(DuplicateFieldError {
                 field_name: info.serialized_name,
-                first_path: present.path.clone()?,
+                first_path: present.path.copied(*self.picks.allocator())?,
                 second_path: info.path,
             }));
         }
@@ -130,6 +130,37 @@ impl<'c> Resolution<'c> {
         ensures err { OnErr result (self.new ≡ self.old) }
     {
         self.key_paths.insert(path)
+    }
+
+    /// Adds the variant that was picked for an enum.
+    pub fn add_variant_selection(
+        &mut self,
+        path: FieldPath<'c>,
+        enum_name: &'c str,
+        variant_name: &'c str,
+    ) -> Result<(), AllocError>
+        ensures ok { OnOk result (self.new ≡ with_pick self.old
+            (record { path = path.entry; enum_name = enum_name.now; variant_name = variant_name.now })) }
+        ensures err { OnErr result (self.new ≡ self.old) }
+    {
+        self.picks.push(VariantSelection {
+            path,
+            enum_name,
+            variant_name,
+        })?;
+        Ok(())
+    }
+
+    /// Sets the field that takes what no other field of the category takes, in place of an earlier one.
+    pub fn set_catch_all_map(
+        &mut self,
+        category: FieldCategory,
+        info: FieldInfo<'c>,
+    ) -> Result<(), AllocError>
+        ensures ok { OnOk result (self.new ≡ with_catch_all self.old category (field_view info.entry)) }
+        ensures err { OnErr result (self.new ≡ self.old) }
+    {
+        self.catch_alls.insert(category, info)
     }
 
     /// Adds the fields of another resolution, unless a key is taken.

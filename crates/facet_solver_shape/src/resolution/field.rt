@@ -1,5 +1,5 @@
 //! Fields of a resolution, nested keys and picked variants.
-ghost use Rattle.std.specs.Prelude.{◌≡◌};
+ghost use Rattle.std.specs.Prelude.{◌≡◌, IfOk};
 ghost use Rattle.facet_solver_shape.specs.Keys.{key_of};
 ghost use Rattle.facet_solver_shape.specs.Resolved.{key_of_field};
 ghost use Rattle.facet_solver_shape.specs.Views.{field_view};
@@ -7,11 +7,12 @@ ghost use Rattle.facet_solver_shape.specs.Views.{field_view};
 use crate::resolution::key::{FieldCategory, FieldKey};
 use crate::resolution::path::FieldPath;
 use crate::shape::{Field, ShapeId};
+use std::alloc::{AllocError, Global};
 
 /// The names from the root to a nested key.
 pub type KeyPath<'c> = Vec<&'c str>;
 
-#[derive(Clone, Debug, Drop)]
+#[derive(Debug, Drop)]
 pub struct FieldInfo<'c> {
     pub serialized_name: &'c str,
     pub path: FieldPath<'c>,
@@ -37,5 +38,19 @@ impl<'c> FieldInfo<'c> {
             FieldCategory::Flat => FieldKey::Flat(self.serialized_name),
             category => FieldKey::Dom(category, self.serialized_name),
         }
+    }
+
+    // The same field, with a path in memory of its own.
+    pub(crate) fn copied(&self, alloc: Global) -> Result<Self, AllocError>
+        ensures { IfOk result (λ made. field_view made ≡ field_view self.now) }
+    {
+        Ok(FieldInfo {
+            serialized_name: self.serialized_name,
+            path: self.path.copied(alloc)?,
+            required: self.required,
+            value_shape: self.value_shape,
+            field: self.field,
+            category: self.category,
+        })
     }
 }

@@ -1,6 +1,6 @@
 //! Keys of fields, and the categories that they are of.
 
-#[derive(Clone, Copy, PartialEq, Eq, PartialOrd, Ord, Hash, Debug)]
+#[derive(Clone, Copy, PartialEq, Eq, PartialOrd, Ord, Debug)]
 pub enum FieldCategory {
     Flat,
     Attribute,
@@ -10,7 +10,7 @@ pub enum FieldCategory {
     Elements,
 }
 
-#[derive(Clone, Copy, PartialEq, Eq, PartialOrd, Ord, Hash, Debug)]
+#[derive(Clone, Copy, PartialEq, Eq, PartialOrd, Ord, Debug)]
 pub enum FieldKey<'a> {
     Flat(&'a str),
     Dom(FieldCategory, &'a str),

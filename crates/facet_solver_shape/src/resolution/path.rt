@@ -17,7 +17,7 @@ pub enum PathSegment<'c> {
 }
 
 /// Where a field or an enum stands.
-#[derive(Clone, Debug, Drop)]
+#[derive(Debug, Drop)]
 pub struct FieldPath<'c> {
     segments: Vec<PathSegment<'c>>,
 }
@@ -76,6 +76,14 @@ impl<'c> FieldPath<'c> {
     {
         let mut segments = Vec::from_slice(alloc, &self.segments)?;
         segments.push(segment)?;
+        Ok(FieldPath { segments })
+    }
+
+    // The same path in memory of its own.
+    pub(crate) fn copied(&self, alloc: Global) -> Result<Self, AllocError>
+        ensures { IfOk result (λ path. path ≡ self.now) }
+    {
+        let segments = Vec::from_slice(alloc, &self.segments)?;
         Ok(FieldPath { segments })
     }
 

@@ -5,7 +5,7 @@ use Rattle.facet_solver_shape.specs.Keys.{key_of}
 use Rattle.facet_solver_shape.specs.Views.{field_view}
 use Rattle.facet_solver_shape.proofs.KeyOrder.{key_cmp_total, key_cmp_same, key_agrees}
 use Rattle.facet_solver_shape.proofs.Viewed.{get_viewed, viewed_copied}
-use Rattle.facet_solver_shape.proofs.resolution.tables.FieldMap.get.Goals as goal
+use Rattle.facet_solver_shape.proofs.resolution.tables.field_map.FieldMap.get.Goals as goal
 
 pub returns : goal.returns
 returns c =

@@ -5,7 +5,7 @@ use Rattle.facet_solver_shape.specs.Views.{names_view}
 use Rattle.facet_solver_shape.proofs.KeyOrder.{name_cmp_same}
 use Rattle.facet_solver_shape.proofs.Finite.{remove-insert, is_false, on_true}
 use Rattle.facet_solver_shape.proofs.Viewed.{viewed_set-insert_key, contains_viewed}
-use Rattle.facet_solver_shape.proofs.resolution.tables.NameSet.insert.Goals as goal
+use Rattle.facet_solver_shape.proofs.resolution.tables.name_set.NameSet.insert.Goals as goal
 
 pub returns-clause-ok : goal.returns-clause-ok
 returns-clause-ok c =

@@ -4,7 +4,7 @@ use Rattle.std.specs.Option.{option_map}
 use Rattle.facet_solver_shape.specs.Keys.{key_of}
 use Rattle.facet_solver_shape.specs.Views.{field_view, field_entries_view}
 use Rattle.facet_solver_shape.proofs.Merging.{at_start, one_put, at_end}
-use Rattle.facet_solver_shape.proofs.resolution.tables.FieldMap.add_all.Goals as goal
+use Rattle.facet_solver_shape.proofs.resolution.tables.field_map.FieldMap.add_all.Goals as goal
 
 pub loop-key-init : goal.loop-key-init
 loop-key-init c = (ap field_entries_view c.into_iter-key-iterator.ensures.into_iter_gives.0 ∙ c.other.view_is, at_start _ _)
@@ -13,7 +13,7 @@ pub loop-key-preserved : goal.loop-key-preserved
 loop-key-preserved c =
     let none : get c.loop-key.self (key_of c.in-Some.key.now) ≡ None = sym c.get.ensures ∙ ap (option_map (λ f. field_view f.now)) c.in_default.is in
     let before = rw c.in-Some.ensures.steps at c.loop-key.invariant.1 in
-    (c.loop-key.invariant.0, rw (c.in_ok-insert.ensures.ok, c.in_ok-copy.ensures) (one_put _ _ _ _ _ _ before none))
+    (c.loop-key.invariant.0, rw (c.in_ok-insert.ensures.ok, c.in_ok-made.ensures) (one_put _ _ _ _ _ _ before none))
 
 pub returns : goal.returns
 returns c =

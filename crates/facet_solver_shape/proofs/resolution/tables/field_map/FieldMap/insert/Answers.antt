@@ -4,7 +4,7 @@ use Rattle.facet_solver_shape.specs.Keys.{key_of}
 use Rattle.facet_solver_shape.specs.Views.{field_view, field_entries_view}
 use Rattle.facet_solver_shape.proofs.KeyOrder.{key_cmp_total, key_cmp_same, key_agrees}
 use Rattle.facet_solver_shape.proofs.Viewed.{viewed-insert_entry}
-use Rattle.facet_solver_shape.proofs.resolution.tables.FieldMap.insert.Goals as goal
+use Rattle.facet_solver_shape.proofs.resolution.tables.field_map.FieldMap.insert.Goals as goal
 
 pub returns-clause-ok : goal.returns-clause-ok
 returns-clause-ok c =

@@ -5,7 +5,7 @@ use Rattle.std.specs.Cmp.Lexicographic.{slice_cmp}
 use Rattle.facet_solver_shape.specs.Views.{key_paths_view}
 use Rattle.facet_solver_shape.proofs.KeyOrder.{path_cmp_total, path_cmp_same}
 use Rattle.facet_solver_shape.proofs.Viewed.{viewed_set-insert_key, slice_cmp-map}
-use Rattle.facet_solver_shape.proofs.resolution.tables.KeyPathSet.insert.Goals as goal
+use Rattle.facet_solver_shape.proofs.resolution.tables.key_path_set.KeyPathSet.insert.Goals as goal
 
 pub returns-clause-ok : goal.returns-clause-ok
 returns-clause-ok c =

@@ -1,0 +1,59 @@
+// Fields that take what no other field of their category takes, seen as a finite map.
+ghost use Rattle.std.specs.Prelude.{◌≡◌, OnOk, OnErr};
+ghost use Rattle.std.specs.Option.{option_map};
+ghost use Rattle.std.specs.FinMap as tree;
+ghost use Rattle.facet_solver_shape.specs.Views.{field_view};
+
+use crate::resolution::{FieldCategory, FieldInfo};
+use std::alloc::{AllocError, Global};
+use std::collections::BTreeMap;
+use std::marker::Model;
+
+// At most one field a category.
+#[derive(Debug, Drop)]
+pub(crate) struct CatchAlls<'c> {
+    entries: BTreeMap<FieldCategory, FieldInfo<'c>>,
+}
+
+impl<'c> Model for CatchAlls<'c> {
+    ghost use Rattle.std.specs.FinMap as tree;
+    ghost use Rattle.facet_solver_shape.specs.Keys.{category_cmp};
+    ghost use Rattle.facet_solver_shape.specs.Resolved.{FieldView};
+    ghost use Rattle.facet_solver_shape.specs.ResolvedCode.{catch_alls_code};
+    ghost use Rattle.facet_solver_shape.specs.Views.{catch_alls_view};
+
+    ghost Value = { tree.FinMap category_cmp FieldView };
+
+    ghost coded = { catch_alls_code };
+
+    ghost view = { λ m. catch_alls_view m.entries.entries };
+}
+
+impl<'c> CatchAlls<'c> {
+    pub(crate) fn new(alloc: Global) -> Self
+        ensures { result ≡ tree.empty }
+    {
+        CatchAlls {
+            entries: BTreeMap::new(alloc),
+        }
+    }
+
+    pub(crate) fn get(&self, category: FieldCategory) -> Option<&FieldInfo<'c>>
+        ensures { option_map (λ f. field_view f.now) result ≡ tree.get self.now category }
+    {
+        self.entries.get(&category)
+    }
+
+    // Takes the place of an earlier one of the category.
+    pub(crate) fn insert(
+        &mut self,
+        category: FieldCategory,
+        info: FieldInfo<'c>,
+    ) -> Result<(), AllocError>
+        ensures ok { OnOk result (self.new ≡ tree.insert self.old category (field_view info.entry)) }
+        ensures err { OnErr result (self.new ≡ self.old) }
+    {
+        self.entries.insert(category, info)?;
+        Ok(())
+    }
+}

@@ -1,0 +1,58 @@
+// Key paths, each once, seen as a finite set.
+ghost use Rattle.std.specs.Prelude.{◌≡◌, OnOk, OnErr, IfOk, map, not};
+ghost use Rattle.std.specs.Option.{option_map};
+ghost use Rattle.std.specs.Bool.{OnTrue, OnFalse};
+ghost use Rattle.std.specs.FinMap as tree;
+ghost use Rattle.std.specs.FinSet as set;
+ghost use Rattle.facet_solver_shape.specs.Keys.{key_of};
+ghost use Rattle.facet_solver_shape.specs.Resolved.{IsUnionOf};
+ghost use Rattle.facet_solver_shape.specs.Views.{field_view, field_entries_view, names_view, key_paths_view};
+
+use crate::resolution::{DuplicateFieldError, FieldInfo, FieldKey, KeyPath, SchemaError};
+use std::alloc::{AllocError, Global};
+use std::collections::{BTreeMap, BTreeSet};
+use std::marker::Model;
+
+// Key paths, each once.
+#[derive(Debug, Drop)]
+pub(crate) struct KeyPathSet<'c> {
+    paths: BTreeSet<KeyPath<'c>>,
+}
+
+impl<'c> Model for KeyPathSet<'c> {
+    ghost use Rattle.std.specs.Ordering.{nat_cmp};
+    ghost use Rattle.std.specs.Cmp.Lexicographic.{slice_cmp};
+    ghost use Rattle.std.specs.FinSet as set;
+    ghost use Rattle.facet_solver_shape.specs.ResolvedCode.{key_path_set_code};
+    ghost use Rattle.facet_solver_shape.specs.Views.{key_paths_view};
+
+    ghost Value = { set.FinSet (slice_cmp (slice_cmp nat_cmp)) };
+
+    ghost coded = { key_path_set_code };
+
+    ghost view = { λ s. key_paths_view s.paths.keys };
+}
+
+impl<'c> KeyPathSet<'c> {
+    pub(crate) fn new(alloc: Global) -> Self
+        ensures { result ≡ set.empty }
+    {
+        KeyPathSet {
+            paths: BTreeSet::new(alloc),
+        }
+    }
+
+    pub(crate) fn as_set(&self) -> &BTreeSet<KeyPath<'c>>
+        ensures { key_paths_view result.now.keys ≡ self.now }
+    {
+        &self.paths
+    }
+
+    pub(crate) fn insert(&mut self, path: KeyPath<'c>) -> Result<(), AllocError>
+        ensures ok { OnOk result (self.new ≡ set.insert self.old (map (λ n. n.now) path.entry.items)) }
+        ensures err { OnErr result (self.new ≡ self.old) }
+    {
+        self.paths.insert(path)?;
+        Ok(())
+    }
+}

@@ -1,0 +1,71 @@
+// Names, each once, seen as a finite set.
+ghost use Rattle.std.specs.Prelude.{◌≡◌, OnOk, OnErr, IfOk, map, not};
+ghost use Rattle.std.specs.Option.{option_map};
+ghost use Rattle.std.specs.Bool.{OnTrue, OnFalse};
+ghost use Rattle.std.specs.FinMap as tree;
+ghost use Rattle.std.specs.FinSet as set;
+ghost use Rattle.facet_solver_shape.specs.Keys.{key_of};
+ghost use Rattle.facet_solver_shape.specs.Resolved.{IsUnionOf};
+ghost use Rattle.facet_solver_shape.specs.Views.{field_view, field_entries_view, names_view, key_paths_view};
+
+use crate::resolution::{DuplicateFieldError, FieldInfo, FieldKey, KeyPath, SchemaError};
+use std::alloc::{AllocError, Global};
+use std::collections::{BTreeMap, BTreeSet};
+use std::marker::Model;
+
+// Names, each once.
+#[derive(Debug, Drop)]
+pub(crate) struct NameSet<'c> {
+    names: BTreeSet<&'c str>,
+}
+
+impl<'c> Model for NameSet<'c> {
+    ghost use Rattle.std.specs.Ordering.{nat_cmp};
+    ghost use Rattle.std.specs.Cmp.Lexicographic.{slice_cmp};
+    ghost use Rattle.std.specs.FinSet as set;
+    ghost use Rattle.facet_solver_shape.specs.ResolvedCode.{name_set_code};
+    ghost use Rattle.std.specs.BTreeSet.{IsOrdered};
+    ghost use Rattle.facet_solver_shape.specs.Views.{names_view, name_ref_cmp};
+
+    ghost Value = { set.FinSet (slice_cmp nat_cmp) };
+
+    ghost coded = { name_set_code };
+
+    ghost view = { λ s. names_view s.names.keys };
+
+    ghost invariant = { λ s. IsOrdered name_ref_cmp s.names };
+}
+
+impl<'c> NameSet<'c> {
+    pub(crate) fn new(alloc: Global) -> Self
+        ensures { result ≡ set.empty }
+    {
+        NameSet {
+            names: BTreeSet::new(alloc),
+        }
+    }
+
+    pub(crate) fn as_set(&self) -> &BTreeSet<&'c str>
+        ensures { names_view result.now.keys ≡ self.now }
+    {
+        &self.names
+    }
+
+    // Answers whether the name is new.
+    pub(crate) fn insert(&mut self, name: &'c str) -> Result<bool, AllocError>
+        ensures added { IfOk result (λ added. added ≡ not (set.contains self.old name.now)) }
+        ensures ok { OnOk result (self.new ≡ set.insert self.old name.now) }
+        ensures undone { IfOk result (λ added. OnTrue added (set.remove self.new name.now ≡ self.old)) }
+        ensures kept { IfOk result (λ added. OnFalse added (self.new ≡ self.old)) }
+        ensures err { OnErr result (self.new ≡ self.old) }
+    {
+        Ok(self.names.insert(name)?)
+    }
+
+    // Takes out a name that was just put in anew.
+    pub(crate) fn remove(&mut self, name: &'c str)
+        ensures { self.new ≡ set.remove self.old name.now }
+    {
+        self.names.remove(name);
+    }
+}
