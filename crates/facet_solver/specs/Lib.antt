@@ -11,3 +11,5 @@ pub mod Choice
 pub mod Count
 pub mod Listing
 pub mod Outcome
+pub mod RoleView
+pub mod PlanView

@@ -1,18 +1,25 @@
 //! How enums are written in a document, and what kind of document it is.
+ghost use Rattle.std.specs.Prelude.{◌≡◌};
+ghost use Rattle.facet_solver.specs.Representation as representation;
+ghost use Rattle.facet_solver.specs.Representation.{repr_view, asked_view};
+
+use facet_solver_shape::Shape;
 
 /// What kind of document is read.
-#[derive(Clone, Copy, PartialEq, Eq, Debug)]
+#[derive(Clone, Copy, PartialEq, Eq, Debug, Default)]
 pub enum Format {
     /// Keys are names.
+    #[default]
     Flat,
     /// Keys are names of attributes, elements and text.
     Dom,
 }
 
 /// How a flattened enum is written in a document.
-#[derive(Clone, Copy, PartialEq, Eq, Debug)]
+#[derive(Clone, Copy, PartialEq, Eq, Debug, Default)]
 pub enum EnumRepr<'c> {
     /// The content stands among the fields of the parent.
+    #[default]
     Flattened,
     /// The variant's name is a field that holds the content.
     ExternallyTagged,
@@ -28,4 +35,34 @@ pub enum EnumRepr<'c> {
         /// The name of the field that holds the content.
         content: &'c str,
     },
+}
+
+impl<'c> EnumRepr<'c> {
+    /// The representation that an enum's own attributes ask for: untagged is flattened, a tag with a content name is
+    /// adjacent, a tag alone internal, and no tag external.
+    pub fn from_shape(shape: &'c Shape) -> EnumRepr<'c>
+        ensures { repr_view result ≡ representation.repr_of_shape shape.now }
+    {
+        if shape.untagged {
+            return EnumRepr::Flattened;
+        }
+        match (&shape.tag, &shape.content) {
+            (None, _) => EnumRepr::ExternallyTagged,
+            (Some(tag), None) => EnumRepr::InternallyTagged { tag: tag.as_str() },
+            (Some(tag), Some(content)) => EnumRepr::AdjacentlyTagged {
+                tag: tag.as_str(),
+                content: content.as_str(),
+            },
+        }
+    }
+
+    /// Whether a variant's content is walked at the enum's own level.
+    pub(crate) fn walks_content(self) -> bool
+        ensures { result ≡ representation.is_walked (repr_view self.entry) }
+    {
+        matches!(
+            self,
+            EnumRepr::Flattened | EnumRepr::InternallyTagged { .. }
+        )
+    }
 }

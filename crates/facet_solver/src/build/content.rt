@@ -1,0 +1,48 @@
+//! The content of a variant.
+ghost use Rattle.std.specs.Prelude.{◌≡◌, slice_get};
+ghost use Rattle.std.specs.Option.{option_copied, option_map};
+ghost use Rattle.facet_solver.specs.Below.{NamesEarlier};
+ghost use Rattle.facet_solver.specs.Targets as targets;
+ghost use Rattle.facet_solver.specs.Content as content;
+
+use facet_solver_shape::{Field, ShapeId, ShapeKind, Shapes, Variant};
+
+/// The shape that `inner` and then `proxy` lead to, and so on to the end.
+pub(crate) fn effective(shapes: &Shapes, id: ShapeId) -> ShapeId
+    requires { NamesEarlier shapes.now }
+    ensures { result ≡ targets.effective shapes.now id }
+{
+    let mut id = id;
+    while let Some(shape) = shapes.get(id) {
+        let Some(next) = shape.inner.or(shape.proxy) else {
+            break;
+        };
+        id = next;
+    }
+    id
+}
+
+/// The fields of the struct behind a single field `0`.
+pub(crate) fn newtype_fields<'c>(shapes: &'c Shapes, fields: &'c [Field]) -> Option<&'c [Field]>
+    requires { NamesEarlier shapes.now }
+    ensures { option_copied result ≡ content.newtype_fields shapes.now fields.now }
+{
+    let [field] = fields else {
+        return None;
+    };
+    if field.name.as_str() != "0" {
+        return None;
+    }
+    match &shapes.get(effective(shapes, field.shape))?.kind {
+        ShapeKind::Struct { fields, .. } => Some(fields.as_slice()),
+        _ => None,
+    }
+}
+
+/// The fields of a variant's content.
+pub(crate) fn content_fields<'c>(shapes: &'c Shapes, variant: &'c Variant) -> &'c [Field]
+    requires { NamesEarlier shapes.now }
+    ensures { result.now ≡ (content.content_of shapes.now variant.now).fields }
+{
+    newtype_fields(shapes, variant.fields.as_slice()).unwrap_or(variant.fields.as_slice())
+}

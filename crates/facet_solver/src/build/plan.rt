@@ -1,0 +1,31 @@
+//! What a build goes by.
+ghost use Rattle.std.specs.Prelude.{◌≡◌};
+ghost use Rattle.facet_solver.specs.Representation as representation;
+ghost use Rattle.facet_solver.specs.Representation.{repr_view};
+ghost use Rattle.facet_solver.specs.PlanView.{settings_of};
+
+use crate::build::representation::{EnumRepr, Format};
+use facet_solver_shape::{Shape, Shapes};
+use std::alloc::Global;
+
+/// The catalogue and the rules of a build, with the allocator of what it makes.
+#[derive(Clone, Copy)]
+pub(crate) struct Plan<'c> {
+    pub(crate) alloc: Global,
+    pub(crate) shapes: &'c Shapes,
+    /// The representation of all flattened enums; None leaves it to each enum's own attributes.
+    pub(crate) representation: Option<EnumRepr<'c>>,
+    pub(crate) format: Format,
+}
+
+impl<'c> Plan<'c> {
+    /// The representation of an enum.
+    pub(crate) fn repr_for(self, shape: &'c Shape) -> EnumRepr<'c>
+        ensures { repr_view result ≡ representation.repr_for (settings_of self.entry) shape.now }
+    {
+        match self.representation {
+            Some(repr) => repr,
+            None => EnumRepr::from_shape(shape),
+        }
+    }
+}
