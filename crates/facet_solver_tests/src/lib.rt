@@ -1,0 +1,7 @@
+//! Tests of the whole port over its public calls: what no clause says, and that calls succeed where memory is ample.
+#![tactic(auto)]
+
+#[cfg(test)]
+mod fixtures;
+#[cfg(test)]
+mod catalogue;
