@@ -8,3 +8,7 @@ pub mod Views
 pub mod ResolvedCode
 pub mod Scores
 pub mod PathEq
+pub mod Ends
+pub mod Formats
+pub mod Scalars
+pub mod Groups
