@@ -1,5 +1,6 @@
 -- The variants of an enum, grouped by format.
-use Rattle.std.specs.Prelude.{ℕ, List, map, filter, ◌++◌, Bool, true, false, Option, Some, None, slice_get, ◌≡◌}
+use Rattle.std.specs.Prelude.{ℕ, List, map, filter, [], ◌∷◌, ◌++◌, Bool, true, false, Option, Some, None, slice_get, ◌≡◌}
+use denote.Bor.{Bor}
 use Rattle.std.specs.Option.{option_map, option_map_or, option_and_then}
 use Rattle.std.specs.List.{filter_map}
 use Rattle.std.specs.List.Sorted.{IsPermutation}
@@ -109,6 +110,20 @@ groups_of shapes variants =
       other_variants = filter (λ v. is_other (format_of shapes v)) variants;
     }
 
+-- a scalar alone, grouped
+abbrev pub scalar_groups : List Shape → Entry → Groups
+scalar_groups shapes entry = record {
+  unit_variants = [];
+  tuple_variants = [];
+  struct_variants = [];
+  scalar_variants = entry ∷ [];
+  bool_variants = filter (ends_at shapes is_bool) (entry ∷ []);
+  int_variants = filter (ends_at shapes is_int) (entry ∷ []);
+  float_variants = filter (ends_at shapes is_float) (entry ∷ []);
+  string_variants = filter (ends_at shapes is_string) (entry ∷ []);
+  other_variants = [];
+}
+
 -- the lists of the first, each followed by that of the second
 abbrev pub joined : Groups → Groups → Groups
 joined a b = record {
@@ -132,18 +147,26 @@ variants_of_kind _ = None
 abbrev pub variants_at : List Shape → ℕ → Option (List Variant)
 variants_at shapes place = option_and_then (λ s. variants_of_kind s.kind) (slice_get shapes place)
 
--- what the lists say, wherever the variants lie
+-- what a list of variants says, wherever they lie
+abbrev pub variants_view : List (Bor Variant) → List Variant
+variants_view variants = map (λ v. v.now) variants
+
+-- what a list of entries says
+abbrev pub entries_view : List (Bor Variant × ℕ) → List Entry
+entries_view entries = map (λ e. (e.0.now, e.1)) entries
+
+-- what the lists say
 abbrev pub groups_view : VariantsByFormat → Groups
 groups_view g = record {
-  unit_variants = map (λ v. v.now) g.unit_variants.items;
-  tuple_variants = map (λ e. (e.0.now, e.1)) g.tuple_variants.items;
-  struct_variants = map (λ v. v.now) g.struct_variants.items;
-  scalar_variants = map (λ e. (e.0.now, e.1)) g.scalar_variants.items;
-  bool_variants = map (λ e. (e.0.now, e.1)) g.bool_variants.items;
-  int_variants = map (λ e. (e.0.now, e.1)) g.int_variants.items;
-  float_variants = map (λ e. (e.0.now, e.1)) g.float_variants.items;
-  string_variants = map (λ e. (e.0.now, e.1)) g.string_variants.items;
-  other_variants = map (λ v. v.now) g.other_variants.items;
+  unit_variants = variants_view g.unit_variants.items;
+  tuple_variants = entries_view g.tuple_variants.items;
+  struct_variants = variants_view g.struct_variants.items;
+  scalar_variants = entries_view g.scalar_variants.items;
+  bool_variants = entries_view g.bool_variants.items;
+  int_variants = entries_view g.int_variants.items;
+  float_variants = entries_view g.float_variants.items;
+  string_variants = entries_view g.string_variants.items;
+  other_variants = variants_view g.other_variants.items;
 }
 
 -- the variants of entries

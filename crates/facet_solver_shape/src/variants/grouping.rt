@@ -1,8 +1,8 @@
 //! The variants of an enum, grouped by format.
-ghost use Rattle.std.specs.Prelude.{◌≡◌, ◌↔◌, ◌<◌, ◌==◌, [], ◌∷◌, map, filter, IsTrue, IfOk, IfSome, OnOk, vec_len};
+ghost use Rattle.std.specs.Prelude.{◌≡◌, ◌↔◌, ◌<◌, ◌==◌, [], ◌∷◌, ◌++◌, map, filter, IsTrue, IfOk, IfSome, OnOk, vec_len};
 ghost use Rattle.std.specs.Option.{option_map};
 ghost use Rattle.facet_solver_shape.specs.Formats.{format_of};
-ghost use Rattle.facet_solver_shape.specs.Groups.{groups_of, groups_view, variants_at, joined, IsPartition, entry_variants};
+ghost use Rattle.facet_solver_shape.specs.Groups.{groups_of, groups_view, variants_at, joined, scalar_groups, end_scalar, IsPartition, entry_variants, entries_view, variants_view};
 
 use super::format::{VariantFormat, end_of};
 use crate::shape::{ScalarType, Shape, ShapeId, ShapeKind, Shapes, Variant};
@@ -62,7 +62,7 @@ impl<'c> VariantsByFormat<'c> {
         alloc: Global,
         arity: usize,
     ) -> Result<Vec<&'c Variant>, AllocError>
-        ensures { IfOk result (λ found. map (λ v. v.now) found.items ≡ entry_variants (filter (λ e. e.1 == arity) (groups_view self.now).tuple_variants)) }
+        ensures { IfOk result (λ found. variants_view found.items ≡ entry_variants (filter (λ e. e.1 == arity) (groups_view self.now).tuple_variants)) }
     {
         let mut found = Vec::new(alloc);
         for (variant, length) in &self.tuple_variants {
@@ -101,7 +101,8 @@ fn grouped<'c>(
     shapes: &'c Shapes,
     variants: &'c [Variant],
 ) -> Result<VariantsByFormat<'c>, AllocError>
-    ensures { IfOk result (λ g. groups_view g ≡ groups_of shapes.now variants.now) }
+    ensures groups { IfOk result (λ g. groups_view g ≡ groups_of shapes.now variants.now) }
+    ensures partition { IfOk result (λ g. IsPartition variants.now (groups_view g)) }
 {
     let mut groups = VariantsByFormat::empty(alloc);
     for variant in variants {
@@ -134,8 +135,7 @@ impl<'c> VariantsByFormat<'c> {
         match VariantFormat::from_variant(shapes, variant) {
             VariantFormat::Unit => self.unit_variants.push(variant)?,
             VariantFormat::NewtypeScalar { inner_shape } => {
-                self.scalar_variants.push((variant, inner_shape))?;
-                self.add_scalar(shapes, variant, inner_shape)?;
+                self.add_scalar(shapes, variant, inner_shape)?
             }
             VariantFormat::Struct | VariantFormat::NewtypeStruct { .. } => {
                 self.struct_variants.push(variant)?
@@ -149,23 +149,63 @@ impl<'c> VariantsByFormat<'c> {
         Ok(())
     }
 
-    // Adds a scalar at the end of the list of its type, if there is one.
+    // Adds a scalar at the end of the scalar list, and of the list of its type if there is one.
     fn add_scalar(
         &mut self,
         shapes: &Shapes,
         variant: &'c Variant,
         shape: ShapeId,
-    ) -> Result<(), AllocError> {
+    ) -> Result<(), AllocError>
+        ensures { OnOk result (groups_view self.new ≡ joined (groups_view self.old) (scalar_groups shapes.now (variant.now, shape))) }
+    {
+        add_entry(&mut self.scalar_variants, variant, shape)?;
         match scalar_at_end(shapes, shape) {
-            Some(ScalarType::Bool) => self.bool_variants.push((variant, shape))?,
-            _ => {}
+            Some(ScalarType::Bool) => add_entry(&mut self.bool_variants, variant, shape),
+            Some(
+                ScalarType::U8
+                | ScalarType::U16
+                | ScalarType::U32
+                | ScalarType::U64
+                | ScalarType::U128
+                | ScalarType::USize
+                | ScalarType::I8
+                | ScalarType::I16
+                | ScalarType::I32
+                | ScalarType::I64
+                | ScalarType::I128
+                | ScalarType::ISize,
+            ) => add_entry(&mut self.int_variants, variant, shape),
+            Some(ScalarType::F32 | ScalarType::F64) => {
+                add_entry(&mut self.float_variants, variant, shape)
+            }
+            Some(
+                ScalarType::String | ScalarType::CowStr | ScalarType::Str | ScalarType::Char,
+            ) => add_entry(&mut self.string_variants, variant, shape),
+            Some(ScalarType::Unit | ScalarType::Other) | None => Ok(()),
         }
-        Ok(())
+    }
+}
+
+// Adds a variant with a shape at the end of a list.
+fn add_entry<'c>(
+    list: &mut Vec<(&'c Variant, ShapeId)>,
+    variant: &'c Variant,
+    shape: ShapeId,
+) -> Result<(), AllocError>
+    ensures { OnOk result (entries_view list.new.items ≡ entries_view list.old.items ++ (variant.now, shape) ∷ []) }
+{
+    // In place of `?`, for which no proof is generated at an entry of this type.
+    match list.push((variant, shape)) {
+        Ok(()) => Ok(()),
+        Err(_) => Err(AllocError),
     }
 }
 
 // The scalar type at the end of a shape, if it is a scalar.
-fn scalar_at_end(shapes: &Shapes, id: ShapeId) -> Option<ScalarType> {
+#[tactic(auto, unfolding(crate::specs::Groups::end_scalar))]
+fn scalar_at_end(shapes: &Shapes, id: ShapeId) -> Option<ScalarType>
+    ensures { result ≡ end_scalar shapes.now id }
+{
     match shapes.get(end_of(shapes, id)) {
         Some(Shape {
             kind: ShapeKind::Scalar(scalar),
