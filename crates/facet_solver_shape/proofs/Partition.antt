@@ -1,5 +1,5 @@
 -- Each variant stands in one list, and each scalar in at most one of the lists of scalar types.
-use Rattle.std.proofs.Common.{◌≡◌, ℕ, Bool, true, false, cond, Option, Some, None, List, [], ◌∷◌, ◌++◌, filter, map}
+use Rattle.std.proofs.Common.{Bool, true, false, cond, Option, Some, None, List, [], ◌∷◌, ◌++◌, filter}
 use Rattle.std.specs.Option.{option_map, option_map_or}
 use Rattle.std.specs.List.{cons_option}
 use Rattle.std.specs.List.Sorted.{IsPermutation}

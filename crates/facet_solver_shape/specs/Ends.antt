@@ -1,5 +1,5 @@
 -- Where pointers lead.
-use Rattle.std.specs.Prelude.{ℕ, zero, suc, List, Option, Some, None, length, slice_get, unwrap_or}
+use Rattle.std.specs.Prelude.{ℕ, zero, suc, List, Option, None, length, slice_get, unwrap_or}
 use Rattle.std.specs.Option.{option_and_then}
 use Rattle.facet_solver_shape.specs.declared.shape.Shape.{Shape}
 use Rattle.facet_solver_shape.specs.declared.shape.ShapeKind.{ShapeKind}

@@ -1,5 +1,5 @@
 -- The format of a variant: what kind of value stands for it.
-use Rattle.std.specs.Prelude.{ℕ, List, [], ◌∷◌, length, Bool, true, false, not, Option, Some, None, slice_get, unwrap_or, find, if◌then◌else◌, ◌==◌}
+use Rattle.std.specs.Prelude.{ℕ, List, [], ◌∷◌, length, Bool, true, false, not, Option, None, slice_get, unwrap_or, find, if◌then◌else◌, ◌==◌}
 use Rattle.std.specs.Option.{option_map, option_map_or, option_and_then}
 use Rattle.std.specs.List.{list_all}
 use Rattle.facet_solver_shape.specs.declared.shape.Shape.{Shape}

@@ -1,5 +1,5 @@
 -- The variants of an enum, grouped by format.
-use Rattle.std.specs.Prelude.{ℕ, List, map, filter, [], ◌∷◌, ◌++◌, Bool, true, false, Option, Some, None, slice_get, ◌≡◌}
+use Rattle.std.specs.Prelude.{ℕ, List, map, filter, ◌++◌, Bool, true, false, Option, Some, None, slice_get}
 use denote.Bor.{Bor}
 use Rattle.std.specs.Option.{option_map, option_map_or, option_and_then}
 use Rattle.std.specs.List.{filter_map}
@@ -109,20 +109,6 @@ groups_of shapes variants =
       string_variants = filter (ends_at shapes is_string) scalars;
       other_variants = filter (λ v. is_other (format_of shapes v)) variants;
     }
-
--- a scalar alone, grouped
-abbrev pub scalar_groups : List Shape → Entry → Groups
-scalar_groups shapes entry = record {
-  unit_variants = [];
-  tuple_variants = [];
-  struct_variants = [];
-  scalar_variants = entry ∷ [];
-  bool_variants = filter (ends_at shapes is_bool) (entry ∷ []);
-  int_variants = filter (ends_at shapes is_int) (entry ∷ []);
-  float_variants = filter (ends_at shapes is_float) (entry ∷ []);
-  string_variants = filter (ends_at shapes is_string) (entry ∷ []);
-  other_variants = [];
-}
 
 -- the lists of the first, each followed by that of the second
 abbrev pub joined : Groups → Groups → Groups

@@ -59,7 +59,7 @@ impl VariantFormat {
         match variant.kind {
             StructKind::Unit => VariantFormat::Unit,
             StructKind::Struct => VariantFormat::Struct,
-            StructKind::TupleStruct | StructKind::Tuple => unnamed(shapes, &variant.fields),
+            StructKind::TupleStruct | StructKind::Tuple => unnamed_format(shapes, &variant.fields),
         }
     }
 
@@ -101,11 +101,11 @@ impl VariantFormat {
 }
 
 // The format of a variant whose fields have no names.
-fn unnamed(shapes: &Shapes, fields: &[Field]) -> VariantFormat
+fn unnamed_format(shapes: &Shapes, fields: &[Field]) -> VariantFormat
     ensures { result ≡ unnamed_format shapes.now fields.now }
 {
     match fields {
-        [field] => newtype(shapes, field.shape),
+        [field] => newtype_format(shapes, field.shape),
         _ => VariantFormat::Tuple {
             arity: fields.len(),
         },
@@ -113,19 +113,19 @@ fn unnamed(shapes: &Shapes, fields: &[Field]) -> VariantFormat
 }
 
 // The format of a variant with one field without a name.
-fn newtype(shapes: &Shapes, field: ShapeId) -> VariantFormat
+fn newtype_format(shapes: &Shapes, field: ShapeId) -> VariantFormat
     ensures { result ≡ newtype_format shapes.now field }
 {
     let value = value_shape(shapes, field);
     let inner_shape = end_of(shapes, field);
     match shapes.get(end_of(shapes, value)) {
-        Some(end) => newtype_of_kind(&end.kind, value, inner_shape),
+        Some(end) => format_of_kind(&end.kind, value, inner_shape),
         None => VariantFormat::NewtypeOther { inner_shape },
     }
 }
 
 // That format, by the kind at the end of the value.
-fn newtype_of_kind(kind: &ShapeKind, value: ShapeId, inner_shape: ShapeId) -> VariantFormat
+fn format_of_kind(kind: &ShapeKind, value: ShapeId, inner_shape: ShapeId) -> VariantFormat
     ensures { result ≡ format_of_kind kind.now value inner_shape }
 {
     match kind {
@@ -133,15 +133,20 @@ fn newtype_of_kind(kind: &ShapeKind, value: ShapeId, inner_shape: ShapeId) -> Va
         ShapeKind::Enum { variants } if have_no_fields(variants) => {
             VariantFormat::NewtypeScalar { inner_shape: value }
         }
-        ShapeKind::Struct { kind: StructKind::TupleStruct | StructKind::Tuple, fields } => {
+        ShapeKind::Struct {
+            kind: StructKind::TupleStruct | StructKind::Tuple,
+            fields,
+        } => {
             VariantFormat::NewtypeTuple {
                 inner_shape,
                 arity: fields.len(),
             }
         }
-        ShapeKind::Struct { kind: StructKind::Struct, .. } | ShapeKind::Map(..) => {
-            VariantFormat::NewtypeStruct { inner_shape }
+        ShapeKind::Struct {
+            kind: StructKind::Struct,
+            ..
         }
+        | ShapeKind::Map(..) => { VariantFormat::NewtypeStruct { inner_shape } }
         ShapeKind::List(_) | ShapeKind::Array(_) | ShapeKind::Slice(_) | ShapeKind::Set(_) => {
             VariantFormat::NewtypeSequence { inner_shape }
         }

@@ -2,7 +2,7 @@
 ghost use Rattle.std.specs.Prelude.{◌≡◌, ◌↔◌, ◌<◌, ◌==◌, [], ◌∷◌, ◌++◌, map, filter, IsTrue, IfOk, IfSome, OnOk, vec_len};
 ghost use Rattle.std.specs.Option.{option_map};
 ghost use Rattle.facet_solver_shape.specs.Formats.{format_of};
-ghost use Rattle.facet_solver_shape.specs.Groups.{groups_of, groups_view, variants_at, joined, scalar_groups, end_scalar, IsPartition, entry_variants, entries_view, variants_view};
+ghost use Rattle.facet_solver_shape.specs.Groups.{groups_of, groups_view, variants_at, joined, end_scalar, IsPartition, entry_variants, entries_view, variants_view};
 
 use super::format::{VariantFormat, end_of};
 use crate::shape::{ScalarType, Shape, ShapeId, ShapeKind, Shapes, Variant};
@@ -48,10 +48,12 @@ impl<'c> VariantsByFormat<'c> {
         ensures partition { IfOk result (λ found. IfSome found (λ g. IfSome (variants_at shapes.now id) (λ variants. IsPartition variants (groups_view g)))) }
     {
         match shapes.get(id) {
-            Some(Shape {
-                kind: ShapeKind::Enum { variants },
-                ..
-            }) => Ok(Some(grouped(alloc, shapes, variants)?)),
+            Some(
+                Shape {
+                    kind: ShapeKind::Enum { variants },
+                    ..
+                },
+            ) => Ok(Some(grouped(alloc, shapes, variants)?)),
             _ => Ok(None),
         }
     }
@@ -156,7 +158,8 @@ impl<'c> VariantsByFormat<'c> {
         variant: &'c Variant,
         shape: ShapeId,
     ) -> Result<(), AllocError>
-        ensures { OnOk result (groups_view self.new ≡ joined (groups_view self.old) (scalar_groups shapes.now (variant.now, shape))) }
+        requires { format_of shapes.now variant.now ≡ VariantFormat.NewtypeScalar shape }
+        ensures { OnOk result (groups_view self.new ≡ joined (groups_view self.old) (groups_of shapes.now (variant.now ∷ []))) }
     {
         add_entry(&mut self.scalar_variants, variant, shape)?;
         match scalar_at_end(shapes, shape) {
@@ -178,9 +181,8 @@ impl<'c> VariantsByFormat<'c> {
             Some(ScalarType::F32 | ScalarType::F64) => {
                 add_entry(&mut self.float_variants, variant, shape)
             }
-            Some(
-                ScalarType::String | ScalarType::CowStr | ScalarType::Str | ScalarType::Char,
-            ) => add_entry(&mut self.string_variants, variant, shape),
+            Some(ScalarType::String | ScalarType::CowStr | ScalarType::Str | ScalarType::Char) =>
+                add_entry(&mut self.string_variants, variant, shape),
             Some(ScalarType::Unit | ScalarType::Other) | None => Ok(()),
         }
     }
@@ -207,10 +209,12 @@ fn scalar_at_end(shapes: &Shapes, id: ShapeId) -> Option<ScalarType>
     ensures { result ≡ end_scalar shapes.now id }
 {
     match shapes.get(end_of(shapes, id)) {
-        Some(Shape {
-            kind: ShapeKind::Scalar(scalar),
-            ..
-        }) => Some(*scalar),
+        Some(
+            Shape {
+                kind: ShapeKind::Scalar(scalar),
+                ..
+            },
+        ) => Some(*scalar),
         _ => None,
     }
 }

@@ -1,5 +1,5 @@
-use Rattle.std.proofs.Common.{◌≡◌, ◌+◌, ◌-◌, length, suc, refl, ap, sym, ◌∙◌, arith}
-use Rattle.facet_solver_shape.specs.Ends.{end_of, followed, next_place}
+use Rattle.std.proofs.Common.{◌≡◌, ◌+◌, ◌-◌, length, suc, refl, arith}
+use Rattle.facet_solver_shape.specs.Ends.{end_of}
 use Rattle.facet_solver_shape.proofs.variants.format.end_of.Goals as goal
 
 pub loop-init : goal.loop-init
