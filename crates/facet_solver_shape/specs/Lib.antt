@@ -11,3 +11,7 @@ pub mod PathEq
 pub mod Matching
 pub mod Descriptions
 pub mod FieldTable
+pub mod Ends
+pub mod Formats
+pub mod Scalars
+pub mod Groups
