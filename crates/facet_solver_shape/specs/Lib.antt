@@ -9,6 +9,9 @@ pub mod ResolvedCode
 pub mod Scores
 pub mod PathEq
 pub mod Ends
-pub mod Formats
 pub mod Scalars
+pub mod Containers
+pub mod Formats
+pub mod ScalarTypes
 pub mod Groups
+pub mod Partition

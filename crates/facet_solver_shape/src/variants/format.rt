@@ -3,7 +3,8 @@ ghost use Rattle.std.specs.Prelude.{◌≡◌, ◌==◌, not, find, length};
 ghost use Rattle.std.specs.Option.{option_map};
 ghost use Rattle.std.specs.List.{list_all};
 ghost use Rattle.facet_solver_shape.specs.Ends.{end_of, next_place, pointee_of_kind};
-ghost use Rattle.facet_solver_shape.specs.Formats.{format_of, unnamed_format, newtype_format, format_of_kind, value_place, contained_place, expects_scalar, expects_sequence, expects_mapping, is_unit};
+ghost use Rattle.facet_solver_shape.specs.Containers.{value_place, contained_place};
+ghost use Rattle.facet_solver_shape.specs.Formats.{format_of, unnamed_format, newtype_format, format_of_kind, expects_scalar, expects_sequence, expects_mapping, is_unit};
 
 use crate::shape::{Field, Shape, ShapeId, ShapeKind, Shapes, StructKind, Variant};
 
@@ -49,10 +50,10 @@ pub enum VariantFormat {
 }
 
 impl VariantFormat {
-    #[tactic(auto, unfolding(crate::specs::Formats::format_of))]
     /// The format of a variant whose fields have shapes of the catalogue.
     ///
     /// A field that is a metadata container counts as what it contains; a pointer to one does not.
+    #[tactic(auto, unfolding(crate::specs::Formats::format_of))]
     pub fn from_variant(shapes: &Shapes, variant: &Variant) -> Self
         ensures { result ≡ format_of shapes.now variant.now }
     {

@@ -2,7 +2,9 @@
 ghost use Rattle.std.specs.Prelude.{◌≡◌, ◌↔◌, ◌<◌, ◌==◌, [], ◌∷◌, ◌++◌, map, filter, IsTrue, IfOk, IfSome, OnOk, vec_len};
 ghost use Rattle.std.specs.Option.{option_map};
 ghost use Rattle.facet_solver_shape.specs.Formats.{format_of};
-ghost use Rattle.facet_solver_shape.specs.Groups.{groups_of, groups_view, variants_at, joined, end_scalar, IsPartition, entry_variants, entries_view, variants_view};
+ghost use Rattle.facet_solver_shape.specs.Groups.{groups_of, groups_view, variants_at, joined, entry_variants, entries_view, variants_view};
+ghost use Rattle.facet_solver_shape.specs.ScalarTypes.{end_scalar};
+ghost use Rattle.facet_solver_shape.specs.Partition.{IsPartition};
 
 use super::format::{VariantFormat, end_of};
 use crate::shape::{ScalarType, Shape, ShapeId, ShapeKind, Shapes, Variant};
@@ -204,7 +206,7 @@ fn add_entry<'c>(
 }
 
 // The scalar type at the end of a shape, if it is a scalar.
-#[tactic(auto, unfolding(crate::specs::Groups::end_scalar))]
+#[tactic(auto, unfolding(crate::specs::ScalarTypes::end_scalar))]
 fn scalar_at_end(shapes: &Shapes, id: ShapeId) -> Option<ScalarType>
     ensures { result ≡ end_scalar shapes.now id }
 {
