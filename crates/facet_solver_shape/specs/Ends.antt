@@ -1,24 +1,20 @@
--- Where pointers lead.
-use Rattle.std.specs.Prelude.{ℕ, zero, suc, List, Option, None, length, slice_get, unwrap_or}
-use Rattle.std.specs.Option.{option_and_then}
+-- The end of a shape.
+use Rattle.std.specs.Prelude.{◌≡◌, ℕ, zero, suc, List, length, Some, None}
+use Rattle.std.specs.Option.{option_map_or}
 use Rattle.facet_solver_shape.specs.declared.shape.Shape.{Shape}
-use Rattle.facet_solver_shape.specs.declared.shape.ShapeKind.{ShapeKind}
-use Rattle.facet_solver_shape.specs.declared.shape.ShapeKind.TheVariants.{Pointer}
+use Rattle.facet_solver_shape.specs.Pointers.{pointee_at, pointee_after}
 
--- the pointee of a pointer that is not opaque
-abbrev pub pointee_of_kind : ShapeKind → Option ℕ
-pointee_of_kind (Pointer pointee) = pointee
-pointee_of_kind _ = None
+-- the place reached from a place by following pointees, n at the most
+abbrev pub end_within : List Shape → ℕ → ℕ → ℕ
+end_within shapes zero place = place
+end_within shapes (suc n) place = option_map_or (end_within shapes n) (pointee_at shapes place) place
 
--- the pointee of the shape at a place, or the place itself
-abbrev pub next_place : List Shape → ℕ → ℕ
-next_place shapes place = unwrap_or (option_and_then (λ s. pointee_of_kind s.kind) (slice_get shapes place)) place
+-- the end of the shape at a place: pointers are followed, and an opaque one is an end. No way that ends is longer than the list
+abbrev pub end_of : List Shape → ℕ → ℕ
+end_of shapes place = end_within shapes (length shapes) place
 
--- a place, with at most n pointers followed
-abbrev pub followed : ℕ → List Shape → ℕ → ℕ
-followed zero shapes place = place
-followed (suc n) shapes place = followed n shapes (next_place shapes place)
-
--- a place, with pointers followed
-unfoldable pub end_of : List Shape → ℕ → ℕ
-end_of shapes place = followed (length shapes) shapes place
+-- some number of pointees leads from place to end, and nothing leads on from there
+pub record IsEndOf (shapes : List Shape) (place end : ℕ) : Type 0 where
+  pub steps : ℕ
+  pub reached : pointee_after shapes steps place ≡ Some end
+  pub last : pointee_at shapes end ≡ None

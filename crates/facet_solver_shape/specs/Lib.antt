@@ -1,5 +1,9 @@
 pub mod Names
+pub mod Scalars
 pub mod Places
+pub mod Pointers
+pub mod Ends
+pub mod Repeats
 pub mod Faults
 pub mod Paths
 pub mod Keys
@@ -8,8 +12,6 @@ pub mod Views
 pub mod ResolvedCode
 pub mod Scores
 pub mod PathEq
-pub mod Ends
-pub mod Scalars
 pub mod Containers
 pub mod Formats
 pub mod ScalarTypes

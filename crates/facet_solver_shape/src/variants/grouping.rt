@@ -6,7 +6,7 @@ ghost use Rattle.facet_solver_shape.specs.Groups.{groups_of, groups_view, varian
 ghost use Rattle.facet_solver_shape.specs.ScalarTypes.{end_scalar};
 ghost use Rattle.facet_solver_shape.specs.Partition.{IsPartition};
 
-use super::format::{VariantFormat, end_of};
+use super::format::VariantFormat;
 use crate::shape::{ScalarType, Shape, ShapeId, ShapeKind, Shapes, Variant};
 use std::alloc::{AllocError, Global};
 
@@ -210,13 +210,5 @@ fn add_entry<'c>(
 fn scalar_at_end(shapes: &Shapes, id: ShapeId) -> Option<ScalarType>
     ensures { result ≡ end_scalar shapes.now id }
 {
-    match shapes.get(end_of(shapes, id)) {
-        Some(
-            Shape {
-                kind: ShapeKind::Scalar(scalar),
-                ..
-            },
-        ) => Some(*scalar),
-        _ => None,
-    }
+    shapes.get(shapes.end_of(id))?.scalar_type()
 }
