@@ -1,12 +1,10 @@
 -- What the places that a shape names are, by the tests of them.
-use Rattle.std.proofs.Common.{◌≡◌, ℕ, ◌<◌, ◌≤◌, Bool, true, false, List, [], ◌∷◌, ◌++◌, length, Some, None, Option, Bor, slice_get, nat_le, refl, sym, ◌∙◌, inl, inr}
+use Rattle.std.proofs.Common.{◌≡◌, ℕ, ◌<◌, ◌≤◌, Bool, true, false, List, [], ◌∷◌, ◌++◌, length, Some, None, Option, slice_get, nat_le, refl, sym, ◌∙◌, inl, inr}
 use Rattle.std.specs.List.{list_any, All, Any}
-use Rattle.std.specs.Option.{option_to_list, option_copied, ForSome, IfSome}
-use Rattle.std.specs.Slice.{IsItemAt}
+use Rattle.std.specs.Option.{option_to_list, ForSome, IfSome}
 use Rattle.std.proofs.lemmas.Bool.{false≢true, false_from_ne_true, leb-true, leb-false, le-leb, cases_lt, or_parts}
 use Rattle.std.proofs.lemmas.List.Elements.{All-nil, All-cons}
 use Rattle.std.proofs.lemmas.List.Folds.{list_any-append, Any-from_list_any, list_any-from_Any}
-use Rattle.std.proofs.lemmas.Option.{slice_get_past, slice_get_read}
 use Rattle.facet_solver_shape.specs.declared.shape.Shape.{Shape}
 use Rattle.facet_solver_shape.specs.declared.shape.ShapeKind.{ShapeKind}
 use Rattle.facet_solver_shape.specs.declared.shape.ShapeKind.TheVariants.{Struct, Enum, Option as OptionOf}
@@ -92,13 +90,3 @@ found_earlier shapes checked place = go (slice_get shapes place) refl
     go : (o : Option Shape) → slice_get shapes place ≡ o → IfSome o (IsEarlierThan place)
     go None is = tt
     go (Some s) is = names_earlier shapes checked place s is
-
--- what is found through a reference
-pub IfSome-copied : {X : Type 0} (P : X → Type 0) (r : Option (Bor X)) → IfSome (option_copied r) P → IfSome r (λ x. P x.now)
-IfSome-copied P None h = tt
-IfSome-copied P (Some x) h = h
-
--- what `get` of a slice gives
-pub copied_item : {X : Type 0} (xs : List X) (i : ℕ) (r : Option (Bor X)) → IsItemAt xs i r → option_copied r ≡ slice_get xs i
-copied_item xs i None h = sym (slice_get_past xs i h.3)
-copied_item xs i (Some x) h = sym (slice_get_read xs (length xs) i x.now refl h.3.0 (h.3.1 x.now))

@@ -1,15 +1,15 @@
 -- Names at two places of a list.
-use Rattle.std.proofs.Common.{◌≡◌, ℕ, ◌+◌, ◌<◌, ◌≤◌, Bool, true, false, List, length, map, take, get_or, Some, None, Option, slice_get, MatchBool, refl, sym, ap, ◌∙◌, inl, inr, arith}
-use Rattle.std.specs.List.{list_any, Any, AllWithin, HoldsAt}
+use Rattle.std.proofs.Common.{◌≡◌, ℕ, ◌+◌, ◌<◌, ◌≤◌, Bool, true, false, List, length, map, take, get_or, Some, None, Option, slice_get, refl, sym, ap, ◌∙◌, inl, inr, arith}
+use Rattle.std.specs.List.{list_any}
 use Rattle.std.specs.Option.{option_map}
 use Rattle.std.specs.Str.{bytes_eq}
 use Rattle.std.proofs.lemmas.Bool.{cases_lt, false≢true}
 use Rattle.std.proofs.lemmas.List.{length-take, length-map, get_or-take}
 use Rattle.std.proofs.lemmas.List.Folds.{Any-from_list_any, list_any_at}
-use Rattle.std.proofs.lemmas.Option.{slice_get-map, slice_get_within, slice_get_read, slice_get_cases, get_or_from_slice_get}
+use Rattle.std.proofs.lemmas.Option.{slice_get-map, slice_get_within, slice_get_read, get_or_from_slice_get}
 use Rattle.std.proofs.lemmas.Slice.Eq.{bytes_eq-Decides}
 use Rattle.facet_solver_shape.specs.Names.{Name}
-use Rattle.facet_solver_shape.specs.Repeats.{IsRepetitive}
+use Rattle.facet_solver_shape.specs.Repeats.{RepeatsName}
 
 -- the first n names differ
 abbrev pub ApartBelow : List Name → ℕ → Type 0
@@ -24,7 +24,7 @@ module _ {X : Type 0} (name_of : X → Name) (xs : List X) where
   named_at : (k : ℕ) (y : X) → slice_get xs k ≡ Some y → slice_get (map name_of xs) k ≡ Some (name_of y)
   named_at k y at = slice_get-map name_of xs k ∙ ap (option_map name_of) at
 
-  pub repeated : (place : ℕ) (x : X) → slice_get xs place ≡ Some x → given_before place (name_of x) ≡ true → IsRepetitive (map name_of xs)
+  pub repeated : (place : ℕ) (x : X) → slice_get xs place ≡ Some x → given_before place (name_of x) ≡ true → RepeatsName (map name_of xs)
   repeated place x at given =
       let some = Any-from_list_any _ (take place xs) given in
       let k = some.0 in
@@ -64,19 +64,8 @@ module _ {X : Type 0} (name_of : X → Name) (xs : List X) where
           let equal : bytes_eq (name_of (get_or (take place xs) i y)) (name_of x) ≡ true = rw read ((bytes_eq-Decides (name_of y) (name_of x)).1 same) in
           false≢true (sym not_given ∙ list_any_at (λ z. bytes_eq (name_of z) (name_of x)) (take place xs) i y within equal)
 
-  pub not_repeated : (n : ℕ) → length xs ≤ n → ApartBelow (map name_of xs) n → ¬ IsRepetitive (map name_of xs)
+  pub not_repeated : (n : ℕ) → length xs ≤ n → ApartBelow (map name_of xs) n → ¬ RepeatsName (map name_of xs)
   not_repeated n all apart twice =
       let inside = slice_get_within (map name_of xs) twice.second twice.name twice.at_second in
       let long = length-map xs name_of in
       apart twice.first twice.second twice.name twice.apart (omega (arith, inside, long, all)) twice.at_first twice.at_second
-
--- an answer of `any` is whether some element is as asked
-pub any_told : {X : Type 0} (P : X → Type 0) (xs : List X) (r : Bool) → MatchBool r ((k : ℕ) × (k < length xs) × HoldsAt P xs k) (AllWithin (λ x. ¬ P x) xs 0 (length xs)) → (r ≡ true → Any P xs) × (Any P xs → r ≡ true)
-any_told P xs true told = (λ yes. there, λ some. refl)
-  where
-    there : Any P xs
-    there = elim (slice_get_cases xs told.0).1 [
-      | inl found ↦ (told.0, found.0, found.1, found.3, rw found.3 at (told.2 found.0))
-      | inr past ↦ absurd (omega (arith, past.0, told.1))
-    ]
-any_told P xs false told = (λ no. absurd (false≢true no), λ some. absurd (told some.0 some.1 (omega arith) some.2 (rw some.3 some.4)))

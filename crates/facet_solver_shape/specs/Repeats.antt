@@ -5,7 +5,7 @@ use Rattle.facet_solver_shape.specs.declared.shape.ShapeKind.TheVariants.{Struct
 use Rattle.facet_solver_shape.specs.Names.{Name, field_names, variant_names}
 
 -- one name stands at two places of a list
-pub record IsRepetitive (names : List Name) : Type 0 where
+pub record RepeatsName (names : List Name) : Type 0 where
   pub name : Name
   pub first : ℕ
   pub second : ℕ
@@ -15,11 +15,11 @@ pub record IsRepetitive (names : List Name) : Type 0 where
 
 -- two fields of a struct, or of one variant, have one declared name
 abbrev pub RepeatsFieldName : ShapeKind → Type 0
-RepeatsFieldName (Struct kind fields) = IsRepetitive (field_names fields.items)
-RepeatsFieldName (Enum variants) = Any (λ v. IsRepetitive (field_names v.fields.items)) variants.items
+RepeatsFieldName (Struct kind fields) = RepeatsName (field_names fields.items)
+RepeatsFieldName (Enum variants) = Any (λ v. RepeatsName (field_names v.fields.items)) variants.items
 RepeatsFieldName _ = ⊥
 
 -- two variants have one name
 abbrev pub RepeatsVariantName : ShapeKind → Type 0
-RepeatsVariantName (Enum variants) = IsRepetitive (variant_names variants.items)
+RepeatsVariantName (Enum variants) = RepeatsName (variant_names variants.items)
 RepeatsVariantName _ = ⊥

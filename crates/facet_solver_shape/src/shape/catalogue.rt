@@ -1,5 +1,5 @@
 //! Catalogues, and what makes a list of shapes none.
-ghost use Rattle.std.specs.Prelude.{◌≡◌, ◌<◌, ◌↔◌, length, IsTrue, slice_get, IfSome, IfOk, IfErr};
+ghost use Rattle.std.specs.Prelude.{◌≡◌, ◌<◌, ◌↔◌, length, IsTrue, slice_get, IfSome, IsOk, IfOk, IfErr};
 ghost use Rattle.std.specs.Option.{option_copied};
 ghost use Rattle.facet_solver_shape.specs.Places.{IsEarlierThan};
 ghost use Rattle.facet_solver_shape.specs.Pointers.{pointee_at};
@@ -94,7 +94,8 @@ impl Shapes {
     /// Otherwise the first place with a fault is given, with its fault of lowest number, and the
     /// list is dropped. No memory is taken.
     pub fn new(shapes: Vec<Shape>) -> Result<Shapes, CatalogueError>
-        ensures accepted { IfOk result (λ made. (made ≡ shapes.items) × IsChecked shapes.items) }
+        ensures accepted { IsOk result ↔ IsChecked shapes.items }
+        ensures same { IfOk result (λ made. made ≡ shapes.items) }
         ensures refused { IfErr result (IsFirstFault shapes.items) }
     {
         for place in 0..shapes.len() {
@@ -125,7 +126,7 @@ impl Shapes {
         ensures value { IsTrue result ↔ (id < length self.now) }
         ensures checked { IsChecked self.now }
     {
-        id.index() < self.shapes.len()
+        id.index() < self.len()
     }
 
     /// The end of a shape: pointers are followed, and an opaque one is an end.

@@ -4,7 +4,7 @@ ghost use Rattle.std.specs.List.{list_any};
 ghost use Rattle.std.specs.Str.{bytes_eq};
 ghost use Rattle.std.specs.String.{string_bytes};
 ghost use Rattle.facet_solver_shape.specs.Names.{Name};
-ghost use Rattle.facet_solver_shape.specs.Repeats.{IsRepetitive, RepeatsFieldName, RepeatsVariantName};
+ghost use Rattle.facet_solver_shape.specs.Repeats.{RepeatsName, RepeatsFieldName, RepeatsVariantName};
 
 use crate::shape::{Field, ShapeKind, Variant};
 
@@ -37,8 +37,8 @@ pub(super) fn repeats_field_name(kind: &ShapeKind) -> bool
     ensures { IsTrue result ↔ RepeatsFieldName kind.now }
 {
     match kind {
-        ShapeKind::Struct { fields, .. } => is_repetitive(fields),
-        ShapeKind::Enum { variants } => variants.iter().any(|v| is_repetitive(&v.fields)),
+        ShapeKind::Struct { fields, .. } => repeats_name(fields),
+        ShapeKind::Enum { variants } => variants.iter().any(|v| repeats_name(&v.fields)),
         _ => false,
     }
 }
@@ -48,14 +48,14 @@ pub(super) fn repeats_variant_name(kind: &ShapeKind) -> bool
     ensures { IsTrue result ↔ RepeatsVariantName kind.now }
 {
     match kind {
-        ShapeKind::Enum { variants } => is_repetitive(variants),
+        ShapeKind::Enum { variants } => repeats_name(variants),
         _ => false,
     }
 }
 
 // Whether two items have one name.
-fn is_repetitive<T: Named>(items: &[T]) -> bool
-    ensures { IsTrue result ↔ IsRepetitive (map T.name_of items.now) }
+fn repeats_name<T: Named>(items: &[T]) -> bool
+    ensures { IsTrue result ↔ RepeatsName (map T.name_of items.now) }
 {
     for (place, item) in items.iter().enumerate() {
         if has_name(&items[..place], item.declared_name()) {

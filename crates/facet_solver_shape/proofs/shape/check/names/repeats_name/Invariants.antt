@@ -1,6 +1,6 @@
 use Rattle.std.proofs.Common.{map}
 use Rattle.facet_solver_shape.proofs.NameRepeats.{ApartBelow}
-use Rattle.facet_solver_shape.proofs.shape.check.names.is_repetitive.Given as goal
+use Rattle.facet_solver_shape.proofs.shape.check.names.repeats_name.Given as goal
 
 -- the names so far differ
 abbrev pub invariant-loop-place : goal.invariant-loop-place

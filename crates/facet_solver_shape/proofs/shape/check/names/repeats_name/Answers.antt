@@ -2,7 +2,7 @@ use Rattle.std.proofs.Common.{length, refl, sym, ◌∙◌}
 use Rattle.std.proofs.lemmas.Bool.{false≢true}
 use Rattle.std.proofs.lemmas.Option.{slice_get_read}
 use Rattle.facet_solver_shape.proofs.NameRepeats.{repeated, apart_more, not_repeated}
-use Rattle.facet_solver_shape.proofs.shape.check.names.is_repetitive.Goals as goal
+use Rattle.facet_solver_shape.proofs.shape.check.names.repeats_name.Goals as goal
 
 pub returns-then-has_name : goal.returns-then-has_name
 returns-then-has_name g c =
