@@ -7,7 +7,8 @@ use Rattle.facet_solver_shape.specs.declared.shape.Variant.{Variant}
 use Rattle.facet_solver_shape.specs.declared.shape.ScalarType.{ScalarType}
 use Rattle.facet_solver_shape.specs.declared.variants.format.VariantFormat.{VariantFormat}
 use Rattle.facet_solver_shape.specs.Formats.{format_of, is_unit, expects_mapping}
-use Rattle.facet_solver_shape.specs.Groups.{groups_of, joined, ends_at, scalar_shape, sequence_length, is_other, listed_by, is_bool, is_int, is_float, is_string}
+use Rattle.facet_solver_shape.specs.Groups.{groups_of, joined, ends_at, scalar_shape, sequence_length, is_other, listed_by}
+use Rattle.facet_solver_shape.specs.ScalarTypes.{is_bool, is_int, is_float, is_string}
 
 module _ (shapes : List Shape) where
   -- the variants of one list and then of another are grouped list by list

@@ -1,6 +1,6 @@
 -- The format of a variant: what kind of value stands for it.
-use Rattle.std.specs.Prelude.{ℕ, List, [], ◌∷◌, length, Bool, true, false, not, Option, None, slice_get, unwrap_or, find, if◌then◌else◌, ◌==◌}
-use Rattle.std.specs.Option.{option_map, option_map_or, option_and_then}
+use Rattle.std.specs.Prelude.{ℕ, List, [], ◌∷◌, length, Bool, true, false, Option, slice_get, if◌then◌else◌, ◌==◌}
+use Rattle.std.specs.Option.{option_map, option_map_or}
 use Rattle.std.specs.List.{list_all}
 use Rattle.facet_solver_shape.specs.declared.shape.Shape.{Shape}
 use Rattle.facet_solver_shape.specs.declared.shape.Field.{Field}
@@ -11,22 +11,10 @@ use Rattle.facet_solver_shape.specs.declared.shape.ShapeKind.{ShapeKind}
 use Rattle.facet_solver_shape.specs.declared.shape.ShapeKind.TheVariants.{Scalar, Struct as StructOf, Enum, List as ListOf, Array, Slice, Set, Map}
 use Rattle.facet_solver_shape.specs.declared.variants.format.VariantFormat.{VariantFormat}
 use Rattle.facet_solver_shape.specs.declared.variants.format.VariantFormat.TheVariants.{Unit as UnitFormat, NewtypeScalar, NewtypeStruct, NewtypeTuple, NewtypeSequence, NewtypeOther, Tuple as TupleFormat, Struct as StructFormat}
+use Rattle.facet_solver_shape.specs.Containers.{value_place}
 use Rattle.facet_solver_shape.specs.Ends.{end_of}
 
--- of a struct the first field that is not marked as metadata
-abbrev pub first_plain_field : ShapeKind → Option Field
-first_plain_field (StructOf kind fields) = find (λ f. not f.metadata) fields.items
-first_plain_field _ = None
-
--- of a metadata container, a struct that is marked so and has such a field, the shape of that field
-abbrev pub contained_place : Shape → Option ℕ
-contained_place s = if s.metadata_container then option_map (λ f. f.shape) (first_plain_field s.kind) else None
-
--- the shape that a metadata container stands for; any other shape stands for itself
-abbrev pub value_place : List Shape → ℕ → ℕ
-value_place shapes place = unwrap_or (option_and_then contained_place (slice_get shapes place)) place
-
--- the kind at the end of pointers
+-- the kind of the shape at the end of a place's pointers
 abbrev pub end_kind : List Shape → ℕ → Option ShapeKind
 end_kind shapes place = option_map (λ s. s.kind) (slice_get shapes (end_of shapes place))
 

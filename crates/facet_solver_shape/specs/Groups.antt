@@ -3,18 +3,16 @@ use Rattle.std.specs.Prelude.{ℕ, List, map, filter, ◌++◌, Bool, true, fals
 use denote.Bor.{Bor}
 use Rattle.std.specs.Option.{option_map, option_map_or, option_and_then}
 use Rattle.std.specs.List.{filter_map}
-use Rattle.std.specs.List.Sorted.{IsPermutation}
 use Rattle.facet_solver_shape.specs.declared.shape.Shape.{Shape}
 use Rattle.facet_solver_shape.specs.declared.shape.Variant.{Variant}
 use Rattle.facet_solver_shape.specs.declared.shape.ShapeKind.{ShapeKind}
 use Rattle.facet_solver_shape.specs.declared.shape.ShapeKind.TheVariants.{Enum}
 use Rattle.facet_solver_shape.specs.declared.shape.ScalarType.{ScalarType}
-use Rattle.facet_solver_shape.specs.declared.shape.ScalarType.TheVariants.{Bool as BoolType, Char, Str, String, CowStr, F32, F64, U8, U16, U32, U64, U128, USize, I8, I16, I32, I64, I128, ISize}
 use Rattle.facet_solver_shape.specs.declared.variants.format.VariantFormat.{VariantFormat}
 use Rattle.facet_solver_shape.specs.declared.variants.format.VariantFormat.TheVariants.{NewtypeScalar, NewtypeTuple, NewtypeSequence, NewtypeOther, Tuple}
 use Rattle.facet_solver_shape.specs.declared.variants.grouping.VariantsByFormat.{VariantsByFormat}
-use Rattle.facet_solver_shape.specs.Scalars.{scalar_of_kind}
-use Rattle.facet_solver_shape.specs.Formats.{format_of, end_kind, expects_mapping, is_unit}
+use Rattle.facet_solver_shape.specs.ScalarTypes.{end_scalar, is_bool, is_int, is_float, is_string}
+use Rattle.facet_solver_shape.specs.Formats.{format_of, expects_mapping, is_unit}
 
 -- a variant, and a number that is listed with it: a shape's place, or a tuple's length
 abbrev pub Entry : Type 0
@@ -48,43 +46,6 @@ sequence_length _ = None
 abbrev pub is_other : VariantFormat → Bool
 is_other (NewtypeOther shape) = true
 is_other _ = false
-
-abbrev pub is_bool : ScalarType → Bool
-is_bool BoolType = true
-is_bool _ = false
-
--- the whole numbers
-abbrev pub is_int : ScalarType → Bool
-is_int U8 = true
-is_int U16 = true
-is_int U32 = true
-is_int U64 = true
-is_int U128 = true
-is_int USize = true
-is_int I8 = true
-is_int I16 = true
-is_int I32 = true
-is_int I64 = true
-is_int I128 = true
-is_int ISize = true
-is_int _ = false
-
-abbrev pub is_float : ScalarType → Bool
-is_float F32 = true
-is_float F64 = true
-is_float _ = false
-
--- the texts, of one character too
-abbrev pub is_string : ScalarType → Bool
-is_string String = true
-is_string CowStr = true
-is_string Str = true
-is_string Char = true
-is_string _ = false
-
--- the scalar type at the end of a shape, if it is a scalar
-unfoldable pub end_scalar : List Shape → ℕ → Option ScalarType
-end_scalar shapes place = option_and_then scalar_of_kind (end_kind shapes place)
 
 -- whether the shape that is listed with a variant ends at a scalar type that passes the test
 abbrev pub ends_at : List Shape → (ScalarType → Bool) → Entry → Bool
@@ -158,9 +119,3 @@ groups_view g = record {
 -- the variants of entries
 abbrev pub entry_variants : List Entry → List Variant
 entry_variants entries = map (λ e. e.0) entries
-
--- each variant stands once in one of five lists; four lists are parts of the scalar list that share nothing
-pub record IsPartition (variants : List Variant) (g : Groups) : Type 0 where
-  pub five_lists : IsPermutation variants (g.unit_variants ++ (entry_variants g.scalar_variants ++ (entry_variants g.tuple_variants ++ (g.struct_variants ++ g.other_variants))))
-  pub rest : List Entry
-  pub scalar_parts : IsPermutation g.scalar_variants (g.bool_variants ++ (g.int_variants ++ (g.float_variants ++ (g.string_variants ++ rest))))

@@ -16,6 +16,8 @@ pub mod Matching
 pub mod Descriptions
 pub mod FieldTable
 pub mod Ends
+pub mod Containers
 pub mod Formats
-pub mod Scalars
+pub mod ScalarTypes
 pub mod Groups
+pub mod Partition

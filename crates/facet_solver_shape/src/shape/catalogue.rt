@@ -131,10 +131,9 @@ impl Shapes {
 
     /// The end of a shape: pointers are followed, and an opaque one is an end.
     pub(crate) fn end_of(&self, id: ShapeId) -> ShapeId
-        requires { id < length self.now }
         ensures value { result ≡ end_of self.now id }
         ensures is_end { IsEndOf self.now id result }
-        ensures inside { result < length self.now }
+        ensures inside { id < length self.now → result < length self.now }
     {
         let mut end = id;
         while let Some(next) = self.pointee(end) {

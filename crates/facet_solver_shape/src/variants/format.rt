@@ -2,8 +2,8 @@
 ghost use Rattle.std.specs.Prelude.{◌≡◌, ◌==◌, not, find, length};
 ghost use Rattle.std.specs.Option.{option_map};
 ghost use Rattle.std.specs.List.{list_all};
-ghost use Rattle.facet_solver_shape.specs.Ends.{end_of, next_place, pointee_of_kind};
-ghost use Rattle.facet_solver_shape.specs.Formats.{format_of, unnamed_format, newtype_format, format_of_kind, value_place, contained_place, expects_scalar, expects_sequence, expects_mapping, is_unit};
+ghost use Rattle.facet_solver_shape.specs.Containers.{value_place, contained_place};
+ghost use Rattle.facet_solver_shape.specs.Formats.{format_of, unnamed_format, newtype_format, format_of_kind, expects_scalar, expects_sequence, expects_mapping, is_unit};
 
 use crate::shape::{Field, Shape, ShapeId, ShapeKind, Shapes, StructKind, Variant};
 
@@ -49,10 +49,10 @@ pub enum VariantFormat {
 }
 
 impl VariantFormat {
-    #[tactic(auto, unfolding(crate::specs::Formats::format_of))]
     /// The format of a variant whose fields have shapes of the catalogue.
     ///
     /// A field that is a metadata container counts as what it contains; a pointer to one does not.
+    #[tactic(auto, unfolding(crate::specs::Formats::format_of))]
     pub fn from_variant(shapes: &Shapes, variant: &Variant) -> Self
         ensures { result ≡ format_of shapes.now variant.now }
     {
@@ -117,8 +117,8 @@ fn newtype_format(shapes: &Shapes, field: ShapeId) -> VariantFormat
     ensures { result ≡ newtype_format shapes.now field }
 {
     let value = value_shape(shapes, field);
-    let inner_shape = end_of(shapes, field);
-    match shapes.get(end_of(shapes, value)) {
+    let inner_shape = shapes.end_of(field);
+    match shapes.get(shapes.end_of(value)) {
         Some(end) => format_of_kind(&end.kind, value, inner_shape),
         None => VariantFormat::NewtypeOther { inner_shape },
     }
@@ -183,30 +183,4 @@ fn have_no_fields(variants: &[Variant]) -> bool
     ensures { result ≡ list_all (λ v. length v.fields.items == 0) variants.now }
 {
     variants.iter().all(|v| v.fields.is_empty())
-}
-
-// The shape at the end of pointers.
-pub(crate) fn end_of(shapes: &Shapes, id: ShapeId) -> ShapeId
-    ensures { result ≡ end_of shapes.now id }
-{
-    let mut place = id;
-    for _ in 0..shapes.len() {
-        place = next_shape(shapes, place);
-    }
-    place
-}
-
-fn next_shape(shapes: &Shapes, id: ShapeId) -> ShapeId
-    ensures { result ≡ next_place shapes.now id }
-{
-    shapes.get(id).and_then(pointee).unwrap_or(id)
-}
-
-fn pointee(shape: &Shape) -> Option<ShapeId>
-    ensures { result ≡ pointee_of_kind shape.now.kind }
-{
-    match &shape.kind {
-        ShapeKind::Pointer(pointee) => *pointee,
-        _ => None,
-    }
 }

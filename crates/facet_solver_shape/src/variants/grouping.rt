@@ -2,9 +2,11 @@
 ghost use Rattle.std.specs.Prelude.{◌≡◌, ◌↔◌, ◌<◌, ◌==◌, [], ◌∷◌, ◌++◌, map, filter, IsTrue, IfOk, IfSome, OnOk, vec_len};
 ghost use Rattle.std.specs.Option.{option_map};
 ghost use Rattle.facet_solver_shape.specs.Formats.{format_of};
-ghost use Rattle.facet_solver_shape.specs.Groups.{groups_of, groups_view, variants_at, joined, end_scalar, IsPartition, entry_variants, entries_view, variants_view};
+ghost use Rattle.facet_solver_shape.specs.Groups.{groups_of, groups_view, variants_at, joined, entry_variants, entries_view, variants_view};
+ghost use Rattle.facet_solver_shape.specs.ScalarTypes.{end_scalar};
+ghost use Rattle.facet_solver_shape.specs.Partition.{IsPartition};
 
-use super::format::{VariantFormat, end_of};
+use super::format::VariantFormat;
 use crate::shape::{ScalarType, Shape, ShapeId, ShapeKind, Shapes, Variant};
 use std::alloc::{AllocError, Global};
 
@@ -204,17 +206,9 @@ fn add_entry<'c>(
 }
 
 // The scalar type at the end of a shape, if it is a scalar.
-#[tactic(auto, unfolding(crate::specs::Groups::end_scalar))]
+#[tactic(auto, unfolding(crate::specs::ScalarTypes::end_scalar))]
 fn scalar_at_end(shapes: &Shapes, id: ShapeId) -> Option<ScalarType>
     ensures { result ≡ end_scalar shapes.now id }
 {
-    match shapes.get(end_of(shapes, id)) {
-        Some(
-            Shape {
-                kind: ShapeKind::Scalar(scalar),
-                ..
-            },
-        ) => Some(*scalar),
-        _ => None,
-    }
+    shapes.get(shapes.end_of(id))?.scalar_type()
 }

@@ -9,7 +9,7 @@ loop-next-smaller c = fewer_steps _ c.pointee.ensures.checked _ _ (sym c.pointee
 pub loop-next-preserved : goal.loop-next-preserved
 loop-next-preserved c =
     let leads = sym c.pointee.ensures.value ∙ c.in-Some.is in
-    (sym (end_of-next _ c.pointee.ensures.checked _ _ leads) ∙ c.loop-next.invariant.0, pointee_within _ c.pointee.ensures.checked _ _ leads)
+    (sym (end_of-next _ c.pointee.ensures.checked _ _ leads) ∙ c.loop-next.invariant.0, λ _. pointee_within _ c.pointee.ensures.checked _ _ leads)
 
 pub returns-clause-is_end : goal.returns-clause-is_end
 returns-clause-is_end c =

@@ -1,5 +1,5 @@
 -- Each variant stands in one list, and each scalar in at most one of the lists of scalar types.
-use Rattle.std.proofs.Common.{Bool, true, false, cond, Option, Some, None, List, [], ◌∷◌, ◌++◌, filter}
+use Rattle.std.proofs.Common.{ℕ, Bool, true, false, cond, Option, Some, None, List, [], ◌∷◌, ◌++◌, filter, refl, inl, inr}
 use Rattle.std.specs.Option.{option_map, option_map_or}
 use Rattle.std.specs.List.{cons_option}
 use Rattle.std.specs.List.Sorted.{IsPermutation}
@@ -11,7 +11,9 @@ use Rattle.facet_solver_shape.specs.declared.shape.ScalarType.TheVariants.{Unit 
 use Rattle.facet_solver_shape.specs.declared.variants.format.VariantFormat.{VariantFormat}
 use Rattle.facet_solver_shape.specs.declared.variants.format.VariantFormat.TheVariants.{Unit as UnitFormat, NewtypeScalar, NewtypeStruct, NewtypeTuple, NewtypeSequence, NewtypeOther, Tuple, Struct}
 use Rattle.facet_solver_shape.specs.Formats.{format_of, is_unit, expects_mapping}
-use Rattle.facet_solver_shape.specs.Groups.{Entry, groups_of, entry_variants, scalar_shape, sequence_length, is_other, is_bool, is_int, is_float, is_string, end_scalar, ends_at, IsPartition}
+use Rattle.facet_solver_shape.specs.Groups.{Entry, groups_of, listed_by, entry_variants, scalar_shape, sequence_length, is_other, ends_at}
+use Rattle.facet_solver_shape.specs.ScalarTypes.{end_scalar, is_bool, is_int, is_float, is_string}
+use Rattle.facet_solver_shape.specs.Partition.{KeepsOrder, IsPartition}
 
 module _ {X : Type 0} where
   -- one more element of the second part is one more of the whole
@@ -81,26 +83,63 @@ one_more_scalar (Some Str) = in_fourth
 one_more_scalar (Some Char) = in_fourth
 one_more_scalar (Some _) = in_second
 
+module _ {X : Type 0} where
+  left_out : (x : X) (xs ys : List X) → KeepsOrder xs ys → KeepsOrder (x ∷ xs) ys
+  left_out x xs [] h = tt
+  left_out x xs (y ∷ ys) h = inr h
+
+  KeepsOrder-filter : (p : X → Bool) (xs : List X) → KeepsOrder xs (filter p xs)
+  KeepsOrder-filter p [] = tt
+  KeepsOrder-filter p (x ∷ xs) = go (p x) (KeepsOrder-filter p xs)
+    where
+      go : (b : Bool) → KeepsOrder xs (filter p xs) → KeepsOrder (x ∷ xs) (cond b (x ∷ filter p xs) (filter p xs))
+      go true rest = inl (refl, rest)
+      go false rest = left_out x xs _ rest
+
 module _ (shapes : List Shape) where
+  KeepsOrder-listed_by : (number : VariantFormat → Option ℕ) (vs : List Variant) → KeepsOrder vs (entry_variants (listed_by shapes number vs))
+  KeepsOrder-listed_by number [] = tt
+  KeepsOrder-listed_by number (v ∷ vs) = go (number (format_of shapes v)) (KeepsOrder-listed_by number vs)
+    where
+      go : (o : Option ℕ) → KeepsOrder vs (entry_variants (listed_by shapes number vs)) → KeepsOrder (v ∷ vs) (entry_variants (cons_option (option_map (λ n. (v, n)) o) (listed_by shapes number vs)))
+      go None rest = left_out v vs _ rest
+      go (Some n) rest = inl (refl, rest)
+
   abbrev rest_of : List Entry → List Entry
   rest_of = filter (λ e. has_no_list (end_scalar shapes e.1))
 
-  scalar_parts : (xs : List Entry)
+  each_scalar_once : (xs : List Entry)
       → IsPermutation xs (filter (ends_at shapes is_bool) xs ++ (filter (ends_at shapes is_int) xs ++ (filter (ends_at shapes is_float) xs ++ (filter (ends_at shapes is_string) xs ++ rest_of xs))))
-  scalar_parts [] = IsPermutation-refl []
-  scalar_parts (x ∷ xs) = one_more_scalar (end_scalar shapes x.1) _ _ _ _ _ xs x (scalar_parts xs)
+  each_scalar_once [] = IsPermutation-refl []
+  each_scalar_once (x ∷ xs) = one_more_scalar (end_scalar shapes x.1) _ _ _ _ _ xs x (each_scalar_once xs)
 
-  five_lists : (vs : List Variant)
+  each_variant_once : (vs : List Variant)
       → let g = groups_of shapes vs in
       IsPermutation vs (g.unit_variants ++ (entry_variants g.scalar_variants ++ (entry_variants g.tuple_variants ++ (g.struct_variants ++ g.other_variants))))
-  five_lists [] = IsPermutation-refl []
-  five_lists (v ∷ vs) =
+  each_variant_once [] = IsPermutation-refl []
+  each_variant_once (v ∷ vs) =
       let g = groups_of shapes vs in
-      one_more (format_of shapes v) g.unit_variants g.scalar_variants g.tuple_variants g.struct_variants g.other_variants vs v (five_lists vs)
+      one_more (format_of shapes v) g.unit_variants g.scalar_variants g.tuple_variants g.struct_variants g.other_variants vs v (each_variant_once vs)
 
   pub groups_of-IsPartition : (vs : List Variant) → IsPartition vs (groups_of shapes vs)
-  groups_of-IsPartition vs = record {
-    five_lists = five_lists vs;
-    rest = rest_of (groups_of shapes vs).scalar_variants;
-    scalar_parts = scalar_parts (groups_of shapes vs).scalar_variants;
-  }
+  groups_of-IsPartition vs =
+      let scalars = (groups_of shapes vs).scalar_variants in
+      record {
+        variants_in_one = record {
+          once = each_variant_once vs;
+          first = KeepsOrder-filter _ vs;
+          second = KeepsOrder-listed_by scalar_shape vs;
+          third = KeepsOrder-listed_by sequence_length vs;
+          fourth = KeepsOrder-filter _ vs;
+          fifth = KeepsOrder-filter _ vs;
+        };
+        rest = rest_of scalars;
+        scalars_in_one = record {
+          once = each_scalar_once scalars;
+          first = KeepsOrder-filter _ scalars;
+          second = KeepsOrder-filter _ scalars;
+          third = KeepsOrder-filter _ scalars;
+          fourth = KeepsOrder-filter _ scalars;
+          fifth = KeepsOrder-filter _ scalars;
+        };
+      }
