@@ -23,6 +23,9 @@ pub record IsUnderway {K : Type 0} {R : K → K → Ordering} (old now : map.Fin
   pub same : (q : K) → option_or (find R q left) (map.get now q) ≡ option_or (find R q all) (map.get old q)
   pub rising : T (map.is_sorted R left)
 
+pub at_start : {K : Type 0} {R : K → K → Ordering} (old : map.FinMap R FieldView) (all : List (K × FieldView)) → T (map.is_sorted R all) → IsUnderway old old all all
+at_start old all rising = record { same = λ q. refl; rising = rising }
+
 first_part : (a b : Bool) → T (a && b) → T a
 first_part true b p = tt
 first_part false b p = p
@@ -40,16 +43,13 @@ or_none : {X : Type 0} (o : Option X) → option_or o None ≡ o
 or_none None = refl
 or_none (Some x) = refl
 
-module _ {K : Type 0} {R : K → K → Ordering} (o : IsTotalOrder R) (same : map.IsAntisymmetric R) where
+module _ {K : Type 0} {R : K → K → Ordering} (o : IsTotalOrder R) where
   -- what ties with a key below all others is none of them
   none_above : (q k : K) (es : List (K × FieldView)) → R q k ≡ Equal → T (below_all R k es) → find R q es ≡ None
   none_above q k [] tie below = refl
   none_above q k (e ∷ es) tie below =
       let apart : R q e.0 ≡ Less = o.congr q k e.0 tie ∙ less _ (first_part _ _ below) in
       ap (λ r. cond (is_eq r) (Some e.1) (find R q es)) apart ∙ none_above q k es tie (second_part _ _ below)
-
-  pub at_start : (old : map.FinMap R FieldView) (all : List (K × FieldView)) → T (map.is_sorted R all) → IsUnderway old old all all
-  at_start old all rising = record { same = λ q. refl; rising = rising }
 
   -- one entry more
   pub one_put : (old now : map.FinMap R FieldView) (all left : List (K × FieldView)) (k : K) (v : FieldView)
@@ -156,10 +156,10 @@ or_moved true true c = refl
 or_moved true false c = refl
 or_moved false b c = refl
 
-module _ {K : Type 0} {R : K → K → Ordering} (o : IsTotalOrder R) (same : map.IsAntisymmetric R) where
-  pub fill_start : (old : set.FinSet R) (all : List K) → IsFilling old old all all
-  fill_start old all = record { same = λ q. refl }
+pub fill_start : {K : Type 0} {R : K → K → Ordering} (old : set.FinSet R) (all : List K) → IsFilling old old all all
+fill_start old all = record { same = λ q. refl }
 
+module _ {K : Type 0} {R : K → K → Ordering} (o : IsTotalOrder R) (same : map.IsAntisymmetric R) where
   -- one member more
   pub one_filled : (old now : set.FinSet R) (all left : List K) (k : K) → IsFilling old now all (k ∷ left) → IsFilling old (set.insert now k) all left
   one_filled old now all left k before = record {

@@ -61,6 +61,7 @@ impl<'c> Model for Resolution<'c> {
 }
 
 impl<'c> Resolution<'c> {
+    /// Nothing resolved yet.
     pub fn new(alloc: Global) -> Self
         ensures { result ≡ nothing }
     {
@@ -152,9 +153,10 @@ impl<'c> Resolution<'c> {
     {
         let key = info.key();
         if let Some(present) = self.fields.get(&key) {
-            return Err(SchemaError::DuplicateField(DuplicateFieldError {
+            let first_path = present.path.copied(*self.picks.allocator())?;
+            return Err(SchemaError::from(DuplicateFieldError {
                 field_name: info.serialized_name,
-                first_path: present.path.copied(*self.picks.allocator())?,
+                first_path,
                 second_path: info.path,
             }));
         }
@@ -268,7 +270,7 @@ impl<'c> Resolution<'c> {
             if let Some(present) = self.fields.get(key) {
                 let first_path = present.path.copied(alloc)?;
                 let second_path = info.path.copied(alloc)?;
-                return Err(SchemaError::DuplicateField(DuplicateFieldError {
+                return Err(SchemaError::from(DuplicateFieldError {
                     field_name: info.serialized_name,
                     first_path,
                     second_path,

@@ -13,25 +13,37 @@ use std::alloc::{AllocError, Global};
 /// The names from the root to a nested key.
 pub type KeyPath<'c> = Vec<&'c str>;
 
+/// A field that a document may give a value to.
 #[derive(Debug, Drop)]
 pub struct FieldInfo<'c> {
+    /// Its name in a document.
     pub serialized_name: &'c str,
+    /// Where it stands in the type.
     pub path: FieldPath<'c>,
+    /// Whether a document must have it.
     pub required: bool,
+    /// The shape of its value.
     pub value_shape: ShapeId,
+    /// The field that was declared.
     pub field: &'c Field,
+    /// What gives it its value.
     pub category: FieldCategory,
 }
 
+/// A variant that was picked for an enum.
 #[derive(Debug, Drop)]
 pub struct VariantSelection<'c> {
+    /// Where the enum stands in the type.
     pub path: FieldPath<'c>,
+    /// The name of the enum.
     pub enum_name: &'c str,
+    /// The name of the variant.
     pub variant_name: &'c str,
 }
 
 impl<'c> FieldInfo<'c> {
-    /// The key under which a resolution keeps the field.
+    /// The stored key, under which a resolution keeps the field: that of its name alone for a field of
+    /// category Flat, else that of its name in its category.
     pub fn key(&self) -> FieldKey<'c>
         ensures { key_of result ≡ key_of_field (field_view self.now) }
     {

@@ -26,7 +26,7 @@ pub returns-in-Some-get-clause-refused : goal.returns-in-Some-get-clause-refused
 returns-in-Some-get-clause-refused c =
     let before = rw c.in-Some.ensures.steps at c.loop-key.invariant in
     let taken : get c.args.self.now.fields (key_of c.in-Some.key.now) ≡ Some (field_view c.in-Some-get.present.now) = ap (λ r. get r.fields (key_of c.in-Some.key.now)) (sym c.self.view_is) ∙ sym c.get.ensures ∙ ap (option_map (λ f. field_view f.now)) c.in-Some-get.is in
-    merge_clash _ _ (key_of c.in-Some.key.now) (field_view c.in-Some.info.now) (field_view c.in-Some-get.present.now) _ _ before.found.0 before.stored.0 taken (sym c.in_ok-first_path.ensures) c.in_ok-second_path.ensures
+    rw c.from.ensures (merge_clash c.args.self.now c.args.other.now (key_of c.in-Some.key.now) (field_view c.in-Some.info.now) (field_view c.in-Some-get.present.now) _ _ before.found.0 before.stored.0 taken (sym c.in_ok-first_path.ensures) c.in_ok-second_path.ensures)
 
 pub returns : goal.returns
 returns c =

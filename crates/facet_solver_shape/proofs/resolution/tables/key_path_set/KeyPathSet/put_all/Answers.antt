@@ -5,7 +5,7 @@ use Rattle.facet_solver_shape.proofs.Merging.{fill_start, one_filled, fill_end}
 use Rattle.facet_solver_shape.proofs.resolution.tables.key_path_set.KeyPathSet.put_all.Goals as goal
 
 pub loop-path-init : goal.loop-path-init
-loop-path-init c = (ap key_paths_view c.into_iter-path-iterator.ensures.into_iter_gives.0 ∙ c.other.view_is, fill_start path_cmp_total path_cmp_same _ _)
+loop-path-init c = (ap key_paths_view c.into_iter-path-iterator.ensures.into_iter_gives.0 ∙ c.other.view_is, fill_start _ _)
 
 pub loop-path-preserved : goal.loop-path-preserved
 loop-path-preserved c =

@@ -6,7 +6,7 @@ use Rattle.facet_solver_shape.proofs.Merging.{fill_start, one_filled, fill_end}
 use Rattle.facet_solver_shape.proofs.resolution.tables.name_set.NameSet.put_all.Goals as goal
 
 pub loop-name-init : goal.loop-name-init
-loop-name-init c = (ap names_view c.into_iter-name-iterator.ensures.into_iter_gives.0 ∙ c.other.view_is, fill_start nat_list_cmp_total name_cmp_same _ _)
+loop-name-init c = (ap names_view c.into_iter-name-iterator.ensures.into_iter_gives.0 ∙ c.other.view_is, fill_start _ _)
 
 pub loop-name-preserved : goal.loop-name-preserved
 loop-name-preserved c =
