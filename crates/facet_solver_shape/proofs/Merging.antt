@@ -26,11 +26,11 @@ pub record IsUnderway {K : Type 0} {R : K → K → Ordering} (old now : map.Fin
 pub at_start : {K : Type 0} {R : K → K → Ordering} (old : map.FinMap R FieldView) (all : List (K × FieldView)) → T (map.is_sorted R all) → IsUnderway old old all all
 at_start old all rising = record { same = λ q. refl; rising = rising }
 
-first_part : (a b : Bool) → T (a && b) → T a
+pub first_part : (a b : Bool) → T (a && b) → T a
 first_part true b p = tt
 first_part false b p = p
 
-second_part : (a b : Bool) → T (a && b) → T b
+pub second_part : (a b : Bool) → T (a && b) → T b
 second_part true b p = p
 second_part false b p = absurd p
 
@@ -45,11 +45,19 @@ or_none (Some x) = refl
 
 module _ {K : Type 0} {R : K → K → Ordering} (o : IsTotalOrder R) where
   -- what ties with a key below all others is none of them
-  none_above : (q k : K) (es : List (K × FieldView)) → R q k ≡ Equal → T (below_all R k es) → find R q es ≡ None
+  pub none_above : (q k : K) (es : List (K × FieldView)) → R q k ≡ Equal → T (below_all R k es) → find R q es ≡ None
   none_above q k [] tie below = refl
   none_above q k (e ∷ es) tie below =
       let apart : R q e.0 ≡ Less = o.congr q k e.0 tie ∙ less _ (first_part _ _ below) in
       ap (λ r. cond (is_eq r) (Some e.1) (find R q es)) apart ∙ none_above q k es tie (second_part _ _ below)
+
+  -- nor is what is below it, or itself
+  pub none_below : (q : K) (e : K × FieldView) (es : List (K × FieldView)) → R q e.0 ≡ Less → T (below_all R e.0 es) → find R q (e ∷ es) ≡ None
+  none_below q e es is below = ap (λ r. cond (is_eq r) (Some e.1) (find R q es)) is ∙ rest es below
+    where
+      rest : (fs : List (K × FieldView)) → T (below_all R e.0 fs) → find R q fs ≡ None
+      rest [] below = refl
+      rest (f ∷ fs) below = ap (λ r. cond (is_eq r) (Some f.1) (find R q fs)) (o.trans q e.0 f.0 is (less _ (first_part _ _ below))) ∙ rest fs (second_part _ _ below)
 
   -- one entry more
   pub one_put : (old now : map.FinMap R FieldView) (all left : List (K × FieldView)) (k : K) (v : FieldView)

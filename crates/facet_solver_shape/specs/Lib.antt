@@ -11,3 +11,4 @@ pub mod PathEq
 pub mod Matching
 pub mod Descriptions
 pub mod FieldTable
+pub mod Least

@@ -16,6 +16,7 @@ mod describe;
 pub mod error;
 pub mod field;
 pub mod key;
+pub mod laws;
 pub mod path;
 mod tables;
 

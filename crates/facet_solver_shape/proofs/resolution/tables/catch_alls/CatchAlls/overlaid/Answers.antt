@@ -1,4 +1,4 @@
-use Rattle.facet_solver_shape.proofs.KeyOrder.{category_cmp_total, category_cmp_same}
+use Rattle.facet_solver_shape.proofs.KeyOrder.{category_cmp_total}
 use Rattle.facet_solver_shape.proofs.Merging.{after_copy}
 use Rattle.facet_solver_shape.proofs.resolution.tables.catch_alls.CatchAlls.overlaid.Goals as goal
 

@@ -1,4 +1,4 @@
-use Rattle.facet_solver_shape.proofs.KeyOrder.{key_cmp_total, key_cmp_same}
+use Rattle.facet_solver_shape.proofs.KeyOrder.{key_cmp_total}
 use Rattle.facet_solver_shape.proofs.Merging.{after_copy}
 use Rattle.facet_solver_shape.proofs.resolution.tables.field_map.FieldMap.overlaid.Goals as goal
 

@@ -6,7 +6,7 @@ use Rattle.facet_solver_shape.specs.FieldTable.{entry_view}
 use Rattle.facet_solver_shape.specs.Resolved.{IsStored, key_of_field}
 use Rattle.facet_solver_shape.specs.Views.{field_entries_view}
 use Rattle.facet_solver_shape.proofs.FieldTables.{rising_test}
-use Rattle.facet_solver_shape.proofs.KeyOrder.{key_cmp_total, key_cmp_same}
+use Rattle.facet_solver_shape.proofs.KeyOrder.{key_cmp_total}
 use Rattle.facet_solver_shape.proofs.Merging.{at_start, one_put, at_end}
 use Rattle.facet_solver_shape.proofs.resolution.tables.field_map.FieldMap.put_all.Goals as goal
 
