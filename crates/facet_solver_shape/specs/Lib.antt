@@ -21,3 +21,4 @@ pub mod Formats
 pub mod ScalarTypes
 pub mod Groups
 pub mod Partition
+pub mod Least
