@@ -15,7 +15,6 @@ pub mod PathEq
 pub mod Matching
 pub mod Descriptions
 pub mod FieldTable
-pub mod Ends
 pub mod Containers
 pub mod Formats
 pub mod ScalarTypes
