@@ -2,6 +2,14 @@
 #![tactic(auto)]
 
 #[cfg(test)]
+mod catalogue;
+#[cfg(test)]
 mod fixtures;
 #[cfg(test)]
-mod catalogue;
+mod flattened;
+#[cfg(test)]
+mod reading;
+#[cfg(test)]
+mod representations;
+#[cfg(test)]
+mod variant_formats;
