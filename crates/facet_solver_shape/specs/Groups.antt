@@ -1,5 +1,5 @@
 -- The variants of an enum, grouped by format.
-use Rattle.std.specs.Prelude.{ℕ, List, map, filter, ◌++◌, Bool, true, false, Option, Some, None, slice_get}
+use Rattle.std.specs.Prelude.{ℕ, List, map, filter, ◌++◌, ◌==◌, Bool, true, false, Option, Some, None, slice_get}
 use denote.Bor.{Bor}
 use Rattle.std.specs.Option.{option_map, option_map_or, option_and_then}
 use Rattle.std.specs.List.{filter_map}
@@ -94,6 +94,10 @@ variants_of_kind _ = None
 abbrev pub variants_at : List Shape → ℕ → Option (List Variant)
 variants_at shapes place = option_and_then (λ s. variants_of_kind s.kind) (slice_get shapes place)
 
+-- those variants, grouped
+abbrev pub groups_at : List Shape → ℕ → Option Groups
+groups_at shapes place = option_map (groups_of shapes) (variants_at shapes place)
+
 -- what a list of variants says, wherever they lie
 abbrev pub variants_view : List (Bor Variant) → List Variant
 variants_view variants = map (λ v. v.now) variants
@@ -119,3 +123,7 @@ groups_view g = record {
 -- the variants of entries
 abbrev pub entry_variants : List Entry → List Variant
 entry_variants entries = map (λ e. e.0) entries
+
+-- the variants that are listed with this number
+abbrev pub variants_with : ℕ → List Entry → List Variant
+variants_with number entries = entry_variants (filter (λ e. e.1 == number) entries)

@@ -1,8 +1,8 @@
 //! The variants of an enum, grouped by format.
-ghost use Rattle.std.specs.Prelude.{◌≡◌, ◌↔◌, ◌<◌, ◌==◌, [], ◌∷◌, ◌++◌, map, filter, IsTrue, IfOk, IfSome, OnOk, vec_len};
+ghost use Rattle.std.specs.Prelude.{◌≡◌, ◌↔◌, ◌<◌, [], ◌∷◌, ◌++◌, IsTrue, IfOk, IfSome, OnOk, vec_len};
 ghost use Rattle.std.specs.Option.{option_map};
 ghost use Rattle.facet_solver_shape.specs.Formats.{format_of};
-ghost use Rattle.facet_solver_shape.specs.Groups.{groups_of, groups_view, variants_at, joined, entry_variants, entries_view, variants_view};
+ghost use Rattle.facet_solver_shape.specs.Groups.{groups_of, groups_at, groups_view, variants_at, joined, variants_with, entries_view, variants_view};
 ghost use Rattle.facet_solver_shape.specs.ScalarTypes.{end_scalar};
 ghost use Rattle.facet_solver_shape.specs.Partition.{IsPartition};
 
@@ -38,7 +38,7 @@ pub struct VariantsByFormat<'c> {
 }
 
 impl<'c> VariantsByFormat<'c> {
-    /// The variants of an enum, grouped; `None` where the shape is no enum.
+    /// The variants of an enum, grouped; `None` where the shape is no enum of the catalogue.
     ///
     /// An error comes only where memory is refused.
     pub fn from_shape(
@@ -46,8 +46,9 @@ impl<'c> VariantsByFormat<'c> {
         shapes: &'c Shapes,
         id: ShapeId,
     ) -> Result<Option<Self>, AllocError>
-        ensures groups { IfOk result (λ found. option_map groups_view found ≡ option_map (groups_of shapes.now) (variants_at shapes.now id)) }
-        ensures partition { IfOk result (λ found. IfSome found (λ g. IfSome (variants_at shapes.now id) (λ variants. IsPartition variants (groups_view g)))) }
+        ensures groups { IfOk result (λ found. option_map groups_view found ≡ groups_at shapes.now id) }
+        ensures partition { IfOk result (λ found. IfSome found (λ groups.
+            IfSome (variants_at shapes.now id) (λ variants. IsPartition variants (groups_view groups)))) }
     {
         match shapes.get(id) {
             Some(
@@ -60,13 +61,16 @@ impl<'c> VariantsByFormat<'c> {
         }
     }
 
-    /// The variants of the list of tuples that stand there with this number of elements, in order.
+    /// The variants that stand in the tuple list with this number, in order.
+    ///
+    /// An error comes only where memory is refused.
     pub fn tuple_variants_with_arity(
         &self,
         alloc: Global,
         arity: usize,
     ) -> Result<Vec<&'c Variant>, AllocError>
-        ensures { IfOk result (λ found. variants_view found.items ≡ entry_variants (filter (λ e. e.1 == arity) (groups_view self.now).tuple_variants)) }
+        ensures { IfOk result (λ found.
+            variants_view found.items ≡ variants_with arity (groups_view self.now).tuple_variants) }
     {
         let mut found = Vec::new(alloc);
         for (variant, length) in &self.tuple_variants {
@@ -134,7 +138,8 @@ impl<'c> VariantsByFormat<'c> {
 
     // Adds one more variant at the end of its lists.
     fn add(&mut self, shapes: &Shapes, variant: &'c Variant) -> Result<(), AllocError>
-        ensures { OnOk result (groups_view self.new ≡ joined (groups_view self.old) (groups_of shapes.now (variant.now ∷ []))) }
+        ensures { OnOk result
+            (groups_view self.new ≡ joined (groups_view self.old) (groups_of shapes.now (variant.now ∷ []))) }
     {
         match VariantFormat::from_variant(shapes, variant) {
             VariantFormat::Unit => self.unit_variants.push(variant)?,
@@ -161,7 +166,8 @@ impl<'c> VariantsByFormat<'c> {
         shape: ShapeId,
     ) -> Result<(), AllocError>
         requires { format_of shapes.now variant.now ≡ VariantFormat.NewtypeScalar shape }
-        ensures { OnOk result (groups_view self.new ≡ joined (groups_view self.old) (groups_of shapes.now (variant.now ∷ []))) }
+        ensures { OnOk result
+            (groups_view self.new ≡ joined (groups_view self.old) (groups_of shapes.now (variant.now ∷ []))) }
     {
         add_entry(&mut self.scalar_variants, variant, shape)?;
         match scalar_at_end(shapes, shape) {
@@ -196,7 +202,8 @@ fn add_entry<'c>(
     variant: &'c Variant,
     shape: ShapeId,
 ) -> Result<(), AllocError>
-    ensures { OnOk result (entries_view list.new.items ≡ entries_view list.old.items ++ (variant.now, shape) ∷ []) }
+    ensures { OnOk result
+        (entries_view list.new.items ≡ entries_view list.old.items ++ (variant.now, shape) ∷ []) }
 {
     // In place of `?`, for which no proof is generated at an entry of this type.
     match list.push((variant, shape)) {
