@@ -1,5 +1,5 @@
 -- What one choice of variants resolves to, with no word of where its names lie.
-use Rattle.std.specs.Prelude.{◌≡◌, ℕ, List, [], ◌∷◌, ◌++◌, Bool, false, if◌then◌else◌, Some, None, IsSome, IsSomeAnd}
+use Rattle.std.specs.Prelude.{◌≡◌, ◌↔◌, ℕ, List, [], ◌∷◌, ◌++◌, Bool, true, false, if◌then◌else◌, Some, None, IsSome, IsSomeAnd}
 use Rattle.std.specs.Option.{option_or, option_map}
 use Rattle.std.specs.Ordering.{nat_cmp}
 use Rattle.std.specs.declared.cmp.Ordering.{Ordering}
@@ -34,6 +34,18 @@ pub record Resolved : Type 0 where
   pub key_paths : set.FinSet (slice_cmp (slice_cmp nat_cmp))
   pub picks : List Pick
   pub catch_alls : map.FinMap category_cmp FieldView
+
+-- some field of the name is required
+pub record IsRequiredName (fields : map.FinMap key_cmp FieldView) (name : Name) : Type 0 where
+  pub key : Key
+  pub field : FieldView
+  pub present : map.get fields key ≡ Some field
+  pub is_required : field.is_required ≡ true
+  pub same_name : field.name ≡ name
+
+-- the names are those of the required fields
+abbrev pub AreRequiredNames : map.FinMap key_cmp FieldView → set.FinSet (slice_cmp nat_cmp) → Type 0
+AreRequiredNames fields names = (name : Name) → (set.contains names name ≡ true) ↔ IsRequiredName fields name
 
 -- nothing in it
 abbrev pub nothing : Resolved

@@ -8,7 +8,7 @@ ghost use Rattle.facet_solver_shape.specs.Descriptions.{description};
 ghost use Rattle.facet_solver_shape.specs.FieldTable.{entry_view};
 ghost use Rattle.facet_solver_shape.specs.Keys.{key_of};
 ghost use Rattle.facet_solver_shape.specs.Matching.{matches, has_name};
-ghost use Rattle.facet_solver_shape.specs.Resolved.{nothing, IsAdded, with_key_path, with_pick, with_catch_all, with_field, IsStored, AreApart, IsMerged, IsMadeOptional};
+ghost use Rattle.facet_solver_shape.specs.Resolved.{nothing, IsAdded, with_key_path, with_pick, with_catch_all, with_field, key_of_field, IsStored, AreRequiredNames, AreApart, IsMerged, IsMadeOptional};
 ghost use Rattle.facet_solver_shape.specs.Views.{field_view, pick_view, IsRefusalOf, IsMergeRefusalOf, field_entries_view, names_of, names_view, key_paths_view};
 ghost use Rattle.facet_solver_shape.specs.declared.resolution.error.SchemaError.TheVariants.{OutOfMemory};
 
@@ -44,7 +44,7 @@ pub struct Resolution<'c> {
 
 impl<'c> Model for Resolution<'c> {
     ghost use Rattle.std.specs.Prelude.{map};
-    ghost use Rattle.facet_solver_shape.specs.Resolved.{Resolved};
+    ghost use Rattle.facet_solver_shape.specs.Resolved.{Resolved, AreRequiredNames};
     ghost use Rattle.facet_solver_shape.specs.ResolvedCode.{resolved_code};
     ghost use Rattle.facet_solver_shape.specs.Views.{pick_view};
 
@@ -59,6 +59,8 @@ impl<'c> Model for Resolution<'c> {
       picks = map pick_view r.picks.items;
       catch_alls = r.catch_alls;
     } };
+
+    ghost invariant = { λ r. AreRequiredNames r.fields r.required };
 }
 
 impl<'c> Resolution<'c> {
@@ -86,7 +88,8 @@ impl<'c> Resolution<'c> {
 
     /// The names of the required fields, in byte order.
     pub fn required_field_names(&self) -> &BTreeSet<&'c str>
-        ensures { names_view result.now.keys ≡ self.now.required_names }
+        ensures view { names_view result.now.keys ≡ self.now.required_names }
+        ensures of_fields { AreRequiredNames self.now.fields self.now.required_names }
     {
         self.required.as_set()
     }
@@ -170,7 +173,8 @@ impl<'c> Resolution<'c> {
 
     // Adds a required field, whose key is new.
     fn add_required(&mut self, info: FieldInfo<'c>) -> Result<(), SchemaError<'c>>
-        requires { IsTrue info.required }
+        requires fresh { finite.get self.old.fields (key_of_field (field_view info)) ≡ None }
+        requires required { IsTrue info.required }
         ensures ok { OnOk result (self.new ≡ with_field self.old (field_view info.entry)) }
         ensures refused { IfErr result (λ e. e ≡ OutOfMemory) }
         ensures err { OnErr result (self.new ≡ self.old) }
