@@ -4,6 +4,8 @@
 #[cfg(test)]
 mod catalogue;
 #[cfg(test)]
+mod counts;
+#[cfg(test)]
 mod fixtures;
 #[cfg(test)]
 mod flattened;

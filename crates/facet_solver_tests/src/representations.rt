@@ -1,6 +1,6 @@
-//! Enums by tag, by variant name, and by tag and content; nested key paths; and the number of resolutions.
+//! Enums by tag, by variant name, and by tag and content; and nested key paths.
 
-use crate::fixtures::{Types, enum_e, enum_of_units, field, flat, newtype, shape, variant, variant_of_one};
+use crate::fixtures::{Types, enum_e, field, flat, newtype, shape, variant, variant_of_one};
 use crate::reading::{described, key_paths, keys, printed};
 use facet_solver::{
     EnumRepr, FieldKey, KeyResult, ScalarType, Schema, SchemaError, ShapeId, ShapeKind, Solver,
@@ -205,37 +205,6 @@ fn from_shape_follows_the_attributes(rt: HostRuntime) -> Result<(), Fail> {
                 assert!(rt; matches, "at {untagged} {tag:?} {content:?}");
             }
         }
-    }
-    Ok(())
-}
-
-#[test]
-fn counts_pass_what_a_word_holds(rt: HostRuntime) -> Result<(), Fail> {
-    let alloc = rt.alloc();
-    let expected = [
-        (63, false, Some(9223372036854775808)),
-        (64, false, None),
-        (70, false, None),
-        (70, true, Some(0)),
-    ];
-    for (pairs, beside_never, count) in expected {
-        let mut types = Types::new(alloc);
-        let mut fields = Vec::new(alloc);
-        for _ in 0..pairs {
-            let pair = enum_of_units(&mut types, "Pair", "AB")?;
-            let name = format!(in alloc; "f{}", fields.len())?;
-            fields.push(flat(alloc, name.as_str(), pair)?)?;
-        }
-        if beside_never {
-            let never = types.enumeration("Never", Vec::new(alloc))?;
-            fields.push(flat(alloc, "never", never)?)?;
-        }
-        let root = types.structure("S", fields)?;
-        let shapes = types.checked()?;
-        assert!(rt; shapes.has(root));
-        let flattened = Some(EnumRepr::Flattened);
-        let answer = Schema::resolution_count(alloc, &shapes, root, flattened)?;
-        assert_eq!(rt; answer, count, "{pairs} pairs, beside Never: {beside_never}");
     }
     Ok(())
 }
