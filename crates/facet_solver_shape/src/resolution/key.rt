@@ -91,7 +91,7 @@ impl<'a> FieldKey<'a> {
         ensures { result.now ≡ (key_of self.now).name }
     {
         match *self {
-            FieldKey::Flat(name) | FieldKey::Dom(_, name) => name,
+            FieldKey::Flat(text) | FieldKey::Dom(_, text) => text,
         }
     }
 }
