@@ -3,7 +3,7 @@ ghost use Rattle.std.specs.Prelude.{◌≡◌, ◌++◌, ◌∷◌, [], map, OnO
 ghost use Rattle.facet_solver.specs.Below.{NamesEarlier};
 ghost use Rattle.facet_solver.specs.Targets.{kind_at};
 ghost use Rattle.facet_solver.specs.Nested as nested;
-ghost use Rattle.facet_solver.specs.KeyPaths.{with_key_paths, names_of};
+ghost use Rattle.facet_solver.specs.KeyPaths.{with_key_paths, with_paths_behind, names_of};
 ghost use Rattle.facet_solver.specs.EnteredView.{entered_view};
 
 use crate::build::plan::Plan;
@@ -44,10 +44,10 @@ pub(crate) fn add_nested_paths<'c>(
     ensures ok { OnOk result (resolution.new ≡ with_key_paths resolution.old (map (λ q. name.now ∷ q) (nested.nested_paths plan.entry.shapes.now id))) }
 {
     let entered = Entered::StructsAlone;
-    if entered.has(plan.shapes, id) {
-        add_under_shape(plan, entered, id, &[name], resolution)?;
+    if !entered.has(plan.shapes, id) {
+        return Ok(());
     }
-    Ok(())
+    add_under_shape(plan, entered, id, &[name], resolution)
 }
 
 /// Adds the key paths under the content of a variant that is written apart from its enum's siblings, behind the name
@@ -73,9 +73,9 @@ fn add_under_shape<'c>(
     prefix: &[&'c str],
     resolution: &mut Resolution<'c>,
 ) -> Result<(), AllocError>
-    requires checked { NamesEarlier plan.shapes.now }
-    ensures ok { OnOk result (resolution.new ≡ with_key_paths resolution.old (map (λ q. names_of prefix.now ++ q)
-        (nested.under_shape (entered_view entered) plan.entry.shapes.now id))) }
+    requires { NamesEarlier plan.shapes.now }
+    ensures { OnOk result (resolution.new ≡ with_paths_behind resolution.old (names_of prefix.now)
+        (nested.under_shape (entered_view entered) plan.entry.shapes.now id)) }
 {
     let Some(shape) = plan.shapes.get(id) else {
         return Ok(());
@@ -100,9 +100,9 @@ fn add_under_variants<'c>(
     prefix: &[&'c str],
     resolution: &mut Resolution<'c>,
 ) -> Result<(), AllocError>
-    requires checked { NamesEarlier plan.shapes.now }
-    ensures ok { OnOk result (resolution.new ≡ with_key_paths resolution.old (map (λ q. names_of prefix.now ++ q)
-        (nested.under_variants (entered_view entered) plan.entry.shapes.now (nested.under_shape (entered_view entered) plan.entry.shapes.now) variants.now))) }
+    requires { NamesEarlier plan.shapes.now }
+    ensures { OnOk result (resolution.new ≡ with_paths_behind resolution.old (names_of prefix.now)
+        (nested.under_variants (entered_view entered) plan.entry.shapes.now (nested.under_shape (entered_view entered) plan.entry.shapes.now) variants.now)) }
 {
     for variant in variants {
         add_under_variant(plan, entered, variant, prefix, resolution)?;
@@ -119,9 +119,9 @@ fn add_under_variant<'c>(
     prefix: &[&'c str],
     resolution: &mut Resolution<'c>,
 ) -> Result<(), AllocError>
-    requires checked { NamesEarlier plan.shapes.now }
-    ensures ok { OnOk result (resolution.new ≡ with_key_paths resolution.old (map (λ q. names_of prefix.now ++ q)
-        (nested.under_variant (entered_view entered) plan.entry.shapes.now (nested.under_shape (entered_view entered) plan.entry.shapes.now) variant.now))) }
+    requires { NamesEarlier plan.shapes.now }
+    ensures { OnOk result (resolution.new ≡ with_paths_behind resolution.old (names_of prefix.now)
+        (nested.under_variant (entered_view entered) plan.entry.shapes.now (nested.under_shape (entered_view entered) plan.entry.shapes.now) variant.now)) }
 {
     let fields = variant.fields.as_slice();
     if let [field] = fields
@@ -142,9 +142,9 @@ fn add_through_fields<'c>(
     prefix: &[&'c str],
     resolution: &mut Resolution<'c>,
 ) -> Result<(), AllocError>
-    requires checked { NamesEarlier plan.shapes.now }
-    ensures ok { OnOk result (resolution.new ≡ with_key_paths resolution.old (map (λ q. names_of prefix.now ++ q)
-        (nested.through_fields (entered_view entered) plan.entry.shapes.now (nested.under_shape (entered_view entered) plan.entry.shapes.now) fields.now))) }
+    requires { NamesEarlier plan.shapes.now }
+    ensures { OnOk result (resolution.new ≡ with_paths_behind resolution.old (names_of prefix.now)
+        (nested.through_fields (entered_view entered) plan.entry.shapes.now (nested.under_shape (entered_view entered) plan.entry.shapes.now) fields.now)) }
 {
     for field in fields {
         add_through_field(plan, entered, field, prefix, resolution)?;
@@ -161,19 +161,19 @@ fn add_through_field<'c>(
     prefix: &[&'c str],
     resolution: &mut Resolution<'c>,
 ) -> Result<(), AllocError>
-    requires checked { NamesEarlier plan.shapes.now }
-    ensures ok { OnOk result (resolution.new ≡ with_key_paths resolution.old (map (λ q. names_of prefix.now ++ q)
-        (nested.through_field (entered_view entered) plan.entry.shapes.now (nested.under_shape (entered_view entered) plan.entry.shapes.now) field.now))) }
+    requires { NamesEarlier plan.shapes.now }
+    ensures { OnOk result (resolution.new ≡ with_paths_behind resolution.old (names_of prefix.now)
+        (nested.through_field (entered_view entered) plan.entry.shapes.now (nested.under_shape (entered_view entered) plan.entry.shapes.now) field.now)) }
 {
     if field.flattened {
         return add_under_shape(plan, entered, field.shape, prefix, resolution);
     }
     let path = with_name(plan.alloc, prefix, field.effective_name())?;
-    resolution.add_key_path(with_name(plan.alloc, prefix, field.effective_name())?)?;
-    if entered.has(plan.shapes, field.shape) {
-        add_under_shape(plan, entered, field.shape, &path, resolution)?;
+    resolution.add_key_path(Vec::from_slice(plan.alloc, &path)?)?;
+    if !entered.has(plan.shapes, field.shape) {
+        return Ok(());
     }
-    Ok(())
+    add_under_shape(plan, entered, field.shape, &path, resolution)
 }
 
 /// A prefix with one more name.
