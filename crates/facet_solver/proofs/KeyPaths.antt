@@ -1,5 +1,5 @@
 -- Key paths taken in, part by part.
-use Rattle.std.proofs.Common.{◌≡◌, ℕ, ◌+◌, ◌<◌, ◌≤◌, List, [], ◌∷◌, ◌++◌, map, refl, ap, sym, ◌∙◌, length, get_or, drop, append_assoc, Bool, true, false}
+use Rattle.std.proofs.Common.{◌≡◌, ℕ, ◌+◌, ◌<◌, ◌≤◌, List, [], ◌∷◌, ◌++◌, map, refl, ap, sym, ◌∙◌, length, get_or, drop, append_assoc, Bool, false}
 use Rattle.std.specs.Prelude.{flat_map, if◌then◌else◌}
 use Rattle.std.proofs.lemmas.List.{map-append, drop_more}
 use Rattle.std.proofs.lemmas.List.Sums.{fold-append}
@@ -7,8 +7,8 @@ use Rattle.std.proofs.Math.ListN.{drop_of_length-le}
 use Rattle.facet_solver_shape.specs.declared.shape.Field.{Field}
 use Rattle.facet_solver_shape.specs.Names.{Name, effective_name}
 use Rattle.facet_solver_shape.specs.Resolved.{Resolved, with_key_path}
-use Rattle.facet_solver.specs.Targets.{Catalogue, kind_at}
-use Rattle.facet_solver.specs.Nested.{KeyPath, Under, Entered, named, through_field}
+use Rattle.facet_solver.specs.Targets.{Catalogue}
+use Rattle.facet_solver.specs.Nested.{KeyPath, Under, Entered, if_entered, named, through_field}
 use Rattle.facet_solver.specs.KeyPaths.{with_key_paths, with_paths_behind}
 
 pub with_key_paths-append : (r : Resolved) (ps qs : List KeyPath) → with_key_paths r (ps ++ qs) ≡ with_key_paths (with_key_paths r ps) qs
@@ -36,24 +36,11 @@ unfolding with_key_paths
 behind-named r prefix name paths = ap (with_key_paths (with_key_path r (prefix ++ name ∷ []))) (longer_prefix prefix name paths)
 
 -- through a regular field: its name, and what is behind it where its shape is entered
-module _ (entered : Entered) (cat : Catalogue) (under : Under) (f : Field) (regular : f.flattened ≡ false) (r made : Resolved) (prefix path : KeyPath) (path_is : path ≡ prefix ++ effective_name f ∷ []) (made_is : made ≡ with_key_path r path) where
-  through : (flattened enters : Bool) → flattened ≡ false → with_paths_behind r prefix (if flattened then under f.shape else named (effective_name f) (if enters then under f.shape else [])) ≡ with_paths_behind made path (if enters then under f.shape else [])
-  through true enters e = absurd (cc)
-  through false enters e =
-      behind-named r prefix (effective_name f) (if enters then under f.shape else [])
-      ∙ ap (λ (p : KeyPath). with_paths_behind (with_key_path r p) p (if enters then under f.shape else [])) (sym path_is)
-      ∙ ap (λ (s : Resolved). with_paths_behind s path (if enters then under f.shape else [])) (sym made_is)
-
-  pub through-entered : entered (kind_at cat f.shape) ≡ true → with_paths_behind r prefix (through_field entered cat under f) ≡ with_paths_behind made path (under f.shape)
-  through-entered e =
-      through f.flattened (entered (kind_at cat f.shape)) regular
-      ∙ ap (λ (b : Bool). with_paths_behind made path (if b then under f.shape else [])) e
-
-  pub through-alone : entered (kind_at cat f.shape) ≡ false → with_paths_behind r prefix (through_field entered cat under f) ≡ made
-  through-alone e =
-      through f.flattened (entered (kind_at cat f.shape)) regular
-      ∙ ap (λ (b : Bool). with_paths_behind made path (if b then under f.shape else [])) e
-      ∙ behind-none made path
+pub behind-regular : (entered : Entered) (cat : Catalogue) (under : Under) (f : Field) (r : Resolved) (prefix : KeyPath) → f.flattened ≡ false
+    → with_paths_behind r prefix (through_field entered cat under f) ≡ with_paths_behind (with_key_path r (prefix ++ effective_name f ∷ [])) (prefix ++ effective_name f ∷ []) (if_entered entered cat under f.shape)
+behind-regular entered cat under f r prefix regular =
+    ap (λ (b : Bool). with_paths_behind r prefix (if b then under f.shape else named (effective_name f) (if_entered entered cat under f.shape))) regular
+    ∙ behind-named r prefix (effective_name f) (if_entered entered cat under f.shape)
 
 -- those that the items from place i on have under them
 module _ {X : Type 0} (under : X → List KeyPath) (prefix : KeyPath) (xs : List X) (i : ℕ) where

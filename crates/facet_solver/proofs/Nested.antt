@@ -1,5 +1,7 @@
 -- On a checked catalogue what is under a shape is what its kind says.
-use Rattle.std.proofs.Common.{◌⊎◌, inl, inr, ◌≡◌, ℕ, zero, suc, ◌<◌, ◌≤◌, List, [], ◌∷◌, ◌++◌, Option, None, Bool, true, false, sym, refl, ap, ◌∙◌, slice_get, length, arith, string_bytes, subst}
+use Rattle.std.proofs.Common.{inl, inr, ◌≡◌, ℕ, zero, suc, ◌<◌, ◌≤◌, List, [], ◌∷◌, ◌++◌, Option, Bool, true, false, sym, refl, ap, ◌∙◌, slice_get, length, arith, string_bytes, subst}
+use Rattle.std.proofs.lemmas.Bool.{cases_lt}
+use Rattle.std.proofs.lemmas.Option.{slice_get_past}
 use Rattle.std.specs.Prelude.{if◌then◌else◌, ◌&&◌, Vec}
 use Rattle.std.specs.declared.alloc.Global.{Global}
 use Rattle.facet_solver_shape.specs.Names.{effective_name}
@@ -72,28 +74,22 @@ module _ (entered : Entered) (cat : Catalogue) (checked : NamesEarlier cat) wher
       (kind_at cat id) (kind_at-below id)
 
   -- nothing is under a place past the end
-  past_end : (xs : List Shape) (id : ℕ) → length xs ≤ id → slice_get xs id ≡ None
-  past_end [] id h = refl
-  past_end (x ∷ xs) zero h = absurd (omega arith)
-  past_end (x ∷ xs) (suc id) h = past_end xs id (omega arith)
+  nothing_past : (n id : ℕ) → length cat ≤ id → under_within (suc n) entered cat id ≡ []
+  unfolding under_within
+  nothing_past n id h = ap (λ (o : Option Shape). under_kind entered cat (under_within n entered cat) (kind_of o)) (slice_get_past cat id h)
+
+  -- more levels than the catalogue is long find nothing more
+  pub enough_levels : (n m id : ℕ) → length cat < n → length cat < m → under_within n entered cat id ≡ under_within m entered cat id
+  enough_levels zero m id p q = absurd (omega arith)
+  enough_levels (suc n) zero id p q = absurd (omega arith)
+  enough_levels (suc n) (suc m) id p q = elim (cases_lt id (length cat)) [
+    | inl inside ↦ same_levels (suc n) (suc m) id (omega arith) (omega arith)
+    | inr past ↦ nothing_past n id past ∙ sym (nothing_past m id past)
+  ]
 
   pub under_shape-step : (id : ℕ) → under_shape entered cat id ≡ under_kind entered cat (under_shape entered cat) (kind_at cat id)
   unfolding under_shape under_within
-  under_shape-step id = elim (le_or_lt (length cat) id) [ inl past ↦ outside past | inr inside ↦ within inside ]
-    where
-      le_or_lt : (m n : ℕ) → (m ≤ n) ⊎ (n < m)
-      le_or_lt m n = grind arith
-
-      outside : length cat ≤ id → under_kind entered cat (under_within (length cat) entered cat) (kind_at cat id) ≡ under_kind entered cat (under_within (suc (length cat)) entered cat) (kind_at cat id)
-      outside p =
-          ap (λ (o : Option Shape). under_kind entered cat (under_within (length cat) entered cat) (kind_of o)) (past_end cat id p)
-          ∙ sym (ap (λ (o : Option Shape). under_kind entered cat (under_within (suc (length cat)) entered cat) (kind_of o)) (past_end cat id p))
-
-      within : id < length cat → under_kind entered cat (under_within (length cat) entered cat) (kind_at cat id) ≡ under_kind entered cat (under_within (suc (length cat)) entered cat) (kind_at cat id)
-      within p =
-          kind_same entered cat (under_within (length cat) entered cat) (under_within (suc (length cat)) entered cat) id
-          (λ k lt. same_levels (length cat) (suc (length cat)) k (omega arith) (omega arith))
-          (kind_at cat id) (kind_at-below id)
+  under_shape-step id = enough_levels (suc (length cat)) (suc (suc (length cat))) id (omega arith) (omega arith)
 
   -- by the kind of the shape
   module _ (id : ℕ) where

@@ -43,11 +43,7 @@ pub(crate) fn add_nested_paths<'c>(
     requires checked { NamesEarlier plan.shapes.now }
     ensures ok { OnOk result (resolution.new ≡ with_key_paths resolution.old (map (λ q. name.now ∷ q) (nested.nested_paths plan.entry.shapes.now id))) }
 {
-    let entered = Entered::StructsAlone;
-    if !entered.has(plan.shapes, id) {
-        return Ok(());
-    }
-    add_under_shape(plan, entered, id, &[name], resolution)
+    add_if_entered(plan, Entered::StructsAlone, id, &[name], resolution)
 }
 
 /// Adds the key paths under the content of a variant that is written apart from its enum's siblings, behind the name
@@ -64,7 +60,27 @@ pub(crate) fn add_content_paths<'c>(
     add_under_variant(plan, Entered::EveryKind, variant, &[name], resolution)
 }
 
-/// Adds the key paths under a shape, each behind the prefix.
+/// Adds the key paths under a shape where it is entered, each behind the prefix.
+#[cycle(nested)]
+fn add_if_entered<'c>(
+    plan: Plan<'c>,
+    entered: Entered,
+    id: ShapeId,
+    prefix: &[&'c str],
+    resolution: &mut Resolution<'c>,
+) -> Result<(), AllocError>
+    requires { NamesEarlier plan.shapes.now }
+    ensures { let e = entered_view entered in let cat = plan.entry.shapes.now in
+        OnOk result (resolution.new ≡ with_paths_behind resolution.old (names_of prefix.now) (nested.if_entered e cat (nested.under_shape e cat) id)) }
+{
+    if entered.has(plan.shapes, id) {
+        add_under_shape(plan, entered, id, prefix, resolution)
+    } else {
+        Ok(())
+    }
+}
+
+/// Adds those under a shape, entered or not.
 #[cycle(nested)]
 fn add_under_shape<'c>(
     plan: Plan<'c>,
@@ -74,8 +90,8 @@ fn add_under_shape<'c>(
     resolution: &mut Resolution<'c>,
 ) -> Result<(), AllocError>
     requires { NamesEarlier plan.shapes.now }
-    ensures { OnOk result (resolution.new ≡ with_paths_behind resolution.old (names_of prefix.now)
-        (nested.under_shape (entered_view entered) plan.entry.shapes.now id)) }
+    ensures { let e = entered_view entered in let cat = plan.entry.shapes.now in
+        OnOk result (resolution.new ≡ with_paths_behind resolution.old (names_of prefix.now) (nested.under_shape e cat id)) }
 {
     let Some(shape) = plan.shapes.get(id) else {
         return Ok(());
@@ -101,8 +117,8 @@ fn add_under_variants<'c>(
     resolution: &mut Resolution<'c>,
 ) -> Result<(), AllocError>
     requires { NamesEarlier plan.shapes.now }
-    ensures { OnOk result (resolution.new ≡ with_paths_behind resolution.old (names_of prefix.now)
-        (nested.under_variants (entered_view entered) plan.entry.shapes.now (nested.under_shape (entered_view entered) plan.entry.shapes.now) variants.now)) }
+    ensures { let e = entered_view entered in let cat = plan.entry.shapes.now in
+        OnOk result (resolution.new ≡ with_paths_behind resolution.old (names_of prefix.now) (nested.under_variants e cat (nested.under_shape e cat) variants.now)) }
 {
     for variant in variants {
         add_under_variant(plan, entered, variant, prefix, resolution)?;
@@ -120,8 +136,8 @@ fn add_under_variant<'c>(
     resolution: &mut Resolution<'c>,
 ) -> Result<(), AllocError>
     requires { NamesEarlier plan.shapes.now }
-    ensures { OnOk result (resolution.new ≡ with_paths_behind resolution.old (names_of prefix.now)
-        (nested.under_variant (entered_view entered) plan.entry.shapes.now (nested.under_shape (entered_view entered) plan.entry.shapes.now) variant.now)) }
+    ensures { let e = entered_view entered in let cat = plan.entry.shapes.now in
+        OnOk result (resolution.new ≡ with_paths_behind resolution.old (names_of prefix.now) (nested.under_variant e cat (nested.under_shape e cat) variant.now)) }
 {
     let fields = variant.fields.as_slice();
     if let [field] = fields
@@ -143,8 +159,8 @@ fn add_through_fields<'c>(
     resolution: &mut Resolution<'c>,
 ) -> Result<(), AllocError>
     requires { NamesEarlier plan.shapes.now }
-    ensures { OnOk result (resolution.new ≡ with_paths_behind resolution.old (names_of prefix.now)
-        (nested.through_fields (entered_view entered) plan.entry.shapes.now (nested.under_shape (entered_view entered) plan.entry.shapes.now) fields.now)) }
+    ensures { let e = entered_view entered in let cat = plan.entry.shapes.now in
+        OnOk result (resolution.new ≡ with_paths_behind resolution.old (names_of prefix.now) (nested.through_fields e cat (nested.under_shape e cat) fields.now)) }
 {
     for field in fields {
         add_through_field(plan, entered, field, prefix, resolution)?;
@@ -162,18 +178,15 @@ fn add_through_field<'c>(
     resolution: &mut Resolution<'c>,
 ) -> Result<(), AllocError>
     requires { NamesEarlier plan.shapes.now }
-    ensures { OnOk result (resolution.new ≡ with_paths_behind resolution.old (names_of prefix.now)
-        (nested.through_field (entered_view entered) plan.entry.shapes.now (nested.under_shape (entered_view entered) plan.entry.shapes.now) field.now)) }
+    ensures { let e = entered_view entered in let cat = plan.entry.shapes.now in
+        OnOk result (resolution.new ≡ with_paths_behind resolution.old (names_of prefix.now) (nested.through_field e cat (nested.under_shape e cat) field.now)) }
 {
     if field.flattened {
         return add_under_shape(plan, entered, field.shape, prefix, resolution);
     }
     let path = with_name(plan.alloc, prefix, field.effective_name())?;
     resolution.add_key_path(Vec::from_slice(plan.alloc, &path)?)?;
-    if !entered.has(plan.shapes, field.shape) {
-        return Ok(());
-    }
-    add_under_shape(plan, entered, field.shape, &path, resolution)
+    add_if_entered(plan, entered, field.shape, &path, resolution)
 }
 
 /// A prefix with one more name.

@@ -12,7 +12,7 @@ use Rattle.facet_solver.specs.Nested.{KeyPath, through_field, under_variant, und
 use Rattle.facet_solver.specs.KeyPaths.{names_of}
 use Rattle.facet_solver.specs.EnteredView.{entered_view}
 use Rattle.facet_solver.proofs.Limits.{limit_of, limit_of_variants, limit_of-at, limit_of_variants-at}
-use Rattle.facet_solver.proofs.KeyPaths.{behind-more, behind-end, behind-none, through-entered, through-alone}
+use Rattle.facet_solver.proofs.KeyPaths.{behind-more, behind-end, behind-none, behind-regular}
 use Rattle.facet_solver.proofs.Nested.{at-struct, at-enum, at-other, struct-limit, enum-limit}
 use Rattle.facet_solver.proofs.build.nested.+nested.Goals as goal
 
@@ -23,23 +23,17 @@ not_other kind fs e = cc
 not_other_enum : (vs : Vec Variant Global) → Other ≡ Enum vs → ⊥
 not_other_enum vs e = cc
 
-pub add_through_field-returns-then-not-has : goal.add_through_field-returns-then-not-has
-add_through_field-returns-then-not-has t c =
-    let prefix = names_of c.args.prefix.now in
-    let e : names_of c.in_ok-from_slice.field-0.items ≡ prefix ++ effective_name c.args.field.now ∷ [] =
-    ap names_of (c.in_ok-from_slice.ensures.items ∙ c.deref.ensures.value) ∙ c.in_ok-path.ensures ∙ ap (λ (n : Name). prefix ++ n ∷ []) c.effective_name.ensures in
-    sym (through-alone (entered_view c.args.entered) c.args.plan.shapes.now (under_shape (entered_view c.args.entered) c.args.plan.shapes.now) c.args.field.now c.if-field.false c.args.resolution.now c.add_key_path.new.self prefix _ e c.in_ok-add_key_path.ensures.ok (sym c.if-not-has.ensures))
+pub add_if_entered-returns-else-has : goal.add_if_entered-returns-else-has
+add_if_entered-returns-else-has t c = rw (← c.if-has.ensures) (sym (behind-none c.args.resolution.now (names_of c.args.prefix.now)))
 
 pub add_through_field-returns : goal.add_through_field-returns
 add_through_field-returns t c =
-    let prefix = names_of c.args.prefix.now in
+    let r = c.args.resolution.now in
     let path = names_of c.in_ok-path.path.items in
-    let e : path ≡ prefix ++ effective_name c.args.field.now ∷ [] =
-    c.in_ok-path.ensures ∙ ap (λ (n : Name). prefix ++ n ∷ []) c.effective_name.ensures in
-    let m : c.add_key_path.new.self ≡ with_key_path c.args.resolution.now path =
-    c.in_ok-add_key_path.ensures.ok ∙ ap (λ (p : KeyPath). with_key_path c.args.resolution.now p) (ap names_of (c.in_ok-from_slice.ensures.items ∙ c.deref.ensures.value)) in
-    let w = through-entered (entered_view c.args.entered) c.args.plan.shapes.now (under_shape (entered_view c.args.entered) c.args.plan.shapes.now) c.args.field.now c.if-field.false c.args.resolution.now c.add_key_path.new.self prefix path e m (sym c.if-not-has.ensures) in
-    rw (w, ← c.deref-2.ensures.value) c.add_under_shape-2.ensures
+    let is : names_of c.args.prefix.now ++ effective_name c.args.field.now ∷ [] ≡ path = sym (c.in_ok-path.ensures ∙ ap (λ (n : Name). names_of c.args.prefix.now ++ n ∷ []) c.effective_name.ensures) in
+    let made : with_key_path r path ≡ c.add_key_path.new.self = sym (c.in_ok-add_key_path.ensures.ok ∙ ap (λ (p : KeyPath). with_key_path r p) (ap names_of (c.in_ok-from_slice.ensures.items ∙ c.deref.ensures.value))) in
+    rw (behind-regular (entered_view c.args.entered) c.args.plan.shapes.now (under_shape (entered_view c.args.entered) c.args.plan.shapes.now) c.args.field.now r (names_of c.args.prefix.now) c.if-field.false, is, made, ← c.deref-2.ensures.value)
+    c.add_if_entered.ensures
 
 pub add_through_fields-add_through_field-requires :
     goal.add_through_fields-add_through_field-requires
