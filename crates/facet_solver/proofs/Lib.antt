@@ -8,3 +8,4 @@ pub mod Steps
 pub mod Products
 pub mod KeyPaths
 pub mod Nested
+pub mod NestedLaws

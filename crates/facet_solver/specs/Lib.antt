@@ -15,3 +15,4 @@ pub mod Outcome
 pub mod RoleView
 pub mod PlanView
 pub mod EnteredView
+pub mod NestedLaws
