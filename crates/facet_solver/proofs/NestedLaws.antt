@@ -113,10 +113,10 @@ no_gaps ps g = record {
 }
 
 -- nested paths have no gaps
-pub nested-no_gaps : (cat : Catalogue) (id : ℕ) → HasNoGaps (nested_paths cat id)
+pub nested_without_gaps : (cat : Catalogue) (id : ℕ) → HasNoGaps (nested_paths cat id)
 unfolding nested_paths
-nested-no_gaps cat id = no_gaps _ (gapless_entered structs_alone cat (under_shape structs_alone cat) (gapless_shape structs_alone cat) id)
+nested_without_gaps cat id = no_gaps _ (gapless_entered structs_alone cat (under_shape structs_alone cat) (gapless_shape structs_alone cat) id)
 
-pub content-no_gaps : (cat : Catalogue) (v : Variant) → HasNoGaps (content_paths cat v)
+pub content_without_gaps : (cat : Catalogue) (v : Variant) → HasNoGaps (content_paths cat v)
 unfolding content_paths
-content-no_gaps cat v = no_gaps _ (gapless_variant every_kind cat (under_shape every_kind cat) (gapless_shape every_kind cat) v.fields.items)
+content_without_gaps cat v = no_gaps _ (gapless_variant every_kind cat (under_shape every_kind cat) (gapless_shape every_kind cat) v.fields.items)
