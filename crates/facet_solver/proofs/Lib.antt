@@ -6,3 +6,6 @@ pub mod Descent
 pub mod Limits
 pub mod Steps
 pub mod Products
+pub mod KeyPaths
+pub mod Nested
+pub mod NestedLaws

@@ -4,6 +4,7 @@ pub mod Representation
 pub mod Categories
 pub mod Content
 pub mod Nested
+pub mod KeyPaths
 pub mod Roles
 pub mod Emissions
 pub mod Walk
@@ -13,3 +14,5 @@ pub mod Listing
 pub mod Outcome
 pub mod RoleView
 pub mod PlanView
+pub mod EnteredView
+pub mod NestedLaws
