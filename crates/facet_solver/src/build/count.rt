@@ -1,0 +1,3 @@
+//! The number of choices of variants, from a table by place.
+
+pub(crate) mod tally;
