@@ -1,6 +1,9 @@
 pub mod Exact
 pub mod Bijection
 pub mod Counts
+pub mod CountSteps
+pub mod Tallies
+pub mod Newtypes
 pub mod Laws
 pub mod Descent
 pub mod Limits

@@ -14,3 +14,4 @@ pub mod Outcome
 pub mod RoleView
 pub mod PlanView
 pub mod CountView
+pub mod Newtype
