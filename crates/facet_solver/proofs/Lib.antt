@@ -3,6 +3,8 @@ pub mod Bijection
 pub mod Counts
 pub mod CountSteps
 pub mod Tallies
+pub mod TallyTables
+pub mod RootCounts
 pub mod Newtypes
 pub mod Laws
 pub mod Descent

@@ -30,7 +30,7 @@ module _ (cat : Catalogue) (checked : NamesEarlier cat) where
       record {
         is_struct = subst (λ (k : ShapeKind). IsSome (struct_fields k)) (sym (kind-at id s here)) is_struct;
         same_fields = if-zero (is_zero (string_bytes f.name)) (effective cat f.shape) zero_named ∙ ap (λ (i : ℕ). struct_fields (kind_at cat i)) (sym is_effective);
-        earlier = λ limit below. let le = effective-le cat checked f.shape in omega (arith, below.0)
+        earlier = λ limit below. let le = effective-le cat checked f.shape in omega (arith, below.0);
       }
 
   pub newtype_of : (fs : List Field) (f : Field) (id : ℕ) (s : Shape) → fs ≡ f ∷ [] → is_zero (string_bytes f.name) ≡ true → id ≡ effective cat f.shape → slice_get cat id ≡ Some s → IsSome (struct_fields s.kind) → IsNewtypeOf cat fs id

@@ -22,8 +22,8 @@ next c =
     let settings = settings_of c.args.plan in
     let cat = c.args.plan.shapes.now in
     elim c.if-walked.branch [
-      then-walked w ↦ rw w.choices-is (told_walked settings cat c.args.walked c.variant-item.result _ w.if-walked.true w.count_content-choices.ensures)
-    | else-walked w ↦ rw w.choices-is (told_unwalked settings cat c.args.walked c.variant-item.result w.if-walked.false)
+      | then-walked w ↦ rw w.choices-is (told_walked settings cat c.args.walked c.variant-item.result _ w.if-walked.true w.count_content-choices.ensures)
+      | else-walked w ↦ rw w.choices-is (told_unwalked settings cat c.args.walked c.variant-item.result w.if-walked.false)
     ]
 
 pub loop-variant-preserved : goal.loop-variant-preserved
