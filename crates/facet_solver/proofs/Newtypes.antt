@@ -1,13 +1,13 @@
 -- A single field `0` over a struct is a newtype of it.
-use Rattle.std.proofs.Common.{◌≡◌, ℕ, ◌<◌, ◌≤◌, List, [], ◌∷◌, Bool, true, false, Option, Some, None, refl, ap, sym, subst, ◌∙◌, slice_get, get_or, length, string_bytes, arith}
+use Rattle.std.proofs.Common.{◌≡◌, ℕ, ◌<◌, ◌≤◌, List, [], ◌∷◌, Bool, true, false, Some, None, refl, ap, sym, subst, ◌∙◌, slice_get, get_or, length, string_bytes, arith}
 use Rattle.std.specs.Prelude.{IsSome, if◌then◌else◌, nat_eq, not}
 use Rattle.std.specs.Cmp.Lexicographic.{pointwise, same_text}
 use Rattle.facet_solver_shape.specs.declared.shape.Field.{Field}
 use Rattle.facet_solver_shape.specs.declared.shape.Shape.{Shape}
 use Rattle.facet_solver_shape.specs.declared.shape.ShapeKind.{ShapeKind}
 use Rattle.facet_solver.specs.Targets.{Catalogue, kind_of, kind_at, effective}
-use Rattle.facet_solver.specs.Below.{FieldsBelow, NamesEarlier}
-use Rattle.facet_solver.specs.Content.{struct_fields, newtype_fields, is_zero}
+use Rattle.facet_solver.specs.Below.{NamesEarlier}
+use Rattle.facet_solver.specs.Content.{struct_fields, is_zero}
 use Rattle.facet_solver.specs.Newtype.{IsNewtypeOf}
 use Rattle.facet_solver.proofs.Descent.{effective-le}
 

@@ -1,5 +1,5 @@
 -- The count of a root by its kind.
-use Rattle.std.proofs.Common.{◌≡◌, ℕ, ◌<◌, ◌≤◌, List, Option, Some, None, true, refl, ap, sym, subst, ◌∙◌, slice_get, length, Vec, arith}
+use Rattle.std.proofs.Common.{◌≡◌, ℕ, Option, Some, None, true, refl, ap, sym, subst, ◌∙◌, slice_get, length, Vec, arith}
 use Rattle.std.proofs.lemmas.Option.{slice_get_within}
 use Rattle.std.specs.declared.alloc.Global.{Global}
 use Rattle.facet_solver_shape.specs.declared.shape.Shape.{Shape}

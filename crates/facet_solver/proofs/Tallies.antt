@@ -1,9 +1,9 @@
 -- What a table of tallies tells of fields, of a newtype and of the first of several parts.
-use Rattle.std.proofs.Common.{◌≡◌, ℕ, zero, suc, ◌+◌, ◌*◌, ◌<◌, ◌≤◌, List, [], ◌∷◌, ◌++◌, Bool, true, false, Option, Some, None, refl, ap, sym, subst, ◌∙◌, slice_get, length, get_or, take, add-one, arith}
+use Rattle.std.proofs.Common.{◌≡◌, ℕ, zero, suc, ◌+◌, ◌*◌, ◌<◌, ◌≤◌, List, [], ◌∷◌, Bool, true, false, Option, Some, None, refl, ap, sym, subst, ◌∙◌, slice_get, length, get_or, take, add-one, arith}
 use Rattle.std.specs.Prelude.{IsSome, if◌then◌else◌}
 use Rattle.std.proofs.Math.Nat.{mul_assoc}
 use Rattle.std.proofs.lemmas.Option.{slice_get-get_or}
-use Rattle.std.proofs.lemmas.List.{take_all, take_more}
+use Rattle.std.proofs.lemmas.List.{take_all}
 use Rattle.facet_solver_shape.specs.declared.shape.Field.{Field}
 use Rattle.facet_solver_shape.specs.declared.shape.Shape.{Shape}
 use Rattle.facet_solver_shape.specs.declared.shape.ShapeKind.{ShapeKind}
@@ -11,11 +11,11 @@ use Rattle.facet_solver_shape.specs.declared.shape.ShapeKind.TheVariants.{Struct
 use Rattle.facet_solver_shape.specs.declared.shape.Variant.{Variant}
 use Rattle.facet_solver.specs.declared.build.count.tally.Tally.{Tally}
 use Rattle.facet_solver.specs.declared.build.count.tally.Tally.TheVariants.{Exact}
-use Rattle.facet_solver.specs.Targets.{Catalogue, kind_of, kind_at, target_of}
+use Rattle.facet_solver.specs.Targets.{Catalogue, kind_of, target_of}
 use Rattle.facet_solver.specs.Below.{FieldsBelow, NamesEarlier}
 use Rattle.facet_solver.specs.Representation.{Settings}
 use Rattle.facet_solver.specs.Roles.{role_of, role_of_target, role_by_kind, a_regular}
-use Rattle.facet_solver.specs.Content.{content_of, content_or, struct_fields, newtype_fields}
+use Rattle.facet_solver.specs.Content.{content_or, struct_fields, newtype_fields}
 use Rattle.facet_solver.specs.Newtype.{IsNewtypeOf}
 use Rattle.facet_solver.specs.Count.{Count, count_role, count_variant, count_fields, count_below}
 use Rattle.facet_solver.specs.CountView.{Tells, count_at, count_of_field, count_of_content, AreFirstCounts}

@@ -1,8 +1,5 @@
-use Rattle.std.proofs.Common.{◌<◌, ◌≡◌, ℕ, List, Some, length, slice_get, sym, subst, refl, ap, ◌∙◌, arith}
+use Rattle.std.proofs.Common.{◌≡◌, length, slice_get, sym, ap, ◌∙◌, arith}
 use Rattle.std.proofs.lemmas.Option.{slice_get_within}
-use Rattle.facet_solver_shape.specs.declared.shape.ShapeKind.{ShapeKind}
-use Rattle.facet_solver.specs.Below.{KindBelow}
-use Rattle.facet_solver.specs.CountView.{AreFirstCounts}
 use Rattle.facet_solver.specs.PlanView.{settings_of}
 use Rattle.facet_solver.proofs.TallyTables.{one_more_place, all_places}
 use Rattle.facet_solver.proofs.build.count.Counts.new.Goals as goal

@@ -1,5 +1,4 @@
-use Rattle.std.proofs.Common.{◌<◌, ◌≡◌, List, length, subst, ◌∙◌, arith}
-use Rattle.facet_solver_shape.specs.declared.shape.Field.{Field}
+use Rattle.std.proofs.Common.{◌<◌, length, arith}
 use Rattle.facet_solver.specs.Newtype.{IsNewtypeOf}
 use Rattle.facet_solver.specs.PlanView.{settings_of}
 use Rattle.facet_solver.proofs.Tallies.{told_newtype}

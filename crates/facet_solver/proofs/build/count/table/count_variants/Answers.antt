@@ -1,4 +1,4 @@
-use Rattle.std.proofs.Common.{◌<◌, ◌≡◌, ℕ, List, length, sym, subst, refl, ap, ◌∙◌, arith}
+use Rattle.std.proofs.Common.{ℕ, List, length, sym, subst}
 use Rattle.std.proofs.lemmas.List.{take_all}
 use Rattle.std.proofs.lemmas.List.Sums.{sum_by_more}
 use Rattle.facet_solver_shape.specs.declared.shape.Variant.{Variant}
