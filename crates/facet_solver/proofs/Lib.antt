@@ -3,6 +3,7 @@ pub mod Bijection
 pub mod Counts
 pub mod CountSteps
 pub mod Tallies
+pub mod NoChoices
 pub mod TallyTables
 pub mod RootCounts
 pub mod Newtypes
