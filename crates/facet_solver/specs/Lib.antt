@@ -13,5 +13,6 @@ pub mod Listing
 pub mod Outcome
 pub mod RoleView
 pub mod PlanView
+pub mod CountAnswer
 pub mod CountView
 pub mod Newtype
