@@ -16,3 +16,6 @@ pub mod RoleView
 pub mod PlanView
 pub mod EnteredView
 pub mod NestedLaws
+pub mod CountAnswer
+pub mod CountView
+pub mod Newtype

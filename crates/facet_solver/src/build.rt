@@ -1,7 +1,7 @@
 //! The resolutions of a root: one for each choice of variants, in order.
 
 pub(crate) mod content;
-pub(crate) mod nested;
+pub(crate) mod count;
 pub(crate) mod plan;
 pub mod representation;
 pub(crate) mod role;
