@@ -13,3 +13,4 @@ pub mod Listing
 pub mod Outcome
 pub mod RoleView
 pub mod PlanView
+pub mod ChoiceLists

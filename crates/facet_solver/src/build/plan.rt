@@ -1,11 +1,11 @@
 //! What a build goes by.
-ghost use Rattle.std.specs.Prelude.{◌≡◌};
+ghost use Rattle.std.specs.Prelude.{◌≡◌, ◌<◌, length, slice_get};
 ghost use Rattle.facet_solver.specs.Representation as representation;
 ghost use Rattle.facet_solver.specs.Representation.{repr_view};
 ghost use Rattle.facet_solver.specs.PlanView.{settings_of};
 
 use crate::build::representation::{EnumRepr, Format};
-use facet_solver_shape::{Shape, Shapes};
+use facet_solver_shape::{Shape, ShapeId, Shapes};
 use std::alloc::Global;
 
 /// The catalogue and the rules of a build, with the allocator of what it makes.
@@ -26,6 +26,17 @@ impl<'c> Plan<'c> {
         match self.representation {
             Some(repr) => repr,
             None => EnumRepr::from_shape(shape),
+        }
+    }
+
+    /// The shape at a place of the catalogue.
+    pub(crate) fn shape(self, id: ShapeId) -> &'c Shape
+        requires { id < length self.shapes.now }
+        ensures { slice_get self.entry.shapes.now id ≡ Some result.now }
+    {
+        match self.shapes.get(id) {
+            Some(shape) => shape,
+            None => unreachable!(),
         }
     }
 }
