@@ -7,3 +7,8 @@ pub mod Limits
 pub mod Steps
 pub mod Products
 pub mod RoleViews
+pub mod Resolutions
+pub mod Outcomes
+pub mod Walking
+pub mod Roots
+pub mod Enumerations

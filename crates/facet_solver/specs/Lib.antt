@@ -14,3 +14,6 @@ pub mod Outcome
 pub mod RoleView
 pub mod PlanView
 pub mod ChoiceLists
+pub mod Filling
+pub mod Refusal
+pub mod KeyPaths
