@@ -1,7 +1,10 @@
 //! The resolutions of a root: one for each choice of variants, in order.
 
+pub(crate) mod category;
 pub(crate) mod choices;
 pub(crate) mod content;
+pub(crate) mod field;
+pub(crate) mod place;
 pub(crate) mod plan;
 pub mod representation;
 pub(crate) mod role;
