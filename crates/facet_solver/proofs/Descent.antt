@@ -52,7 +52,7 @@ module _ (cat : Catalogue) (checked : NamesEarlier cat) where
   or_else-inside-le limit id (Enum vs) h le = omega arith
   or_else-inside-le limit id _ h le = omega arith
 
-  kind_of-below : (id : ℕ) (o : Option Shape) → slice_get cat id ≡ o → KindBelow id (kind_of o)
+  pub kind_of-below : (id : ℕ) (o : Option Shape) → slice_get cat id ≡ o → KindBelow id (kind_of o)
   kind_of-below id None e = tt
   kind_of-below id (Some s) e = (checked id s e).by_kind
 

@@ -12,3 +12,5 @@ pub mod Outcomes
 pub mod Walking
 pub mod Roots
 pub mod Enumerations
+pub mod KeyPaths
+pub mod Nested

@@ -4,6 +4,7 @@ pub mod Representation
 pub mod Categories
 pub mod Content
 pub mod Nested
+pub mod KeyPaths
 pub mod Roles
 pub mod Emissions
 pub mod Walk
@@ -16,4 +17,4 @@ pub mod PlanView
 pub mod ChoiceLists
 pub mod Filling
 pub mod Refusal
-pub mod KeyPaths
+pub mod EnteredView

@@ -5,6 +5,7 @@ pub(crate) mod choices;
 pub(crate) mod content;
 pub(crate) mod field;
 pub(crate) mod place;
+pub(crate) mod nested;
 pub(crate) mod plan;
 pub mod representation;
 pub(crate) mod role;
