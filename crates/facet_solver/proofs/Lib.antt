@@ -14,3 +14,4 @@ pub mod Roots
 pub mod Enumerations
 pub mod KeyPaths
 pub mod Nested
+pub mod Selectors

@@ -3,9 +3,10 @@
 pub(crate) mod category;
 pub(crate) mod choices;
 pub(crate) mod content;
+pub(crate) mod emit;
 pub(crate) mod field;
-pub(crate) mod place;
 pub(crate) mod nested;
+pub(crate) mod place;
 pub(crate) mod plan;
 pub mod representation;
 pub(crate) mod role;

@@ -86,7 +86,7 @@ fn choices_of_field<'c>(plan: Plan<'c>, field: &'c Field) -> Result<Vec<Choice>,
     match role_of(plan.shapes, field) {
         Role::Block(fields) => choices_of_fields(plan, fields),
         Role::Alternatives(shape, variants) => {
-            choices_of_variants(plan, plan.repr_for(shape).walks_content(), variants)
+            choices_of_variants(plan, plan.walks_content(shape), variants)
         }
         Role::Regular | Role::Rest | Role::Leaf => no_choice(plan.alloc),
     }

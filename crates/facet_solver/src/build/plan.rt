@@ -29,6 +29,13 @@ impl<'c> Plan<'c> {
         }
     }
 
+    /// Whether the content of an enum's variants is walked at the enum's own level.
+    pub(crate) fn walks_content(self, shape: &'c Shape) -> bool
+        ensures { result ≡ representation.is_walked (representation.repr_for (settings_of self.entry) shape.now) }
+    {
+        self.repr_for(shape).walks_content()
+    }
+
     /// The shape at a place of the catalogue.
     pub(crate) fn shape(self, id: ShapeId) -> &'c Shape
         requires { id < length self.shapes.now }

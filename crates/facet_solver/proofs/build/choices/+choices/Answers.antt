@@ -37,7 +37,6 @@ pub choices_of_field-returns-in-Alternatives : goal.choices_of_field-returns-in-
 choices_of_field-returns-in-Alternatives t c =
     rw (
       at-alternatives (settings_of c.args.plan) c.args.plan.shapes.now c.args.field.now c.in-Alternatives.shape.now c.in-Alternatives.variants.now c.in-Alternatives.ensures,
-      ← c.repr_for.ensures,
       ← c.walks_content.ensures,
     ) c.choices_of_variants.ensures
 
