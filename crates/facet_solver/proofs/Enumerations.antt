@@ -1,19 +1,17 @@
 -- One resolution for each choice, one by one.
-use Rattle.std.proofs.Common.{◌≡◌, ℕ, zero, suc, ◌+◌, ◌<◌, ◌≤◌, List, [], ◌∷◌, ◌++◌, map, Option, Some, None, sym, refl, ap, ◌∙◌, subst, slice_get, length, get_or, take, arith, IsSome}
-use Rattle.std.specs.Prelude.{Vec, Result, IsErrAnd, Contains, MatchResult}
+use Rattle.std.proofs.Common.{◌≡◌, ℕ, zero, suc, ◌+◌, ◌<◌, List, [], ◌∷◌, ◌++◌, Some, sym, refl, ap, ◌∙◌, subst, length, get_or, take, arith, IsSome}
+use Rattle.std.specs.Prelude.{Vec}
 use Rattle.std.specs.declared.alloc.Global.{Global}
 use Rattle.std.proofs.lemmas.List.{take_more}
-use Rattle.std.proofs.lemmas.Result.{err_from_is_err_and}
 use Rattle.facet_solver_shape.specs.declared.resolution.error.SchemaError as schema
 use Rattle.facet_solver_shape.specs.declared.resolution.error.SchemaError.TheVariants.{DuplicateField, OutOfMemory}
 use Rattle.facet_solver.specs.Targets.{Catalogue}
-use Rattle.facet_solver.specs.Representation.{Settings, Repr}
-use Rattle.facet_solver.specs.Emissions.{Emission}
-use Rattle.facet_solver.specs.Walk.{Walked, walk_root}
+use Rattle.facet_solver.specs.Representation.{Settings}
+use Rattle.facet_solver.specs.Walk.{walk_root}
 use Rattle.facet_solver_shape.specs.Resolved.{Resolved, nothing}
 use Rattle.facet_solver.specs.Outcome.{Duplicate, Outcome, resolved, duplicate, take_all, effect}
 use Rattle.facet_solver.specs.Filling.{StopsBy, duplicate_view}
-use Rattle.facet_solver.specs.Choice.{Emits, IsChoice, ListsChoices, IsResolution, IsClash, ResolvesEach, Enumerates}
+use Rattle.facet_solver.specs.Choice.{IsChoice, ListsChoices, IsResolution, IsClash, ResolvesEach}
 use Rattle.facet_solver.specs.Refusal.{IsRefusal}
 use Rattle.facet_solver.specs.ChoiceLists.{lists}
 use Rattle.facet_solver.proofs.Resolutions.{built, clashing}

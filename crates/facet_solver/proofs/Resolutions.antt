@@ -1,5 +1,5 @@
 -- Emissions taken in one by one come to their resolution, or to a clash.
-use Rattle.std.proofs.Common.{◌≡◌, ◌⊎◌, inl, inr, ℕ, zero, suc, ◌<◌, List, [], ◌∷◌, ◌++◌, Option, Some, None, Bool, true, false, cond, sym, refl, ap, ◌∙◌, subst, slice_get, length, append_assoc, append-nil, arith}
+use Rattle.std.proofs.Common.{◌≡◌, ◌⊎◌, inl, inr, ℕ, zero, suc, List, [], ◌∷◌, ◌++◌, Option, Some, None, Bool, true, false, cond, sym, refl, ap, ◌∙◌, subst, slice_get, length, append_assoc, append-nil, arith}
 use Rattle.std.specs.List.{fold}
 use Rattle.std.specs.FinMap as map
 use Rattle.std.specs.Ordering.{eq_by_cmp}

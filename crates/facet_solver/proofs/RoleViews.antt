@@ -1,10 +1,10 @@
 -- The roles of the code that leave nothing to choose.
-use Rattle.std.proofs.Common.{◌≡◌, ◌⊎◌, inl, inr, Option, sym, ap, subst, ◌∙◌}
+use Rattle.std.proofs.Common.{◌≡◌, ◌⊎◌, inl, inr, sym, ap, subst, ◌∙◌}
 use Rattle.facet_solver.specs.declared.build.role.Role as role
-use Rattle.facet_solver.specs.declared.build.role.Role.TheVariants.{Regular, Block, Alternatives, Rest, Leaf}
+use Rattle.facet_solver.specs.declared.build.role.Role.TheVariants.{Regular, Rest, Leaf}
 use Rattle.facet_solver_shape.specs.declared.shape.Field.{Field}
 use Rattle.facet_solver.specs.Targets.{Catalogue}
-use Rattle.facet_solver.specs.Representation.{Settings, Repr}
+use Rattle.facet_solver.specs.Representation.{Settings}
 use Rattle.facet_solver.specs.Roles.{role_of}
 use Rattle.facet_solver.specs.Listing.{no_choice, choices_at}
 use Rattle.facet_solver.specs.RoleView.{role_view, IsPlain}

@@ -1,12 +1,12 @@
 -- What a field or a selector emits, by parts.
-use Rattle.std.proofs.Common.{◌≡◌, List, [], ◌∷◌, ◌++◌, Bool, string_bytes, refl, sym, ap, ◌∙◌}
+use Rattle.std.proofs.Common.{◌≡◌, [], ◌∷◌, ◌++◌, Bool, string_bytes, refl, sym, ap, ◌∙◌}
 use Rattle.facet_solver_shape.specs.declared.shape.Field.{Field}
 use Rattle.facet_solver_shape.specs.declared.shape.Variant.{Variant}
 use Rattle.facet_solver_shape.specs.Names.{Name, effective_name}
 use Rattle.facet_solver.specs.Targets.{Catalogue}
 use Rattle.facet_solver.specs.Representation.{Settings, Repr, flattened, externally_tagged, internally_tagged, adjacently_tagged}
 use Rattle.facet_solver.specs.Nested.{nested_paths, content_paths}
-use Rattle.facet_solver.specs.Emissions.{Emission, Path, a_key_path, a_catch_all, with_key_path, paths_behind, regular_field, rest_field, selector_field, regular_emissions, rest_emissions, selector_emissions}
+use Rattle.facet_solver.specs.Emissions.{Path, a_key_path, a_catch_all, with_key_path, paths_behind, regular_field, rest_field, selector_field, regular_emissions, rest_emissions, selector_emissions}
 
 module _ (settings : Settings) (cat : Catalogue) (f : Field) (p : Path) (o : Bool) where
   -- a regular field, and then the key paths under it

@@ -1,5 +1,5 @@
 -- The walk part by part, and what each part makes of a resolution.
-use Rattle.std.proofs.Common.{◌≡◌, ℕ, zero, suc, ◌+◌, ◌<◌, ◌≤◌, List, [], ◌∷◌, ◌++◌, map, Option, Some, None, slice_get, Bool, true, false, sym, refl, ap, ◌∙◌, subst, length, get_or, drop, append_assoc, append-nil, arith, IsSome}
+use Rattle.std.proofs.Common.{◌≡◌, ℕ, zero, suc, ◌+◌, ◌<◌, ◌≤◌, List, [], ◌∷◌, ◌++◌, Option, Some, None, slice_get, Bool, true, false, sym, refl, ap, ◌∙◌, subst, length, get_or, drop, append-nil, arith, IsSome}
 use Rattle.std.specs.Prelude.{if◌then◌else◌, Result, IsErrAnd, slice_index, codes}
 use Rattle.std.specs.Borrow.{Bor}
 use Rattle.std.proofs.lemmas.Result.{err_from_is_err_and}
@@ -9,14 +9,14 @@ use Rattle.facet_solver.specs.Filling.{ErrorOf, StopsBy, Walks, duplicate_view}
 use Rattle.facet_solver.specs.RoleView.{IsPlain}
 use Rattle.facet_solver.specs.Targets.{Catalogue}
 use Rattle.facet_solver.specs.Below.{FieldsBelow, VariantsBelow, NamesEarlier}
-use Rattle.facet_solver.specs.Representation.{Settings, Repr, is_walked, repr_for}
+use Rattle.facet_solver.specs.Representation.{Settings, is_walked, repr_for}
 use Rattle.facet_solver.specs.Roles.{Role, a_regular, a_block, some_alternatives, a_rest, a_leaf, role_of}
-use Rattle.facet_solver.specs.Content.{content_of, newtype_fields, content_or}
-use Rattle.facet_solver.specs.Emissions.{Emission, Path, pick_of, selector_emissions, field_path, unwrapped_at, behind, variant_path, variant_emissions}
-use Rattle.facet_solver.specs.Walk.{Walked, put_before, and_then, emit, choose, at_chosen, walk, walk_at, walk_chosen, walk_inside, walk_role, walk_variant, walk_content, walk_fields, plain_emissions, HasChoice}
+use Rattle.facet_solver.specs.Content.{newtype_fields, content_or}
+use Rattle.facet_solver.specs.Emissions.{Emission, Path, field_path, unwrapped_at, variant_path, variant_emissions}
+use Rattle.facet_solver.specs.Walk.{Walked, put_before, and_then, emit, choose, at_chosen, walk, walk_at, walk_chosen, walk_inside, walk_role, walk_content, walk_fields, plain_emissions, HasChoice}
 use Rattle.facet_solver_shape.specs.Paths.{by_field}
 use Rattle.facet_solver_shape.specs.Resolved.{Resolved}
-use Rattle.facet_solver.specs.Outcome.{Outcome, Duplicate, resolved, duplicate, next, take_in, take_all, effect}
+use Rattle.facet_solver.specs.Outcome.{Outcome, resolved, take_all, effect}
 use Rattle.facet_solver.proofs.Limits.{limit_of, limit_of-content}
 use Rattle.facet_solver.proofs.Descent.{content_of-below}
 use Rattle.std.proofs.lemmas.List.{drop_more}
@@ -145,10 +145,6 @@ module _ (settings : Settings) (cat : Catalogue) (f : Field) (s : Shape) (v : Va
   unfolding walk_chosen
   chosen-announced = (_, refl)
 
-  pub announced-is : variant_emissions settings cat f s v p o ≡ pick_of s v (field_path p f) ∷ selector_emissions (repr_for settings s) settings cat f v (variant_path p f v) o
-  unfolding variant_emissions
-  announced-is = refl
-
 -- the walk of a content
 module _ (settings : Settings) (cat : Catalogue) (v : Variant) (q : Path) (o : Bool) (ns : List ℕ) where
   pub inside-newtype : (fs : List Field) → Some fs ≡ newtype_fields cat v.fields.items → walk_inside settings cat v q o ns ≡ walk settings cat fs (q ++ by_field (codes "0") ∷ []) o ns
@@ -200,41 +196,27 @@ module _ (settings : Settings) (cat : Catalogue) (p : Path) (o : Bool) (fs : Lis
       sym left ∙ ap (effect r) (walk-end settings cat p o fs i ns h) ∙ ap (λ (o : Outcome). Some (o, ns)) (take_all-nil r)
 
 -- a chosen variant, as the code goes through it
-module _ (settings : Settings) (cat : Catalogue) (f : Field) (s : Shape) (v : Variant) (p : Path) (o : Bool) (ns : List ℕ) (here at : Path) (written : Repr)
-    (is_here : here ≡ field_path p f) (is_at : at ≡ behind here f v) (is_written : written ≡ repr_for settings s) where
-  pub at-variant : at ≡ variant_path p f v
-  at-variant = is_at ∙ ap (λ (q : Path). behind q f v) is_here
-
-  pub announced : pick_of s v here ∷ selector_emissions written settings cat f v at o ≡ variant_emissions settings cat f s v p o
-  unfolding variant_emissions
-  announced =
-      ap (λ (q : Path). pick_of s v q ∷ selector_emissions written settings cat f v at o) is_here
-      ∙ ap (λ (w : Repr). pick_of s v (field_path p f) ∷ selector_emissions w settings cat f v at o) is_written
-      ∙ ap (λ (q : Path). pick_of s v (field_path p f) ∷ selector_emissions (repr_for settings s) settings cat f v q o) at-variant
-
-  module _ (r t : Resolved) (done : take_all r (pick_of s v here ∷ selector_emissions written settings cat f v at o) ≡ resolved t) where
-    done' : take_all r (variant_emissions settings cat f s v p o) ≡ resolved t
-    done' = ap (take_all r) (sym announced) ∙ done
-
-    pub then-inside : (optional : Bool) → optional ≡ unwrapped_at cat f o → is_walked written ≡ true → effect r (walk_chosen settings cat f s v p o ns) ≡ effect t (walk_inside settings cat v at optional ns)
-    then-inside optional is_optional walked =
-        ap (effect r) (chosen-walked settings cat f s v p o ns (ap is_walked (sym is_written) ∙ walked))
-        ∙ effect-put_before r t _ _ done'
-        ∙ ap (λ (q : Path). effect t (walk_inside settings cat v q (unwrapped_at cat f o) ns)) (sym at-variant)
+module _ (settings : Settings) (cat : Catalogue) (f : Field) (s : Shape) (v : Variant) (p : Path) (o : Bool) (ns : List ℕ) where
+  module _ (r t : Resolved) (done : take_all r (variant_emissions settings cat f s v p o) ≡ resolved t) where
+    pub then-inside : (at : Path) (optional : Bool) → at ≡ variant_path p f v → optional ≡ unwrapped_at cat f o → is_walked (repr_for settings s) ≡ true → effect r (walk_chosen settings cat f s v p o ns) ≡ effect t (walk_inside settings cat v at optional ns)
+    then-inside at optional is_at is_optional walked =
+        ap (effect r) (chosen-walked settings cat f s v p o ns walked)
+        ∙ effect-put_before r t _ _ done
+        ∙ ap (λ (q : Path). effect t (walk_inside settings cat v q (unwrapped_at cat f o) ns)) (sym is_at)
         ∙ ap (λ (b : Bool). effect t (walk_inside settings cat v at b ns)) (sym is_optional)
 
-    pub then-alone : is_walked written ≡ false → effect r (walk_chosen settings cat f s v p o ns) ≡ Some (resolved t, ns)
+    pub then-alone : is_walked (repr_for settings s) ≡ false → effect r (walk_chosen settings cat f s v p o ns) ≡ Some (resolved t, ns)
     then-alone alone =
-        ap (effect r) (chosen-alone settings cat f s v p o ns (ap is_walked (sym is_written) ∙ alone))
-        ∙ effect-put_before r t (variant_emissions settings cat f s v p o) (Some ([], ns)) done'
+        ap (effect r) (chosen-alone settings cat f s v p o ns alone)
+        ∙ effect-put_before r t (variant_emissions settings cat f s v p o) (Some ([], ns)) done
         ∙ ap (λ (o : Outcome). Some (o, ns)) (take_all-nil t)
 
-    pub inside-some : (optional : Bool) → optional ≡ unwrapped_at cat f o → is_walked written ≡ true → IsSome (walk_chosen settings cat f s v p o ns) → IsSome (walk_inside settings cat v at optional ns)
-    inside-some optional is_optional walked h =
-        some-effect t _ (subst (λ (e : Option (Outcome × List ℕ)). IsSome e) (then-inside optional is_optional walked) (effect-some r _ h))
+    pub inside-some : (at : Path) (optional : Bool) → at ≡ variant_path p f v → optional ≡ unwrapped_at cat f o → is_walked (repr_for settings s) ≡ true → IsSome (walk_chosen settings cat f s v p o ns) → IsSome (walk_inside settings cat v at optional ns)
+    inside-some at optional is_at is_optional walked h =
+        some-effect t _ (subst (λ (e : Option (Outcome × List ℕ)). IsSome e) (then-inside at optional is_at is_optional walked) (effect-some r _ h))
 
-  pub stops-chosen : (r : Resolved) (err : schema.SchemaError) → IsSome (walk_chosen settings cat f s v p o ns) → ErrorOf (take_all r (pick_of s v here ∷ selector_emissions written settings cat f v at o)) err → StopsBy (effect r (walk_chosen settings cat f s v p o ns)) err
+  pub stops-chosen : (r : Resolved) (err : schema.SchemaError) → IsSome (walk_chosen settings cat f s v p o ns) → ErrorOf (take_all r (variant_emissions settings cat f s v p o)) err → StopsBy (effect r (walk_chosen settings cat f s v p o ns)) err
   stops-chosen r err h k =
       let a = chosen-announced settings cat f s v p o ns in
       subst (λ (w : Walked). StopsBy (effect r w) err) (sym a.1)
-      (stops-put_before r _ a.0 err (subst (λ (w : Walked). IsSome w) a.1 h) (subst (λ (es : List Emission). ErrorOf (take_all r es) err) announced k))
+      (stops-put_before r _ a.0 err (subst (λ (w : Walked). IsSome w) a.1 h) k)

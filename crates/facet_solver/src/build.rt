@@ -9,4 +9,6 @@ pub(crate) mod nested;
 pub(crate) mod place;
 pub(crate) mod plan;
 pub mod representation;
+pub(crate) mod resolve;
 pub(crate) mod role;
+pub(crate) mod walk;

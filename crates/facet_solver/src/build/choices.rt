@@ -35,11 +35,7 @@ fn append_each(
 
 /// Each of `firsts` before each of `seconds`.
 #[tactic(auto, unfolding(crate::specs::Listing::product))]
-fn product(
-    alloc: Global,
-    firsts: &[Choice],
-    seconds: &[Choice],
-) -> Result<Vec<Choice>, AllocError>
+fn product(alloc: Global, firsts: &[Choice], seconds: &[Choice]) -> Result<Vec<Choice>, AllocError>
     ensures { IfOk result (λ v. lists v.items ≡ listing.product (lists firsts.now) (lists seconds.now)) }
 {
     let mut found = Vec::new(alloc);
@@ -60,10 +56,7 @@ fn no_choice(alloc: Global) -> Result<Vec<Choice>, AllocError>
 
 /// The choices at a list of fields: those at each field before those at the fields behind it.
 #[cycle(choices)]
-fn choices_of_fields<'c>(
-    plan: Plan<'c>,
-    fields: &'c [Field],
-) -> Result<Vec<Choice>, AllocError>
+fn choices_of_fields<'c>(plan: Plan<'c>, fields: &'c [Field]) -> Result<Vec<Choice>, AllocError>
     requires checked { NamesEarlier plan.shapes.now }
     requires below { FieldsBelow (length plan.shapes.now) fields.now }
     ensures { IfOk result (λ v. lists v.items ≡ listing.choices_below (settings_of plan.entry) plan.entry.shapes.now fields.now) }
@@ -116,10 +109,7 @@ fn choices_of_variants<'c>(
 }
 
 /// All choices of variants of a root, each once and in lexicographic order.
-pub(crate) fn choices_of_root<'c>(
-    plan: Plan<'c>,
-    root: ShapeId,
-) -> Result<Vec<Choice>, AllocError>
+pub(crate) fn choices_of_root<'c>(plan: Plan<'c>, root: ShapeId) -> Result<Vec<Choice>, AllocError>
     requires checked { NamesEarlier plan.shapes.now }
     requires has { root < length plan.shapes.now }
     ensures listed { IfOk result (λ v. ListsChoices (settings_of plan.entry) plan.entry.shapes.now root (lists v.items)) }

@@ -18,7 +18,9 @@ use crate::build::place::{Chosen, Place};
 use crate::build::plan::Plan;
 use crate::build::representation::EnumRepr;
 use crate::build::role::Role;
-use facet_solver_shape::{Field, FieldInfo, FieldPath, KeyPath, Resolution, SchemaError, Shape, Variant};
+use facet_solver_shape::{
+    Field, FieldInfo, FieldPath, KeyPath, Resolution, SchemaError, Shape, Variant,
+};
 use std::alloc::{AllocError, Global};
 
 /// The key path of one name.

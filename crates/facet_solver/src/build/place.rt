@@ -1,6 +1,6 @@
 //! Where the walk of one choice stands, and what was chosen there.
-ghost use Rattle.std.specs.Prelude.{◌≡◌, ◌++◌, ◌∷◌, [], codes, IfOk};
-ghost use Rattle.facet_solver_shape.specs.Paths.{by_field};
+ghost use Rattle.std.specs.Prelude.{◌≡◌, ◌++◌, ◌∷◌, [], codes, false, string_bytes, IfOk};
+ghost use Rattle.facet_solver_shape.specs.Paths.{by_field, by_variant};
 ghost use Rattle.facet_solver.specs.Emissions as emissions;
 
 use crate::build::plan::Plan;
@@ -26,6 +26,32 @@ pub(crate) struct Chosen<'c> {
 }
 
 impl<'c> Place<'c> {
+    /// Where the fields of a root struct stand.
+    pub(crate) fn root(plan: Plan<'c>) -> Place<'c>
+        ensures path { result.path ≡ [] }
+        ensures unwrapped { result.unwrapped ≡ false }
+    {
+        Place {
+            path: FieldPath::empty(plan.alloc),
+            unwrapped: false,
+        }
+    }
+
+    /// Where the fields of a root enum's variant stand.
+    pub(crate) fn root_variant(
+        plan: Plan<'c>,
+        variant: &'c Variant,
+    ) -> Result<Place<'c>, AllocError>
+        ensures path { IfOk result (λ inside. inside.path ≡ by_variant [] (string_bytes variant.now.name) ∷ []) }
+        ensures unwrapped { IfOk result (λ inside. inside.unwrapped ≡ false) }
+    {
+        let path = FieldPath::empty(plan.alloc);
+        Ok(Place {
+            path: path.push_variant(plan.alloc, "", &variant.name)?,
+            unwrapped: false,
+        })
+    }
+
     /// Whether an option was unwrapped at a field here or further out.
     pub(crate) fn unwrapped_at(&self, plan: Plan<'c>, field: &'c Field) -> bool
         ensures { result ≡ emissions.unwrapped_at plan.entry.shapes.now field.now self.now.unwrapped }

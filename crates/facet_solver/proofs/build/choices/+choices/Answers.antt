@@ -1,4 +1,4 @@
-use Rattle.std.proofs.Common.{rules, ◌≡◌, ◌++◌, ◌<◌, ◌≤◌, map, length, slice_get, get_or, subst, ℕ, sym, ap, ◌∙◌, arith}
+use Rattle.std.proofs.Common.{◌≡◌, length, subst, ℕ, sym, ap, ◌∙◌, arith}
 use Rattle.std.specs.Prelude.{Vec}
 use Rattle.std.specs.declared.alloc.Global.{Global}
 use Rattle.facet_solver_shape.specs.declared.shape.Field.{Field}
@@ -8,8 +8,8 @@ use Rattle.facet_solver.specs.Listing.{choices_of_variant, choices_below}
 use Rattle.facet_solver.specs.ChoiceLists.{lists}
 use Rattle.facet_solver.specs.PlanView.{settings_of}
 use Rattle.facet_solver.proofs.Descent.{content_of-below, FieldsBelow-mono, VariantsBelow-mono}
-use Rattle.facet_solver.proofs.Limits.{limit_of, limit_of_variants, limit_of-le, limit_of_variants-le, limit_of-at, limit_of_variants-at, FieldsBelow-at, VariantsBelow-at, limit_of-content}
-use Rattle.facet_solver.proofs.Products.{at-block, at-alternatives, among-start, among-more, among-end, variant-walked, variant-alone, block-below, alternatives-below, left-start, left-more, left-end, numbered-more, numbered-end}
+use Rattle.facet_solver.proofs.Limits.{limit_of, limit_of-le, limit_of_variants-le, limit_of-at, limit_of_variants-at, FieldsBelow-at, VariantsBelow-at, limit_of-content}
+use Rattle.facet_solver.proofs.Products.{at-block, at-alternatives, among-start, among-more, among-end, variant-walked, variant-alone, block-below, alternatives-below, left-start, left-more, left-end}
 use Rattle.facet_solver.proofs.RoleViews.{at-none}
 use Rattle.facet_solver.proofs.build.choices.+choices.Goals as goal
 use Rattle.facet_solver.proofs.build.choices.+choices.Goals.{choices_of_variants-then-walked+in_ok-contents, choices_of_variants-else-walked+in_ok-contents-2}

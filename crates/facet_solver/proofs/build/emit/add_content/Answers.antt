@@ -1,4 +1,4 @@
-use Rattle.std.proofs.Common.{◌≡◌, ◌∷◌, [], ◌∙◌, ap, sym}
+use Rattle.std.proofs.Common.{◌∙◌, ap, sym}
 use Rattle.facet_solver.specs.Nested.{content_paths}
 use Rattle.facet_solver.specs.Outcome.{resolved}
 use Rattle.facet_solver.proofs.Outcomes.{taken-path, take_all-next, take_all-paths}

@@ -1,4 +1,3 @@
-use Rattle.std.proofs.Common.{◌≡◌}
 use Rattle.facet_solver.proofs.Outcomes.{taken-pick}
 use Rattle.facet_solver.proofs.build.emit.add_pick.Goals as goal
 

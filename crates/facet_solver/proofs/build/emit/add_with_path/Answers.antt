@@ -1,4 +1,4 @@
-use Rattle.std.proofs.Common.{◌≡◌, ◌∷◌, [], ◌∙◌}
+use Rattle.std.proofs.Common.{◌∷◌, [], ◌∙◌}
 use Rattle.facet_solver_shape.specs.Views.{field_view}
 use Rattle.facet_solver.specs.Emissions.{a_field, a_key_path}
 use Rattle.facet_solver.proofs.Outcomes.{taken-field, taken-path, refused-field, gives-exit, error-next, take_all-both, take_all-one}

@@ -1,4 +1,4 @@
-use Rattle.std.proofs.Common.{◌≡◌, ◌∷◌, [], ◌∙◌, ap, sym}
+use Rattle.std.proofs.Common.{◌∙◌, ap, sym}
 use Rattle.facet_solver.specs.Nested.{nested_paths}
 use Rattle.facet_solver.specs.Outcome.{resolved}
 use Rattle.facet_solver.specs.PlanView.{settings_of}

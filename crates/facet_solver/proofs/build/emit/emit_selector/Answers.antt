@@ -1,4 +1,4 @@
-use Rattle.std.proofs.Common.{◌≡◌, ◌∷◌, [], ◌∙◌, ap, sym, map}
+use Rattle.std.proofs.Common.{◌∷◌, ◌∙◌, ap, sym, map}
 use Rattle.facet_solver.specs.Representation.{repr_for}
 use Rattle.facet_solver.specs.Nested.{content_paths}
 use Rattle.facet_solver_shape.specs.Names.{Name}

@@ -1,4 +1,3 @@
-use Rattle.std.proofs.Common.{◌≡◌, ◌∷◌, ◌∙◌}
 use Rattle.facet_solver.specs.Emissions.{variant_emissions}
 use Rattle.facet_solver.proofs.Outcomes.{gives-exit, gives-next, error-next}
 use Rattle.facet_solver.proofs.build.emit.emit_variant.Goals as goal
