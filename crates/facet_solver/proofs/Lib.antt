@@ -1,6 +1,12 @@
 pub mod Exact
 pub mod Bijection
 pub mod Counts
+pub mod CountSteps
+pub mod Tallies
+pub mod NoChoices
+pub mod TallyTables
+pub mod RootCounts
+pub mod Newtypes
 pub mod Laws
 pub mod Descent
 pub mod Limits

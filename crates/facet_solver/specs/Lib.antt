@@ -18,3 +18,5 @@ pub mod ChoiceLists
 pub mod Filling
 pub mod Refusal
 pub mod EnteredView
+pub mod CountView
+pub mod Newtype

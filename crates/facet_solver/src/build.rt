@@ -3,6 +3,7 @@
 pub(crate) mod category;
 pub(crate) mod choices;
 pub(crate) mod content;
+pub(crate) mod count;
 pub(crate) mod emit;
 pub(crate) mod field;
 pub(crate) mod nested;
