@@ -10,6 +10,8 @@ use Rattle.facet_solver.specs.PlanView.{settings_of}
 use Rattle.facet_solver.proofs.Descent.{content_of-below, FieldsBelow-mono, VariantsBelow-mono}
 use Rattle.facet_solver.proofs.Limits.{limit_of, limit_of-le, limit_of_variants-le, limit_of-at, limit_of_variants-at, FieldsBelow-at, VariantsBelow-at, limit_of-content}
 use Rattle.facet_solver.proofs.Products.{at-block, at-alternatives, among-start, among-more, among-end, variant-walked, variant-alone, block-below, alternatives-below, left-start, left-more, left-end}
+use Rattle.facet_solver.specs.Count.{count_below}
+use Rattle.facet_solver.proofs.NoChoices.{none_below}
 use Rattle.facet_solver.proofs.RoleViews.{at-none}
 use Rattle.facet_solver.proofs.build.choices.+choices.Goals as goal
 use Rattle.facet_solver.proofs.build.choices.+choices.Goals.{choices_of_variants-then-walked+in_ok-contents, choices_of_variants-else-walked+in_ok-contents-2}
@@ -19,7 +21,7 @@ choices_of_field-choices_of_fields-requires t c =
     let f = c.args.field.now in
     let b = block-below c.args.plan.shapes.now c.requires.checked f c.in-Block.fields.now c.in-Block.ensures in
     let l = limit_of-le f.shape c.in-Block.fields.now b in
-    (omega arith, (c.requires.checked, FieldsBelow-mono f.shape (length c.args.plan.shapes.now) c.in-Block.fields.now (omega (arith, c.requires.below)) b))
+    (omega arith, (c.requires.checked, (c.requires.counted, FieldsBelow-mono f.shape (length c.args.plan.shapes.now) c.in-Block.fields.now (omega (arith, c.requires.below)) b)))
 
 pub choices_of_field-choices_of_variants-requires : goal.choices_of_field-choices_of_variants-requires
 choices_of_field-choices_of_variants-requires t c =
@@ -27,7 +29,7 @@ choices_of_field-choices_of_variants-requires t c =
     let vs = c.in-Alternatives.variants.now in
     let b = alternatives-below c.args.plan.shapes.now c.requires.checked f c.in-Alternatives.shape.now vs c.in-Alternatives.ensures in
     let l = limit_of_variants-le f.shape vs b in
-    (omega arith, (c.requires.checked, VariantsBelow-mono f.shape (length c.args.plan.shapes.now) vs (omega (arith, c.requires.below)) b))
+    (omega arith, (c.requires.checked, (c.requires.counted, VariantsBelow-mono f.shape (length c.args.plan.shapes.now) vs (omega (arith, c.requires.below)) b)))
 
 pub choices_of_field-returns-in-Block : goal.choices_of_field-returns-in-Block
 choices_of_field-returns-in-Block t c =
@@ -45,6 +47,11 @@ choices_of_field-returns-in-Regular t c =
     let by_role = at-none (settings_of c.args.plan) c.args.plan.shapes.now c.args.field.now c.role_of.result c.role_of.ensures c.in-Regular.is in
     rw by_role c.no_choice.ensures
 
+pub choices_of_fields-returns-then-is_zero : goal.choices_of_fields-returns-then-is_zero
+choices_of_fields-returns-then-is_zero t c =
+    let n = count_below (settings_of c.args.plan) c.args.plan.shapes.now c.args.fields.now in
+    rw c.new.ensures.items (sym (none_below (settings_of c.args.plan) c.args.plan.shapes.now c.args.fields.now ((c.is_zero.ensures n c.of_fields.ensures).0 c.if-is_zero.true)))
+
 pub choices_of_fields-loop-field-init : goal.choices_of_fields-loop-field-init
 choices_of_fields-loop-field-init t c =
     rw c.in_ok-found.ensures (left-start (settings_of c.args.plan) c.args.plan.shapes.now c.args.fields.now c.requires.checked c.requires.below)
@@ -57,7 +64,7 @@ choices_of_fields-choices_of_field-requires t c =
     let e = ap (λ (f : Field). f.shape) c.field-item.is in
     let l = limit_of-at fs i d c.loop-field-test.true in
     let b = FieldsBelow-at (length c.args.plan.shapes.now) fs i d c.loop-field-test.true c.requires.below in
-    (omega arith, (c.requires.checked, omega arith))
+    (omega arith, (c.requires.checked, (c.requires.counted, omega arith)))
 
 pub choices_of_fields-loop-field-preserved : goal.choices_of_fields-loop-field-preserved
 choices_of_fields-loop-field-preserved t c =
@@ -87,7 +94,7 @@ choices_of_variants-choices_of_fields-requires t c =
     let r = ap limit_of c.content_fields.ensures in
     let b = VariantsBelow-at (length cat) vs i v c.loop-place-test.true c.requires.below in
     let P : Variant → Type 0 = λ v. FieldsBelow (length cat) v.fields.items in
-    (omega arith, (c.requires.checked, rw c.content_fields.ensures (content_of-below cat c.requires.checked (length cat) v (subst P (sym c.index-variants-place.is) b))))
+    (omega arith, (c.requires.checked, (c.requires.counted, rw c.content_fields.ensures (content_of-below cat c.requires.checked (length cat) v (subst P (sym c.index-variants-place.is) b)))))
 
 pub choices_of_variants-loop-place-preserved : goal.choices_of_variants-loop-place-preserved
 choices_of_variants-loop-place-preserved t c =

@@ -61,15 +61,15 @@ returns-in-Enum-clause-counted c =
     (root-enum (settings_of c.args.plan) c.args.plan.shapes.now c.args.root c.shape.result.now c.shape.ensures c.in-Enum.variants c.in-Enum.is)
     (rw c.deref-in-Enum.ensures.value at c.choices_of_variants.ensures)
 
-pub returns-in_default-clause-listed : goal.returns-in_default-clause-listed
-returns-in_default-clause-listed c =
+pub returns-clause-listed : goal.returns-clause-listed
+returns-clause-listed c =
     listed (settings_of c.args.plan) c.args.plan.shapes.now c.args.root _ _
     (root-other (settings_of c.args.plan) c.args.plan.shapes.now c.args.root c.shape.result.now c.shape.ensures
     c.in_default.not-Struct c.in_default.not-Enum)
     c.no_choice.ensures
 
-pub returns-in_default-clause-counted : goal.returns-in_default-clause-counted
-returns-in_default-clause-counted c =
+pub returns-clause-counted : goal.returns-clause-counted
+returns-clause-counted c =
     numbered_so (settings_of c.args.plan) c.args.plan.shapes.now c.args.root _ _
     (root-other (settings_of c.args.plan) c.args.plan.shapes.now c.args.root c.shape.result.now c.shape.ensures
     c.in_default.not-Struct c.in_default.not-Enum)
