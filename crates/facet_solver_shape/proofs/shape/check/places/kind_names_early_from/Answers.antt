@@ -1,5 +1,5 @@
 use Rattle.facet_solver_shape.proofs.Named.{list_any-map, list_any-fields}
-use Rattle.facet_solver_shape.proofs.shape.ShapeKind.names_early_from.Goals as goal
+use Rattle.facet_solver_shape.proofs.shape.check.places.kind_names_early_from.Goals as goal
 
 pub returns-in-Struct : goal.returns-in-Struct
 returns-in-Struct c = rw (c.in-Struct.is, list_any-map, ← c.deref.ensures.value) c.fields_name_from.ensures
