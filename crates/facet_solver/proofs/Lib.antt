@@ -21,3 +21,4 @@ pub mod Enumerations
 pub mod KeyPaths
 pub mod Nested
 pub mod Selectors
+pub mod Checked

@@ -128,13 +128,13 @@ fn choices_of_variants<'c>(
 
 /// All choices of variants of a root, each once and in lexicographic order.
 pub(crate) fn choices_of_root<'c>(plan: Plan<'c>, root: ShapeId) -> Result<Vec<Choice>, AllocError>
-    requires checked { NamesEarlier plan.shapes.now }
-    requires has { root < length plan.shapes.now }
+    requires { root < length plan.shapes.now }
     ensures listed { IfOk result (λ v. ListsChoices (settings_of plan.entry) plan.entry.shapes.now root (lists v.items)) }
     ensures counted { IfOk result (λ v. length (lists v.items) ≡ count_of_root (settings_of plan.entry) plan.entry.shapes.now root) }
 {
+    let shape = plan.shape(root);
     let counts = Counts::new(plan)?;
-    match &plan.shape(root).kind {
+    match &shape.kind {
         ShapeKind::Struct { fields, .. } => choices_of_fields(plan, &counts, fields),
         ShapeKind::Enum { variants } => choices_of_variants(plan, &counts, true, variants),
         _ => no_choice(plan.alloc),

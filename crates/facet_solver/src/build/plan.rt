@@ -1,5 +1,6 @@
 //! What a build goes by.
 ghost use Rattle.std.specs.Prelude.{◌≡◌, ◌<◌, length, slice_get};
+ghost use Rattle.facet_solver.specs.Below.{NamesEarlier};
 ghost use Rattle.facet_solver.specs.Representation as representation;
 ghost use Rattle.facet_solver.specs.Representation.{repr_view};
 ghost use Rattle.facet_solver.specs.PlanView.{settings_of};
@@ -39,7 +40,8 @@ impl<'c> Plan<'c> {
     /// The shape at a place of the catalogue.
     pub(crate) fn shape(self, id: ShapeId) -> &'c Shape
         requires { id < length self.shapes.now }
-        ensures { slice_get self.entry.shapes.now id ≡ Some result.now }
+        ensures found { slice_get self.entry.shapes.now id ≡ Some result.now }
+        ensures checked { NamesEarlier self.entry.shapes.now }
     {
         match self.shapes.get(id) {
             Some(shape) => shape,

@@ -22,8 +22,7 @@ pub(crate) fn resolutions<'c>(
     plan: Plan<'c>,
     root: ShapeId,
 ) -> Result<Vec<Resolution<'c>>, SchemaError<'c>>
-    requires checked { NamesEarlier plan.shapes.now }
-    requires has { root < length plan.shapes.now }
+    requires { root < length plan.shapes.now }
     ensures built { IfOk result (λ v. Enumerates (settings_of plan.entry) plan.entry.shapes.now root v.items) }
     ensures counted { IfOk result (λ v. length v.items ≡ count_of_root (settings_of plan.entry) plan.entry.shapes.now root) }
     ensures refused { IfErr result (IsRefusal (settings_of plan.entry) plan.entry.shapes.now root) }
@@ -43,7 +42,6 @@ fn resolve<'c>(
     root: ShapeId,
     choice: &[usize],
 ) -> Result<Resolution<'c>, SchemaError<'c>>
-    requires checked { NamesEarlier plan.shapes.now }
     requires has { root < length plan.shapes.now }
     requires choice { IsChoice (settings_of plan) plan.shapes.now root choice.now }
     ensures resolved { IfOk result (IsResolution (settings_of plan.entry) plan.entry.shapes.now root choice.now) }
@@ -61,7 +59,6 @@ fn walk_root<'c, 'n>(
     numbers: &'n [usize],
     resolution: &mut Resolution<'c>,
 ) -> Result<&'n [usize], SchemaError<'c>>
-    requires checked { NamesEarlier plan.shapes.now }
     requires has { root < length plan.shapes.now }
     requires walked { IsSome (walk.walk_root (settings_of plan) plan.shapes.now root numbers.now) }
     ensures { Walks (effect resolution.old (walk.walk_root (settings_of plan.entry) plan.entry.shapes.now root numbers.now)) result resolution.new }

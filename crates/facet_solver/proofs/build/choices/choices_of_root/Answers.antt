@@ -31,46 +31,46 @@ numbered_so settings cat root r cs e h =
 
 pub choices_of_fields-requires-clause-below : goal.choices_of_fields-requires-clause-below
 choices_of_fields-requires-clause-below c =
-    rw c.deref.ensures.value (struct-below (settings_of c.args.plan) c.args.plan.shapes.now c.args.root c.shape.result.now c.shape.ensures c.requires.checked c.in-Struct.kind c.in-Struct.fields c.in-Struct.is)
+    rw c.deref.ensures.value (struct-below (settings_of c.args.plan) c.args.plan.shapes.now c.args.root c.shape-shape.result.now c.shape-shape.ensures.found c.shape-shape.ensures.checked c.in-Struct.kind c.in-Struct.fields c.in-Struct.is)
 
 pub choices_of_variants-requires-clause-below : goal.choices_of_variants-requires-clause-below
 choices_of_variants-requires-clause-below c =
-    rw c.deref-in-Enum.ensures.value (enum-below (settings_of c.args.plan) c.args.plan.shapes.now c.args.root c.shape.result.now c.shape.ensures c.requires.checked c.in-Enum.variants c.in-Enum.is)
+    rw c.deref-in-Enum.ensures.value (enum-below (settings_of c.args.plan) c.args.plan.shapes.now c.args.root c.shape-shape.result.now c.shape-shape.ensures.found c.shape-shape.ensures.checked c.in-Enum.variants c.in-Enum.is)
 
 pub returns-in-Struct-clause-listed : goal.returns-in-Struct-clause-listed
 returns-in-Struct-clause-listed c =
     listed (settings_of c.args.plan) c.args.plan.shapes.now c.args.root _ _
-    (root-struct (settings_of c.args.plan) c.args.plan.shapes.now c.args.root c.shape.result.now c.shape.ensures c.in-Struct.kind c.in-Struct.fields c.in-Struct.is)
+    (root-struct (settings_of c.args.plan) c.args.plan.shapes.now c.args.root c.shape-shape.result.now c.shape-shape.ensures.found c.in-Struct.kind c.in-Struct.fields c.in-Struct.is)
     (rw c.deref.ensures.value at c.choices_of_fields.ensures)
 
 pub returns-in-Struct-clause-counted : goal.returns-in-Struct-clause-counted
 returns-in-Struct-clause-counted c =
     numbered_so (settings_of c.args.plan) c.args.plan.shapes.now c.args.root _ _
-    (root-struct (settings_of c.args.plan) c.args.plan.shapes.now c.args.root c.shape.result.now c.shape.ensures c.in-Struct.kind c.in-Struct.fields c.in-Struct.is)
+    (root-struct (settings_of c.args.plan) c.args.plan.shapes.now c.args.root c.shape-shape.result.now c.shape-shape.ensures.found c.in-Struct.kind c.in-Struct.fields c.in-Struct.is)
     (rw c.deref.ensures.value at c.choices_of_fields.ensures)
 
 pub returns-in-Enum-clause-listed : goal.returns-in-Enum-clause-listed
 returns-in-Enum-clause-listed c =
     listed (settings_of c.args.plan) c.args.plan.shapes.now c.args.root _ _
-    (root-enum (settings_of c.args.plan) c.args.plan.shapes.now c.args.root c.shape.result.now c.shape.ensures c.in-Enum.variants c.in-Enum.is)
+    (root-enum (settings_of c.args.plan) c.args.plan.shapes.now c.args.root c.shape-shape.result.now c.shape-shape.ensures.found c.in-Enum.variants c.in-Enum.is)
     (rw c.deref-in-Enum.ensures.value at c.choices_of_variants.ensures)
 
 pub returns-in-Enum-clause-counted : goal.returns-in-Enum-clause-counted
 returns-in-Enum-clause-counted c =
     numbered_so (settings_of c.args.plan) c.args.plan.shapes.now c.args.root _ _
-    (root-enum (settings_of c.args.plan) c.args.plan.shapes.now c.args.root c.shape.result.now c.shape.ensures c.in-Enum.variants c.in-Enum.is)
+    (root-enum (settings_of c.args.plan) c.args.plan.shapes.now c.args.root c.shape-shape.result.now c.shape-shape.ensures.found c.in-Enum.variants c.in-Enum.is)
     (rw c.deref-in-Enum.ensures.value at c.choices_of_variants.ensures)
 
 pub returns-clause-listed : goal.returns-clause-listed
 returns-clause-listed c =
     listed (settings_of c.args.plan) c.args.plan.shapes.now c.args.root _ _
-    (root-other (settings_of c.args.plan) c.args.plan.shapes.now c.args.root c.shape.result.now c.shape.ensures
+    (root-other (settings_of c.args.plan) c.args.plan.shapes.now c.args.root c.shape-shape.result.now c.shape-shape.ensures.found
     c.in_default.not-Struct c.in_default.not-Enum)
     c.no_choice.ensures
 
 pub returns-clause-counted : goal.returns-clause-counted
 returns-clause-counted c =
     numbered_so (settings_of c.args.plan) c.args.plan.shapes.now c.args.root _ _
-    (root-other (settings_of c.args.plan) c.args.plan.shapes.now c.args.root c.shape.result.now c.shape.ensures
+    (root-other (settings_of c.args.plan) c.args.plan.shapes.now c.args.root c.shape-shape.result.now c.shape-shape.ensures.found
     c.in_default.not-Struct c.in_default.not-Enum)
     c.no_choice.ensures
