@@ -22,3 +22,4 @@ pub mod KeyPaths
 pub mod Nested
 pub mod Selectors
 pub mod Checked
+pub mod NestedLaws

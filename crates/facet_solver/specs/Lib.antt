@@ -20,3 +20,4 @@ pub mod Refusal
 pub mod EnteredView
 pub mod CountView
 pub mod Newtype
+pub mod NestedLaws
