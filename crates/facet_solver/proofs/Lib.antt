@@ -2,6 +2,7 @@ pub mod Exact
 pub mod Bijection
 pub mod Counts
 pub mod CountSteps
+pub mod CountFormats
 pub mod Tallies
 pub mod NoChoices
 pub mod TallyTables

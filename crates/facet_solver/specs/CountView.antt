@@ -1,5 +1,5 @@
--- What the code's numbers of choices tell. Only private contracts and proofs speak of it, but for `below_2_64`.
-use Rattle.std.specs.Prelude.{◌≡◌, ℕ, ◌^◌, ◌≤◌, List, Bool, Option, Some, None, if◌then◌else◌, nat_lt, slice_get, length, sum_by}
+-- What the code's numbers of choices tell. Only private contracts and proofs speak of it.
+use Rattle.std.specs.Prelude.{◌≡◌, ℕ, ◌^◌, ◌≤◌, List, Bool, Option, Some, None, slice_get, length, sum_by}
 use Rattle.facet_solver.specs.declared.build.count.tally.Tally.{Tally}
 use Rattle.facet_solver.specs.declared.build.count.tally.Tally.TheVariants.{Exact, Larger}
 use Rattle.facet_solver_shape.specs.declared.shape.Field.{Field}
@@ -19,10 +19,6 @@ Tells Larger n = 2 ^ 64 ≤ n
 abbrev pub tally_of : Option ℕ → Tally
 tally_of (Some k) = Exact k
 tally_of None = Larger
-
--- a number where it is below 2^64
-abbrev pub below_2_64 : ℕ → Option ℕ
-below_2_64 n = if nat_lt n (2 ^ 64) then Some n else None
 
 -- the number of choices at one field
 abbrev pub count_of_field : Settings → Catalogue → Field → ℕ

@@ -3,7 +3,8 @@ ghost use Rattle.std.specs.Prelude.{◌≡◌, ◌<◌, length, IfOk};
 ghost use Rattle.facet_solver.specs.Below.{NamesEarlier, FieldsBelow};
 ghost use Rattle.facet_solver.specs.Count as count;
 ghost use Rattle.facet_solver.specs.Count.{count_below};
-ghost use Rattle.facet_solver.specs.CountView.{Tells, AreCounts, count_of_field, count_of_content, below_2_64};
+ghost use Rattle.facet_solver.specs.CountAnswer.{below_2_64};
+ghost use Rattle.facet_solver.specs.CountView.{Tells, AreCounts, count_of_field, count_of_content};
 ghost use Rattle.facet_solver.specs.PlanView.{settings_of};
 
 pub(crate) mod table;
