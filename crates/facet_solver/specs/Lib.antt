@@ -14,14 +14,11 @@ pub mod Listing
 pub mod Outcome
 pub mod RoleView
 pub mod PlanView
-<<<<<<< HEAD
 pub mod ChoiceLists
 pub mod Filling
 pub mod Refusal
 pub mod EnteredView
-=======
 pub mod CountAnswer
->>>>>>> 40e4ecc73f060065910adc1f515790fa6f2aecfc
 pub mod CountView
 pub mod Newtype
 pub mod NestedLaws
