@@ -8,7 +8,7 @@ pub mod NoChoices
 pub mod TallyTables
 pub mod RootCounts
 pub mod Newtypes
-pub mod Laws
+pub mod ChoiceLaws
 pub mod Descent
 pub mod Limits
 pub mod Steps
@@ -24,3 +24,4 @@ pub mod Nested
 pub mod Selectors
 pub mod Checked
 pub mod NestedLaws
+pub mod OwnSteps
