@@ -25,21 +25,21 @@ module _ (settings : Settings) (cat : Catalogue) (checked : NamesEarlier cat) wh
   count_variant-same true g h limit v b x = x (content_of cat v).fields (content_of-below cat checked limit v b)
   count_variant-same false g h limit v b x = refl
 
-  count_role-same : (g h : Count) (limit : ℕ) (r : Role) → RoleBelow limit r → ((gs : List Field) → FieldsBelow limit gs → g gs ≡ h gs) → count_role g settings cat r ≡ count_role h settings cat r
+  pub count_role-same : (g h : Count) (limit : ℕ) (r : Role) → RoleBelow limit r → ((gs : List Field) → FieldsBelow limit gs → g gs ≡ h gs) → count_role g settings cat r ≡ count_role h settings cat r
   count_role-same g h limit a_regular b x = refl
   count_role-same g h limit (a_block fs) b x = x fs b
   count_role-same g h limit (some_alternatives s vs) b x = sum_by-same limit _ _ vs b (λ v below. count_variant-same (is_walked (repr_for settings s)) g h limit v below x)
   count_role-same g h limit a_rest b x = refl
   count_role-same g h limit a_leaf b x = refl
 
-  count-local : IsLocal (λ below fs. count_fields below settings cat fs)
+  pub count-local : IsLocal (λ below fs. count_fields below settings cat fs)
   unfolding count_fields
   count-local g h limit [] b x = refl
   count-local g h limit (f ∷ fs) b x =
       ap (λ (n : ℕ). n * count_fields g settings cat fs) (count_role-same g h f.shape (role_of cat f) (role_of-below cat checked f) (λ gs below. x f.shape gs b.0 below))
       ∙ ap (λ (n : ℕ). count_role h settings cat (role_of cat f) * n) (count-local g h limit fs b.1 x)
 
-  count-step : (n : ℕ) (fs : List Field) → count_within (suc n) settings cat fs ≡ count_fields (count_within n settings cat) settings cat fs
+  pub count-step : (n : ℕ) (fs : List Field) → count_within (suc n) settings cat fs ≡ count_fields (count_within n settings cat) settings cat fs
   unfolding count_within
   count-step n fs = refl
 

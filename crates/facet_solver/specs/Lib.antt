@@ -19,3 +19,11 @@ pub mod NestedLaws
 pub mod CountAnswer
 pub mod CountView
 pub mod Newtype
+pub mod ChoiceLists
+pub mod Filling
+pub mod Refusal
+pub mod EnteredView
+pub mod CountAnswer
+pub mod CountView
+pub mod Newtype
+pub mod NestedLaws

@@ -3,12 +3,16 @@ use Rattle.std.proofs.Common.{◌≡◌, ◌⊎◌, inl, inr, ℕ, suc, ◌<◌,
 use Rattle.std.specs.Prelude.{Contains, AllPairs}
 use Rattle.facet_solver.specs.Targets.{Catalogue}
 use Rattle.facet_solver.specs.Representation.{Settings}
-use Rattle.facet_solver.specs.Emissions.{Emission}
+use Rattle.facet_solver.specs.Emissions.{Emission, Path}
 use Rattle.facet_solver.specs.Walk.{walk_root}
 use Rattle.facet_solver_shape.specs.Resolved.{Resolved}
-use Rattle.facet_solver.specs.Choice.{Emits, IsChoice, IsBefore, ListsChoices, IsResolution, ResolvesEach, Enumerates, HasNoClash}
+use Rattle.facet_solver.specs.Choice.{Emits, IsChoice, IsBefore, ListsChoices, IsResolution, ResolvesEach, Enumerates, HasNoClash, IsClash, resolution_of}
 use Rattle.facet_solver.proofs.Exact.{In}
-use Rattle.facet_solver.proofs.Bijection.{In_from_contains, exact_root}
+use Rattle.facet_solver_shape.specs.Names.{Name}
+use Rattle.facet_solver.specs.Count.{count_of_root}
+use Rattle.facet_solver.specs.Listing.{choices_of_root}
+use Rattle.facet_solver.proofs.Bijection.{In_from_contains, exact_root, choices_listed}
+use Rattle.facet_solver.proofs.Counts.{root_count}
 
 module _ (settings : Settings) (cat : Catalogue) (root : ℕ) where
   resolution_at : (cs : List (List ℕ)) (rs : List Resolved) (c : List ℕ) → ResolvesEach settings cat root cs rs → In c cs → (r : Resolved) × IsResolution settings cat root c r
@@ -100,3 +104,35 @@ one_list settings cat root cs ds h k =
   where
     at : (c : List ℕ) (xs : List (List ℕ)) → In c xs → Contains xs c
     at c xs i = index_in c xs i
+
+-- a choice has one resolution
+resolution-one : (settings : Settings) (cat : Catalogue) (root : ℕ) (c : List ℕ) (r s : Resolved) → IsResolution settings cat root c r → IsResolution settings cat root c s → r ≡ s
+resolution-one settings cat root c r s h k =
+    let f : Some (h.emissions, []) ≡ Some (k.emissions, []) = sym h.emitted ∙ k.emitted in
+    let p : (h.emissions, []) ≡ (k.emissions, []) = cc in
+    h.put_together ∙ ap (λ (w : List Emission × List ℕ). resolution_of w.0) p ∙ sym k.put_together
+
+resolutions-one : (settings : Settings) (cat : Catalogue) (root : ℕ) (cs : List (List ℕ)) (rs ss : List Resolved) → ResolvesEach settings cat root cs rs → ResolvesEach settings cat root cs ss → rs ≡ ss
+resolutions-one settings cat root [] [] [] h k = refl
+resolutions-one settings cat root [] [] (s ∷ ss) h k = absurd k
+resolutions-one settings cat root [] (r ∷ rs) ss h k = absurd h
+resolutions-one settings cat root (c ∷ cs) [] ss h k = absurd h
+resolutions-one settings cat root (c ∷ cs) (r ∷ rs) [] h k = absurd k
+resolutions-one settings cat root (c ∷ cs) (r ∷ rs) (s ∷ ss) h k =
+    ap (λ (r : Resolved). r ∷ rs) (resolution-one settings cat root c r s h.0 k.0)
+    ∙ ap (λ (rs : List Resolved). s ∷ rs) (resolutions-one settings cat root cs rs ss h.1 k.1)
+
+-- there is one list of resolutions
+pub one_enumeration : (settings : Settings) (cat : Catalogue) (root : ℕ) (rs ss : List Resolved) → Enumerates settings cat root rs → Enumerates settings cat root ss → rs ≡ ss
+one_enumeration settings cat root rs ss h k =
+    resolutions-one settings cat root h.choices rs ss h.resolved
+    (subst (λ (cs : List (List ℕ)). ResolvesEach settings cat root cs ss) (sym (one_list settings cat root h.choices k.choices h.listed k.listed)) k.resolved)
+
+-- a list of resolutions and a clash exclude each other
+pub no_clash : (settings : Settings) (cat : Catalogue) (root : ℕ) (rs : List Resolved) → Enumerates settings cat root rs → (name : Name) (first second : Path) → ¬ IsClash settings cat root name first second
+no_clash settings cat root rs h name first second k = no_choice-clashes settings cat root rs h k.choice k.emissions k.emitted k.first k.second k.clash
+
+-- the list of all choices is as long as their number
+pub choices-counted : (settings : Settings) (cat : Catalogue) (root : ℕ) (cs : List (List ℕ)) → ListsChoices settings cat root cs → length cs ≡ count_of_root settings cat root
+choices-counted settings cat root cs h =
+    ap length (one_list settings cat root cs (choices_of_root settings cat root) h (choices_listed settings cat root)) ∙ root_count settings cat root
