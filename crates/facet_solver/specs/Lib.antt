@@ -22,8 +22,3 @@ pub mod Newtype
 pub mod ChoiceLists
 pub mod Filling
 pub mod Refusal
-pub mod EnteredView
-pub mod CountAnswer
-pub mod CountView
-pub mod Newtype
-pub mod NestedLaws
