@@ -4,7 +4,8 @@ use Rattle.std.specs.List.{flat_map}
 use Rattle.facet_solver_shape.specs.declared.resolution.path.PathSegment.{PathSegment}
 use Rattle.facet_solver_shape.specs.Paths.{step_of, step_text, path_text}
 
-flat_map-map : {A B C : Type 0} (f : B → List C) (g : A → B) (xs : List A) → flat_map (λ x. f (g x)) xs ≡ flat_map f (map g xs)
+-- what f makes of all that g makes of the elements
+pub flat_map-map : {A B C : Type 0} (f : B → List C) (g : A → B) (xs : List A) → flat_map (λ x. f (g x)) xs ≡ flat_map f (map g xs)
 flat_map-map f g [] = refl
 flat_map-map f g (x ∷ xs) = ap (λ ys. f (g x) ++ ys) (flat_map-map f g xs)
 

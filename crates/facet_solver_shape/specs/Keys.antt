@@ -36,10 +36,18 @@ rank (Some category) = category_index category + 1
 abbrev pub key_cmp : Key → Key → Ordering
 key_cmp = then_cmp (on (λ k. rank k.dom) nat_cmp) (on (λ k. k.name) (slice_cmp nat_cmp))
 
+-- the key of a name alone
+abbrev pub flat_key : Name → Key
+flat_key name = record { dom = None; name = name }
+
+-- the key of a name in a category
+abbrev pub dom_key : FieldCategory → Name → Key
+dom_key category name = record { dom = Some category; name = name }
+
 -- what a key says
 abbrev pub key_of : FieldKey → Key
-key_of (FlatKey name) = record { dom = None; name = name.now }
-key_of (DomKey category name) = record { dom = Some category; name = name.now }
+key_of (FlatKey name) = flat_key name.now
+key_of (DomKey category name) = dom_key category name.now
 
 -- the category that a stored key names: none for a field of category Flat
 abbrev pub stored_dom : FieldCategory → Option FieldCategory

@@ -8,3 +8,6 @@ pub mod Views
 pub mod ResolvedCode
 pub mod Scores
 pub mod PathEq
+pub mod Matching
+pub mod Descriptions
+pub mod FieldTable

@@ -18,6 +18,9 @@ step_eq _ _ = false
 abbrev pub path_eq : List Step → List Step → Bool
 path_eq = pointwise step_eq
 
+abbrev pub key_path_eq : List Name → List Name → Bool
+key_path_eq = pointwise name_eq
+
 pub step_eq_equiv : IsEquivalence step_eq
 step_eq_equiv = record { refl = itself; symm = either_way; congr = alike }
   where

@@ -42,6 +42,10 @@ nothing = record { fields = map.empty; required_names = set.empty; key_paths = s
 abbrev pub key_of_field : FieldView → Key
 key_of_field f = stored_key f.category f.name
 
+-- a field stands under its own key
+abbrev pub IsStored : Key × FieldView → Type 0
+IsStored e = e.0 ≡ key_of_field e.1
+
 -- with one more field
 abbrev pub with_field : Resolved → FieldView → Resolved
 with_field r f = record r {
@@ -71,10 +75,6 @@ with_pick r pick = record r { picks = r.picks ++ pick ∷ [] }
 -- with a field that takes the members of a category that no other field takes, in place of an earlier one
 abbrev pub with_catch_all : Resolved → FieldCategory → FieldView → Resolved
 with_catch_all r category f = record r { catch_alls = map.insert r.catch_alls category f }
-
--- with one more required field under a key
-abbrev pub with_required : Resolved → Key → FieldView → Resolved
-with_required r key f = record r { fields = map.insert r.fields key f; required_names = set.insert r.required_names f.name }
 
 -- made has what first or second has, and no key is in both
 pub record IsUnionOf (first second made : map.FinMap key_cmp FieldView) : Type 0 where

@@ -40,13 +40,17 @@ IsRefusalOf old f OutOfMemory = ⊤
 abbrev pub field_entries_view : List (FieldKey × FieldInfo) → tree.FinMap key_cmp FieldView
 field_entries_view es = tree.from_entries (map (λ e. (key_of e.0, field_view e.1)) es)
 
--- names behind references
-abbrev pub names_view : List (Bor Name) → set.FinSet (slice_cmp nat_cmp)
-names_view ns = set.from_list (map (λ n. n.now) ns)
+-- what names behind references say
+abbrev pub names_of : List (Bor Name) → List Name
+names_of ns = map (λ n. n.now) ns
 
--- paths of such names
+-- names behind references, each once
+abbrev pub names_view : List (Bor Name) → set.FinSet (slice_cmp nat_cmp)
+names_view ns = set.from_list (names_of ns)
+
+-- paths of such names, each once
 abbrev pub key_paths_view : List (Vec (Bor Name) Global) → set.FinSet (slice_cmp (slice_cmp nat_cmp))
-key_paths_view ps = set.from_list (map (λ p. map (λ n. n.now) p.items) ps)
+key_paths_view ps = set.from_list (map (λ p. names_of p.items) ps)
 
 -- entries of a map of catch-alls
 abbrev pub catch_alls_view : List (FieldCategory × FieldInfo) → tree.FinMap category_cmp FieldView

@@ -1,16 +1,25 @@
 //! What one choice of variants resolves to: paths, keys, fields, and the resolution itself.
-ghost use Rattle.std.specs.Prelude.{◌≡◌, IfErr, OnOk, OnErr, IsTrue, map};
+ghost use Rattle.std.specs.Prelude.{◌≡◌, IfOk, IfErr, OnOk, OnErr, IsTrue, All, find, map};
+ghost use Rattle.std.specs.Option.{option_map};
+ghost use Rattle.std.specs.String.{string_bytes};
+ghost use Rattle.std.specs.FinMap as finite;
+ghost use Rattle.std.specs.FinSet as set;
+ghost use Rattle.facet_solver_shape.specs.Descriptions.{description};
+ghost use Rattle.facet_solver_shape.specs.FieldTable.{entry_view};
 ghost use Rattle.facet_solver_shape.specs.Keys.{key_of};
-ghost use Rattle.facet_solver_shape.specs.Resolved.{nothing, IsAdded, with_key_path, with_pick, with_catch_all, with_required, IsUnionOf};
-ghost use Rattle.facet_solver_shape.specs.Views.{field_view, IsRefusalOf, field_entries_view, names_view, key_paths_view};
+ghost use Rattle.facet_solver_shape.specs.Matching.{matches, has_name};
+ghost use Rattle.facet_solver_shape.specs.Resolved.{nothing, IsAdded, with_key_path, with_pick, with_catch_all, with_field, IsStored, IsUnionOf};
+ghost use Rattle.facet_solver_shape.specs.Views.{field_view, pick_view, IsRefusalOf, field_entries_view, names_of, names_view, key_paths_view};
 ghost use Rattle.facet_solver_shape.specs.declared.resolution.error.SchemaError.TheVariants.{OutOfMemory};
 
+mod describe;
 pub mod error;
 pub mod field;
 pub mod key;
 pub mod path;
 mod tables;
 
+use describe::describe_picks;
 pub use error::{DuplicateFieldError, SchemaError};
 pub use field::{FieldInfo, KeyPath, VariantSelection};
 pub use key::{FieldCategory, FieldKey};
@@ -63,22 +72,72 @@ impl<'c> Resolution<'c> {
         }
     }
 
+    /// The fields by stored key, in key order.
     pub fn fields(&self) -> &BTreeMap<FieldKey<'c>, FieldInfo<'c>>
-        ensures { field_entries_view result.now.entries ≡ self.now.fields }
+        ensures view { field_entries_view result.now.entries ≡ self.now.fields }
+        ensures in_order { map entry_view result.now.entries ≡ finite.entries self.now.fields }
+        ensures stored { All IsStored (finite.entries self.now.fields) }
     {
         self.fields.as_map()
     }
 
+    /// The names of the required fields, in byte order.
     pub fn required_field_names(&self) -> &BTreeSet<&'c str>
         ensures { names_view result.now.keys ≡ self.now.required_names }
     {
         self.required.as_set()
     }
 
+    /// The variants that were picked, in order.
+    pub fn variant_selections(&self) -> &[VariantSelection<'c>]
+        ensures { map pick_view result.now ≡ self.now.picks }
+    {
+        &self.picks
+    }
+
+    /// The paths of all keys.
     pub fn known_paths(&self) -> &BTreeSet<KeyPath<'c>>
         ensures { key_paths_view result.now.keys ≡ self.now.key_paths }
     {
         self.key_paths.as_set()
+    }
+
+    /// Whether the whole path is that of a key.
+    pub fn has_key_path(&self, path: &[&str]) -> bool
+        ensures { result ≡ set.contains self.now.key_paths (names_of path.now) }
+    {
+        self.key_paths.contains(path)
+    }
+
+    /// The field of least stored key among those that have the name.
+    pub fn field_by_name(&self, name: &str) -> Option<&FieldInfo<'c>>
+        ensures { option_map (λ f. field_view f.now) result
+            ≡ find (has_name name.now) (finite.values self.now.fields) }
+    {
+        self.fields.first_named(name)
+    }
+
+    /// The field of least stored key among those that the key means.
+    pub fn field_by_key(&self, key: &FieldKey) -> Option<&FieldInfo<'c>>
+        ensures { option_map (λ f. field_view f.now) result
+            ≡ find (matches (key_of key.now)) (finite.values self.now.fields) }
+    {
+        self.fields.first_matched(key)
+    }
+
+    /// The field that takes what no other field of the category takes.
+    pub fn catch_all_map(&self, category: FieldCategory) -> Option<&FieldInfo<'c>>
+        ensures { option_map (λ f. field_view f.now) result
+            ≡ finite.get self.now.catch_alls category }
+    {
+        self.catch_alls.get(category)
+    }
+
+    /// The picks in order, as `Enum::Variant` joined by ` + `; `(no variants)` where there are none.
+    pub fn describe(&self, alloc: Global) -> Result<String, AllocError>
+        ensures { IfOk result (λ text. string_bytes text ≡ description self.now.picks) }
+    {
+        describe_picks(alloc, &self.picks)
     }
 
     /// Adds a field, unless its key is taken.
@@ -96,26 +155,22 @@ impl<'c> Resolution<'c> {
             }));
         }
         if info.required {
-            self.add_required(key, info)
+            self.add_required(info)
         } else {
-            Ok(self.fields.insert(key, info)?)
+            Ok(self.fields.insert(info)?)
         }
     }
 
     // Adds a required field, whose key is new.
-    fn add_required(
-        &mut self,
-        key: FieldKey<'c>,
-        info: FieldInfo<'c>,
-    ) -> Result<(), SchemaError<'c>>
+    fn add_required(&mut self, info: FieldInfo<'c>) -> Result<(), SchemaError<'c>>
         requires { IsTrue info.required }
-        ensures ok { OnOk result (self.new ≡ with_required self.old (key_of key.entry) (field_view info.entry)) }
+        ensures ok { OnOk result (self.new ≡ with_field self.old (field_view info.entry)) }
         ensures refused { IfErr result (λ e. e ≡ OutOfMemory) }
         ensures err { OnErr result (self.new ≡ self.old) }
     {
         let name = info.serialized_name;
         let is_new = self.required.insert(name)?;
-        if let Err(refused) = self.fields.insert(key, info) {
+        if let Err(refused) = self.fields.insert(info) {
             if is_new {
                 self.required.remove(name);
             }
@@ -126,7 +181,7 @@ impl<'c> Resolution<'c> {
 
     /// Adds the path of a nested key.
     pub fn add_key_path(&mut self, path: KeyPath<'c>) -> Result<(), AllocError>
-        ensures ok { OnOk result (self.new ≡ with_key_path self.old (map (λ n. n.now) path.entry.items)) }
+        ensures ok { OnOk result (self.new ≡ with_key_path self.old (names_of path.entry.items)) }
         ensures err { OnErr result (self.new ≡ self.old) }
     {
         self.key_paths.insert(path)

@@ -1,6 +1,7 @@
 //! Fields of a resolution, nested keys and picked variants.
 ghost use Rattle.std.specs.Prelude.{◌≡◌, IfOk};
 ghost use Rattle.facet_solver_shape.specs.Keys.{key_of};
+ghost use Rattle.facet_solver_shape.specs.Matching.{matches};
 ghost use Rattle.facet_solver_shape.specs.Resolved.{key_of_field};
 ghost use Rattle.facet_solver_shape.specs.Views.{field_view};
 
@@ -37,6 +38,20 @@ impl<'c> FieldInfo<'c> {
         match self.category {
             FieldCategory::Flat => FieldKey::Flat(self.serialized_name),
             category => FieldKey::Dom(category, self.serialized_name),
+        }
+    }
+
+    // Whether a key of a document means the field.
+    pub(crate) fn matched_by(&self, key: &FieldKey) -> bool
+        ensures { result ≡ matches (key_of key.now) (field_view self.now) }
+    {
+        let named = key.name() == self.serialized_name;
+        match (self.category, *key) {
+            (FieldCategory::Flat, _) => named,
+            (category, FieldKey::Flat(_)) => named && category == FieldCategory::Element,
+            (category, FieldKey::Dom(asked, name)) => {
+                asked == category && (named || (name.is_empty() && category.takes_any_name()))
+            }
         }
     }
 

@@ -1,5 +1,6 @@
 //! Paths from the root to a field or an enum.
-ghost use Rattle.std.specs.Prelude.{◌≡◌, map, [], ◌∷◌, ◌++◌, length, codes, IfOk, Some};
+ghost use Rattle.std.specs.Prelude.{◌≡◌, map, [], ◌∷◌, ◌++◌, ◌-◌, length, take, slice_get, codes, IfOk, Some};
+ghost use Rattle.std.specs.Option.{option_map};
 ghost use Rattle.std.specs.List.{flat_map};
 ghost use Rattle.std.specs.Cmp.{partial_equiv_from_equiv};
 ghost use Rattle.facet_solver_shape.specs.Paths.{step_of, by_field, by_variant, step_text, path_text};
@@ -46,6 +47,7 @@ impl Eq for FieldPath<'_> {
 }
 
 impl<'c> FieldPath<'c> {
+    /// The path of the root, which has no segments.
     pub fn empty(alloc: Global) -> Self
         ensures { result ≡ [] }
     {
@@ -54,12 +56,14 @@ impl<'c> FieldPath<'c> {
         }
     }
 
+    /// This path with the segment of a field after it.
     pub fn push_field(&self, alloc: Global, name: &'c str) -> Result<Self, AllocError>
         ensures { IfOk result (λ path. path ≡ self.now ++ by_field name.now ∷ []) }
     {
         self.pushed(alloc, PathSegment::Field(name))
     }
 
+    /// This path with the segment of a variant of a field after it.
     pub fn push_variant(
         &self,
         alloc: Global,
@@ -87,12 +91,30 @@ impl<'c> FieldPath<'c> {
         Ok(FieldPath { segments })
     }
 
+    /// The path without its last segment; of the empty path, the empty path.
+    pub fn parent(&self, alloc: Global) -> Result<Self, AllocError>
+        ensures { IfOk result (λ path. path ≡ take (length self.now - 1) self.now) }
+    {
+        let kept = self.segments.len().saturating_sub(1);
+        let segments = Vec::from_slice(alloc, &self.segments[..kept])?;
+        Ok(FieldPath { segments })
+    }
+
+    /// How many segments the path has.
     pub fn depth(&self) -> usize
         ensures { result ≡ length self.now }
     {
         self.segments.len()
     }
 
+    /// The last segment, if there is one.
+    pub fn last(&self) -> Option<&PathSegment<'c>>
+        ensures { option_map (λ s. step_of s.now) result ≡ slice_get self.now (length self.now - 1) }
+    {
+        self.segments.last()
+    }
+
+    /// The segments, from the root on.
     pub fn segments(&self) -> &[PathSegment<'c>]
         ensures { map step_of result.now ≡ self.now }
     {

@@ -1,16 +1,16 @@
 // Fields by stored key, seen as a finite map.
-ghost use Rattle.std.specs.Prelude.{◌≡◌, OnOk, OnErr, IfOk, map, not};
+ghost use Rattle.std.specs.Prelude.{◌≡◌, OnOk, OnErr, IfOk, All, find, map};
 ghost use Rattle.std.specs.Option.{option_map};
-ghost use Rattle.std.specs.Bool.{OnTrue, OnFalse};
 ghost use Rattle.std.specs.FinMap as tree;
-ghost use Rattle.std.specs.FinSet as set;
+ghost use Rattle.facet_solver_shape.specs.FieldTable.{entry_view};
 ghost use Rattle.facet_solver_shape.specs.Keys.{key_of};
-ghost use Rattle.facet_solver_shape.specs.Resolved.{IsUnionOf};
-ghost use Rattle.facet_solver_shape.specs.Views.{field_view, field_entries_view, names_view, key_paths_view};
+ghost use Rattle.facet_solver_shape.specs.Matching.{matches, has_name};
+ghost use Rattle.facet_solver_shape.specs.Resolved.{IsUnionOf, IsStored, key_of_field};
+ghost use Rattle.facet_solver_shape.specs.Views.{field_view, field_entries_view};
 
-use crate::resolution::{DuplicateFieldError, FieldInfo, FieldKey, KeyPath, SchemaError};
+use crate::resolution::{DuplicateFieldError, FieldInfo, FieldKey, SchemaError};
 use std::alloc::{AllocError, Global};
-use std::collections::{BTreeMap, BTreeSet};
+use std::collections::BTreeMap;
 use std::marker::Model;
 
 // Fields by stored key.
@@ -24,6 +24,7 @@ impl<'c> Model for FieldMap<'c> {
     ghost use Rattle.facet_solver_shape.specs.Keys.{key_cmp};
     ghost use Rattle.facet_solver_shape.specs.Resolved.{FieldView};
     ghost use Rattle.facet_solver_shape.specs.ResolvedCode.{field_map_code};
+    ghost use Rattle.facet_solver_shape.specs.FieldTable.{IsFieldTable};
     ghost use Rattle.facet_solver_shape.specs.Views.{field_entries_view};
 
     ghost Value = { tree.FinMap key_cmp FieldView };
@@ -31,6 +32,8 @@ impl<'c> Model for FieldMap<'c> {
     ghost coded = { field_map_code };
 
     ghost view = { λ m. field_entries_view m.entries.entries };
+
+    ghost invariant = { λ m. IsFieldTable m.entries.entries };
 }
 
 impl<'c> FieldMap<'c> {
@@ -43,7 +46,9 @@ impl<'c> FieldMap<'c> {
     }
 
     pub(crate) fn as_map(&self) -> &BTreeMap<FieldKey<'c>, FieldInfo<'c>>
-        ensures { field_entries_view result.now.entries ≡ self.now }
+        ensures view { field_entries_view result.now.entries ≡ self.now }
+        ensures in_order { map entry_view result.now.entries ≡ tree.entries self.now }
+        ensures stored { All IsStored (tree.entries self.now) }
     {
         &self.entries
     }
@@ -54,14 +59,36 @@ impl<'c> FieldMap<'c> {
         self.entries.get(key)
     }
 
-    pub(crate) fn insert(
-        &mut self,
-        key: FieldKey<'c>,
-        info: FieldInfo<'c>,
-    ) -> Result<(), AllocError>
-        ensures ok { OnOk result (self.new ≡ tree.insert self.old (key_of key.entry) (field_view info.entry)) }
+    // The first field that a key means.
+    pub(crate) fn first_matched(&self, key: &FieldKey) -> Option<&FieldInfo<'c>>
+        ensures { option_map (λ f. field_view f.now) result ≡ find (matches (key_of key.now)) (tree.values self.now) }
+    {
+        for (_, info) in &self.entries {
+            if info.matched_by(key) {
+                return Some(info);
+            }
+        }
+        None
+    }
+
+    // The first field of a name.
+    pub(crate) fn first_named(&self, name: &str) -> Option<&FieldInfo<'c>>
+        ensures { option_map (λ f. field_view f.now) result ≡ find (has_name name.now) (tree.values self.now) }
+    {
+        for (_, info) in &self.entries {
+            if info.serialized_name == name {
+                return Some(info);
+            }
+        }
+        None
+    }
+
+    // Puts a field under its stored key.
+    pub(crate) fn insert(&mut self, info: FieldInfo<'c>) -> Result<(), AllocError>
+        ensures ok { OnOk result (self.new ≡ tree.insert self.old (key_of_field (field_view info.entry)) (field_view info.entry)) }
         ensures err { OnErr result (self.new ≡ self.old) }
     {
+        let key = info.key();
         self.entries.insert(key, info)?;
         Ok(())
     }
@@ -85,7 +112,7 @@ impl<'c> FieldMap<'c> {
                 }));
             }
             let made = info.copied(alloc)?;
-            self.insert(*key, made)?;
+            self.insert(made)?;
         }
         Ok(())
     }
@@ -104,13 +131,5 @@ impl<'c> FieldMap<'c> {
         made.add_all(alloc, self)?;
         made.add_all(alloc, other)?;
         Ok(made)
-    }
-
-    // Takes the place of this map.
-    pub(crate) fn put(&mut self, other: FieldMap<'c>)
-        ensures { self.new ≡ other.entry }
-    {
-        let FieldMap { entries } = other;
-        self.entries = entries;
     }
 }

@@ -1,16 +1,12 @@
 // Key paths, each once, seen as a finite set.
-ghost use Rattle.std.specs.Prelude.{◌≡◌, OnOk, OnErr, IfOk, map, not};
-ghost use Rattle.std.specs.Option.{option_map};
-ghost use Rattle.std.specs.Bool.{OnTrue, OnFalse};
-ghost use Rattle.std.specs.FinMap as tree;
+ghost use Rattle.std.specs.Prelude.{◌≡◌, OnOk, OnErr};
 ghost use Rattle.std.specs.FinSet as set;
-ghost use Rattle.facet_solver_shape.specs.Keys.{key_of};
-ghost use Rattle.facet_solver_shape.specs.Resolved.{IsUnionOf};
-ghost use Rattle.facet_solver_shape.specs.Views.{field_view, field_entries_view, names_view, key_paths_view};
+ghost use Rattle.facet_solver_shape.specs.PathEq.{key_path_eq};
+ghost use Rattle.facet_solver_shape.specs.Views.{names_of, key_paths_view};
 
-use crate::resolution::{DuplicateFieldError, FieldInfo, FieldKey, KeyPath, SchemaError};
+use crate::resolution::KeyPath;
 use std::alloc::{AllocError, Global};
-use std::collections::{BTreeMap, BTreeSet};
+use std::collections::BTreeSet;
 use std::marker::Model;
 
 // Key paths, each once.
@@ -48,11 +44,28 @@ impl<'c> KeyPathSet<'c> {
         &self.paths
     }
 
+    pub(crate) fn contains(&self, path: &[&str]) -> bool
+        ensures { result ≡ set.contains self.now (names_of path.now) }
+    {
+        for known in &self.paths {
+            if is_path(path, known) {
+                return true;
+            }
+        }
+        false
+    }
+
     pub(crate) fn insert(&mut self, path: KeyPath<'c>) -> Result<(), AllocError>
-        ensures ok { OnOk result (self.new ≡ set.insert self.old (map (λ n. n.now) path.entry.items)) }
+        ensures ok { OnOk result (self.new ≡ set.insert self.old (names_of path.entry.items)) }
         ensures err { OnErr result (self.new ≡ self.old) }
     {
         self.paths.insert(path)?;
         Ok(())
     }
+}
+
+fn is_path(path: &[&str], known: &KeyPath) -> bool
+    ensures { result ≡ key_path_eq (names_of path.now) (names_of known.now.items) }
+{
+    path == known.as_slice()
 }

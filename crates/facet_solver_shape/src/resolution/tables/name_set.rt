@@ -1,16 +1,11 @@
 // Names, each once, seen as a finite set.
-ghost use Rattle.std.specs.Prelude.{◌≡◌, OnOk, OnErr, IfOk, map, not};
-ghost use Rattle.std.specs.Option.{option_map};
+ghost use Rattle.std.specs.Prelude.{◌≡◌, OnOk, OnErr, IfOk, not};
 ghost use Rattle.std.specs.Bool.{OnTrue, OnFalse};
-ghost use Rattle.std.specs.FinMap as tree;
 ghost use Rattle.std.specs.FinSet as set;
-ghost use Rattle.facet_solver_shape.specs.Keys.{key_of};
-ghost use Rattle.facet_solver_shape.specs.Resolved.{IsUnionOf};
-ghost use Rattle.facet_solver_shape.specs.Views.{field_view, field_entries_view, names_view, key_paths_view};
+ghost use Rattle.facet_solver_shape.specs.Views.{names_view};
 
-use crate::resolution::{DuplicateFieldError, FieldInfo, FieldKey, KeyPath, SchemaError};
 use std::alloc::{AllocError, Global};
-use std::collections::{BTreeMap, BTreeSet};
+use std::collections::BTreeSet;
 use std::marker::Model;
 
 // Names, each once.

@@ -1,0 +1,14 @@
+use Rattle.std.proofs.Common.{◌≡◌, map}
+use Rattle.std.specs.List.{find}
+use Rattle.std.specs.FinMap.{entries}
+use Rattle.facet_solver_shape.specs.FieldTable.{entry_view}
+use Rattle.facet_solver_shape.specs.Keys.{key_of}
+use Rattle.facet_solver_shape.specs.Matching.{matches}
+use Rattle.facet_solver_shape.proofs.FieldTables.{fields_of}
+use Rattle.facet_solver_shape.proofs.resolution.tables.field_map.FieldMap.first_matched.Given as goal
+
+-- the first that is wanted is the first of those that are left
+abbrev pub invariant-loop-info : goal.invariant-loop-info
+invariant-loop-info l =
+    (map entry_view l.initial.info-iterator ≡ entries l.self)
+    × (find (matches (key_of l.key)) (fields_of l.initial.info-iterator) ≡ find (matches (key_of l.key)) (fields_of l.info-iterator))

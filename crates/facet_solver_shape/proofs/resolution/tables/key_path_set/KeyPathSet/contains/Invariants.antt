@@ -1,0 +1,12 @@
+use Rattle.std.proofs.Common.{◌≡◌}
+use Rattle.std.specs.List.{list_any}
+use Rattle.facet_solver_shape.specs.PathEq.{key_path_eq}
+use Rattle.facet_solver_shape.specs.Views.{names_of, key_paths_view}
+use Rattle.facet_solver_shape.proofs.KeyPaths.{paths_of}
+use Rattle.facet_solver_shape.proofs.resolution.tables.key_path_set.KeyPathSet.contains.Given as goal
+
+-- the path is known if it is among those that are left
+abbrev pub invariant-loop-known : goal.invariant-loop-known
+invariant-loop-known l =
+    (key_paths_view l.initial.known-iterator ≡ l.self)
+    × (list_any (key_path_eq (names_of l.path)) (paths_of l.initial.known-iterator) ≡ list_any (key_path_eq (names_of l.path)) (paths_of l.known-iterator))
