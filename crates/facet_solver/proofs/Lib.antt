@@ -6,3 +6,4 @@ pub mod Descent
 pub mod Limits
 pub mod Steps
 pub mod Products
+pub mod IndexSets

@@ -13,3 +13,5 @@ pub mod Listing
 pub mod Outcome
 pub mod RoleView
 pub mod PlanView
+pub mod IndexSet
+pub mod IndexSetCode

@@ -2,3 +2,6 @@
 #![tactic(auto)]
 
 pub mod build;
+pub mod set;
+
+pub use set::{ResolutionSet, ResolutionSetIter};
