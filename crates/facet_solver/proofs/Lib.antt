@@ -7,3 +7,4 @@ pub mod Limits
 pub mod Steps
 pub mod Products
 pub mod IndexSets
+pub mod Viability

@@ -15,3 +15,11 @@ pub mod RoleView
 pub mod PlanView
 pub mod IndexSet
 pub mod IndexSetCode
+pub mod SchemaView
+pub mod Handle
+pub mod State
+pub mod KeyAnswer
+pub mod KeyResultView
+pub mod Verdict
+pub mod Refusal
+pub mod SchemaCode

@@ -2,6 +2,13 @@
 #![tactic(auto)]
 
 pub mod build;
+pub mod error;
+pub mod schema;
 pub mod set;
+pub mod solver;
 
+pub use error::{CandidateFailure, MissingFieldInfo, SolverError};
+pub use schema::{ResolutionHandle, Schema};
 pub use set::{ResolutionSet, ResolutionSetIter};
+pub use solver::Solver;
+pub use solver::key_result::KeyResult;

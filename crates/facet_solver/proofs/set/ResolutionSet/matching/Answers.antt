@@ -4,7 +4,7 @@ use Rattle.facet_solver.specs.IndexSetCode.{number_view}
 use Rattle.facet_solver.proofs.IndexSets.{rest_more, item_passes, first_passes}
 use Rattle.facet_solver.proofs.set.ResolutionSet.matching.Goals as goal
 
-pub loop-index-preserved-in-None-found : goal.loop-index-preserved-in-None
+pub loop-index-preserved-in-None-found : goal.loop-index-preserved-in-None-found
 loop-index-preserved-in-None-found g c =
     let before = c.loop-index.invariant in
     let step = c.in-Some.ensures.steps in
