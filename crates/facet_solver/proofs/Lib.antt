@@ -8,3 +8,5 @@ pub mod Steps
 pub mod Products
 pub mod IndexSets
 pub mod Viability
+pub mod Distinct
+pub mod Verdicts

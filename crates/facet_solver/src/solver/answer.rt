@@ -68,10 +68,11 @@ fn distinct_fields<'s, 'c>(
 {
     let mut fields = Vec::new(alloc);
     for index in candidates.iter() {
-        if let Some(field) = has_key.field_at(index) {
-            if !has_shape(&fields, field.value_shape) {
-                fields.push((field, score_at(shapes, field.value_shape)))?;
-            }
+        let Some(field) = has_key.field_at(index) else {
+            continue;
+        };
+        if !has_shape(&fields, field.value_shape) {
+            fields.push((field, score_at(shapes, field.value_shape)))?;
         }
     }
     Ok(fields)

@@ -1,7 +1,7 @@
 //! What a solver asks of a resolution, by its number.
 ghost use Rattle.std.specs.Prelude.{◌≡◌, map};
 ghost use Rattle.std.specs.List.{list_all, list_any};
-ghost use Rattle.std.specs.Option.{option_map};
+ghost use Rattle.std.specs.Option.{option_copied, option_map};
 ghost use Rattle.facet_solver_shape.specs.Keys.{key_of};
 ghost use Rattle.facet_solver_shape.specs.PathEq.{name_eq};
 ghost use Rattle.facet_solver_shape.specs.Views.{field_view};
@@ -44,14 +44,21 @@ pub(crate) struct IsViable<'s, 'c, 'a> {
     pub(crate) seen: &'s BTreeSet<FieldKey<'a>>,
 }
 
+impl<'s, 'c> IsViable<'s, 'c, '_> {
+    /// The resolution of a number, where it is viable.
+    pub(crate) fn resolution_at(self, index: usize) -> Option<&'s Resolution<'c>>
+        ensures { option_copied result ≡ verdict.viable_at (map key_of self.entry.seen.now.keys) self.entry.resolutions.now index }
+    {
+        let resolution = self.resolutions.get(index)?;
+        is_viable(self.seen, resolution).then_some(resolution)
+    }
+}
+
 impl Condition for IsViable<'_, '_, '_> {
     ghost holds = { λ c. passes (verdict.is_viable (map key_of c.seen.now.keys)) c.resolutions.now };
 
     fn holds(&self, index: usize) -> bool {
-        match self.resolutions.get(index) {
-            Some(resolution) => is_viable(self.seen, resolution),
-            None => false,
-        }
+        self.resolution_at(index).is_some()
     }
 }
 

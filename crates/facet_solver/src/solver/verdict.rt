@@ -6,7 +6,7 @@ ghost use Rattle.facet_solver.specs.State.{passes};
 ghost use Rattle.facet_solver.specs.Verdict as verdict;
 
 use crate::error::SolverError;
-use crate::set::{Condition, ResolutionSet};
+use crate::set::ResolutionSet;
 use crate::solver::conditions::IsViable;
 use std::alloc::{AllocError, Global};
 
@@ -50,7 +50,7 @@ fn descriptions(
 {
     let mut texts = Vec::new(alloc);
     for index in candidates.iter() {
-        if viable.holds(index) && let Some(resolution) = viable.resolutions.get(index) {
+        if let Some(resolution) = viable.resolution_at(index) {
             texts.push(resolution.describe(alloc)?)?;
         }
     }
