@@ -10,3 +10,4 @@ pub mod IndexSets
 pub mod Viability
 pub mod Distinct
 pub mod Verdicts
+pub mod Told

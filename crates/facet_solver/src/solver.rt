@@ -109,7 +109,7 @@ impl<'s, 'c, 'a> Solver<'s, 'c, 'a> {
     {
         let answer = answer_to(alloc, self.schema, &self.candidates, key)?;
         self.seen.insert(key)?;
-        if !matches!(answer, KeyResult::Unknown) {
+        if !answer.is_unknown() {
             self.candidates.retain(&HasKey {
                 resolutions: self.schema.resolutions(),
                 key,

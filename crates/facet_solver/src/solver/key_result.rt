@@ -1,4 +1,7 @@
 //! What a solver answers to a key.
+ghost use Rattle.std.specs.Prelude.{◌≡◌, ◌↔◌, IsTrue};
+ghost use Rattle.facet_solver.specs.KeyAnswer.{unknown};
+ghost use Rattle.facet_solver.specs.KeyResultView.{answer_view};
 
 use crate::schema::ResolutionHandle;
 use facet_solver_shape::{FieldInfo, ShapeId};
@@ -21,6 +24,15 @@ pub enum KeyResult<'s, 'c> {
     Solved(ResolutionHandle<'s, 'c>),
     /// No candidate has a field that the key means.
     Unknown,
+}
+
+impl KeyResult<'_, '_> {
+    // Whether no candidate has a field that the key means.
+    pub(crate) fn is_unknown(&self) -> bool
+        ensures { IsTrue result ↔ (answer_view self.now ≡ unknown) }
+    {
+        matches!(self, KeyResult::Unknown)
+    }
 }
 
 // As the derived form. The borrow of a field inside a vector is shorter than that of its names only to one who looks at it
