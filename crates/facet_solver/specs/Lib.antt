@@ -21,5 +21,5 @@ pub mod State
 pub mod KeyAnswer
 pub mod KeyResultView
 pub mod Verdict
-pub mod Refusal
+pub mod Report
 pub mod SchemaCode

@@ -5,7 +5,7 @@ ghost use Rattle.facet_solver_shape.specs.Keys.{key_of};
 ghost use Rattle.facet_solver.specs.Handle.{IsHandleOf, index_of};
 ghost use Rattle.facet_solver.specs.KeyAnswer.{answer_of};
 ghost use Rattle.facet_solver.specs.KeyResultView.{HoldsHandleOf, answer_view};
-ghost use Rattle.facet_solver.specs.Refusal.{IsRefusedFor};
+ghost use Rattle.facet_solver.specs.Report.{IsReportOn};
 ghost use Rattle.facet_solver.specs.State.{at_first, told};
 ghost use Rattle.facet_solver.specs.Verdict.{viable};
 
@@ -125,7 +125,7 @@ impl<'s, 'c, 'a> Solver<'s, 'c, 'a> {
         ensures one { IsOk result ↔ (length (viable self.entry) ≡ 1) }
         ensures number { IfOk result (λ handle. viable self.entry ≡ index_of handle ∷ []) }
         ensures handle { IfOk result (IsHandleOf self.entry.schema) }
-        ensures refused { IfErr result (IsRefusedFor self.entry) }
+        ensures refused { IfErr result (IsReportOn self.entry) }
     {
         let viable = IsViable {
             resolutions: self.schema.resolutions(),

@@ -1,7 +1,7 @@
 //! What a solver says at the end where not one resolution alone is viable.
 ghost use Rattle.std.specs.Prelude.{◌≡◌, IfOk, map, string_bytes, filter};
 ghost use Rattle.facet_solver_shape.specs.Keys.{key_of};
-ghost use Rattle.facet_solver.specs.Refusal.{IsAmbiguityOf, IsNoMatch};
+ghost use Rattle.facet_solver.specs.Report.{IsAmbiguityOf, IsNoMatch};
 ghost use Rattle.facet_solver.specs.State.{passes};
 ghost use Rattle.facet_solver.specs.Verdict as verdict;
 

@@ -20,8 +20,8 @@ IsAmbiguityOf texts OutOfMemory = ⊥
 
 -- no candidate is viable; several are, and all are described in order; or memory was refused, which it is not where one
 -- candidate alone is viable
-abbrev pub IsRefusedFor : State → SolverError → Type 0
-IsRefusedFor s (NoMatch _ _ _ _ _ _) = viable s ≡ []
-IsRefusedFor s (Ambiguous candidates _) =
+abbrev pub IsReportOn : State → SolverError → Type 0
+IsReportOn s (NoMatch _ _ _ _ _ _) = viable s ≡ []
+IsReportOn s (Ambiguous candidates _) =
     (1 < length (viable s)) × (map string_bytes candidates.items ≡ descriptions s.schema.resolutions (viable s))
-IsRefusedFor s OutOfMemory = length (viable s) ≢ 1
+IsReportOn s OutOfMemory = length (viable s) ≢ 1
