@@ -199,7 +199,7 @@ module _ (settings : Settings) (cat : Catalogue) where
   rise_root root = rise_root_shape (slice_get cat root)
 
 -- from membership by recursion to that by index, and back
-contains_from_In : {X : Type 0} (x : X) (xs : List X) → In x xs → Contains xs x
+pub contains_from_In : {X : Type 0} (x : X) (xs : List X) → In x xs → Contains xs x
 contains_from_In x [] h = absurd h
 contains_from_In x (y ∷ xs) (inl e) = (0, omega arith, e)
 contains_from_In x (y ∷ xs) (inr h) = let r = contains_from_In x xs h in (suc r.0, omega arith, r.2)

@@ -12,8 +12,9 @@ use Rattle.facet_solver.specs.Targets.{Catalogue}
 use Rattle.facet_solver.specs.Representation.{Settings, is_walked, repr_for}
 use Rattle.facet_solver.specs.Roles.{Role, a_regular, a_block, some_alternatives, a_rest, a_leaf, role_of}
 use Rattle.facet_solver.specs.Content.{content_of}
-use Rattle.facet_solver.specs.Listing.{Choices, product, numbered, choices_of_variant, choices_of_role, choices_of_fields, choices_within, choices_below, choices_of_root, choices_of_root_shape, choices_of_root_kind}
+use Rattle.facet_solver.specs.Listing.{Choices, product, numbered, choices_of_variant, choices_of_role, choices_of_fields, choices_within, choices_below, choices_among, choices_of_root, choices_of_root_shape, choices_of_root_kind}
 use Rattle.facet_solver.specs.Count.{Count, count_variant, count_role, count_fields, count_within, count_below, count_of_root, count_of_shape, count_of_kind}
+use Rattle.facet_solver.specs.CountView.{count_among}
 
 length-map' : {X Y : Type 0} (f : X → Y) (xs : List X) → length (map f xs) ≡ length xs
 length-map' f [] = refl
@@ -38,7 +39,7 @@ length-numbered k choices count h (v ∷ vs) =
     ∙ sym (sum_by-cons count v vs)
 
 -- a count is the length of each list of choices
-abbrev AllCount : (List Field → Choices) → Count → Type 0
+abbrev pub AllCount : (List Field → Choices) → Count → Type 0
 AllCount choices count = (fs : List Field) → length (choices fs) ≡ count fs
 
 module _ (settings : Settings) (cat : Catalogue) where
@@ -46,7 +47,7 @@ module _ (settings : Settings) (cat : Catalogue) where
   variant_count true choices count v h = h _
   variant_count false choices count v h = refl
 
-  role_count : (choices : List Field → Choices) (count : Count) (r : Role) → AllCount choices count → length (choices_of_role choices settings cat r) ≡ count_role count settings cat r
+  pub role_count : (choices : List Field → Choices) (count : Count) (r : Role) → AllCount choices count → length (choices_of_role choices settings cat r) ≡ count_role count settings cat r
   role_count choices count a_regular h = refl
   role_count choices count (a_block fs) h = h fs
   role_count choices count (some_alternatives s vs) h = length-numbered 0 _ _ (λ v. variant_count (is_walked (repr_for settings s)) choices count v h) vs
@@ -66,9 +67,13 @@ module _ (settings : Settings) (cat : Catalogue) where
   within_count zero fs = refl
   within_count (suc n) fs = fields_count (choices_within n settings cat) (count_within n settings cat) (within_count n) fs
 
-  below_count : AllCount (λ fs. choices_below settings cat fs) (λ fs. count_below settings cat fs)
+  pub below_count : AllCount (λ fs. choices_below settings cat fs) (λ fs. count_below settings cat fs)
   unfolding choices_below count_below
   below_count fs = within_count (suc (length cat)) fs
+
+  pub among_count : (walked : Bool) (vs : List Variant) → length (choices_among settings cat walked vs) ≡ count_among settings cat walked vs
+  unfolding choices_among
+  among_count walked vs = length-numbered 0 _ _ (λ v. variant_count walked (λ fs. choices_below settings cat fs) (λ fs. count_below settings cat fs) v below_count) vs
 
   kind_count : (k : ShapeKind) → length (choices_of_root_kind settings cat k) ≡ count_of_kind settings cat k
   kind_count (Struct kind fs) = below_count fs.items

@@ -42,7 +42,7 @@ role_by_kind-below limit s (Enum vs) h = h
 role_by_kind-below limit s _ h = tt
 
 module _ (cat : Catalogue) (checked : NamesEarlier cat) where
-  role_of_target-below : (id : ℕ) (o : Option Shape) → slice_get cat id ≡ o → RoleBelow id (role_of_target o)
+  pub role_of_target-below : (id : ℕ) (o : Option Shape) → slice_get cat id ≡ o → RoleBelow id (role_of_target o)
   role_of_target-below id None e = tt
   role_of_target-below id (Some s) e = role_by_kind-below id s s.kind (checked id s e).by_kind
 
@@ -52,7 +52,7 @@ module _ (cat : Catalogue) (checked : NamesEarlier cat) where
   or_else-inside-le limit id (Enum vs) h le = omega arith
   or_else-inside-le limit id _ h le = omega arith
 
-  kind_of-below : (id : ℕ) (o : Option Shape) → slice_get cat id ≡ o → KindBelow id (kind_of o)
+  pub kind_of-below : (id : ℕ) (o : Option Shape) → slice_get cat id ≡ o → KindBelow id (kind_of o)
   kind_of-below id None e = tt
   kind_of-below id (Some s) e = (checked id s e).by_kind
 

@@ -1,6 +1,7 @@
 -- Laws of products, and the choices of fields and variants part by part.
-use Rattle.std.proofs.Common.{◌≡◌, ℕ, zero, suc, ◌+◌, ◌<◌, ◌≤◌, List, [], ◌∷◌, ◌++◌, map, Some, slice_get, Bool, true, false, sym, refl, ap, ◌∙◌, subst, length, get_or, drop, append_assoc, append-nil, arith}
+use Rattle.std.proofs.Common.{◌≡◌, ℕ, suc, ◌+◌, ◌<◌, ◌≤◌, List, [], ◌∷◌, ◌++◌, map, Some, slice_get, Bool, true, false, sym, refl, ap, ◌∙◌, subst, length, get_or, drop, append_assoc, append-nil, arith}
 use Rattle.std.proofs.lemmas.List.{drop_more}
+use Rattle.std.proofs.lemmas.Option.{slice_get_within}
 use Rattle.std.proofs.Math.ListN.{drop_of_length-le}
 use Rattle.facet_solver_shape.specs.declared.shape.Field.{Field}
 use Rattle.facet_solver_shape.specs.declared.shape.Variant.{Variant}
@@ -159,18 +160,13 @@ module _ (settings : Settings) (cat : Catalogue) (walked : Bool) where
   among-end found vs i h = ap (λ (xs : Choices). found ++ xs) (numbered-end (choices_of_variant (choices_below settings cat) cat walked) i vs i h) ∙ append-nil found
 
 -- the choices of a root, by its kind
-module _ (settings : Settings) (cat : Catalogue) (root : ℕ) (s : Shape) (here : root < length cat) (is : s ≡ get_or cat root s) where
-  get_at : (xs : List Shape) (i : ℕ) → i < length xs → s ≡ get_or xs i s → slice_get xs i ≡ Some s
-  get_at [] i h e = absurd (omega arith)
-  get_at (x ∷ xs) zero h e = ap (λ (y : Shape). Some y) (sym e)
-  get_at (x ∷ xs) (suc i) h e = get_at xs i (omega arith) e
-
-  pub root-is : slice_get cat root ≡ Some s
-  root-is = get_at cat root here is
+module _ (settings : Settings) (cat : Catalogue) (root : ℕ) (s : Shape) (is : slice_get cat root ≡ Some s) where
+  here : root < length cat
+  here = slice_get_within cat root s is
 
   of_root : choices_of_root settings cat root ≡ choices_of_root_kind settings cat s.kind
   unfolding choices_of_root
-  of_root = ap (choices_of_root_shape settings cat) root-is
+  of_root = ap (choices_of_root_shape settings cat) is
 
   pub root-struct : (kind : StructKind) (fs : Vec Field Global) → s.kind ≡ Struct kind fs → choices_below settings cat fs.items ≡ choices_of_root settings cat root
   root-struct kind fs e = sym (of_root ∙ ap (choices_of_root_kind settings cat) e)
@@ -188,10 +184,10 @@ module _ (settings : Settings) (cat : Catalogue) (root : ℕ) (s : Shape) (here 
       go _ e = refl
 
   kind-below : NamesEarlier cat → KindBelow root s.kind
-  kind-below checked = (checked root s root-is).by_kind
+  kind-below checked = (checked root s is).by_kind
 
   pub struct-below : NamesEarlier cat → (kind : StructKind) (fs : Vec Field Global) → s.kind ≡ Struct kind fs → FieldsBelow (length cat) fs.items
-  struct-below checked kind fs e = FieldsBelow-mono root (length cat) fs.items (omega arith) (subst (KindBelow root) e (kind-below checked))
+  struct-below checked kind fs e = FieldsBelow-mono root (length cat) fs.items (omega (arith, here)) (subst (KindBelow root) e (kind-below checked))
 
   pub enum-below : NamesEarlier cat → (vs : Vec Variant Global) → s.kind ≡ Enum vs → VariantsBelow (length cat) vs.items
-  enum-below checked vs e = VariantsBelow-mono root (length cat) vs.items (omega arith) (subst (KindBelow root) e (kind-below checked))
+  enum-below checked vs e = VariantsBelow-mono root (length cat) vs.items (omega (arith, here)) (subst (KindBelow root) e (kind-below checked))

@@ -64,7 +64,7 @@ module _ (settings : Settings) (cat : Catalogue) (checked : NamesEarlier cat) wh
       go (v ∷ vs) zero b = x v ns b.0
       go (v ∷ vs) (suc k) b = go vs k b.1
 
-  walk_role-same : (g h : Walk) (limit : ℕ) (f : Field) (p : Path) (o : Bool) (ns : List ℕ) (r : Role) → RoleBelow limit r → ((gs : List Field) → FieldsBelow limit gs → g gs ≡ h gs) → walk_role g settings cat f p o ns r ≡ walk_role h settings cat f p o ns r
+  pub walk_role-same : (g h : Walk) (limit : ℕ) (f : Field) (p : Path) (o : Bool) (ns : List ℕ) (r : Role) → RoleBelow limit r → ((gs : List Field) → FieldsBelow limit gs → g gs ≡ h gs) → walk_role g settings cat f p o ns r ≡ walk_role h settings cat f p o ns r
   walk_role-same g h limit f p o ns a_regular b x = refl
   walk_role-same g h limit f p o ns (a_block fs) b x = ap (λ (w : Path → Bool → List ℕ → Walked). w (field_path p f) (unwrapped_at cat f o) ns) (x fs b)
   walk_role-same g h limit f p o ns (some_alternatives s vs) b x =
@@ -80,10 +80,10 @@ module _ (settings : Settings) (cat : Catalogue) (checked : NamesEarlier cat) wh
       ap (λ (w : Walked). and_then w (λ rest. walk_fields g settings cat fs p o rest)) (walk_role-same g h f.shape f p o ns (role_of cat f) (role_of-below cat checked f) (λ gs below. x f.shape gs b.0 below))
       ∙ ap (and_then (walk_role h settings cat f p o ns (role_of cat f))) (λ i rest. walk-local_at g h limit fs p o rest b.1 x i)
 
-  walk-local : IsLocal (λ below fs. walk_fields below settings cat fs)
+  pub walk-local : IsLocal (λ below fs. walk_fields below settings cat fs)
   walk-local g h limit fs b x = λ i p o ns. walk-local_at g h limit fs p o ns b x i
 
-  walk-step : (n : ℕ) (fs : List Field) → (λ p o ns. walk_within (suc n) settings cat fs p o ns) ≡ walk_fields (walk_within n settings cat) settings cat fs
+  pub walk-step : (n : ℕ) (fs : List Field) → (λ p o ns. walk_within (suc n) settings cat fs p o ns) ≡ walk_fields (walk_within n settings cat) settings cat fs
   unfolding walk_within
   walk-step n fs = refl
 

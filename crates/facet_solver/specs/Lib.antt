@@ -4,6 +4,7 @@ pub mod Representation
 pub mod Categories
 pub mod Content
 pub mod Nested
+pub mod KeyPaths
 pub mod Roles
 pub mod Emissions
 pub mod Walk
@@ -23,3 +24,11 @@ pub mod KeyResultView
 pub mod Verdict
 pub mod Report
 pub mod SchemaCode
+pub mod ChoiceLists
+pub mod Filling
+pub mod Refusal
+pub mod EnteredView
+pub mod CountAnswer
+pub mod CountView
+pub mod Newtype
+pub mod NestedLaws

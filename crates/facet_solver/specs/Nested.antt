@@ -1,6 +1,6 @@
--- Nested key paths: what lies under a field or a variant, by names alone. They end since fields name earlier shapes;
--- each definition may go down as many levels as the catalogue has shapes.
-use Rattle.std.specs.Prelude.{ℕ, zero, suc, List, [], ◌∷◌, map, flat_map, if◌then◌else◌, string_bytes, length}
+-- Nested key paths: what lies under a field or a variant, by names alone. They end since fields name earlier shapes; the
+-- definition goes down as many levels as the catalogue has shapes.
+use Rattle.std.specs.Prelude.{ℕ, zero, suc, Bool, true, false, ◌&&◌, List, [], ◌∷◌, map, flat_map, if◌then◌else◌, string_bytes, length}
 use Rattle.facet_solver_shape.specs.declared.shape.Field.{Field}
 use Rattle.facet_solver_shape.specs.declared.shape.Variant.{Variant}
 use Rattle.facet_solver_shape.specs.declared.shape.ShapeKind.{ShapeKind}
@@ -17,80 +17,72 @@ KeyPath = List Name
 abbrev pub Under : Type 0
 Under = ℕ → List KeyPath
 
--- through a field: a regular one gives its name, and its name before what is under its shape; a flattened one what is
--- under its shape
-abbrev pub through_field : Under → Under → Field → List KeyPath
-through_field regular flat f =
-    if f.flattened then flat f.shape else ((effective_name f ∷ []) ∷ map (λ q. effective_name f ∷ q) (regular f.shape))
+-- which kinds of shapes are entered, below a regular field and through a variant's single field `0`
+abbrev pub Entered : Type 0
+Entered = ShapeKind → Bool
+
+-- structs are entered, and nothing else
+abbrev pub structs_alone : Entered
+structs_alone (Struct kind fields) = true
+structs_alone _ = false
+
+-- every shape is entered
+abbrev pub every_kind : Entered
+every_kind kind = true
+
+-- what is under a shape where it is entered
+abbrev pub if_entered : Entered → Catalogue → Under → Under
+if_entered entered cat under id = if entered (kind_at cat id) then under id else []
+
+-- a name, and each path behind it
+abbrev pub named : Name → List KeyPath → List KeyPath
+named name paths = (name ∷ []) ∷ map (λ q. name ∷ q) paths
+
+-- through a field: a flattened one gives what is under its shape, a regular one its name and what is behind it
+abbrev pub through_field : Entered → Catalogue → Under → Field → List KeyPath
+through_field entered cat under f =
+    if f.flattened then under f.shape else named (effective_name f) (if_entered entered cat under f.shape)
 
 -- through fields, one after another
-abbrev pub through_fields : Under → Under → List Field → List KeyPath
-through_fields regular flat fs = flat_map (through_field regular flat) fs
+abbrev pub through_fields : Entered → Catalogue → Under → List Field → List KeyPath
+through_fields entered cat under fs = flat_map (through_field entered cat under) fs
 
--- the paths where the kind is a struct, else none
-abbrev pub if_struct : ShapeKind → List KeyPath → List KeyPath
-if_struct (Struct kind fields) paths = paths
-if_struct _ paths = []
+-- under a variant by its fields: a single field `0` stands for its shape where that is entered
+abbrev pub under_variant_fields : Entered → Catalogue → Under → List Field → List KeyPath
+under_variant_fields entered cat under [] = []
+under_variant_fields entered cat under (f ∷ []) =
+    if is_zero (string_bytes f.name) && entered (kind_at cat f.shape)
+    then under f.shape
+    else through_fields entered cat under (f ∷ [])
+under_variant_fields entered cat under (f ∷ g ∷ fs) = through_fields entered cat under (f ∷ g ∷ fs)
 
--- what is under a shape where it is a struct
-abbrev pub under_struct : Catalogue → Under → Under
-under_struct cat under id = if_struct (kind_at cat id) (under id)
+-- under a variant
+abbrev pub under_variant : Entered → Catalogue → Under → Variant → List KeyPath
+under_variant entered cat under v = under_variant_fields entered cat under v.fields.items
 
--- what is inside where the kind is a struct, else a variant's own
-abbrev pub newtype_or : ShapeKind → List KeyPath → List KeyPath → List KeyPath
-newtype_or (Struct kind fields) inside own = inside
-newtype_or _ inside own = own
+-- under variants, one after another
+abbrev pub under_variants : Entered → Catalogue → Under → List Variant → List KeyPath
+under_variants entered cat under vs = flat_map (under_variant entered cat under) vs
 
--- in place of a variant's fields, the struct that is its single field `0`
-abbrev pub by_newtype : Catalogue → Under → List KeyPath → List Field → List KeyPath
-by_newtype cat under own [] = own
-by_newtype cat under own (f ∷ []) = if is_zero (string_bytes f.name) then newtype_or (kind_at cat f.shape) (under f.shape) own else own
-by_newtype cat under own (f ∷ g ∷ fs) = own
+-- under a shape by its kind: a struct's fields, all variants of an enum, and else nothing
+abbrev pub under_kind : Entered → Catalogue → Under → ShapeKind → List KeyPath
+under_kind entered cat under (Struct kind fields) = through_fields entered cat under fields.items
+under_kind entered cat under (Enum variants) = under_variants entered cat under variants.items
+under_kind entered cat under _ = []
 
--- what is under a variant of a flattened enum
-abbrev pub under_variant : Catalogue → Under → Variant → List KeyPath
-under_variant cat under v = by_newtype cat under (through_fields (under_struct cat under) under v.fields.items) v.fields.items
+-- under a shape, down to n levels
+unfoldable pub under_within : ℕ → Entered → Catalogue → Under
+under_within zero entered cat id = []
+under_within (suc n) entered cat id = under_kind entered cat (under_within n entered cat) (kind_at cat id)
 
--- what is under a flattened shape by its kind: an enum gives what is under all its variants
-abbrev pub under_kind : Catalogue → Under → ShapeKind → List KeyPath
-under_kind cat under (Struct kind fields) = through_fields (under_struct cat under) under fields.items
-under_kind cat under (Enum variants) = flat_map (under_variant cat under) variants.items
-under_kind cat under _ = []
+-- under a shape: no level of a checked catalogue lies deeper than its length
+unfoldable pub under_shape : Entered → Catalogue → Under
+under_shape entered cat = under_within (suc (length cat)) entered cat
 
--- what is under a flattened shape, down to n levels
-unfoldable pub flattened_within : ℕ → Catalogue → Under
-flattened_within zero cat id = []
-flattened_within (suc n) cat id = under_kind cat (flattened_within n cat) (kind_at cat id)
-
--- what is under a flattened shape
-unfoldable pub flattened_paths : Catalogue → Under
-flattened_paths cat = flattened_within (suc (length cat)) cat
-
--- what is under the shape of a regular field: that of a struct alone
+-- what is under a regular field's shape: only structs are entered, unless they are flattened
 unfoldable pub nested_paths : Catalogue → Under
-nested_paths cat = under_struct cat (flattened_paths cat)
+nested_paths cat = if_entered structs_alone cat (under_shape structs_alone cat)
 
--- what is under the content of a tagged variant by its fields: its single field `0` stands for its own shape
-abbrev pub content_newtype : Under → List KeyPath → List Field → List KeyPath
-content_newtype under own [] = own
-content_newtype under own (f ∷ []) = if is_zero (string_bytes f.name) then under f.shape else own
-content_newtype under own (f ∷ g ∷ fs) = own
-
--- what is under the content of a tagged variant
-abbrev pub content_variant : Under → Variant → List KeyPath
-content_variant under v = content_newtype under (through_fields under under v.fields.items) v.fields.items
-
--- the same of a shape by its kind: an enum, flattened or not, gives what is under all its variants
-abbrev pub content_kind : Under → ShapeKind → List KeyPath
-content_kind under (Struct kind fields) = through_fields under under fields.items
-content_kind under (Enum variants) = flat_map (content_variant under) variants.items
-content_kind under _ = []
-
--- the same of a shape, down to n levels
-unfoldable pub content_within : ℕ → Catalogue → Under
-content_within zero cat id = []
-content_within (suc n) cat id = content_kind (content_within n cat) (kind_at cat id)
-
--- what is under the content of a variant that is written apart from its enum's siblings
+-- what is under the content of a variant that is written apart from its enum's siblings: every shape is entered
 unfoldable pub content_paths : Catalogue → Variant → List KeyPath
-content_paths cat v = content_variant (content_within (suc (length cat)) cat) v
+content_paths cat v = under_variant every_kind cat (under_shape every_kind cat) v

@@ -3,6 +3,7 @@
 
 pub mod build;
 pub mod error;
+pub mod laws;
 pub mod schema;
 pub mod set;
 pub mod solver;

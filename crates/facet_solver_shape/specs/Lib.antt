@@ -1,5 +1,9 @@
 pub mod Names
+pub mod Scalars
 pub mod Places
+pub mod Pointers
+pub mod Ends
+pub mod Repeats
 pub mod Faults
 pub mod Paths
 pub mod Keys

@@ -1,9 +1,10 @@
 -- Names, as lists of bytes.
-use Rattle.std.specs.Prelude.{ℕ, List, Option, Some, None}
+use Rattle.std.specs.Prelude.{ℕ, List, map, Option, Some, None}
 use Rattle.std.specs.declared.string.String.{String}
 use Rattle.std.specs.declared.alloc.Global.{Global}
 use Rattle.std.specs.String.{string_bytes}
 use Rattle.facet_solver_shape.specs.declared.shape.Field.{Field}
+use Rattle.facet_solver_shape.specs.declared.shape.Variant.{Variant}
 
 -- a name, by its bytes
 abbrev pub Name : Type 0
@@ -22,3 +23,11 @@ name_or (Some name) declared = string_bytes name
 -- the name that a field goes by in a document
 abbrev pub effective_name : Field → Name
 effective_name f = name_or f.rename f.name
+
+-- the declared names of fields
+abbrev pub field_names : List Field → List Name
+field_names fields = map (λ f. string_bytes f.name) fields
+
+-- the names of variants
+abbrev pub variant_names : List Variant → List Name
+variant_names variants = map (λ v. string_bytes v.name) variants

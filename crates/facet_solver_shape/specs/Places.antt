@@ -1,5 +1,5 @@
 -- The places that a shape names.
-use Rattle.std.specs.Prelude.{ℕ, ◌<◌, List, [], ◌∷◌, ◌++◌, map, ⊤}
+use Rattle.std.specs.Prelude.{◌≡◌, ℕ, ◌<◌, List, [], ◌∷◌, ◌++◌, map, ⊤, Some, slice_get}
 use Rattle.std.specs.Option.{option_to_list, ForSome}
 use Rattle.std.specs.List.{flat_map, All}
 use Rattle.facet_solver_shape.specs.declared.shape.Shape.{Shape}
@@ -32,6 +32,10 @@ late_places_of_kind _ = []
 abbrev pub early_places : Shape → List ℕ
 early_places s = early_places_of_kind s.kind ++ (option_to_list s.inner ++ option_to_list s.proxy)
 
+-- all that a shape names
+abbrev pub named_places : Shape → List ℕ
+named_places s = early_places s ++ late_places_of_kind s.kind
+
 -- what a kind names that has to be earlier is below place
 abbrev pub NamesBelow : ℕ → ShapeKind → Type 0
 NamesBelow place (Struct kind fields) = All (λ f. f.shape < place) fields.items
@@ -44,3 +48,7 @@ pub record IsEarlierThan (place : ℕ) (s : Shape) : Type 0 where
   pub kind : NamesBelow place s.kind
   pub inner : ForSome s.inner (λ p. p < place)
   pub proxy : ForSome s.proxy (λ p. p < place)
+
+-- what the shapes of a list name that has to be earlier is below their own places
+abbrev pub NamesEarlier : List Shape → Type 0
+NamesEarlier shapes = (place : ℕ) (s : Shape) → slice_get shapes place ≡ Some s → IsEarlierThan place s

@@ -1,141 +1,183 @@
-//! The catalogue of shapes.
-ghost use Rattle.std.specs.Prelude.{◌≡◌, ℕ, ◌<◌, length, List, IsTrue, ◌↔◌, option_map, Some, None};
-ghost use Rattle.std.specs.String.{string_bytes};
-ghost use Rattle.std.specs.Prelude.{slice_get, OnOk, IfSome, IfOk, IfErr, nat_le, if◌then◌else◌};
-ghost use Rattle.std.specs.Option.{option_copied};
-ghost use Rattle.std.specs.List.{list_any};
+//! The catalogue of shapes: what the types of a program look like.
+ghost use Rattle.std.specs.Prelude.{◌≡◌, option_map};
 ghost use Rattle.facet_solver_shape.specs.Names.{effective_name, optional_name};
-ghost use Rattle.facet_solver_shape.specs.Places.{early_places, early_places_of_kind, late_places_of_kind, field_places, IsEarlierThan};
-ghost use Rattle.facet_solver_shape.specs.Faults.{place_of, number_of, IsChecked, IsFirstFault, IsFaultless, IsLowestFault};
+ghost use Rattle.facet_solver_shape.specs.Pointers.{pointee_of_kind};
+ghost use Rattle.facet_solver_shape.specs.Scalars.{scalar_of_kind};
 
-use std::marker::Model;
+mod catalogue;
+mod check;
+mod identifier;
 
-/// The place of a shape in its catalogue.
-#[derive(Clone, Copy, PartialEq, Eq, PartialOrd, Ord, Hash, Debug)]
-pub struct ShapeId {
-    place: usize,
-}
+pub use catalogue::{CatalogueError, Shapes};
+pub use identifier::ShapeId;
 
-impl Model for ShapeId {
-    ghost use Rattle.std.specs.Prelude.{ℕ};
-
-    ghost Value = { ℕ };
-
-    ghost view = { λ a. a.place };
-
-    ghost inverse = { λ n. record { place = n } };
-}
-
-impl ShapeId {
-    pub fn new(index: usize) -> Self
-        ensures { result ≡ index }
-    {
-        ShapeId { place: index }
-    }
-
-    pub fn index(self) -> usize
-        ensures { result ≡ self }
-    {
-        self.place
-    }
-}
-
+/// The shape of one type.
 #[derive(Debug, Drop)]
 pub struct Shape {
+    /// What the type is called.
     pub type_identifier: String,
+    /// What the type is made of.
     pub kind: ShapeKind,
+    /// The shape that a transparent wrapper stands for.
     pub inner: Option<ShapeId>,
+    /// The shape that the type is read and written as.
     pub proxy: Option<ShapeId>,
+    /// Of an enum: the field that holds the variant's name.
     pub tag: Option<String>,
+    /// Of an enum: the field beside the tag that holds the variant's content.
     pub content: Option<String>,
+    /// Of an enum: whether a document has no name of the variant.
     pub untagged: bool,
+    /// Of a struct: whether it is one value with fields of metadata beside it.
     pub metadata_container: bool,
 }
 
+/// What a shape is made of.
 #[derive(Debug, Drop)]
 pub enum ShapeKind {
+    /// One value of a basic type.
     Scalar(ScalarType),
+    /// A struct or a tuple.
     Struct {
+        /// How its fields are written.
         kind: StructKind,
+        /// Its fields, as declared.
         fields: Vec<Field>,
     },
+    /// One of several variants.
     Enum {
+        /// Its variants, as declared.
         variants: Vec<Variant>,
     },
+    /// A value that may be absent.
     Option(ShapeId),
+    /// A pointer; `None` where it is opaque.
     Pointer(Option<ShapeId>),
+    /// A list that may grow.
     List(ShapeId),
+    /// An array.
     Array(ShapeId),
+    /// A slice.
     Slice(ShapeId),
+    /// A set.
     Set(ShapeId),
+    /// A map, with the shapes of its keys and of its values.
     Map(ShapeId, ShapeId),
+    /// A value whose shape only the document tells.
     DynamicValue,
+    /// Anything else.
     Other,
 }
 
+/// How the fields of a struct or of a variant are written.
 #[derive(Clone, Copy, PartialEq, Eq, Debug)]
 pub enum StructKind {
+    /// No fields.
     Unit,
+    /// Fields by position, under a name.
     TupleStruct,
+    /// Fields by name.
     Struct,
+    /// Fields by position, with no name.
     Tuple,
 }
 
+/// One variant of an enum.
 #[derive(Debug, Drop)]
 pub struct Variant {
+    /// Its declared name.
     pub name: String,
+    /// How its fields are written.
     pub kind: StructKind,
+    /// Its fields, as declared.
     pub fields: Vec<Field>,
 }
 
+/// One field of a struct or of a variant.
 #[derive(Debug, Drop)]
 pub struct Field {
+    /// Its declared name.
     pub name: String,
+    /// The name that it goes by in a document, where that is another.
     pub rename: Option<String>,
+    /// The shape of its value.
     pub shape: ShapeId,
+    /// Whether the fields of its value stand beside it in a document.
     pub flattened: bool,
+    /// Whether a document may leave it out for its default.
     pub has_default: bool,
+    /// Whether it is metadata of a metadata container.
     pub metadata: bool,
+    /// The part of a document tree that it stands in.
     pub dom: DomMark,
 }
 
+/// The part of a document tree that a field is marked for.
 #[derive(Clone, Copy, PartialEq, Eq, Debug)]
 pub enum DomMark {
+    /// No mark.
     None,
+    /// An attribute.
     Attribute,
+    /// A child element.
     Element,
+    /// The text.
     Text,
+    /// The name of the element.
     Tag,
+    /// All child elements.
     Elements,
 }
 
+/// A basic type.
 #[derive(Clone, Copy, PartialEq, Eq, Debug)]
 pub enum ScalarType {
+    /// `()`
     Unit,
+    /// `bool`
     Bool,
+    /// `char`
     Char,
+    /// `&str`
     Str,
+    /// `String`
     String,
+    /// `Cow<str>`
     CowStr,
+    /// `f32`
     F32,
+    /// `f64`
     F64,
+    /// `u8`
     U8,
+    /// `u16`
     U16,
+    /// `u32`
     U32,
+    /// `u64`
     U64,
+    /// `u128`
     U128,
+    /// `usize`
     USize,
+    /// `i8`
     I8,
+    /// `i16`
     I16,
+    /// `i32`
     I32,
+    /// `i64`
     I64,
+    /// `i128`
     I128,
+    /// `isize`
     ISize,
+    /// Any other.
     Other,
 }
 
 impl Field {
-    /// The name on the wire.
+    /// The name that the field goes by in a document: its new name, or else the declared one.
     pub fn effective_name(&self) -> &str
         ensures { result.now ≡ effective_name self.now }
     {
@@ -147,6 +189,7 @@ impl Field {
 }
 
 impl Shape {
+    /// The field that holds the name of an enum's variant, if there is one.
     pub fn get_tag_attr(&self) -> Option<&str>
         ensures { option_map (λ t. t.now) result ≡ optional_name self.now.tag }
     {
@@ -156,151 +199,40 @@ impl Shape {
         }
     }
 
+    /// The field that holds the content of an enum's variant, if there is one.
+    pub fn get_content_attr(&self) -> Option<&str>
+        ensures { option_map (λ t. t.now) result ≡ optional_name self.now.content }
+    {
+        match &self.content {
+            Some(content) => Some(content.as_str()),
+            None => None,
+        }
+    }
+
+    /// Whether documents have no name of an enum's variant.
     pub fn is_untagged(&self) -> bool
         ensures { result ≡ self.now.untagged }
     {
         self.untagged
     }
-}
 
-/// Why a list of shapes is no catalogue. Each holds the place of its shape.
-#[derive(Clone, Copy, PartialEq, Eq, Debug)]
-pub enum CatalogueError {
-    OutOfRange { shape: usize },
-    NotEarlier { shape: usize },
-}
-
-impl CatalogueError {
-    pub fn shape(&self) -> usize
-        ensures { result ≡ place_of self.now }
+    /// The basic type of a scalar; `None` for any other shape.
+    pub fn scalar_type(&self) -> Option<ScalarType>
+        ensures { result ≡ scalar_of_kind self.now.kind }
     {
-        match self {
-            CatalogueError::OutOfRange { shape } | CatalogueError::NotEarlier { shape } => *shape,
+        match self.kind {
+            ShapeKind::Scalar(scalar) => Some(scalar),
+            _ => None,
         }
     }
 
-    pub fn number(&self) -> u8
-        ensures { result ≡ number_of self.now }
+    // Where a pointer leads to; `None` for an opaque pointer and for any other shape.
+    fn pointee(&self) -> Option<ShapeId>
+        ensures { result ≡ pointee_of_kind self.now.kind }
     {
-        match self {
-            CatalogueError::OutOfRange { .. } => 1,
-            CatalogueError::NotEarlier { .. } => 2,
+        match self.kind {
+            ShapeKind::Pointer(pointee) => pointee,
+            _ => None,
         }
     }
-}
-
-/// A catalogue: shapes that were checked.
-#[derive(Debug, Drop)]
-pub struct Shapes {
-    shapes: Vec<Shape>,
-}
-
-impl Model for Shapes {
-    ghost use Rattle.std.specs.Prelude.{List};
-    ghost use Rattle.facet_solver_shape.specs.declared.shape.Shape.{Shape};
-    ghost use Rattle.facet_solver_shape.specs.Faults.{IsChecked};
-
-    ghost Value = { List Shape };
-
-    ghost view = { λ a. a.shapes.items };
-
-    ghost invariant = { λ a. IsChecked a.shapes.items };
-}
-
-impl Shapes {
-    pub fn len(&self) -> usize
-        ensures { result ≡ length self.now }
-    {
-        self.shapes.len()
-    }
-
-    pub fn get(&self, id: ShapeId) -> Option<&Shape>
-        ensures entry { option_copied result ≡ slice_get self.now id }
-        ensures earlier { IfSome result (λ s. IsEarlierThan id s.now) }
-    {
-        self.shapes.get(id.index())
-    }
-
-    pub fn has(&self, id: ShapeId) -> bool
-        ensures { IsTrue result ↔ (id < length self.now) }
-    {
-        id.index() < self.shapes.len()
-    }
-
-    /// Accepts a list with no fault, or else gives the first fault.
-    pub fn new(shapes: Vec<Shape>) -> Result<Shapes, CatalogueError>
-        ensures accepted { IfOk result (λ made. (made ≡ shapes.items) × IsChecked shapes.items) }
-        ensures refused { IfErr result (IsFirstFault shapes.items) }
-    {
-        for place in 0..shapes.len() {
-            check_shape(&shapes[place], place, shapes.len())?;
-        }
-        Ok(Shapes { shapes })
-    }
-}
-
-// Tests the shape at one place of a list.
-fn check_shape(shape: &Shape, place: usize, count: usize) -> Result<(), CatalogueError>
-    ensures fine { OnOk result (IsFaultless count place shape.now) }
-    ensures faulty { IfErr result (IsLowestFault count place shape.now) }
-{
-    if shape.names_early_from(count) || shape.kind.names_late_from(count) {
-        return Err(CatalogueError::OutOfRange { shape: place });
-    }
-    if shape.names_early_from(place) {
-        return Err(CatalogueError::NotEarlier { shape: place });
-    }
-    Ok(())
-}
-
-impl Shape {
-    // Whether some place that has to be an earlier one is not below `low`.
-    fn names_early_from(&self, low: usize) -> bool
-        ensures { result ≡ list_any (λ p. nat_le low p) (early_places self.now) }
-    {
-        self.kind.names_early_from(low)
-            || self.inner.is_some_and(|id| low <= id.index())
-            || self.proxy.is_some_and(|id| low <= id.index())
-    }
-}
-
-impl ShapeKind {
-    fn names_early_from(&self, low: usize) -> bool
-        ensures { result ≡ list_any (λ p. nat_le low p) (early_places_of_kind self.now) }
-    {
-        match self {
-            ShapeKind::Struct { fields, .. } => fields_name_from(fields, low),
-            ShapeKind::Enum { variants } => variants_name_from(variants, low),
-            ShapeKind::Option(inside) => low <= inside.index(),
-            _ => false,
-        }
-    }
-
-    fn names_late_from(&self, low: usize) -> bool
-        ensures { result ≡ list_any (λ p. nat_le low p) (late_places_of_kind self.now) }
-    {
-        match self {
-            ShapeKind::Pointer(pointee) => pointee.is_some_and(|id| low <= id.index()),
-            ShapeKind::List(item)
-            | ShapeKind::Array(item)
-            | ShapeKind::Slice(item)
-            | ShapeKind::Set(item) => low <= item.index(),
-            ShapeKind::Map(key, value) => low <= key.index() || low <= value.index(),
-            _ => false,
-        }
-    }
-}
-
-// Whether some field's shape is not below `low`.
-fn fields_name_from(fields: &[Field], low: usize) -> bool
-    ensures { result ≡ list_any (λ f. nat_le low f.shape) fields.now }
-{
-    fields.iter().any(|f| low <= f.shape.index())
-}
-
-// Whether some variant has such a field.
-fn variants_name_from(variants: &[Variant], low: usize) -> bool
-    ensures { result ≡ list_any (λ v. list_any (λ f. nat_le low f.shape) v.fields.items) variants.now }
-{
-    variants.iter().any(|v| fields_name_from(&v.fields, low))
 }

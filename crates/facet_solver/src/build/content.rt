@@ -1,9 +1,10 @@
 //! The content of a variant.
-ghost use Rattle.std.specs.Prelude.{◌≡◌, slice_get};
+ghost use Rattle.std.specs.Prelude.{◌≡◌, slice_get, MatchOption};
 ghost use Rattle.std.specs.Option.{option_copied, option_map};
 ghost use Rattle.facet_solver.specs.Below.{NamesEarlier};
 ghost use Rattle.facet_solver.specs.Targets as targets;
 ghost use Rattle.facet_solver.specs.Content as content;
+ghost use Rattle.facet_solver.specs.Newtype.{IsNewtypeOf};
 
 use facet_solver_shape::{Field, ShapeId, ShapeKind, Shapes, Variant};
 
@@ -22,10 +23,10 @@ pub(crate) fn effective(shapes: &Shapes, id: ShapeId) -> ShapeId
     id
 }
 
-/// The fields of the struct behind a single field `0`.
-pub(crate) fn newtype_fields<'c>(shapes: &'c Shapes, fields: &'c [Field]) -> Option<&'c [Field]>
+/// The place of the struct behind a single field `0`.
+pub(crate) fn newtype_struct(shapes: &Shapes, fields: &[Field]) -> Option<ShapeId>
     requires { NamesEarlier shapes.now }
-    ensures { option_copied result ≡ content.newtype_fields shapes.now fields.now }
+    ensures { MatchOption result (content.newtype_fields shapes.now fields.now ≡ None) (IsNewtypeOf shapes.now fields.now) }
 {
     let [field] = fields else {
         return None;
@@ -33,7 +34,19 @@ pub(crate) fn newtype_fields<'c>(shapes: &'c Shapes, fields: &'c [Field]) -> Opt
     if field.name.as_str() != "0" {
         return None;
     }
-    match &shapes.get(effective(shapes, field.shape))?.kind {
+    let id = effective(shapes, field.shape);
+    match shapes.get(id)?.kind {
+        ShapeKind::Struct { .. } => Some(id),
+        _ => None,
+    }
+}
+
+/// The fields of that struct.
+pub(crate) fn newtype_fields<'c>(shapes: &'c Shapes, fields: &'c [Field]) -> Option<&'c [Field]>
+    requires { NamesEarlier shapes.now }
+    ensures { option_copied result ≡ content.newtype_fields shapes.now fields.now }
+{
+    match &shapes.get(newtype_struct(shapes, fields)?)?.kind {
         ShapeKind::Struct { fields, .. } => Some(fields.as_slice()),
         _ => None,
     }

@@ -1,11 +1,12 @@
 //! What a build goes by.
-ghost use Rattle.std.specs.Prelude.{◌≡◌};
+ghost use Rattle.std.specs.Prelude.{◌≡◌, ◌<◌, length, slice_get};
+ghost use Rattle.facet_solver.specs.Below.{NamesEarlier};
 ghost use Rattle.facet_solver.specs.Representation as representation;
 ghost use Rattle.facet_solver.specs.Representation.{repr_view};
 ghost use Rattle.facet_solver.specs.PlanView.{settings_of};
 
 use crate::build::representation::{EnumRepr, Format};
-use facet_solver_shape::{Shape, Shapes};
+use facet_solver_shape::{Shape, ShapeId, Shapes};
 use std::alloc::Global;
 
 /// The catalogue and the rules of a build, with the allocator of what it makes.
@@ -26,6 +27,25 @@ impl<'c> Plan<'c> {
         match self.representation {
             Some(repr) => repr,
             None => EnumRepr::from_shape(shape),
+        }
+    }
+
+    /// Whether the content of an enum's variants is walked at the enum's own level.
+    pub(crate) fn walks_content(self, shape: &'c Shape) -> bool
+        ensures { result ≡ representation.is_walked (representation.repr_for (settings_of self.entry) shape.now) }
+    {
+        self.repr_for(shape).walks_content()
+    }
+
+    /// The shape at a place of the catalogue.
+    pub(crate) fn shape(self, id: ShapeId) -> &'c Shape
+        requires { id < length self.shapes.now }
+        ensures found { slice_get self.entry.shapes.now id ≡ Some result.now }
+        ensures checked { NamesEarlier self.entry.shapes.now }
+    {
+        match self.shapes.get(id) {
+            Some(shape) => shape,
+            None => unreachable!(),
         }
     }
 }

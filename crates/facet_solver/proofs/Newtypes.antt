@@ -1,0 +1,45 @@
+-- A single field `0` over a struct is a newtype of it.
+use Rattle.std.proofs.Common.{◌≡◌, ℕ, ◌<◌, ◌≤◌, List, [], ◌∷◌, Bool, true, false, Some, None, refl, ap, sym, subst, ◌∙◌, slice_get, get_or, length, string_bytes, arith}
+use Rattle.std.specs.Prelude.{IsSome, if◌then◌else◌, nat_eq, not}
+use Rattle.std.specs.Cmp.Lexicographic.{pointwise, same_text}
+use Rattle.facet_solver_shape.specs.declared.shape.Field.{Field}
+use Rattle.facet_solver_shape.specs.declared.shape.Shape.{Shape}
+use Rattle.facet_solver_shape.specs.declared.shape.ShapeKind.{ShapeKind}
+use Rattle.facet_solver.specs.Targets.{Catalogue, kind_of, kind_at, effective}
+use Rattle.facet_solver.specs.Below.{NamesEarlier}
+use Rattle.facet_solver.specs.Content.{struct_fields, is_zero}
+use Rattle.facet_solver.specs.Newtype.{IsNewtypeOf}
+use Rattle.facet_solver.proofs.Descent.{effective-le}
+
+-- a list of one element
+pub only-one : (fs : List Field) (f : Field) → 1 ≤ length fs → length fs < 2 → f ≡ get_or fs 0 f → fs ≡ f ∷ []
+only-one [] f h l e = absurd (omega arith)
+only-one (g ∷ []) f h l e = ap (λ (x : Field). x ∷ []) (sym e)
+only-one (g ∷ h ∷ fs) f k l e = absurd (omega arith)
+
+module _ (cat : Catalogue) (checked : NamesEarlier cat) where
+  kind-at : (id : ℕ) (s : Shape) → slice_get cat id ≡ Some s → kind_at cat id ≡ s.kind
+  kind-at id s e = ap kind_of e
+
+  if-zero : (b : Bool) (id : ℕ) → b ≡ true → (if b then struct_fields (kind_at cat id) else None) ≡ struct_fields (kind_at cat id)
+  if-zero true id e = refl
+  if-zero false id e = absurd (cc)
+
+  single : (f : Field) (id : ℕ) (s : Shape) → is_zero (string_bytes f.name) ≡ true → id ≡ effective cat f.shape → slice_get cat id ≡ Some s → IsSome (struct_fields s.kind) → IsNewtypeOf cat (f ∷ []) id
+  single f id s zero_named is_effective here is_struct =
+      record {
+        is_struct = subst (λ (k : ShapeKind). IsSome (struct_fields k)) (sym (kind-at id s here)) is_struct;
+        same_fields = if-zero (is_zero (string_bytes f.name)) (effective cat f.shape) zero_named ∙ ap (λ (i : ℕ). struct_fields (kind_at cat i)) (sym is_effective);
+        earlier = λ limit below. let le = effective-le cat checked f.shape in omega (arith, below.0);
+      }
+
+  pub newtype_of : (fs : List Field) (f : Field) (id : ℕ) (s : Shape) → fs ≡ f ∷ [] → is_zero (string_bytes f.name) ≡ true → id ≡ effective cat f.shape → slice_get cat id ≡ Some s → IsSome (struct_fields s.kind) → IsNewtypeOf cat fs id
+  newtype_of fs f id s one zero_named is_effective here is_struct = subst (λ (gs : List Field). IsNewtypeOf cat gs id) (sym one) (single f id s zero_named is_effective here is_struct)
+
+not-false : (b : Bool) → false ≡ not b → true ≡ b
+not-false true e = refl
+not-false false e = absurd (cc)
+
+-- what a test of a name has told
+pub zero_named : (name written : List ℕ) → false ≡ not (pointwise nat_eq written (48 ∷ [])) → written ≡ name → is_zero name ≡ true
+zero_named name written test same = ap is_zero (sym same ∙ same_text written (48 ∷ []) (not-false _ test))

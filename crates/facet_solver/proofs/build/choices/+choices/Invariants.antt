@@ -1,0 +1,26 @@
+use Rattle.std.proofs.Common.{◌≡◌, ◌++◌, drop, ◌+◌, ◌*◌}
+use Rattle.facet_solver.specs.Listing.{product, numbered, choices_below, choices_of_variant, choices_among}
+use Rattle.facet_solver.specs.ChoiceLists.{lists}
+use Rattle.facet_solver.specs.PlanView.{settings_of}
+use Rattle.facet_solver.proofs.Limits.{limit_of, limit_of_variants}
+use Rattle.facet_solver.proofs.Products.{choices_left}
+use Rattle.facet_solver.proofs.build.choices.+choices.Given as goal
+
+abbrev pub decreases-choices_of_field : goal.decreases-choices_of_field
+decreases-choices_of_field l = 3 * l.field.now.shape + 3
+
+abbrev pub decreases-choices_of_fields : goal.decreases-choices_of_fields
+decreases-choices_of_fields l = 3 * limit_of l.fields.now + 1
+
+abbrev pub decreases-choices_of_variants : goal.decreases-choices_of_variants
+decreases-choices_of_variants l = 3 * limit_of_variants l.variants.now + 2
+
+abbrev pub invariant-choices_of_fields-loop-field : goal.invariant-choices_of_fields-loop-field
+invariant-choices_of_fields-loop-field l =
+    product (lists l.found.items) (choices_left (settings_of l.plan) l.plan.shapes.now (drop l.field-index l.fields))
+    ≡ choices_below (settings_of l.plan) l.plan.shapes.now l.fields
+
+abbrev pub invariant-choices_of_variants-loop-place : goal.invariant-choices_of_variants-loop-place
+invariant-choices_of_variants-loop-place l =
+    lists l.found.items ++ numbered l.place (choices_of_variant (choices_below (settings_of l.plan) l.plan.shapes.now) l.plan.shapes.now l.walked) (drop l.place l.variants)
+    ≡ choices_among (settings_of l.plan) l.plan.shapes.now l.walked l.variants

@@ -1,0 +1,22 @@
+use Rattle.std.proofs.Common.{◌≡◌, length, slice_get, sym, ap, ◌∙◌, arith}
+use Rattle.std.proofs.lemmas.Option.{slice_get_within}
+use Rattle.facet_solver.specs.PlanView.{settings_of}
+use Rattle.facet_solver.proofs.TallyTables.{one_more_place, all_places}
+use Rattle.facet_solver.proofs.build.count.Counts.new.Goals as goal
+
+pub loop-shape-preserved : goal.loop-shape-preserved
+loop-shape-preserved c =
+    let settings = settings_of c.args.plan in
+    let cat = c.args.plan.shapes.now in
+    let ts = c.loop-shape.by_place.items in
+    let place : c.new.result ≡ length c.loop-shape.by_place.items = omega (arith, c.loop-shape.by_place.ok.0) in
+    let here = ap (slice_get cat) (sym place) ∙ sym c.in-Some.ensures.entry in
+    let within = slice_get_within cat (length ts) c.in-Some.shape.now here in
+    rw c.in_ok-push.ensures.items (one_more_place settings cat ts c.count_shape.result c.in-Some.shape.now c.loop-shape.invariant within here c.count_shape.ensures)
+
+pub returns : goal.returns
+returns c =
+    let settings = settings_of c.args.plan in
+    let cat = c.args.plan.shapes.now in
+    let place : c.new.result ≡ length c.loop-shape.by_place.items = omega (arith, c.loop-shape.by_place.ok.0) in
+    all_places settings cat c.loop-shape.by_place.items c.loop-shape.invariant (ap (slice_get cat) (sym place) ∙ sym c.in_default.ensures.entry)

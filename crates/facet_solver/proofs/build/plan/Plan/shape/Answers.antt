@@ -1,0 +1,5 @@
+use Rattle.facet_solver.proofs.Checked.{checked_earlier}
+use Rattle.facet_solver.proofs.build.plan.Plan.shape.Goals as goal
+
+pub returns-clause-checked : goal.returns-clause-checked
+returns-clause-checked c = checked_earlier c.args.self.shapes.now c.get.ensures.checked

@@ -1,0 +1,5 @@
+use Rattle.facet_solver.proofs.ChoiceLaws.{no_clash}
+use Rattle.facet_solver.proofs.laws.resolutions_exclude_clashes.Goals as goal
+
+pub returns : goal.returns
+returns c = no_clash

@@ -1,0 +1,72 @@
+//! Laws of choices, walks and counts: each is the contract of a function that does nothing.
+ghost use Rattle.std.specs.Prelude.{◌≡◌, ◌++◌, [], ℕ, Bool, List, length, slice_get};
+ghost use Rattle.facet_solver_shape.specs.Faults.{IsChecked};
+ghost use Rattle.facet_solver_shape.specs.Names.{Name};
+ghost use Rattle.facet_solver_shape.specs.Resolved.{Resolved};
+ghost use Rattle.facet_solver_shape.specs.declared.shape.Field.{Field};
+ghost use Rattle.facet_solver_shape.specs.declared.shape.Variant.{Variant};
+ghost use Rattle.facet_solver.specs.Choice.{IsChoice, IsClash, ListsChoices, Enumerates};
+ghost use Rattle.facet_solver.specs.Count.{count_below, count_fields, count_of_root};
+ghost use Rattle.facet_solver.specs.Emissions.{Path};
+ghost use Rattle.facet_solver.specs.Nested.{nested_paths, content_paths};
+ghost use Rattle.facet_solver.specs.NestedLaws.{FollowsKinds, EndsByLength, HasNoGaps};
+ghost use Rattle.facet_solver.specs.Representation.{Settings};
+ghost use Rattle.facet_solver.specs.Targets.{Catalogue, effective, go_on, next_inside};
+ghost use Rattle.facet_solver.specs.Walk.{walk, walk_fields};
+
+/// A root has one list of all choices, and at most one list of resolutions.
+pub fn lists_are_the_only_ones()
+    ensures choices { (settings : Settings) (cat : Catalogue) (root : ℕ) (cs ds : List (List ℕ))
+        → ListsChoices settings cat root cs → ListsChoices settings cat root ds → cs ≡ ds }
+    ensures resolutions { (settings : Settings) (cat : Catalogue) (root : ℕ) (rs ss : List Resolved)
+        → Enumerates settings cat root rs → Enumerates settings cat root ss → rs ≡ ss }
+{}
+
+/// No choice begins another.
+pub fn no_choice_begins_another()
+    ensures { (settings : Settings) (cat : Catalogue) (root : ℕ) (c d : List ℕ)
+        → IsChoice settings cat root c → IsChoice settings cat root (c ++ d) → d ≡ [] }
+{}
+
+/// A root that has a list of resolutions has no clash.
+pub fn resolutions_exclude_clashes()
+    ensures { (settings : Settings) (cat : Catalogue) (root : ℕ) (rs : List Resolved)
+        → Enumerates settings cat root rs → (name : Name) (first second : Path) → ¬ IsClash settings cat root name first second }
+{}
+
+/// The list of all choices is as long as the number of choices.
+pub fn all_choices_are_counted()
+    ensures { (settings : Settings) (cat : Catalogue) (root : ℕ) (cs : List (List ℕ))
+        → ListsChoices settings cat root cs → length cs ≡ count_of_root settings cat root }
+{}
+
+/// The walk of fields is made of the walks of what is flattened into them: no level of a catalogue lies too deep for it.
+pub fn walks_follow_their_fields()
+    ensures { (settings : Settings) (cat : Catalogue) → IsChecked cat
+        → (fields : List Field) (path : Path) (unwrapped : Bool) (numbers : List ℕ)
+        → walk settings cat fields path unwrapped numbers ≡ walk_fields (walk settings cat) settings cat fields path unwrapped numbers }
+{}
+
+/// The number of choices at fields is made of the numbers at what is flattened into them.
+pub fn counts_follow_their_fields()
+    ensures { (settings : Settings) (cat : Catalogue) → IsChecked cat
+        → (fields : List Field) → count_below settings cat fields ≡ count_fields (count_below settings cat) settings cat fields }
+{}
+
+/// The effective shape is that of `inner`, or else of `proxy`, or else the shape itself.
+pub fn effective_shapes_follow_inner_and_proxy()
+    ensures { (cat : Catalogue) → IsChecked cat
+        → (id : ℕ) → effective cat id ≡ go_on (effective cat) id (next_inside (slice_get cat id)) }
+{}
+
+/// Nested key paths follow the kinds of shapes, and no level of a catalogue lies too deep for them.
+pub fn nested_paths_follow_kinds()
+    ensures follow { (cat : Catalogue) → IsChecked cat → FollowsKinds cat }
+    ensures ends { (cat : Catalogue) → IsChecked cat → EndsByLength cat }
+{}
+
+/// No nested key path is empty, and each that a longer one goes through is one too.
+pub fn nested_paths_have_no_gaps()
+    ensures nested { (cat : Catalogue) (id : ℕ) → HasNoGaps (nested_paths cat id) }
+    ensures content { (cat : Catalogue) (variant : Variant) → HasNoGaps (content_paths cat variant) }
+{}

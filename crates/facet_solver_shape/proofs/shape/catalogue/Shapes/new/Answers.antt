@@ -1,0 +1,24 @@
+use Rattle.std.proofs.Common.{refl, arith}
+use Rattle.std.proofs.lemmas.Bool.{false≢true}
+use Rattle.std.proofs.lemmas.Result.{err_from_is_err_and}
+use Rattle.facet_solver_shape.proofs.Checking.{checked, first_fault}
+use Rattle.facet_solver_shape.proofs.shape.catalogue.Shapes.new.Goals as goal
+
+pub returns-in_err-check_shape-clause-refused : goal.returns-in_err-check_shape-clause-refused
+returns-in_err-check_shape-clause-refused c =
+    let refusal = err_from_is_err_and c.from_residual.result c.from_residual.ensures.1 in
+    let fault = rw c.deref.ensures.value at c.in_err-check_shape.ensures.faulty in
+    rw (refusal.1, refusal.2) (first_fault c.args.shapes.items c.loop-place.place c.in_err-check_shape.field-0.0 c.loop-place.invariant fault)
+
+-- a list with a fault is no catalogue
+pub returns-in_err-check_shape-clause-accepted : goal.returns-in_err-check_shape-clause-accepted
+returns-in_err-check_shape-clause-accepted c =
+    let refusal = err_from_is_err_and c.from_residual.result c.from_residual.ensures.1 in
+    let fault = rw c.deref.ensures.value at c.in_err-check_shape.ensures.faulty in
+    rw refusal.1 (λ ok. absurd (false≢true ok), λ checked. absurd (checked.faultless c.in_err-check_shape.field-0.0 fault.present))
+
+pub invariant_of-result : goal.invariant_of-result
+invariant_of-result c = checked _ c.loop-place.place (omega (arith, c.args.shapes.ok.0)) c.loop-place.invariant
+
+pub returns-clause-accepted : goal.returns-clause-accepted
+returns-clause-accepted c = (λ _. checked _ c.loop-place.place (omega (arith, c.args.shapes.ok.0)) c.loop-place.invariant, λ _. refl)

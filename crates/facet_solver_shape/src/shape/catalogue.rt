@@ -1,0 +1,153 @@
+//! Catalogues, and what makes a list of shapes none.
+ghost use Rattle.std.specs.Prelude.{◌≡◌, ◌<◌, ◌↔◌, length, IsTrue, slice_get, IfSome, IsOk, IfOk, IfErr};
+ghost use Rattle.std.specs.Option.{option_copied};
+ghost use Rattle.facet_solver_shape.specs.Places.{IsEarlierThan};
+ghost use Rattle.facet_solver_shape.specs.Pointers.{pointee_at};
+ghost use Rattle.facet_solver_shape.specs.Ends.{end_of, IsEndOf};
+ghost use Rattle.facet_solver_shape.specs.Faults.{place_of, number_of, IsChecked, IsFirstFault};
+
+use super::check::check_shape;
+use super::{Shape, ShapeId};
+use std::marker::Model;
+
+/// Why a list of shapes is no catalogue. Each refusal holds the place of its shape.
+#[derive(Clone, Copy, PartialEq, Eq, Debug)]
+pub enum CatalogueError {
+    /// The shape names a place that isn't below the number of shapes.
+    OutOfRange {
+        /// The place of the shape.
+        shape: usize,
+    },
+    /// The shape names by a field, a variant's field, an option's inside, `inner` or `proxy` a
+    /// place of the catalogue that isn't below its own.
+    NotEarlier {
+        /// The place of the shape.
+        shape: usize,
+    },
+    /// The shape is a pointer, and following pointees from it never comes to a shape that is no
+    /// pointer, to an opaque pointer or to a place out of range.
+    PointerCycle {
+        /// The place of the shape.
+        shape: usize,
+    },
+    /// The shape has two fields of one declared name in its struct or in one variant.
+    DuplicateFieldName {
+        /// The place of the shape.
+        shape: usize,
+    },
+    /// The shape has two variants of one name.
+    DuplicateVariantName {
+        /// The place of the shape.
+        shape: usize,
+    },
+}
+
+impl CatalogueError {
+    /// The place of the shape that has the fault.
+    pub fn shape(&self) -> usize
+        ensures { result ≡ place_of self.now }
+    {
+        match self {
+            CatalogueError::OutOfRange { shape }
+            | CatalogueError::NotEarlier { shape }
+            | CatalogueError::PointerCycle { shape }
+            | CatalogueError::DuplicateFieldName { shape }
+            | CatalogueError::DuplicateVariantName { shape } => *shape,
+        }
+    }
+
+    /// The number of the refusal, from 1 to 5 in the order of the variants.
+    pub fn number(&self) -> u8
+        ensures { result ≡ number_of self.now }
+    {
+        match self {
+            CatalogueError::OutOfRange { .. } => 1,
+            CatalogueError::NotEarlier { .. } => 2,
+            CatalogueError::PointerCycle { .. } => 3,
+            CatalogueError::DuplicateFieldName { .. } => 4,
+            CatalogueError::DuplicateVariantName { .. } => 5,
+        }
+    }
+}
+
+/// A catalogue: a list of shapes that was checked.
+#[derive(Debug, Drop)]
+pub struct Shapes {
+    shapes: Vec<Shape>,
+}
+
+impl Model for Shapes {
+    ghost use Rattle.std.specs.Prelude.{List};
+    ghost use Rattle.facet_solver_shape.specs.declared.shape.Shape.{Shape};
+    ghost use Rattle.facet_solver_shape.specs.Faults.{IsChecked};
+
+    ghost Value = { List Shape };
+
+    ghost view = { λ a. a.shapes.items };
+
+    ghost invariant = { λ a. IsChecked a.shapes.items };
+}
+
+impl Shapes {
+    /// The catalogue of a list of shapes, if no shape has a fault.
+    ///
+    /// Otherwise the first place with a fault is given, with its fault of lowest number, and the
+    /// list is dropped. No memory is taken.
+    pub fn new(shapes: Vec<Shape>) -> Result<Shapes, CatalogueError>
+        ensures accepted { IsOk result ↔ IsChecked shapes.items }
+        ensures same { IfOk result (λ made. made ≡ shapes.items) }
+        ensures refused { IfErr result (IsFirstFault shapes.items) }
+    {
+        for place in 0..shapes.len() {
+            check_shape(&shapes, place)?;
+        }
+        Ok(Shapes { shapes })
+    }
+
+    /// The number of shapes.
+    pub fn len(&self) -> usize
+        ensures value { result ≡ length self.now }
+        ensures checked { IsChecked self.now }
+    {
+        self.shapes.len()
+    }
+
+    /// The shape at a place, if the catalogue has the place.
+    pub fn get(&self, id: ShapeId) -> Option<&Shape>
+        ensures entry { option_copied result ≡ slice_get self.now id }
+        ensures earlier { IfSome result (λ s. IsEarlierThan id s.now) }
+        ensures checked { IsChecked self.now }
+    {
+        self.shapes.get(id.index())
+    }
+
+    /// Whether the catalogue has a place.
+    pub fn has(&self, id: ShapeId) -> bool
+        ensures value { IsTrue result ↔ (id < length self.now) }
+        ensures checked { IsChecked self.now }
+    {
+        id.index() < self.len()
+    }
+
+    /// The end of a shape: pointers are followed, and an opaque one is an end.
+    pub(crate) fn end_of(&self, id: ShapeId) -> ShapeId
+        requires { id < length self.now }
+        ensures value { result ≡ end_of self.now id }
+        ensures is_end { IsEndOf self.now id result }
+        ensures inside { result < length self.now }
+    {
+        let mut end = id;
+        while let Some(next) = self.pointee(end) {
+            end = next;
+        }
+        end
+    }
+
+    // Where the shape at a place leads to.
+    fn pointee(&self, id: ShapeId) -> Option<ShapeId>
+        ensures value { result ≡ pointee_at self.now id }
+        ensures checked { IsChecked self.now }
+    {
+        self.get(id)?.pointee()
+    }
+}
