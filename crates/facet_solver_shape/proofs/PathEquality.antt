@@ -1,11 +1,13 @@
 -- Equality of segments as that of the steps that they say.
-use Rattle.std.proofs.Common.{◌≡◌, ◌&&◌, List, [], ◌∷◌, map, refl}
-use lib.Pointwise.{pointwise}
+use Rattle.std.proofs.Common.{◌≡◌, Bool, true, false, ◌&&◌, List, [], ◌∷◌, map, refl, ap, subst}
+use lib.Pointwise.{pointwise, pointwise_decides, bytes_decides}
+use Rattle.std.proofs.lemmas.Bool.{false≢true}
+use Rattle.facet_solver_shape.specs.Names.{Name}
 use Rattle.facet_solver_shape.specs.declared.resolution.path.PathSegment.{PathSegment}
 use Rattle.facet_solver_shape.specs.declared.resolution.path.PathSegment.TheVariants.{Field, Variant}
 use Rattle.facet_solver_shape.specs.contracts.resolution.path.PathSegmentPartialEq.TheImpl as segments
-use Rattle.facet_solver_shape.specs.Paths.{step_of}
-use Rattle.facet_solver_shape.specs.PathEq.{step_eq, path_eq}
+use Rattle.facet_solver_shape.specs.Paths.{Step, by_field, by_variant, step_of}
+use Rattle.facet_solver_shape.specs.PathEq.{name_eq, step_eq, step_eq_equiv, path_eq}
 
 pub segment_agrees : (x y : PathSegment) → (segments.ghosts).eq x y ≡ step_eq (step_of x) (step_of y)
 segment_agrees (Field a) (Field b) = refl
@@ -18,3 +20,22 @@ path_agrees [] [] = refl
 path_agrees [] (y ∷ ys) = refl
 path_agrees (x ∷ xs) [] = refl
 path_agrees (x ∷ xs) (y ∷ ys) = λ i. segment_agrees x y i && path_agrees xs ys i
+
+name_decides : (a b : Name) → (name_eq a b ≡ true → a ≡ b) × (a ≡ b → name_eq a b ≡ true)
+name_decides = bytes_decides
+
+both_true : (a b : Bool) → (a && b) ≡ true → (a ≡ true) × (b ≡ true)
+both_true true b e = (refl, e)
+both_true false b e = absurd (false≢true e)
+
+same_step : (s t : Step) → step_eq s t ≡ true → s ≡ t
+same_step (by_field a) (by_field b) e = ap by_field ((name_decides a b).0 e)
+same_step (by_field a) (by_variant b w) e = absurd (false≢true e)
+same_step (by_variant a v) (by_field b) e = absurd (false≢true e)
+same_step (by_variant a v) (by_variant b w) e =
+    let parts = both_true (name_eq a b) (name_eq v w) e in
+    λ i. by_variant ((name_decides a b).0 parts.0 i) ((name_decides v w).0 parts.1 i)
+
+-- two paths are equal exactly if their steps are
+pub path_decides : (a b : List Step) → (path_eq a b ≡ true → a ≡ b) × (a ≡ b → path_eq a b ≡ true)
+path_decides = pointwise_decides (λ s t. (same_step s t, λ e. subst (λ u. step_eq s u ≡ true) e (step_eq_equiv.refl s)))

@@ -18,3 +18,7 @@ pub record IsEndOf (shapes : List Shape) (place end : ℕ) : Type 0 where
   pub steps : ℕ
   pub reached : pointee_after shapes steps place ≡ Some end
   pub last : pointee_at shapes end ≡ None
+
+-- the shape at each place has its end
+abbrev pub EveryShapeEnds : List Shape → Type 0
+EveryShapeEnds shapes = (place : ℕ) → IsEndOf shapes place (end_of shapes place)

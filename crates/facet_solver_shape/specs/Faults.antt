@@ -23,7 +23,7 @@ number_of (PointerCycle place) = 3
 number_of (DuplicateFieldName place) = 4
 number_of (DuplicateVariantName place) = 5
 
--- s names a place that a list of count shapes hasn't
+-- s names a place that a list of count shapes has not
 abbrev pub NamesPast : ℕ → Shape → Type 0
 NamesPast count s = Any (λ p. count ≤ p) (named_places s)
 
@@ -31,7 +31,7 @@ NamesPast count s = Any (λ p. count ≤ p) (named_places s)
 abbrev pub NamesLater : ℕ → ℕ → Shape → Type 0
 NamesLater count place s = Any (λ p. (place ≤ p) × (p < count)) (early_places s)
 
--- the shape at the error's place has the error's fault
+-- the shape at the error's place has the error's fault. A way of pointees that never ends begins at a pointer of the list, for nothing else leads on
 abbrev pub HasFault : List Shape → CatalogueError → Type 0
 HasFault shapes (OutOfRange place) = IsSomeAnd (slice_get shapes place) (NamesPast (length shapes))
 HasFault shapes (NotEarlier place) = IsSomeAnd (slice_get shapes place) (NamesLater (length shapes) place)
@@ -52,7 +52,7 @@ pub record IsFirstFault (shapes : List Shape) (e : CatalogueError) : Type 0 wher
   pub present : HasFault shapes e
   pub first : (d : CatalogueError) → ComesBefore d e → ¬ HasFault shapes d
 
--- no fault is at the place
+-- the shape at the place has no fault
 pub record IsFaultlessAt (shapes : List Shape) (place : ℕ) : Type 0 where
   pub none : (d : CatalogueError) → place_of d ≡ place → ¬ HasFault shapes d
 

@@ -15,3 +15,9 @@ pub mod PathEq
 pub mod Matching
 pub mod Descriptions
 pub mod FieldTable
+pub mod Containers
+pub mod Formats
+pub mod ScalarTypes
+pub mod Groups
+pub mod Partition
+pub mod Least

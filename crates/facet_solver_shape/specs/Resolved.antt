@@ -1,7 +1,8 @@
 -- What one choice of variants resolves to, with no word of where its names lie.
-use Rattle.std.specs.Prelude.{◌≡◌, ℕ, List, [], ◌∷◌, ◌++◌, Bool, if◌then◌else◌, None, IsSome, IsSomeAnd}
-use Rattle.std.specs.Option.{option_or}
+use Rattle.std.specs.Prelude.{◌≡◌, ◌↔◌, ℕ, List, [], ◌∷◌, ◌++◌, Bool, true, false, if◌then◌else◌, Some, None, IsSome, IsSomeAnd}
+use Rattle.std.specs.Option.{option_or, option_map}
 use Rattle.std.specs.Ordering.{nat_cmp}
+use Rattle.std.specs.declared.cmp.Ordering.{Ordering}
 use Rattle.std.specs.Cmp.Lexicographic.{slice_cmp}
 use Rattle.std.specs.FinMap as map
 use Rattle.std.specs.FinSet as set
@@ -33,6 +34,18 @@ pub record Resolved : Type 0 where
   pub key_paths : set.FinSet (slice_cmp (slice_cmp nat_cmp))
   pub picks : List Pick
   pub catch_alls : map.FinMap category_cmp FieldView
+
+-- some field of the name is required
+pub record IsRequiredName (fields : map.FinMap key_cmp FieldView) (name : Name) : Type 0 where
+  pub key : Key
+  pub field : FieldView
+  pub present : map.get fields key ≡ Some field
+  pub is_required : field.is_required ≡ true
+  pub same_name : field.name ≡ name
+
+-- the names are those of the required fields
+abbrev pub AreRequiredNames : map.FinMap key_cmp FieldView → set.FinSet (slice_cmp nat_cmp) → Type 0
+AreRequiredNames fields names = (name : Name) → (set.contains names name ≡ true) ↔ IsRequiredName fields name
 
 -- nothing in it
 abbrev pub nothing : Resolved
@@ -76,13 +89,38 @@ with_pick r pick = record r { picks = r.picks ++ pick ∷ [] }
 abbrev pub with_catch_all : Resolved → FieldCategory → FieldView → Resolved
 with_catch_all r category f = record r { catch_alls = map.insert r.catch_alls category f }
 
+-- no key is in both
+abbrev pub AreApart : map.FinMap key_cmp FieldView → map.FinMap key_cmp FieldView → Type 0
+AreApart first second = (k : Key) → IsSome (map.get first k) → map.get second k ≡ None
+
 -- made has what first or second has, and no key is in both
 pub record IsUnionOf (first second made : map.FinMap key_cmp FieldView) : Type 0 where
-  pub apart : (k : Key) → IsSome (map.get first k) → map.get second k ≡ None
+  pub apart : AreApart first second
   pub joined : (k : Key) → map.get made k ≡ option_or (map.get first k) (map.get second k)
 
--- made has what old has and then what other has, which has no key of old
+-- made has what upper has, and elsewhere what lower has
+abbrev pub IsOverlaid : {K : Type 0} {R : K → K → Ordering} (lower upper made : map.FinMap R FieldView) → Type 0
+IsOverlaid {K} lower upper made = (k : K) → map.get made k ≡ option_or (map.get upper k) (map.get lower k)
+
+-- made has what old has and then what other has. No field of other has a key of old, and its catch-alls take the place of old ones
 pub record IsMerged (old other made : Resolved) : Type 0 where
   pub fields : IsUnionOf old.fields other.fields made.fields
   pub required_names : made.required_names ≡ set.union old.required_names other.required_names
   pub key_paths : made.key_paths ≡ set.union old.key_paths other.key_paths
+  pub picks : made.picks ≡ old.picks ++ other.picks
+  pub catch_alls : IsOverlaid old.catch_alls other.catch_alls made.catch_alls
+
+-- the key of some field of other is taken in old, and these are its name and the two paths
+pub record IsMergeClash (old other : Resolved) (name : Name) (first second : List Step) : Type 0 where
+  pub field : FieldView
+  pub among : map.get other.fields (key_of_field field) ≡ Some field
+  pub clash : IsClash old field name first second
+
+-- the same field, but not required
+abbrev pub as_optional : FieldView → FieldView
+as_optional f = record f { is_required = false }
+
+-- new is old with no field and no name required
+pub record IsMadeOptional (old new : Resolved) : Type 0 where
+  pub fields : (k : Key) → map.get new.fields k ≡ option_map as_optional (map.get old.fields k)
+  pub others : new ≡ record old { fields = new.fields; required_names = set.empty }

@@ -4,6 +4,7 @@ use lib.Pointwise.{pointwise}
 use Rattle.std.specs.Map.{lookup}
 use Rattle.facet_solver_shape.specs.Names.{Name}
 
+-- the scores of numbers: their width in bits
 abbrev pub score_table : List (Name × ℕ)
 score_table =
     (codes "u8", 8) ∷ (codes "i8", 8) ∷ (codes "u16", 16) ∷ (codes "i16", 16) ∷ (codes "u32", 32) ∷ (codes "i32", 32) ∷ (codes "f32", 32)

@@ -14,7 +14,7 @@ use Rattle.facet_solver_shape.specs.declared.resolution.key.FieldCategory.{Field
 use Rattle.facet_solver_shape.specs.declared.resolution.field.VariantSelection.{VariantSelection}
 use Rattle.facet_solver_shape.specs.Names.{Name}
 use Rattle.facet_solver_shape.specs.Keys.{key_cmp, key_of, category_cmp}
-use Rattle.facet_solver_shape.specs.Resolved.{FieldView, Pick, Resolved, IsClash}
+use Rattle.facet_solver_shape.specs.Resolved.{FieldView, Pick, Resolved, IsClash, IsMergeClash}
 use Rattle.facet_solver_shape.specs.declared.resolution.error.SchemaError.{SchemaError}
 use Rattle.facet_solver_shape.specs.declared.resolution.error.SchemaError.TheVariants.{DuplicateField, OutOfMemory}
 
@@ -35,6 +35,11 @@ pick_view v = record { path = v.path; enum_name = v.enum_name.now; variant_name 
 abbrev pub IsRefusalOf : Resolved → FieldView → SchemaError → Type 0
 IsRefusalOf old f (DuplicateField d) = IsClash old f d.field_name.now d.first_path d.second_path
 IsRefusalOf old f OutOfMemory = ⊤
+
+-- what a refusal of all that other has says
+abbrev pub IsMergeRefusalOf : Resolved → Resolved → SchemaError → Type 0
+IsMergeRefusalOf old other (DuplicateField d) = IsMergeClash old other d.field_name.now d.first_path d.second_path
+IsMergeRefusalOf old other OutOfMemory = ⊤
 
 -- entries of a map of fields
 abbrev pub field_entries_view : List (FieldKey × FieldInfo) → tree.FinMap key_cmp FieldView

@@ -13,4 +13,4 @@ pub use shape::{
     CatalogueError, DomMark, Field, ScalarType, Shape, ShapeId, ShapeKind, Shapes, StructKind,
     Variant,
 };
-pub use variants::specificity_score;
+pub use variants::{VariantFormat, VariantsByFormat, specificity_score};

@@ -8,19 +8,21 @@ ghost use Rattle.facet_solver_shape.specs.Descriptions.{description};
 ghost use Rattle.facet_solver_shape.specs.FieldTable.{entry_view};
 ghost use Rattle.facet_solver_shape.specs.Keys.{key_of};
 ghost use Rattle.facet_solver_shape.specs.Matching.{matches, has_name};
-ghost use Rattle.facet_solver_shape.specs.Resolved.{nothing, IsAdded, with_key_path, with_pick, with_catch_all, with_field, IsStored, IsUnionOf};
-ghost use Rattle.facet_solver_shape.specs.Views.{field_view, pick_view, IsRefusalOf, field_entries_view, names_of, names_view, key_paths_view};
+ghost use Rattle.facet_solver_shape.specs.Resolved.{nothing, IsAdded, with_key_path, with_pick, with_catch_all, with_field, key_of_field, IsStored, AreRequiredNames, AreApart, IsMerged, IsMadeOptional};
+ghost use Rattle.facet_solver_shape.specs.Views.{field_view, pick_view, IsRefusalOf, IsMergeRefusalOf, field_entries_view, names_of, names_view, key_paths_view};
 ghost use Rattle.facet_solver_shape.specs.declared.resolution.error.SchemaError.TheVariants.{OutOfMemory};
 
 mod describe;
 pub mod error;
 pub mod field;
 pub mod key;
+pub mod laws;
 pub mod path;
 mod tables;
 
 use describe::describe_picks;
 pub use error::{DuplicateFieldError, SchemaError};
+use field::joined_picks;
 pub use field::{FieldInfo, KeyPath, VariantSelection};
 pub use key::{FieldCategory, FieldKey};
 pub use path::{FieldPath, PathSegment};
@@ -42,7 +44,7 @@ pub struct Resolution<'c> {
 
 impl<'c> Model for Resolution<'c> {
     ghost use Rattle.std.specs.Prelude.{map};
-    ghost use Rattle.facet_solver_shape.specs.Resolved.{Resolved};
+    ghost use Rattle.facet_solver_shape.specs.Resolved.{Resolved, AreRequiredNames};
     ghost use Rattle.facet_solver_shape.specs.ResolvedCode.{resolved_code};
     ghost use Rattle.facet_solver_shape.specs.Views.{pick_view};
 
@@ -57,9 +59,12 @@ impl<'c> Model for Resolution<'c> {
       picks = map pick_view r.picks.items;
       catch_alls = r.catch_alls;
     } };
+
+    ghost invariant = { λ r. AreRequiredNames r.fields r.required };
 }
 
 impl<'c> Resolution<'c> {
+    /// Nothing resolved yet.
     pub fn new(alloc: Global) -> Self
         ensures { result ≡ nothing }
     {
@@ -83,7 +88,8 @@ impl<'c> Resolution<'c> {
 
     /// The names of the required fields, in byte order.
     pub fn required_field_names(&self) -> &BTreeSet<&'c str>
-        ensures { names_view result.now.keys ≡ self.now.required_names }
+        ensures view { names_view result.now.keys ≡ self.now.required_names }
+        ensures of_fields { AreRequiredNames self.now.fields self.now.required_names }
     {
         self.required.as_set()
     }
@@ -140,7 +146,10 @@ impl<'c> Resolution<'c> {
         describe_picks(alloc, &self.picks)
     }
 
-    /// Adds a field, unless its key is taken.
+    /// Adds a field under its stored key.
+    ///
+    /// A field of a key that is taken is refused, by its name and the two paths, that of the present field
+    /// first. Refused memory is the only other error. After an error the resolution is as it was.
     pub fn add_field(&mut self, info: FieldInfo<'c>) -> Result<(), SchemaError<'c>>
         ensures ok { OnOk result (IsAdded self.old (field_view info.entry) self.new) }
         ensures refused { IfErr result (IsRefusalOf self.old (field_view info.entry)) }
@@ -148,9 +157,10 @@ impl<'c> Resolution<'c> {
     {
         let key = info.key();
         if let Some(present) = self.fields.get(&key) {
-            return Err(SchemaError::DuplicateField(DuplicateFieldError {
+            let first_path = present.path.copied(*self.picks.allocator())?;
+            return Err(SchemaError::from(DuplicateFieldError {
                 field_name: info.serialized_name,
-                first_path: present.path.copied(*self.picks.allocator())?,
+                first_path,
                 second_path: info.path,
             }));
         }
@@ -163,7 +173,8 @@ impl<'c> Resolution<'c> {
 
     // Adds a required field, whose key is new.
     fn add_required(&mut self, info: FieldInfo<'c>) -> Result<(), SchemaError<'c>>
-        requires { IsTrue info.required }
+        requires fresh { finite.get self.old.fields (key_of_field (field_view info)) ≡ None }
+        requires required { IsTrue info.required }
         ensures ok { OnOk result (self.new ≡ with_field self.old (field_view info.entry)) }
         ensures refused { IfErr result (λ e. e ≡ OutOfMemory) }
         ensures err { OnErr result (self.new ≡ self.old) }
@@ -218,14 +229,67 @@ impl<'c> Resolution<'c> {
         self.catch_alls.insert(category, info)
     }
 
-    /// Adds the fields of another resolution, unless a key is taken.
-    pub fn merge_fields(&mut self, other: &Resolution<'c>) -> Result<(), SchemaError<'c>>
-        ensures ok { OnOk result (IsUnionOf self.old.fields other.now.fields self.new.fields) }
-        ensures others { OnOk result (self.new ≡ record self.old { fields = self.new.fields }) }
+    /// Adds all that another resolution has: its fields, names, key paths and picks after those that are
+    /// here, and its catch-alls in place of those that are here.
+    ///
+    /// A field of a key that is taken is refused, by its name and the two paths, that of the present field
+    /// first. Refused memory is the only other error. After an error the resolution is as it was.
+    pub fn merge(&mut self, other: &Resolution<'c>) -> Result<(), SchemaError<'c>>
+        ensures ok { OnOk result (IsMerged self.old other.now self.new) }
+        ensures refused { IfErr result (IsMergeRefusalOf self.old other.now) }
         ensures err { OnErr result (self.new ≡ self.old) }
     {
-        let fields = self.fields.joined(*self.picks.allocator(), &other.fields)?;
-        drop(mem::replace(&mut self.fields, fields));
+        let merged = self.merged(other)?;
+        drop(mem::replace(self, merged));
         Ok(())
+    }
+
+    // The two as one, in memory of its own.
+    fn merged(&self, other: &Resolution<'c>) -> Result<Self, SchemaError<'c>>
+        ensures ok { IfOk result (IsMerged self.now other.now) }
+        ensures refused { IfErr result (IsMergeRefusalOf self.now other.now) }
+    {
+        self.refuse_shared(other)?;
+        let alloc = *self.picks.allocator();
+        let fields = self.fields.overlaid(alloc, &other.fields)?;
+        let required = self.required.joined(alloc, &other.required)?;
+        let key_paths = self.key_paths.joined(alloc, &other.key_paths)?;
+        let picks = joined_picks(alloc, &self.picks, &other.picks)?;
+        let catch_alls = self.catch_alls.overlaid(alloc, &other.catch_alls)?;
+        Ok(Resolution {
+            fields,
+            required,
+            key_paths,
+            picks,
+            catch_alls,
+        })
+    }
+
+    // Refuses a resolution with a field whose key is taken here.
+    fn refuse_shared(&self, other: &Resolution<'c>) -> Result<(), SchemaError<'c>>
+        ensures ok { OnOk result (AreApart self.now.fields other.now.fields) }
+        ensures refused { IfErr result (IsMergeRefusalOf self.now other.now) }
+    {
+        let alloc = *self.picks.allocator();
+        for (key, info) in other.fields() {
+            if let Some(present) = self.fields.get(key) {
+                let first_path = present.path.copied(alloc)?;
+                let second_path = info.path.copied(alloc)?;
+                return Err(SchemaError::from(DuplicateFieldError {
+                    field_name: info.serialized_name,
+                    first_path,
+                    second_path,
+                }));
+            }
+        }
+        Ok(())
+    }
+
+    /// Leaves no field and no name required.
+    pub fn mark_all_optional(&mut self)
+        ensures { IsMadeOptional self.old self.new }
+    {
+        self.fields.mark_all_optional();
+        self.required.clear();
     }
 }

@@ -1,20 +1,9 @@
-//! Scores of shapes.
-ghost use Rattle.std.specs.Prelude.{◌≡◌};
-ghost use Rattle.std.specs.String.{string_bytes};
-ghost use Rattle.facet_solver_shape.specs.Scores.{score_of};
+//! What a value must look like for each variant of an enum, and how specific a shape is.
 
-use crate::shape::Shape;
+mod format;
+mod grouping;
+mod score;
 
-/// How specific a shape is: the smaller, the more.
-pub fn specificity_score(shape: &Shape) -> u64
-    ensures { result ≡ score_of (string_bytes shape.now.type_identifier) }
-{
-    match shape.type_identifier.as_str() {
-        "u8" | "i8" => 8,
-        "u16" | "i16" => 16,
-        "u32" | "i32" | "f32" => 32,
-        "u64" | "i64" | "f64" | "usize" | "isize" => 64,
-        "u128" | "i128" => 128,
-        _ => 1000,
-    }
-}
+pub use format::VariantFormat;
+pub use grouping::VariantsByFormat;
+pub use score::specificity_score;

@@ -1,9 +1,9 @@
 //! Fields of a resolution, nested keys and picked variants.
-ghost use Rattle.std.specs.Prelude.{◌≡◌, IfOk};
+ghost use Rattle.std.specs.Prelude.{◌≡◌, ◌++◌, map, IfOk, OnOk};
 ghost use Rattle.facet_solver_shape.specs.Keys.{key_of};
 ghost use Rattle.facet_solver_shape.specs.Matching.{matches};
 ghost use Rattle.facet_solver_shape.specs.Resolved.{key_of_field};
-ghost use Rattle.facet_solver_shape.specs.Views.{field_view};
+ghost use Rattle.facet_solver_shape.specs.Views.{field_view, pick_view};
 
 use crate::resolution::key::{FieldCategory, FieldKey};
 use crate::resolution::path::FieldPath;
@@ -13,25 +13,37 @@ use std::alloc::{AllocError, Global};
 /// The names from the root to a nested key.
 pub type KeyPath<'c> = Vec<&'c str>;
 
+/// A field that a document may give a value to.
 #[derive(Debug, Drop)]
 pub struct FieldInfo<'c> {
+    /// Its name in a document.
     pub serialized_name: &'c str,
+    /// Where it stands in the type.
     pub path: FieldPath<'c>,
+    /// Whether a document must have it.
     pub required: bool,
+    /// The shape of its value.
     pub value_shape: ShapeId,
+    /// The field that was declared.
     pub field: &'c Field,
+    /// What gives it its value.
     pub category: FieldCategory,
 }
 
+/// A variant that was picked for an enum.
 #[derive(Debug, Drop)]
 pub struct VariantSelection<'c> {
+    /// Where the enum stands in the type.
     pub path: FieldPath<'c>,
+    /// The name of the enum.
     pub enum_name: &'c str,
+    /// The name of the variant.
     pub variant_name: &'c str,
 }
 
 impl<'c> FieldInfo<'c> {
-    /// The key under which a resolution keeps the field.
+    /// The stored key, under which a resolution keeps the field: that of its name alone for a field of
+    /// category Flat, else that of its name in its category.
     pub fn key(&self) -> FieldKey<'c>
         ensures { key_of result ≡ key_of_field (field_view self.now) }
     {
@@ -68,4 +80,47 @@ impl<'c> FieldInfo<'c> {
             category: self.category,
         })
     }
+}
+
+impl<'c> VariantSelection<'c> {
+    // The same pick, with a path in memory of its own.
+    pub(crate) fn copied(&self, alloc: Global) -> Result<Self, AllocError>
+        ensures { IfOk result (λ made. pick_view made ≡ pick_view self.now) }
+    {
+        Ok(VariantSelection {
+            path: self.path.copied(alloc)?,
+            enum_name: self.enum_name,
+            variant_name: self.variant_name,
+        })
+    }
+}
+
+// The picks of both, in order.
+pub(crate) fn joined_picks<'c>(
+    alloc: Global,
+    first: &[VariantSelection<'c>],
+    second: &[VariantSelection<'c>],
+) -> Result<Vec<VariantSelection<'c>>, AllocError>
+    ensures { IfOk result (λ made. map pick_view made.items
+        ≡ map pick_view first.now ++ map pick_view second.now) }
+{
+    let mut made = Vec::new(alloc);
+    push_copies(alloc, &mut made, first)?;
+    push_copies(alloc, &mut made, second)?;
+    Ok(made)
+}
+
+// After an error some of the picks may have been added.
+fn push_copies<'c>(
+    alloc: Global,
+    made: &mut Vec<VariantSelection<'c>>,
+    picks: &[VariantSelection<'c>],
+) -> Result<(), AllocError>
+    ensures { OnOk result (map pick_view made.new.items
+        ≡ map pick_view made.old.items ++ map pick_view picks.now) }
+{
+    for pick in picks {
+        made.push(pick.copied(alloc)?)?;
+    }
+    Ok(())
 }

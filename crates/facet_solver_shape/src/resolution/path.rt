@@ -13,11 +13,16 @@ use std::marker::Model;
 /// One step of a path.
 #[derive(Clone, Copy, PartialEq, Eq, Debug)]
 pub enum PathSegment<'c> {
+    /// Into the field of that name.
     Field(&'c str),
+    /// Into a field and a variant of its enum.
     Variant(&'c str, &'c str),
 }
 
-/// Where a field or an enum stands.
+/// Where a field or an enum stands: the steps from the root.
+///
+/// Two paths are equal exactly if their segments are. A path prints as its segments joined by `.`, and that
+/// of the root as `<root>`.
 #[derive(Debug, Drop)]
 pub struct FieldPath<'c> {
     segments: Vec<PathSegment<'c>>,
@@ -78,7 +83,8 @@ impl<'c> FieldPath<'c> {
     fn pushed(&self, alloc: Global, segment: PathSegment<'c>) -> Result<Self, AllocError>
         ensures { IfOk result (λ path. path ≡ self.now ++ step_of segment.entry ∷ []) }
     {
-        let mut segments = Vec::from_slice(alloc, &self.segments)?;
+        let mut segments = Vec::with_capacity(alloc, self.segments.len() + 1)?;
+        segments.extend_from_slice(&self.segments)?;
         segments.push(segment)?;
         Ok(FieldPath { segments })
     }

@@ -1,9 +1,9 @@
 //! Catalogues, and what makes a list of shapes none.
-ghost use Rattle.std.specs.Prelude.{◌≡◌, ◌<◌, ◌↔◌, length, IsTrue, slice_get, IfSome, IsOk, IfOk, IfErr};
+ghost use Rattle.std.specs.Prelude.{◌≡◌, ◌<◌, ◌↔◌, length, IsTrue, slice_get, IfSome, IsOk, IfOk, IfErr, OnOk};
 ghost use Rattle.std.specs.Option.{option_copied};
 ghost use Rattle.facet_solver_shape.specs.Places.{IsEarlierThan};
 ghost use Rattle.facet_solver_shape.specs.Pointers.{pointee_at};
-ghost use Rattle.facet_solver_shape.specs.Ends.{end_of, IsEndOf};
+ghost use Rattle.facet_solver_shape.specs.Ends.{end_of, IsEndOf, EveryShapeEnds};
 ghost use Rattle.facet_solver_shape.specs.Faults.{place_of, number_of, IsChecked, IsFirstFault};
 
 use super::check::check_shape;
@@ -96,6 +96,7 @@ impl Shapes {
     pub fn new(shapes: Vec<Shape>) -> Result<Shapes, CatalogueError>
         ensures accepted { IsOk result ↔ IsChecked shapes.items }
         ensures same { IfOk result (λ made. made ≡ shapes.items) }
+        ensures ends { OnOk result (EveryShapeEnds shapes.items) }
         ensures refused { IfErr result (IsFirstFault shapes.items) }
     {
         for place in 0..shapes.len() {
@@ -131,10 +132,9 @@ impl Shapes {
 
     /// The end of a shape: pointers are followed, and an opaque one is an end.
     pub(crate) fn end_of(&self, id: ShapeId) -> ShapeId
-        requires { id < length self.now }
         ensures value { result ≡ end_of self.now id }
         ensures is_end { IsEndOf self.now id result }
-        ensures inside { result < length self.now }
+        ensures inside { id < length self.now → result < length self.now }
     {
         let mut end = id;
         while let Some(next) = self.pointee(end) {

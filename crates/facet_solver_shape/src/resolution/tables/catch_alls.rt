@@ -1,7 +1,8 @@
 // Fields that take what no other field of their category takes, seen as a finite map.
-ghost use Rattle.std.specs.Prelude.{◌≡◌, OnOk, OnErr};
+ghost use Rattle.std.specs.Prelude.{◌≡◌, OnOk, OnErr, IfOk};
 ghost use Rattle.std.specs.Option.{option_map};
 ghost use Rattle.std.specs.FinMap as tree;
+ghost use Rattle.facet_solver_shape.specs.Resolved.{IsOverlaid};
 ghost use Rattle.facet_solver_shape.specs.Views.{field_view};
 
 use crate::resolution::{FieldCategory, FieldInfo};
@@ -54,6 +55,27 @@ impl<'c> CatchAlls<'c> {
         ensures err { OnErr result (self.new ≡ self.old) }
     {
         self.entries.insert(category, info)?;
+        Ok(())
+    }
+
+    // The fields of both; those of the upper map where a category is in both.
+    pub(crate) fn overlaid(&self, alloc: Global, upper: &CatchAlls<'c>) -> Result<Self, AllocError>
+        ensures { IfOk result (IsOverlaid self.now upper.now) }
+    {
+        let mut made = CatchAlls::new(alloc);
+        made.put_all(alloc, self)?;
+        made.put_all(alloc, upper)?;
+        Ok(made)
+    }
+
+    // After an error some of the fields may have been put in.
+    fn put_all(&mut self, alloc: Global, upper: &CatchAlls<'c>) -> Result<(), AllocError>
+        ensures { OnOk result (IsOverlaid self.old upper.now self.new) }
+    {
+        for (category, info) in &upper.entries {
+            let made = info.copied(alloc)?;
+            self.insert(*category, made)?;
+        }
         Ok(())
     }
 }

@@ -1,14 +1,14 @@
 // Fields by stored key, seen as a finite map.
-ghost use Rattle.std.specs.Prelude.{◌≡◌, OnOk, OnErr, IfOk, All, find, map};
+ghost use Rattle.std.specs.Prelude.{◌≡◌, OnOk, OnErr, IfOk, All, false, find, map};
 ghost use Rattle.std.specs.Option.{option_map};
 ghost use Rattle.std.specs.FinMap as tree;
 ghost use Rattle.facet_solver_shape.specs.FieldTable.{entry_view};
-ghost use Rattle.facet_solver_shape.specs.Keys.{key_of};
+ghost use Rattle.facet_solver_shape.specs.Keys.{Key, key_of};
 ghost use Rattle.facet_solver_shape.specs.Matching.{matches, has_name};
-ghost use Rattle.facet_solver_shape.specs.Resolved.{IsUnionOf, IsStored, key_of_field};
+ghost use Rattle.facet_solver_shape.specs.Resolved.{IsOverlaid, IsStored, as_optional, key_of_field};
 ghost use Rattle.facet_solver_shape.specs.Views.{field_view, field_entries_view};
 
-use crate::resolution::{DuplicateFieldError, FieldInfo, FieldKey, SchemaError};
+use crate::resolution::{FieldInfo, FieldKey};
 use std::alloc::{AllocError, Global};
 use std::collections::BTreeMap;
 use std::marker::Model;
@@ -92,44 +92,41 @@ impl<'c> FieldMap<'c> {
         self.entries.insert(key, info)?;
         Ok(())
     }
-}
 
-impl<'c> FieldMap<'c> {
-    // Adds the fields of another map, unless a key is taken. After an error some may have been added.
-    pub(crate) fn add_all(
-        &mut self,
-        alloc: Global,
-        other: &FieldMap<'c>,
-    ) -> Result<(), SchemaError<'c>>
-        ensures { OnOk result (IsUnionOf self.old other.now self.new) }
+    // The fields of both; those of the upper map where a key is in both.
+    pub(crate) fn overlaid(&self, alloc: Global, upper: &FieldMap<'c>) -> Result<Self, AllocError>
+        ensures { IfOk result (IsOverlaid self.now upper.now) }
     {
-        for (key, info) in &other.entries {
-            if let Some(present) = self.get(key) {
-                return Err(SchemaError::DuplicateField(DuplicateFieldError {
-                    field_name: info.serialized_name,
-                    first_path: present.path.copied(alloc)?,
-                    second_path: info.path.copied(alloc)?,
-                }));
-            }
+        let mut made = FieldMap::new(alloc);
+        made.put_all(alloc, self)?;
+        made.put_all(alloc, upper)?;
+        Ok(made)
+    }
+
+    // After an error some of the fields may have been put in.
+    fn put_all(&mut self, alloc: Global, upper: &FieldMap<'c>) -> Result<(), AllocError>
+        ensures { OnOk result (IsOverlaid self.old upper.now self.new) }
+    {
+        for (_, info) in &upper.entries {
             let made = info.copied(alloc)?;
             self.insert(made)?;
         }
         Ok(())
     }
+
+    // No field is required any more.
+    pub(crate) fn mark_all_optional(&mut self)
+        ensures { (k : Key) → tree.get self.new k ≡ option_map as_optional (tree.get self.old k) }
+    {
+        make_optional(&mut self.entries);
+    }
 }
 
-impl<'c> FieldMap<'c> {
-    // A map of the fields of both, unless some key is in both.
-    pub(crate) fn joined(
-        &self,
-        alloc: Global,
-        other: &FieldMap<'c>,
-    ) -> Result<Self, SchemaError<'c>>
-        ensures { IfOk result (IsUnionOf self.now other.now) }
-    {
-        let mut made = FieldMap::new(alloc);
-        made.add_all(alloc, self)?;
-        made.add_all(alloc, other)?;
-        Ok(made)
-    }
+fn make_optional<'c>(entries: &mut BTreeMap<FieldKey<'c>, FieldInfo<'c>>)
+    ensures { entries.new.entries ≡ map (λ e. (e.0, record e.1 { required = false })) entries.old.entries }
+{
+    entries.retain(|_, info| {
+        info.required = false;
+        true
+    });
 }

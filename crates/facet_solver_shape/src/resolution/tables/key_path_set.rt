@@ -1,5 +1,5 @@
 // Key paths, each once, seen as a finite set.
-ghost use Rattle.std.specs.Prelude.{◌≡◌, OnOk, OnErr};
+ghost use Rattle.std.specs.Prelude.{◌≡◌, OnOk, OnErr, IfOk};
 ghost use Rattle.std.specs.FinSet as set;
 ghost use Rattle.facet_solver_shape.specs.PathEq.{key_path_eq};
 ghost use Rattle.facet_solver_shape.specs.Views.{names_of, key_paths_view};
@@ -60,6 +60,27 @@ impl<'c> KeyPathSet<'c> {
         ensures err { OnErr result (self.new ≡ self.old) }
     {
         self.paths.insert(path)?;
+        Ok(())
+    }
+
+    // The paths of both.
+    pub(crate) fn joined(&self, alloc: Global, other: &KeyPathSet<'c>) -> Result<Self, AllocError>
+        ensures { IfOk result (λ made. made ≡ set.union self.now other.now) }
+    {
+        let mut made = KeyPathSet::new(alloc);
+        made.put_all(alloc, self)?;
+        made.put_all(alloc, other)?;
+        Ok(made)
+    }
+
+    // After an error some of the paths may have been put in.
+    fn put_all(&mut self, alloc: Global, other: &KeyPathSet<'c>) -> Result<(), AllocError>
+        ensures { OnOk result (self.new ≡ set.union self.old other.now) }
+    {
+        for path in &other.paths {
+            let made = Vec::from_slice(alloc, path)?;
+            self.insert(made)?;
+        }
         Ok(())
     }
 }

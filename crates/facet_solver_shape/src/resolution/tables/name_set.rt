@@ -63,4 +63,30 @@ impl<'c> NameSet<'c> {
     {
         self.names.remove(name);
     }
+
+    pub(crate) fn clear(&mut self)
+        ensures { self.new ≡ set.empty }
+    {
+        self.names.clear();
+    }
+
+    // The names of both.
+    pub(crate) fn joined(&self, alloc: Global, other: &NameSet<'c>) -> Result<Self, AllocError>
+        ensures { IfOk result (λ made. made ≡ set.union self.now other.now) }
+    {
+        let mut made = NameSet::new(alloc);
+        made.put_all(self)?;
+        made.put_all(other)?;
+        Ok(made)
+    }
+
+    // After an error some of the names may have been put in.
+    fn put_all(&mut self, other: &NameSet<'c>) -> Result<(), AllocError>
+        ensures { OnOk result (self.new ≡ set.union self.old other.now) }
+    {
+        for name in &other.names {
+            self.insert(name)?;
+        }
+        Ok(())
+    }
 }

@@ -1,6 +1,7 @@
 use Rattle.std.proofs.Common.{refl, arith}
 use Rattle.std.proofs.lemmas.Bool.{false≢true}
 use Rattle.std.proofs.lemmas.Result.{err_from_is_err_and}
+use Rattle.facet_solver_shape.proofs.PointerEnds.{end_of_is_end}
 use Rattle.facet_solver_shape.proofs.Checking.{checked, first_fault}
 use Rattle.facet_solver_shape.proofs.shape.catalogue.Shapes.new.Goals as goal
 
@@ -22,3 +23,6 @@ invariant_of-result c = checked _ c.loop-place.place (omega (arith, c.args.shape
 
 pub returns-clause-accepted : goal.returns-clause-accepted
 returns-clause-accepted c = (λ _. checked _ c.loop-place.place (omega (arith, c.args.shapes.ok.0)) c.loop-place.invariant, λ _. refl)
+
+pub returns-clause-ends : goal.returns-clause-ends
+returns-clause-ends c = end_of_is_end _ (checked _ c.loop-place.place (omega (arith, c.args.shapes.ok.0)) c.loop-place.invariant)

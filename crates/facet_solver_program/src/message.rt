@@ -1,0 +1,72 @@
+//! The built-in catalogue: a message with an identifier, and a flattened payload that is text or binary.
+
+use facet_solver::{DomMark, Field, ScalarType, Shape, ShapeId, ShapeKind, StructKind, Variant};
+use std::alloc::{AllocError, Global};
+
+const STRING: usize = 0;
+const BYTE: usize = 1;
+const BYTES: usize = 2;
+const TEXT_MESSAGE: usize = 3;
+const BINARY_MESSAGE: usize = 4;
+const MESSAGE_PAYLOAD: usize = 5;
+
+/// The place of the message in the list.
+pub const MESSAGE: usize = 6;
+
+/// The shapes of the message, each before those that name it.
+pub fn message(alloc: Global) -> Result<Vec<Shape>, AllocError> {
+    let text = vec![in alloc; field(alloc, "content", STRING)?]?;
+    let binary = vec![in alloc; field(alloc, "data", BYTES)?, field(alloc, "encoding", STRING)?]?;
+    let variants =
+        vec![in alloc; newtype(alloc, "Text", TEXT_MESSAGE)?, newtype(alloc, "Binary", BINARY_MESSAGE)?]?;
+    let mut payload = field(alloc, "payload", MESSAGE_PAYLOAD)?;
+    payload.flattened = true;
+    let fields = vec![in alloc; field(alloc, "id", STRING)?, payload]?;
+    vec![in alloc;
+        shape(alloc, "String", ShapeKind::Scalar(ScalarType::String))?,
+        shape(alloc, "u8", ShapeKind::Scalar(ScalarType::U8))?,
+        shape(alloc, "Vec<u8>", ShapeKind::List(ShapeId::new(BYTE)))?,
+        structure(alloc, "TextMessage", text)?,
+        structure(alloc, "BinaryMessage", binary)?,
+        shape(alloc, "MessagePayload", ShapeKind::Enum { variants })?,
+        structure(alloc, "Message", fields)?,
+    ]
+}
+
+fn shape(alloc: Global, name: &str, kind: ShapeKind) -> Result<Shape, AllocError> {
+    Ok(Shape {
+        type_identifier: String::from_str(alloc, name)?,
+        kind,
+        inner: None,
+        proxy: None,
+        tag: None,
+        content: None,
+        untagged: false,
+        metadata_container: false,
+    })
+}
+
+fn structure(alloc: Global, name: &str, fields: Vec<Field>) -> Result<Shape, AllocError> {
+    let kind = StructKind::Struct;
+    shape(alloc, name, ShapeKind::Struct { kind, fields })
+}
+
+fn field(alloc: Global, name: &str, shape: usize) -> Result<Field, AllocError> {
+    Ok(Field {
+        name: String::from_str(alloc, name)?,
+        rename: None,
+        shape: ShapeId::new(shape),
+        flattened: false,
+        has_default: false,
+        metadata: false,
+        dom: DomMark::None,
+    })
+}
+
+fn newtype(alloc: Global, name: &str, shape: usize) -> Result<Variant, AllocError> {
+    Ok(Variant {
+        name: String::from_str(alloc, name)?,
+        kind: StructKind::TupleStruct,
+        fields: vec![in alloc; field(alloc, "0", shape)?]?,
+    })
+}
