@@ -1,9 +1,16 @@
 //! All resolutions of a type.
-ghost use Rattle.std.specs.Prelude.{◌≡◌, ◌==◌, ◌<◌, length};
+ghost use Rattle.std.specs.Prelude.{◌≡◌, ◌<◌, IfErr, IfOk, None, Some, length};
 ghost use Rattle.std.specs.Cmp.{partial_equiv_from_equiv};
+ghost use Rattle.facet_solver.specs.PlanView.{settings_of};
+ghost use Rattle.facet_solver.specs.Refusal.{IsRefusal};
+ghost use Rattle.facet_solver.specs.Representation.{externally_tagged, flattened, repr_view};
+ghost use Rattle.facet_solver.specs.SchemaView.{IsBuilt, flat_settings};
 
+use crate::build::plan::Plan;
 use crate::build::representation::{EnumRepr, Format};
-use facet_solver_shape::{Resolution, ShapeId, Shapes};
+use crate::build::resolve::resolutions;
+use facet_solver_shape::{Resolution, SchemaError, ShapeId, Shapes};
+use std::alloc::Global;
 use std::marker::Model;
 
 /// All resolutions of a type: one for each choice of variants, in order.
@@ -34,6 +41,94 @@ impl<'c> Model for Schema<'c> {
 }
 
 impl<'c> Schema<'c> {
+    /// The schema of a root, with the content of each flattened enum among the fields around it.
+    ///
+    /// Refused where two fields of one choice have one key, and where memory is refused.
+    pub fn build(
+        alloc: Global,
+        shapes: &'c Shapes,
+        root: ShapeId,
+    ) -> Result<Schema<'c>, SchemaError<'c>>
+        requires { root < length shapes.now }
+        ensures built { IfOk result (IsBuilt (flat_settings (Some flattened)) shapes.now root) }
+        ensures refused { IfErr result (IsRefusal (flat_settings (Some flattened)) shapes.now root) }
+    {
+        Schema::build_with_repr(alloc, shapes, root, EnumRepr::Flattened)
+    }
+
+    /// The schema of a root, with each flattened enum in a field named after its variant.
+    ///
+    /// Refused where two fields of one choice have one key, and where memory is refused.
+    pub fn build_externally_tagged(
+        alloc: Global,
+        shapes: &'c Shapes,
+        root: ShapeId,
+    ) -> Result<Schema<'c>, SchemaError<'c>>
+        requires { root < length shapes.now }
+        ensures built { IfOk result (IsBuilt (flat_settings (Some externally_tagged)) shapes.now root) }
+        ensures refused { IfErr result (IsRefusal (flat_settings (Some externally_tagged)) shapes.now root) }
+    {
+        Schema::build_with_repr(alloc, shapes, root, EnumRepr::ExternallyTagged)
+    }
+
+    /// The schema of a root, with one representation for all flattened enums.
+    ///
+    /// Refused where two fields of one choice have one key, and where memory is refused.
+    pub fn build_with_repr(
+        alloc: Global,
+        shapes: &'c Shapes,
+        root: ShapeId,
+        representation: EnumRepr<'c>,
+    ) -> Result<Schema<'c>, SchemaError<'c>>
+        requires { root < length shapes.now }
+        ensures built { IfOk result (IsBuilt (flat_settings (Some (repr_view representation.entry))) shapes.now root) }
+        ensures refused { IfErr result (IsRefusal (flat_settings (Some (repr_view representation.entry))) shapes.now root) }
+    {
+        let plan = Plan {
+            alloc,
+            shapes,
+            representation: Some(representation),
+            format: Format::Flat,
+        };
+        Schema::of_plan(plan, root)
+    }
+
+    /// The schema of a root, with the representation of each flattened enum that its own attributes ask for.
+    ///
+    /// Refused where two fields of one choice have one key, and where memory is refused.
+    pub fn build_auto(
+        alloc: Global,
+        shapes: &'c Shapes,
+        root: ShapeId,
+    ) -> Result<Schema<'c>, SchemaError<'c>>
+        requires { root < length shapes.now }
+        ensures built { IfOk result (IsBuilt (flat_settings None) shapes.now root) }
+        ensures refused { IfErr result (IsRefusal (flat_settings None) shapes.now root) }
+    {
+        let plan = Plan {
+            alloc,
+            shapes,
+            representation: None,
+            format: Format::Flat,
+        };
+        Schema::of_plan(plan, root)
+    }
+
+    // The schema that a plan makes.
+    pub(crate) fn of_plan(plan: Plan<'c>, root: ShapeId) -> Result<Schema<'c>, SchemaError<'c>>
+        requires { root < length plan.shapes.now }
+        ensures built { IfOk result (IsBuilt (settings_of plan.entry) plan.entry.shapes.now root) }
+        ensures refused { IfErr result (IsRefusal (settings_of plan.entry) plan.entry.shapes.now root) }
+    {
+        Ok(Schema {
+            shapes: plan.shapes,
+            root,
+            representation: plan.representation,
+            format: plan.format,
+            resolutions: resolutions(plan, root)?,
+        })
+    }
+
     /// The resolutions, in order.
     pub fn resolutions(&self) -> &[Resolution<'c>]
         ensures { result.now ≡ self.now.resolutions }
