@@ -32,3 +32,12 @@ pub mod CountAnswer
 pub mod CountView
 pub mod Newtype
 pub mod NestedLaws
+pub use Rattle.facet_solver_shape.specs.Names
+pub use Rattle.facet_solver_shape.specs.Faults
+pub use Rattle.facet_solver_shape.specs.Paths
+pub use Rattle.facet_solver_shape.specs.Keys
+pub use Rattle.facet_solver_shape.specs.Resolved
+pub use Rattle.facet_solver_shape.specs.Views
+pub use Rattle.facet_solver_shape.specs.Matching
+pub use Rattle.facet_solver_shape.specs.Descriptions
+pub use Rattle.facet_solver_shape.specs.Scores

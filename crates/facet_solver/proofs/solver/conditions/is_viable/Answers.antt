@@ -10,4 +10,4 @@ returns c =
     let keys = c.args.seen.now.keys in
     c.are_seen.ensures
     ∙ sym (are_names_among keys c.required_field_names.result.now.keys)
-    ∙ ap (λ names. is_subset names (names_among (map key_of keys))) c.required_field_names.ensures
+    ∙ ap (λ names. is_subset names (names_among (map key_of keys))) c.required_field_names.ensures.view
