@@ -13,6 +13,11 @@ pub mod Descent
 pub mod Limits
 pub mod Steps
 pub mod Products
+pub mod IndexSets
+pub mod Viability
+pub mod Distinct
+pub mod Verdicts
+pub mod Told
 pub mod RoleViews
 pub mod Resolutions
 pub mod Outcomes

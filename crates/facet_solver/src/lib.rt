@@ -2,4 +2,21 @@
 #![tactic(auto)]
 
 pub mod build;
+pub mod error;
 pub mod laws;
+pub mod schema;
+pub mod set;
+pub mod solver;
+
+pub use build::representation::{EnumRepr, Format};
+pub use error::{CandidateFailure, MissingFieldInfo, SolverError};
+pub use facet_solver_shape::{
+    CatalogueError, DomMark, DuplicateFieldError, Field, FieldCategory, FieldInfo, FieldKey,
+    FieldPath, KeyPath, PathSegment, Resolution, ScalarType, SchemaError, Shape, ShapeId,
+    ShapeKind, Shapes, StructKind, Variant, VariantFormat, VariantSelection, VariantsByFormat,
+    specificity_score,
+};
+pub use schema::{ResolutionHandle, Schema};
+pub use set::{ResolutionSet, ResolutionSetIter};
+pub use solver::Solver;
+pub use solver::key_result::KeyResult;

@@ -1,0 +1,18 @@
+use Rattle.std.proofs.Common.{◌++◌, ◌∷◌, [], map, ap, ◌∙◌}
+use Rattle.std.proofs.lemmas.List.{map-append}
+use Rattle.std.proofs.lemmas.List.Elements.{All-push}
+use Rattle.facet_solver.specs.Handle.{IsHandleOf, index_of}
+use Rattle.facet_solver.proofs.IndexSets.{rest_more}
+use Rattle.facet_solver.proofs.solver.Solver.candidates.Goals as goal
+
+pub loop-index-preserved : goal.loop-index-preserved
+loop-index-preserved c =
+    let before = c.loop-index.invariant in
+    let handles = c.loop-index.handles.items in
+    record {
+      parts = rest_more c.loop-index.yielded _ _ _ c.in-Some.index before.parts c.in-Some.ensures.steps;
+      numbers = ap (map index_of) c.in_ok-push.ensures.items
+        ∙ map-append index_of handles (c.handle.result ∷ [])
+        ∙ (λ j. before.numbers j ++ c.handle.ensures.index j ∷ []);
+      handles = rw c.in_ok-push.ensures.items (All-push (IsHandleOf c.self.inside.schema.now) handles c.handle.result before.handles c.handle.ensures.of_schema);
+    }

@@ -1,0 +1,61 @@
+-- What schemas and solvers say is stored as the tuple of its parts.
+use Rattle.std.specs.Prelude.{◌≡◌, ℕ, zero, suc, List, [], Option, refl}
+use Rattle.std.specs.Coded.{Coded, code_by, coded×, coded_ℕ, coded_list, coded_option}
+use Rattle.facet_solver_shape.specs.Keys.{Key}
+use Rattle.facet_solver_shape.specs.Names.{Name}
+use Rattle.facet_solver_shape.specs.Resolved.{Resolved}
+use Rattle.facet_solver_shape.specs.ResolvedCode.{key_code, resolved_code}
+use Rattle.facet_solver_shape.specs.contracts.shape.Shape as shape
+use Rattle.facet_solver.specs.contracts.build.representation.Format as format
+use Rattle.facet_solver.specs.declared.build.representation.Format.{Format}
+use Rattle.facet_solver.specs.Representation.{Repr, Settings, flattened, externally_tagged, internally_tagged, adjacently_tagged}
+use Rattle.facet_solver.specs.SchemaView.{SchemaView}
+use Rattle.facet_solver.specs.State.{State}
+use Rattle.facet_solver.specs.Targets.{Catalogue}
+
+abbrev repr_parts : Repr → ℕ × (Name × Name)
+repr_parts flattened = (0, ([], []))
+repr_parts externally_tagged = (1, ([], []))
+repr_parts (internally_tagged tag) = (2, (tag, []))
+repr_parts (adjacently_tagged tag content) = (3, (tag, content))
+
+abbrev repr_numbered : Name → Name → ℕ → Repr
+repr_numbered tag content zero = flattened
+repr_numbered tag content (suc zero) = externally_tagged
+repr_numbered tag content (suc (suc zero)) = internally_tagged tag
+repr_numbered tag content (suc (suc (suc n))) = adjacently_tagged tag content
+
+pub repr_back : (r : Repr) → repr_numbered (repr_parts r).1.0 (repr_parts r).1.1 (repr_parts r).0 ≡ r
+repr_back flattened = refl
+repr_back externally_tagged = refl
+repr_back (internally_tagged tag) = refl
+repr_back (adjacently_tagged tag content) = refl
+
+abbrev pub repr_code : Coded Repr
+repr_code =
+    code_by (ℕ × (Name × Name)) (coded× coded_ℕ (coded× (coded_list coded_ℕ) (coded_list coded_ℕ)))
+    repr_parts
+    (λ p. repr_numbered p.1.0 p.1.1 p.0)
+    repr_back
+
+abbrev pub settings_code : Coded Settings
+settings_code =
+    code_by (Option Repr × Format) (coded× (coded_option repr_code) format.the_row.coded)
+    (λ s. (s.representation, s.format))
+    (λ p. record { representation = p.0; format = p.1 })
+    (λ _. refl)
+
+abbrev pub schema_code : Coded SchemaView
+schema_code =
+    code_by ((Catalogue × ℕ) × (Settings × List Resolved))
+    (coded× (coded× (coded_list shape.the_row.coded) coded_ℕ) (coded× settings_code (coded_list resolved_code)))
+    (λ s. ((s.catalogue, s.root), (s.settings, s.resolutions)))
+    (λ p. record { catalogue = p.0.0; root = p.0.1; settings = p.1.0; resolutions = p.1.1 })
+    (λ _. refl)
+
+abbrev pub state_code : Coded State
+state_code =
+    code_by (SchemaView × (List ℕ × List Key)) (coded× schema_code (coded× (coded_list coded_ℕ) (coded_list key_code)))
+    (λ s. (s.schema, (s.candidates, s.seen)))
+    (λ p. record { schema = p.0; candidates = p.1.0; seen = p.1.1 })
+    (λ _. refl)

@@ -1,0 +1,213 @@
+//! All resolutions of a type.
+ghost use Rattle.std.specs.Prelude.{◌≡◌, ◌<◌, IfErr, IfOk, None, Some, length};
+ghost use Rattle.std.specs.Cmp.{partial_equiv_from_equiv};
+ghost use Rattle.facet_solver.specs.PlanView.{settings_of};
+ghost use Rattle.facet_solver.specs.Refusal.{IsRefusal};
+ghost use Rattle.facet_solver.specs.Representation.{externally_tagged, flattened, repr_view};
+ghost use Rattle.facet_solver.specs.SchemaView.{IsBuilt, flat_settings};
+
+use crate::build::plan::Plan;
+use crate::build::representation::{EnumRepr, Format};
+use crate::build::resolve::resolutions;
+use facet_solver_shape::{Resolution, SchemaError, ShapeId, Shapes};
+use std::alloc::Global;
+use std::marker::Model;
+
+/// All resolutions of a type: one for each choice of variants, in order.
+#[derive(Debug, Drop)]
+pub struct Schema<'c> {
+    shapes: &'c Shapes,
+    root: ShapeId,
+    representation: Option<EnumRepr<'c>>,
+    format: Format,
+    resolutions: Vec<Resolution<'c>>,
+}
+
+impl<'c> Model for Schema<'c> {
+    ghost use Rattle.facet_solver.specs.Representation.{asked_view};
+    ghost use Rattle.facet_solver.specs.SchemaCode.{schema_code};
+    ghost use Rattle.facet_solver.specs.SchemaView.{SchemaView};
+
+    ghost Value = { SchemaView };
+
+    ghost coded = { schema_code };
+
+    ghost view = { λ s. record {
+      catalogue = s.shapes.now;
+      root = s.root;
+      settings = record { representation = asked_view s.representation; format = s.format };
+      resolutions = s.resolutions.items;
+    } };
+}
+
+impl<'c> Schema<'c> {
+    /// The schema of a root, with the content of each flattened enum among the fields around it.
+    ///
+    /// Refused where two fields of one choice have one key, and where memory is refused.
+    pub fn build(
+        alloc: Global,
+        shapes: &'c Shapes,
+        root: ShapeId,
+    ) -> Result<Schema<'c>, SchemaError<'c>>
+        requires { root < length shapes.now }
+        ensures built { IfOk result (IsBuilt (flat_settings (Some flattened)) shapes.now root) }
+        ensures refused { IfErr result (IsRefusal (flat_settings (Some flattened)) shapes.now root) }
+    {
+        Schema::build_with_repr(alloc, shapes, root, EnumRepr::Flattened)
+    }
+
+    /// The schema of a root, with each flattened enum in a field named after its variant.
+    ///
+    /// Refused where two fields of one choice have one key, and where memory is refused.
+    pub fn build_externally_tagged(
+        alloc: Global,
+        shapes: &'c Shapes,
+        root: ShapeId,
+    ) -> Result<Schema<'c>, SchemaError<'c>>
+        requires { root < length shapes.now }
+        ensures built { IfOk result (IsBuilt (flat_settings (Some externally_tagged)) shapes.now root) }
+        ensures refused { IfErr result (IsRefusal (flat_settings (Some externally_tagged)) shapes.now root) }
+    {
+        Schema::build_with_repr(alloc, shapes, root, EnumRepr::ExternallyTagged)
+    }
+
+    /// The schema of a root, with one representation for all flattened enums.
+    ///
+    /// Refused where two fields of one choice have one key, and where memory is refused.
+    pub fn build_with_repr(
+        alloc: Global,
+        shapes: &'c Shapes,
+        root: ShapeId,
+        representation: EnumRepr<'c>,
+    ) -> Result<Schema<'c>, SchemaError<'c>>
+        requires { root < length shapes.now }
+        ensures built { IfOk result (IsBuilt (flat_settings (Some (repr_view representation.entry))) shapes.now root) }
+        ensures refused { IfErr result (IsRefusal (flat_settings (Some (repr_view representation.entry))) shapes.now root) }
+    {
+        let plan = Plan {
+            alloc,
+            shapes,
+            representation: Some(representation),
+            format: Format::Flat,
+        };
+        Schema::of_plan(plan, root)
+    }
+
+    /// The schema of a root, with the representation of each flattened enum that its own attributes ask for.
+    ///
+    /// Refused where two fields of one choice have one key, and where memory is refused.
+    pub fn build_auto(
+        alloc: Global,
+        shapes: &'c Shapes,
+        root: ShapeId,
+    ) -> Result<Schema<'c>, SchemaError<'c>>
+        requires { root < length shapes.now }
+        ensures built { IfOk result (IsBuilt (flat_settings None) shapes.now root) }
+        ensures refused { IfErr result (IsRefusal (flat_settings None) shapes.now root) }
+    {
+        let plan = Plan {
+            alloc,
+            shapes,
+            representation: None,
+            format: Format::Flat,
+        };
+        Schema::of_plan(plan, root)
+    }
+
+    // The schema that a plan makes.
+    pub(crate) fn of_plan(plan: Plan<'c>, root: ShapeId) -> Result<Schema<'c>, SchemaError<'c>>
+        requires { root < length plan.shapes.now }
+        ensures built { IfOk result (IsBuilt (settings_of plan.entry) plan.entry.shapes.now root) }
+        ensures refused { IfErr result (IsRefusal (settings_of plan.entry) plan.entry.shapes.now root) }
+    {
+        Ok(Schema {
+            shapes: plan.shapes,
+            root,
+            representation: plan.representation,
+            format: plan.format,
+            resolutions: resolutions(plan, root)?,
+        })
+    }
+
+    /// The resolutions, in order.
+    pub fn resolutions(&self) -> &[Resolution<'c>]
+        ensures { result.now ≡ self.now.resolutions }
+    {
+        &self.resolutions
+    }
+
+    /// What kind of document the schema is for.
+    pub fn format(&self) -> Format
+        ensures { result ≡ self.now.settings.format }
+    {
+        self.format
+    }
+
+    /// The catalogue.
+    pub fn shapes(&self) -> &'c Shapes
+        ensures { result.now ≡ self.now.catalogue }
+    {
+        self.shapes
+    }
+}
+
+/// A resolution of a schema, with its number.
+///
+/// Two handles are equal where their numbers are, also those of two schemas.
+#[derive(Clone, Copy, Debug)]
+pub struct ResolutionHandle<'s, 'c> {
+    index: usize,
+    resolution: &'s Resolution<'c>,
+}
+
+impl PartialEq for ResolutionHandle<'_, '_> {
+    ghost use Rattle.facet_solver.specs.Handle.{same_index, same_index_equiv};
+
+    ghost eq = { same_index };
+
+    ghost laws = { partial_equiv_from_equiv same_index_equiv };
+
+    fn eq(&self, other: &Self) -> bool {
+        self.index == other.index
+    }
+}
+
+impl Eq for ResolutionHandle<'_, '_> {
+    ghost use Rattle.facet_solver.specs.Handle.{same_index_equiv};
+
+    ghost laws = { same_index_equiv };
+}
+
+impl<'s, 'c> ResolutionHandle<'s, 'c> {
+    ghost use Rattle.facet_solver.specs.Handle.{index_of, resolution_at};
+
+    /// The number of the resolution among those of its schema.
+    pub fn index(&self) -> usize
+        ensures { result ≡ index_of self.now }
+    {
+        self.index
+    }
+
+    /// The resolution.
+    pub fn resolution(&self) -> &'s Resolution<'c>
+        ensures { result.now ≡ resolution_at self.now }
+    {
+        self.resolution
+    }
+}
+
+impl<'c> Schema<'c> {
+    ghost use Rattle.facet_solver.specs.Handle.{index_of, IsHandleOf};
+
+    // The resolution of a number, with the number.
+    pub(crate) fn handle(&self, index: usize) -> ResolutionHandle<'_, 'c>
+        requires { index < length self.now.resolutions }
+        ensures index { index_of result ≡ index }
+        ensures of_schema { IsHandleOf self.now result }
+    {
+        ResolutionHandle {
+            index,
+            resolution: &self.resolutions[index],
+        }
+    }
+}

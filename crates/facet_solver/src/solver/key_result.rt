@@ -1,0 +1,76 @@
+//! What a solver answers to a key.
+ghost use Rattle.std.specs.Prelude.{◌≡◌, ◌↔◌, IsTrue};
+ghost use Rattle.facet_solver.specs.KeyAnswer.{unknown};
+ghost use Rattle.facet_solver.specs.KeyResultView.{answer_view};
+
+use crate::schema::ResolutionHandle;
+use facet_solver_shape::{FieldInfo, ShapeId};
+use std::fmt;
+
+/// What a key says of the document.
+#[derive(Drop)]
+pub enum KeyResult<'s, 'c> {
+    /// The value of the key has one shape, whichever candidate is meant.
+    Unambiguous {
+        /// That shape.
+        shape: ShapeId,
+    },
+    /// The value of the key has one of several shapes.
+    Ambiguous {
+        /// The first field of each shape, in the order of the candidates, with the score of the shape.
+        fields: Vec<(&'s FieldInfo<'c>, u64)>,
+    },
+    /// One candidate is left.
+    Solved(ResolutionHandle<'s, 'c>),
+    /// No candidate has a field that the key means.
+    Unknown,
+}
+
+impl KeyResult<'_, '_> {
+    // Whether no candidate has a field that the key means.
+    pub(crate) fn is_unknown(&self) -> bool
+        ensures { IsTrue result ↔ (answer_view self.now ≡ unknown) }
+    {
+        matches!(self, KeyResult::Unknown)
+    }
+}
+
+// As the derived form. The borrow of a field inside a vector is shorter than that of its names only to one who looks at it
+// alone, so each pair is printed by itself.
+impl fmt::Debug for KeyResult<'_, '_> {
+    fn fmt<W: fmt::Write>(&self, f: &mut fmt::Formatter<W>) -> fmt::Result {
+        match self {
+            KeyResult::Unambiguous { shape } => {
+                f.debug_struct("Unambiguous").field("shape", shape).finish()
+            }
+            KeyResult::Ambiguous { fields } => f
+                .debug_struct("Ambiguous")
+                .field("fields", &ScoredFields(fields))
+                .finish(),
+            KeyResult::Solved(handle) => f.debug_tuple("Solved").field(handle).finish(),
+            KeyResult::Unknown => f.write_str("Unknown"),
+        }
+    }
+}
+
+#[derive(Drop)]
+struct ScoredFields<'f, 's, 'c>(&'f [(&'s FieldInfo<'c>, u64)]);
+
+impl fmt::Debug for ScoredFields<'_, '_, '_> {
+    fn fmt<W: fmt::Write>(&self, f: &mut fmt::Formatter<W>) -> fmt::Result {
+        let mut list = f.debug_list();
+        for (field, score) in self.0 {
+            list.entry(&ScoredField(field, *score));
+        }
+        list.finish()
+    }
+}
+
+#[derive(Drop)]
+struct ScoredField<'f, 'c>(&'f FieldInfo<'c>, u64);
+
+impl fmt::Debug for ScoredField<'_, '_> {
+    fn fmt<W: fmt::Write>(&self, f: &mut fmt::Formatter<W>) -> fmt::Result {
+        f.debug_tuple("").field(self.0).field(&self.1).finish()
+    }
+}
