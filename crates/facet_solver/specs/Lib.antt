@@ -32,10 +32,6 @@ pub mod NestedLaws
 pub mod CountAnswer
 pub mod CountView
 pub mod Newtype
-pub mod ChoiceLists
-pub mod Filling
-pub mod Refusal
-pub mod NestedLaws
 pub use Rattle.facet_solver_shape.specs.Names
 pub use Rattle.facet_solver_shape.specs.Faults
 pub use Rattle.facet_solver_shape.specs.Paths
