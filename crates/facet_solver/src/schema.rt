@@ -1,16 +1,18 @@
 //! All resolutions of a type.
 ghost use Rattle.std.specs.Prelude.{◌≡◌, ◌<◌, IfErr, IfOk, None, Some, length};
 ghost use Rattle.std.specs.Cmp.{partial_equiv_from_equiv};
+ghost use Rattle.facet_solver.specs.CountAnswer.{IsCountOf};
 ghost use Rattle.facet_solver.specs.PlanView.{settings_of};
 ghost use Rattle.facet_solver.specs.Refusal.{IsRefusal};
-ghost use Rattle.facet_solver.specs.Representation.{externally_tagged, flattened, repr_view};
+ghost use Rattle.facet_solver.specs.Representation.{asked_view, externally_tagged, flattened, repr_view};
 ghost use Rattle.facet_solver.specs.SchemaView.{IsBuilt, flat_settings};
 
+use crate::build::count::count_of_root;
 use crate::build::plan::Plan;
 use crate::build::representation::{EnumRepr, Format};
 use crate::build::resolve::resolutions;
 use facet_solver_shape::{Resolution, SchemaError, ShapeId, Shapes};
-use std::alloc::Global;
+use std::alloc::{AllocError, Global};
 use std::marker::Model;
 
 /// All resolutions of a type: one for each choice of variants, in order.
@@ -112,6 +114,28 @@ impl<'c> Schema<'c> {
             format: Format::Flat,
         };
         Schema::of_plan(plan, root)
+    }
+
+    /// The number of resolutions that a schema of the root has, without building one: None from 2^64 on.
+    ///
+    /// The representation is that of all flattened enums; None leaves it to each enum's own attributes. An error comes
+    /// only where memory is refused.
+    pub fn resolution_count(
+        alloc: Global,
+        shapes: &Shapes,
+        root: ShapeId,
+        representation: Option<EnumRepr>,
+    ) -> Result<Option<u64>, AllocError>
+        requires { root < length shapes.now }
+        ensures { IfOk result (IsCountOf shapes.now root (asked_view representation.entry)) }
+    {
+        let plan = Plan {
+            alloc,
+            shapes,
+            representation,
+            format: Format::Flat,
+        };
+        count_of_root(plan, root)
     }
 
     // The schema that a plan makes.

@@ -1,6 +1,8 @@
 //! What the program answers.
-ghost use Rattle.std.specs.Prelude.{◌≡◌, ◌<◌, length, IfOk};
-ghost use Rattle.facet_solver_program.specs.Texts.{resolved_text};
+ghost use Rattle.std.specs.Prelude.{◌≡◌, ◌<◌, length, IfOk, string_bytes};
+ghost use Rattle.facet_solver.specs.Handle.{index_of, resolution_at};
+ghost use Rattle.facet_solver.specs.Targets.{Catalogue};
+ghost use Rattle.facet_solver_program.specs.Replies.{resolved_text, NamesResolution};
 
 use crate::message::{MESSAGE, message};
 use facet_solver::{
@@ -19,14 +21,19 @@ pub struct Reply {
 }
 
 impl Reply {
-    fn new(alloc: Global, status: u8, text: &str) -> Result<Self, AllocError> {
+    fn new(alloc: Global, status: u8, text: &str) -> Result<Self, AllocError>
+        ensures status { IfOk result (λ reply. reply.status ≡ status) }
+        ensures text { IfOk result (λ reply. string_bytes reply.text ≡ text.now) }
+    {
         let text = String::from_str(alloc, text)?;
         Ok(Reply { status, text })
     }
 }
 
-/// Solves the built-in message.
-pub fn answer(alloc: Global) -> Result<Reply, AllocError> {
+/// Solves the built-in message. A reply of status 0 names one of its resolutions.
+pub fn answer(alloc: Global) -> Result<Reply, AllocError>
+    ensures { IfOk result (λ reply. reply.status ≡ 0 → (cat : Catalogue) × NamesResolution cat MESSAGE (string_bytes reply.text)) }
+{
     match Shapes::new(message(alloc)?) {
         Ok(shapes) if shapes.has(ShapeId::new(MESSAGE)) => {
             solve(alloc, &shapes, ShapeId::new(MESSAGE))
@@ -43,6 +50,7 @@ pub fn answer(alloc: Global) -> Result<Reply, AllocError> {
 // Builds the schema of a root, tells it the keys, and says what they resolve to.
 fn solve(alloc: Global, shapes: &Shapes, root: ShapeId) -> Result<Reply, AllocError>
     requires { root < length shapes.now }
+    ensures { IfOk result (λ reply. reply.status ≡ 0 → NamesResolution shapes.now root (string_bytes reply.text)) }
 {
     let schema = match Schema::build(alloc, shapes, root) {
         Ok(schema) => schema,
@@ -62,7 +70,10 @@ fn solve(alloc: Global, shapes: &Shapes, root: ShapeId) -> Result<Reply, AllocEr
 }
 
 // The reply that names a resolution.
-fn resolved(alloc: Global, handle: ResolutionHandle<'_, '_>) -> Result<Reply, AllocError> {
+fn resolved(alloc: Global, handle: ResolutionHandle<'_, '_>) -> Result<Reply, AllocError>
+    ensures status { IfOk result (λ reply. reply.status ≡ 0) }
+    ensures text { IfOk result (λ reply. string_bytes reply.text ≡ resolved_text (index_of handle.entry) (resolution_at handle.entry)) }
+{
     let index = handle.index();
     let description = handle.resolution().describe(alloc)?;
     let text = format!(in alloc; "resolved {index}: {description}")?;

@@ -4,10 +4,15 @@ use facet_solver::{DomMark, Field, ScalarType, Shape, ShapeId, ShapeKind, Struct
 use std::alloc::{AllocError, Global};
 
 const STRING: usize = 0;
+
 const BYTE: usize = 1;
+
 const BYTES: usize = 2;
+
 const TEXT_MESSAGE: usize = 3;
+
 const BINARY_MESSAGE: usize = 4;
+
 const MESSAGE_PAYLOAD: usize = 5;
 
 /// The place of the message in the list.
@@ -16,13 +21,18 @@ pub const MESSAGE: usize = 6;
 /// The shapes of the message, each before those that name it.
 pub fn message(alloc: Global) -> Result<Vec<Shape>, AllocError> {
     let text = vec![in alloc; field(alloc, "content", STRING)?]?;
-    let binary = vec![in alloc; field(alloc, "data", BYTES)?, field(alloc, "encoding", STRING)?]?;
-    let variants =
-        vec![in alloc; newtype(alloc, "Text", TEXT_MESSAGE)?, newtype(alloc, "Binary", BINARY_MESSAGE)?]?;
+    let binary = vec![in alloc;
+        field(alloc, "data", BYTES)?,
+        field(alloc, "encoding", STRING)?,
+    ]?;
+    let variants = vec![in alloc;
+        newtype(alloc, "Text", TEXT_MESSAGE)?,
+        newtype(alloc, "Binary", BINARY_MESSAGE)?,
+    ]?;
     let mut payload = field(alloc, "payload", MESSAGE_PAYLOAD)?;
     payload.flattened = true;
     let fields = vec![in alloc; field(alloc, "id", STRING)?, payload]?;
-    vec![in alloc;
+    Ok(vec![in alloc;
         shape(alloc, "String", ShapeKind::Scalar(ScalarType::String))?,
         shape(alloc, "u8", ShapeKind::Scalar(ScalarType::U8))?,
         shape(alloc, "Vec<u8>", ShapeKind::List(ShapeId::new(BYTE)))?,
@@ -30,7 +40,7 @@ pub fn message(alloc: Global) -> Result<Vec<Shape>, AllocError> {
         structure(alloc, "BinaryMessage", binary)?,
         shape(alloc, "MessagePayload", ShapeKind::Enum { variants })?,
         structure(alloc, "Message", fields)?,
-    ]
+    ]?)
 }
 
 fn shape(alloc: Global, name: &str, kind: ShapeKind) -> Result<Shape, AllocError> {

@@ -67,15 +67,27 @@ fn pointers_end(rt: HostRuntime) -> Result<(), Fail> {
     assert_eq!(rt; refusal_of(ended), None);
     let longer = shapes_of(
         alloc,
-        vec![in alloc; pointer_to(1), pointer_to(2), ShapeKind::Option(ShapeId::new(0))]?,
+        vec![in alloc;
+            pointer_to(1),
+            pointer_to(2),
+            ShapeKind::Option(ShapeId::new(0)),
+        ]?,
     )?;
     assert_eq!(rt; refusal_of(longer), None);
     let into_a_cycle = shapes_of(
         alloc,
-        vec![in alloc; ShapeKind::Other, pointer_to(2), pointer_to(3), pointer_to(2)]?,
+        vec![in alloc;
+            ShapeKind::Other,
+            pointer_to(2),
+            pointer_to(3),
+            pointer_to(2),
+        ]?,
     )?;
     assert_eq!(rt; refusal_of(into_a_cycle), Some((3, 1)));
-    let opaque = shapes_of(alloc, vec![in alloc; pointer_to(1), ShapeKind::Pointer(None)]?)?;
+    let opaque = shapes_of(
+        alloc,
+        vec![in alloc; pointer_to(1), ShapeKind::Pointer(None)]?,
+    )?;
     assert_eq!(rt; refusal_of(opaque), None);
     Ok(())
 }
@@ -97,7 +109,10 @@ fn items_may_be_of_any_place(rt: HostRuntime) -> Result<(), Fail> {
 fn fields_and_proxies_name_earlier_places(rt: HostRuntime) -> Result<(), Fail> {
     let alloc = rt.alloc();
     let own = struct_of(vec![in alloc; field_of(alloc, "a", 0)?]?);
-    assert_eq!(rt; refusal_of(shapes_of(alloc, vec![in alloc; own]?)?), Some((2, 0)));
+    assert_eq!(rt;
+        refusal_of(shapes_of(alloc, vec![in alloc; own]?)?),
+        Some((2, 0))
+    );
     let mut proxied = shape_of(alloc, ShapeKind::Other)?;
     proxied.proxy = Some(ShapeId::new(0));
     assert_eq!(rt; refusal_of(vec![in alloc; proxied]?), Some((2, 0)));

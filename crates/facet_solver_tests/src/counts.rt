@@ -50,7 +50,11 @@ fn enums_multiply(rt: HostRuntime) -> Result<(), Fail> {
             }
             let root = block(&mut types, alloc, shapes.as_slice())?;
             let answer = count(alloc, types, root, repr)?;
-            assert_eq!(rt; answer, number, "{pairs} pairs, beside Never: {beside_never}");
+            assert_eq!(rt;
+                answer,
+                number,
+                "{pairs} pairs, beside Never: {beside_never}"
+            );
         }
     }
     Ok(())
@@ -73,13 +77,21 @@ fn levels_square(rt: HostRuntime) -> Result<(), Fail> {
     for (top, number) in [(5, Some(4294967296)), (6, None), (60, None)] {
         let mut types = Types::new(alloc);
         let root = level(&mut types, alloc, top)?;
-        assert_eq!(rt; count(alloc, types, root, flattened)?, number, "level {top}");
+        assert_eq!(rt;
+            count(alloc, types, root, flattened)?,
+            number,
+            "level {top}"
+        );
     }
     for never_first in [true, false] {
         let mut types = Types::new(alloc);
         let never = types.enumeration("Never", Vec::new(alloc))?;
         let top = level(&mut types, alloc, 60)?;
-        let pair = if never_first { [never, top] } else { [top, never] };
+        let pair = if never_first {
+            [never, top]
+        } else {
+            [top, never]
+        };
         let root = block(&mut types, alloc, &pair)?;
         assert_eq!(rt; count(alloc, types, root, flattened)?, Some(0));
     }
@@ -117,10 +129,18 @@ fn contents_count_where_they_are_walked(rt: HostRuntime) -> Result<(), Fail> {
         let mut types = Types::new(alloc);
         let contents = of_contents(&mut types, alloc)?;
         let root = block(&mut types, alloc, &[contents, contents])?;
-        assert_eq!(rt; count(alloc, types, root, Some(repr))?, Some(twice), "{repr:?}");
+        assert_eq!(rt;
+            count(alloc, types, root, Some(repr))?,
+            Some(twice),
+            "{repr:?}"
+        );
         let mut types = Types::new(alloc);
         let root = of_contents(&mut types, alloc)?;
-        assert_eq!(rt; count(alloc, types, root, Some(repr))?, Some(13), "{repr:?} at the root");
+        assert_eq!(rt;
+            count(alloc, types, root, Some(repr))?,
+            Some(13),
+            "{repr:?} at the root"
+        );
     }
     Ok(())
 }

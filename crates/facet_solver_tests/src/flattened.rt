@@ -1,6 +1,8 @@
 //! The resolutions of types with flattened fields: one for each choice of variants, in order.
 
-use crate::fixtures::{Types, enum_of_units, enum_t, field, flat, newtype, variant, variant_of_one};
+use crate::fixtures::{
+    Types, enum_of_units, enum_t, field, flat, newtype, variant, variant_of_one,
+};
 use crate::reading::{described, key_paths, keys, printed, required_names};
 use facet_solver::{
     FieldCategory, FieldKey, KeyResult, ScalarType, Schema, SchemaError, ShapeKind, Solver,
@@ -14,15 +16,23 @@ fn two_enums_pair_each_with_each(rt: HostRuntime) -> Result<(), Fail> {
     let mut types = Types::new(alloc);
     let byte = types.scalar("u8", ScalarType::U8)?;
     let t = enum_t(&mut types, byte)?;
-    let variants =
-        vec![in alloc; variant_of_one(alloc, "C", "c", byte)?, variant_of_one(alloc, "D", "d", byte)?]?;
+    let variants = vec![in alloc;
+        variant_of_one(alloc, "C", "c", byte)?,
+        variant_of_one(alloc, "D", "d", byte)?,
+    ]?;
     let u = types.enumeration("U", variants)?;
-    let root = types.structure("S", vec![in alloc; flat(alloc, "p", t)?, flat(alloc, "q", u)?]?)?;
+    let root = types.structure(
+        "S",
+        vec![in alloc; flat(alloc, "p", t)?, flat(alloc, "q", u)?]?,
+    )?;
     let shapes = types.checked()?;
     assert!(rt; shapes.has(root));
     let schema = Schema::build(alloc, &shapes, root)?;
     let texts = described(alloc, schema.resolutions())?;
-    assert_eq!(rt; texts.as_str(), "T::A + U::C; T::A + U::D; T::B + U::C; T::B + U::D");
+    assert_eq!(rt;
+        texts.as_str(),
+        "T::A + U::C; T::A + U::D; T::B + U::C; T::B + U::D"
+    );
     Ok(())
 }
 
@@ -32,15 +42,22 @@ fn nothing_under_an_option_is_required(rt: HostRuntime) -> Result<(), Fail> {
     let mut types = Types::new(alloc);
     let byte = types.scalar("u8", ScalarType::U8)?;
     let t = enum_t(&mut types, byte)?;
-    let inner =
-        types.structure("Inner", vec![in alloc; field(alloc, "a", byte)?, flat(alloc, "k", t)?]?)?;
+    let inner = types.structure(
+        "Inner",
+        vec![in alloc; field(alloc, "a", byte)?, flat(alloc, "k", t)?]?,
+    )?;
     let block = types.option(inner)?;
-    let root =
-        types.structure("S", vec![in alloc; field(alloc, "b", byte)?, flat(alloc, "o", block)?]?)?;
+    let root = types.structure(
+        "S",
+        vec![in alloc; field(alloc, "b", byte)?, flat(alloc, "o", block)?]?,
+    )?;
     let shapes = types.checked()?;
     assert!(rt; shapes.has(root));
     let schema = Schema::build(alloc, &shapes, root)?;
-    assert_eq!(rt; described(alloc, schema.resolutions())?.as_str(), "T::A; T::B");
+    assert_eq!(rt;
+        described(alloc, schema.resolutions())?.as_str(),
+        "T::A; T::B"
+    );
     for resolution in schema.resolutions() {
         assert_eq!(rt; required_names(alloc, resolution)?.as_str(), "b");
     }
@@ -56,7 +73,10 @@ fn a_root_enum_gives_one_for_each_variant(rt: HostRuntime) -> Result<(), Fail> {
     let shapes = types.checked()?;
     assert!(rt; shapes.has(root));
     let schema = Schema::build(alloc, &shapes, root)?;
-    assert_eq!(rt; described(alloc, schema.resolutions())?.as_str(), "T::A; T::B");
+    assert_eq!(rt;
+        described(alloc, schema.resolutions())?.as_str(),
+        "T::A; T::B"
+    );
     let first = schema.resolutions().first().ok_or("no resolution")?;
     let pick = first.variant_selections().first().ok_or("no pick")?;
     assert_eq!(rt; printed(alloc, &pick.path)?.as_str(), "<root>");
@@ -110,11 +130,15 @@ fn a_clash_beside_an_empty_enum_is_none(rt: HostRuntime) -> Result<(), Fail> {
     let byte = types.scalar("u8", ScalarType::U8)?;
     let never = types.enumeration("Never", Vec::new(alloc))?;
     let clashing = vec![in alloc; field(alloc, "x", byte)?, flat(alloc, "n", never)?]?;
-    let variants =
-        vec![in alloc; variant(alloc, "A", clashing)?, variant_of_one(alloc, "B", "y", byte)?]?;
+    let variants = vec![in alloc;
+        variant(alloc, "A", clashing)?,
+        variant_of_one(alloc, "B", "y", byte)?,
+    ]?;
     let v2 = types.enumeration("V2", variants)?;
-    let root =
-        types.structure("S", vec![in alloc; field(alloc, "x", byte)?, flat(alloc, "e", v2)?]?)?;
+    let root = types.structure(
+        "S",
+        vec![in alloc; field(alloc, "x", byte)?, flat(alloc, "e", v2)?]?,
+    )?;
     let shapes = types.checked()?;
     assert!(rt; shapes.has(root));
     let schema = Schema::build(alloc, &shapes, root)?;
@@ -130,8 +154,10 @@ fn a_clash_of_a_choice_is_refused(rt: HostRuntime) -> Result<(), Fail> {
     let mut types = Types::new(alloc);
     let byte = types.scalar("u8", ScalarType::U8)?;
     let t = enum_t(&mut types, byte)?;
-    let root =
-        types.structure("S", vec![in alloc; flat(alloc, "e", t)?, field(alloc, "x", byte)?]?)?;
+    let root = types.structure(
+        "S",
+        vec![in alloc; flat(alloc, "e", t)?, field(alloc, "x", byte)?]?,
+    )?;
     let shapes = types.checked()?;
     assert!(rt; shapes.has(root));
     let Err(SchemaError::DuplicateField(duplicate)) = Schema::build(alloc, &shapes, root) else {
@@ -154,8 +180,7 @@ fn an_optional_enum_without_a_key_is_ambiguous(rt: HostRuntime) -> Result<(), Fa
     let shapes = types.checked()?;
     assert!(rt; shapes.has(root));
     let schema = Schema::build(alloc, &shapes, root)?;
-    let Err(SolverError::Ambiguous { candidates, .. }) =
-        Solver::new(alloc, &schema)?.finish(alloc)
+    let Err(SolverError::Ambiguous { candidates, .. }) = Solver::new(alloc, &schema)?.finish(alloc)
     else {
         return Err("not ambiguous".into());
     };
@@ -176,7 +201,12 @@ fn an_empty_enum_leaves_no_resolution(rt: HostRuntime) -> Result<(), Fail> {
     let schema = Schema::build(alloc, &shapes, root)?;
     assert_eq!(rt; schema.resolutions().len(), 0);
     let mut solver = Solver::new(alloc, &schema)?;
-    assert!(rt; matches!(solver.see_key(alloc, FieldKey::flat("x"))?, KeyResult::Unknown));
+    assert!(rt;
+        matches!(
+            solver.see_key(alloc, FieldKey::flat("x"))?,
+            KeyResult::Unknown
+        )
+    );
     let Err(SolverError::NoMatch { .. }) = Solver::new(alloc, &schema)?.finish(alloc) else {
         return Err("not refused as without a match".into());
     };
@@ -210,8 +240,11 @@ fn choices_are_numbered_in_order(rt: HostRuntime) -> Result<(), Fail> {
     let p = enum_of_units(&mut types, "P", "ABCD")?;
     let q = enum_of_units(&mut types, "Q", "ABCD")?;
     let r = enum_of_units(&mut types, "R", "ABCD")?;
-    let fields =
-        vec![in alloc; flat(alloc, "p", p)?, flat(alloc, "q", q)?, flat(alloc, "r", r)?]?;
+    let fields = vec![in alloc;
+        flat(alloc, "p", p)?,
+        flat(alloc, "q", q)?,
+        flat(alloc, "r", r)?,
+    ]?;
     let root = types.structure("S", fields)?;
     let shapes = types.checked()?;
     assert!(rt; shapes.has(root));
@@ -242,7 +275,10 @@ fn candidates_pass_a_word_of_bits(rt: HostRuntime) -> Result<(), Fail> {
         assert!(rt; shapes.has(root));
         let schema = Schema::build(alloc, &shapes, root)?;
         assert_eq!(rt; schema.resolutions().len(), count);
-        let last = Solver::new(alloc, &schema)?.candidates(alloc)?.last().map(|h| h.index() + 1);
+        let last = Solver::new(alloc, &schema)?
+            .candidates(alloc)?
+            .last()
+            .map(|h| h.index() + 1);
         assert_eq!(rt; last, Some(count));
     }
     Ok(())
@@ -255,17 +291,26 @@ fn a_flattened_map_takes_what_no_field_takes(rt: HostRuntime) -> Result<(), Fail
     let text = types.scalar("String", ScalarType::String)?;
     let byte = types.scalar("u8", ScalarType::U8)?;
     let map = types.add("BTreeMap", ShapeKind::Map(text, byte))?;
-    let root =
-        types.structure("S", vec![in alloc; field(alloc, "id", text)?, flat(alloc, "rest", map)?]?)?;
+    let root = types.structure(
+        "S",
+        vec![in alloc; field(alloc, "id", text)?, flat(alloc, "rest", map)?]?,
+    )?;
     let shapes = types.checked()?;
     assert!(rt; shapes.has(root));
     let schema = Schema::build(alloc, &shapes, root)?;
     let first = schema.resolutions().first().ok_or("no resolution")?;
     assert_eq!(rt; keys(alloc, first)?.as_str(), "id");
-    let rest = first.catch_all_map(FieldCategory::Flat).ok_or("no catch-all")?;
+    let rest = first
+        .catch_all_map(FieldCategory::Flat)
+        .ok_or("no catch-all")?;
     assert_eq!(rt; rest.serialized_name, "rest");
     let mut solver = Solver::new(alloc, &schema)?;
-    assert!(rt; matches!(solver.see_key(alloc, FieldKey::flat("zzz"))?, KeyResult::Unknown));
+    assert!(rt;
+        matches!(
+            solver.see_key(alloc, FieldKey::flat("zzz"))?,
+            KeyResult::Unknown
+        )
+    );
     let KeyResult::Solved(handle) = solver.see_key(alloc, FieldKey::flat("id"))? else {
         return Err("id does not solve".into());
     };
@@ -280,16 +325,20 @@ fn a_newtype_is_walked_at_its_effective_shape(rt: HostRuntime) -> Result<(), Fai
     let mut types = Types::new(alloc);
     let byte = types.scalar("u8", ScalarType::U8)?;
     let int = types.scalar("i32", ScalarType::I32)?;
-    let proxy =
-        types.structure("GCurveProxy", vec![in alloc; field(alloc, "x", int)?, field(alloc, "y", int)?]?)?;
+    let proxy = types.structure(
+        "GCurveProxy",
+        vec![in alloc; field(alloc, "x", int)?, field(alloc, "y", int)?]?,
+    )?;
     let mut curve = crate::fixtures::shape(alloc, "GCurve", ShapeKind::Other)?;
     curve.proxy = Some(proxy);
     let general = types.add_shape(curve)?;
     let mut curve = crate::fixtures::shape(alloc, "Curve64", ShapeKind::Other)?;
     curve.inner = Some(general);
     let curve = types.add_shape(curve)?;
-    let variants =
-        vec![in alloc; newtype(alloc, "Linear", curve)?, variant_of_one(alloc, "Level", "z", byte)?]?;
+    let variants = vec![in alloc;
+        newtype(alloc, "Linear", curve)?,
+        variant_of_one(alloc, "Level", "z", byte)?,
+    ]?;
     let curves = types.enumeration("Curve", variants)?;
     let root = types.structure("S", vec![in alloc; flat(alloc, "c", curves)?]?)?;
     let shapes = types.checked()?;

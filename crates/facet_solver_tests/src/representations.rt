@@ -11,7 +11,10 @@ use std::test::Fail;
 /// `S { name: String, flat e: E }`
 fn named(types: &mut Types, alloc: Global, e: ShapeId) -> Result<ShapeId, AllocError> {
     let text = types.scalar("String", ScalarType::String)?;
-    types.structure("S", vec![in alloc; field(alloc, "name", text)?, flat(alloc, "e", e)?]?)
+    types.structure(
+        "S",
+        vec![in alloc; field(alloc, "name", text)?, flat(alloc, "e", e)?]?,
+    )
 }
 
 #[test]
@@ -29,7 +32,10 @@ fn a_tag_stands_beside_the_content(rt: HostRuntime) -> Result<(), Fail> {
         assert_eq!(rt; keys(alloc, resolution)?.as_str(), names);
         assert_eq!(rt; key_paths(alloc, resolution)?.as_str(), names);
     }
-    assert_eq!(rt; Schema::resolution_count(alloc, &shapes, root, None)?, Some(2));
+    assert_eq!(rt;
+        Schema::resolution_count(alloc, &shapes, root, None)?,
+        Some(2)
+    );
     Ok(())
 }
 
@@ -44,9 +50,17 @@ fn an_external_variant_holds_its_content(rt: HostRuntime) -> Result<(), Fail> {
     let schema = Schema::build_externally_tagged(alloc, &shapes, root)?;
     let first = schema.resolutions().first().ok_or("no resolution")?;
     assert_eq!(rt; keys(alloc, first)?.as_str(), "Tcp name");
-    assert_eq!(rt; key_paths(alloc, first)?.as_str(), "Tcp Tcp.host Tcp.port name");
+    assert_eq!(rt;
+        key_paths(alloc, first)?.as_str(),
+        "Tcp Tcp.host Tcp.port name"
+    );
     let mut solver = Solver::new(alloc, &schema)?;
-    assert!(rt; matches!(solver.see_key(alloc, FieldKey::flat("host"))?, KeyResult::Unknown));
+    assert!(rt;
+        matches!(
+            solver.see_key(alloc, FieldKey::flat("host"))?,
+            KeyResult::Unknown
+        )
+    );
     for key in ["Tcp", "name"] {
         let KeyResult::Solved(handle) = solver.see_key(alloc, FieldKey::flat(key))? else {
             return Err("the key does not solve".into());
@@ -66,13 +80,21 @@ fn a_tag_and_a_content_name_stand_apart(rt: HostRuntime) -> Result<(), Fail> {
     let shapes = types.checked()?;
     assert!(rt; shapes.has(root));
     let schema = Schema::build_auto(alloc, &shapes, root)?;
-    assert_eq!(rt; described(alloc, schema.resolutions())?.as_str(), "E::Tcp; E::Unix");
+    assert_eq!(rt;
+        described(alloc, schema.resolutions())?.as_str(),
+        "E::Tcp; E::Unix"
+    );
     let mut solver = Solver::new(alloc, &schema)?;
     let KeyResult::Unambiguous { shape } = solver.see_key(alloc, FieldKey::flat("t"))? else {
         return Err("t is not unambiguous".into());
     };
     assert_eq!(rt; shape, e);
-    assert!(rt; matches!(solver.see_key(alloc, FieldKey::flat("c"))?, KeyResult::Unknown));
+    assert!(rt;
+        matches!(
+            solver.see_key(alloc, FieldKey::flat("c"))?,
+            KeyResult::Unknown
+        )
+    );
     for (resolution, has_path) in schema.resolutions().iter().zip([false, true]) {
         assert!(rt; resolution.has_key_path(&["c"]));
         assert_eq!(rt; resolution.has_key_path(&["c", "path"]), has_path);
@@ -89,8 +111,10 @@ fn a_selector_clashes_by_name(rt: HostRuntime) -> Result<(), Fail> {
     let mut w = shape(alloc, "W", ShapeKind::Enum { variants })?;
     w.tag = Some(String::from_str(alloc, "type")?);
     let w = types.add_shape(w)?;
-    let root =
-        types.structure("S", vec![in alloc; field(alloc, "type", text)?, flat(alloc, "e", w)?]?)?;
+    let root = types.structure(
+        "S",
+        vec![in alloc; field(alloc, "type", text)?, flat(alloc, "e", w)?]?,
+    )?;
     let shapes = types.checked()?;
     assert!(rt; shapes.has(root));
     let Err(SchemaError::DuplicateField(duplicate)) = Schema::build_auto(alloc, &shapes, root)
@@ -99,7 +123,10 @@ fn a_selector_clashes_by_name(rt: HostRuntime) -> Result<(), Fail> {
     };
     assert_eq!(rt; duplicate.field_name, "type");
     assert_eq!(rt; printed(alloc, &duplicate.first_path)?.as_str(), "type");
-    assert_eq!(rt; printed(alloc, &duplicate.second_path)?.as_str(), "e.e::Tcp");
+    assert_eq!(rt;
+        printed(alloc, &duplicate.second_path)?.as_str(),
+        "e.e::Tcp"
+    );
     Ok(())
 }
 
@@ -118,7 +145,10 @@ fn a_flattened_field_of_a_variant_names_what_is_in_it(rt: HostRuntime) -> Result
     let schema = Schema::build_with_repr(alloc, &shapes, root, EnumRepr::ExternallyTagged)?;
     let first = schema.resolutions().first().ok_or("no resolution")?;
     assert_eq!(rt; key_paths(alloc, first)?.as_str(), "V V.z");
-    assert_eq!(rt; Schema::resolution_count(alloc, &shapes, root, external)?, Some(1));
+    assert_eq!(rt;
+        Schema::resolution_count(alloc, &shapes, root, external)?,
+        Some(1)
+    );
     Ok(())
 }
 
@@ -128,10 +158,14 @@ fn nested_structs_have_nested_paths(rt: HostRuntime) -> Result<(), Fail> {
     let mut types = Types::new(alloc);
     let text = types.scalar("String", ScalarType::String)?;
     let int = types.scalar("i32", ScalarType::I32)?;
-    let inner =
-        types.structure("Inner", vec![in alloc; field(alloc, "x", int)?, field(alloc, "y", int)?]?)?;
-    let outer =
-        types.structure("Outer", vec![in alloc; field(alloc, "name", text)?, field(alloc, "pos", inner)?]?)?;
+    let inner = types.structure(
+        "Inner",
+        vec![in alloc; field(alloc, "x", int)?, field(alloc, "y", int)?]?,
+    )?;
+    let outer = types.structure(
+        "Outer",
+        vec![in alloc; field(alloc, "name", text)?, field(alloc, "pos", inner)?]?,
+    )?;
     let l3 = types.structure("L3", vec![in alloc; field(alloc, "deep", text)?]?)?;
     let l2 = types.structure("L2", vec![in alloc; field(alloc, "mid", l3)?]?)?;
     let l1 = types.structure("L1", vec![in alloc; field(alloc, "top", l2)?]?)?;
@@ -143,7 +177,10 @@ fn nested_structs_have_nested_paths(rt: HostRuntime) -> Result<(), Fail> {
     assert!(rt; !first.has_key_path(&["pos", "z"]));
     let schema = Schema::build(alloc, &shapes, l1)?;
     let first = schema.resolutions().first().ok_or("no resolution")?;
-    assert_eq!(rt; key_paths(alloc, first)?.as_str(), "top top.mid top.mid.deep");
+    assert_eq!(rt;
+        key_paths(alloc, first)?.as_str(),
+        "top top.mid top.mid.deep"
+    );
     Ok(())
 }
 
@@ -155,7 +192,10 @@ fn pool(types: &mut Types, alloc: Global) -> Result<ShapeId, AllocError> {
     let my = types.structure("MyD", vec![in alloc; field(alloc, "charset", text)?]?)?;
     let variants = vec![in alloc; newtype(alloc, "Pg", pg)?, newtype(alloc, "My", my)?]?;
     let db = types.enumeration("Db", variants)?;
-    types.structure("Pool", vec![in alloc; field(alloc, "max", number)?, flat(alloc, "db", db)?]?)
+    types.structure(
+        "Pool",
+        vec![in alloc; field(alloc, "max", number)?, flat(alloc, "db", db)?]?,
+    )
 }
 
 #[test]
@@ -164,14 +204,19 @@ fn nested_paths_have_the_content_of_all_variants(rt: HostRuntime) -> Result<(), 
     let mut types = Types::new(alloc);
     let pool = pool(&mut types, alloc)?;
     let text = types.scalar("String", ScalarType::String)?;
-    let service =
-        types.structure("Service", vec![in alloc; field(alloc, "name", text)?, field(alloc, "pool", pool)?]?)?;
+    let service = types.structure(
+        "Service",
+        vec![in alloc; field(alloc, "name", text)?, field(alloc, "pool", pool)?]?,
+    )?;
     let shapes = types.checked()?;
     assert!(rt; shapes.has(service) && shapes.has(pool));
     let schema = Schema::build(alloc, &shapes, service)?;
     assert_eq!(rt; schema.resolutions().len(), 1);
     let first = schema.resolutions().first().ok_or("no resolution")?;
-    assert_eq!(rt; key_paths(alloc, first)?.as_str(), "name pool pool.charset pool.max pool.schema");
+    assert_eq!(rt;
+        key_paths(alloc, first)?.as_str(),
+        "name pool pool.charset pool.max pool.schema"
+    );
     let schema = Schema::build(alloc, &shapes, pool)?;
     assert_eq!(rt; schema.resolutions().len(), 2);
     let expected = [(true, false), (false, true)];

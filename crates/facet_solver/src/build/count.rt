@@ -37,7 +37,6 @@ impl Model for Counts {
 impl Counts {
     /// Counts each place once, in order: a shape names earlier places alone.
     pub(crate) fn new(plan: Plan) -> Result<Counts, AllocError>
-        requires { NamesEarlier plan.shapes.now }
         ensures { IfOk result (AreCounts (settings_of plan.entry) plan.entry.shapes.now) }
     {
         let mut by_place = Vec::new(plan.alloc);
@@ -79,7 +78,6 @@ impl Counts {
 
     /// The choices of a root: an enum's are those of its variants' contents, whatever its representation.
     pub(crate) fn of_root(&self, plan: Plan, root: ShapeId) -> Tally
-        requires checked { NamesEarlier plan.shapes.now }
         requires counted { AreCounts (settings_of plan) plan.shapes.now self.now }
         ensures { Tells result (count.count_of_root (settings_of plan.entry) plan.entry.shapes.now root) }
     {
@@ -101,7 +99,6 @@ impl Counts {
 
 /// The number of choices of a root where it is below 2^64.
 pub(crate) fn count_of_root(plan: Plan, root: ShapeId) -> Result<Option<u64>, AllocError>
-    requires { NamesEarlier plan.shapes.now }
     ensures { IfOk result (λ number. number ≡ below_2_64 (count.count_of_root (settings_of plan.entry) plan.entry.shapes.now root)) }
 {
     let counts = Counts::new(plan)?;

@@ -1,8 +1,28 @@
-use Rattle.std.proofs.Common.{◌≡◌, length, slice_get, sym, ap, ◌∙◌, arith}
+use Rattle.std.proofs.Common.{◌≡◌, [], ◌∷◌, length, length-append, slice_get, sym, ap, ◌∙◌, arith}
 use Rattle.std.proofs.lemmas.Option.{slice_get_within}
 use Rattle.facet_solver.specs.PlanView.{settings_of}
+use Rattle.facet_solver.proofs.Checked.{checked_earlier}
 use Rattle.facet_solver.proofs.TallyTables.{one_more_place, all_places}
 use Rattle.facet_solver.proofs.build.count.Counts.new.Goals as goal
+
+pub count_shape-requires-clause-checked : goal.count_shape-requires-clause-checked
+count_shape-requires-clause-checked c = checked_earlier c.args.plan.shapes.now c.get.ensures.checked
+
+pub count_shape-requires-clause-below : goal.count_shape-requires-clause-below
+count_shape-requires-clause-below c =
+    let cat = c.args.plan.shapes.now in
+    let place : c.new.result ≡ length c.loop-shape.by_place.items = omega (arith, c.loop-shape.by_place.ok.0) in
+    let here = ap (slice_get cat) (sym place) ∙ sym c.in-Some.ensures.entry in
+    rw c.as_slice.ensures.value ((checked_earlier cat c.get.ensures.checked (length c.loop-shape.by_place.items) c.in-Some.shape.now here).by_kind)
+
+pub loop-shape-smaller : goal.loop-shape-smaller
+loop-shape-smaller c =
+    let cat = c.args.plan.shapes.now in
+    let ts = c.loop-shape.by_place.items in
+    let place : c.new.result ≡ length ts = omega (arith, c.loop-shape.by_place.ok.0) in
+    let within = slice_get_within cat (length ts) c.in-Some.shape.now (ap (slice_get cat) (sym place) ∙ sym c.in-Some.ensures.entry) in
+    let longer = ap length c.in_ok-push.ensures.items ∙ length-append ts (c.count_shape.result ∷ []) in
+    omega (arith, within, longer)
 
 pub loop-shape-preserved : goal.loop-shape-preserved
 loop-shape-preserved c =
