@@ -223,7 +223,8 @@ impl<'c> Resolution<'c> {
         category: FieldCategory,
         info: FieldInfo<'c>,
     ) -> Result<(), AllocError>
-        ensures ok { OnOk result (self.new ≡ with_catch_all self.old category (field_view info.entry)) }
+        ensures ok { OnOk result
+            (self.new ≡ with_catch_all self.old category (field_view info.entry)) }
         ensures err { OnErr result (self.new ≡ self.old) }
     {
         self.catch_alls.insert(category, info)

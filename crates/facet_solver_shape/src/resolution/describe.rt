@@ -27,7 +27,8 @@ pub(crate) fn describe_picks(
 }
 
 fn push_pick(text: &mut String, pick: &VariantSelection) -> Result<(), AllocError>
-    ensures { OnOk result (string_bytes text.new ≡ string_bytes text.old ++ pick_text (pick_view pick.now)) }
+    ensures { OnOk result
+        (string_bytes text.new ≡ string_bytes text.old ++ pick_text (pick_view pick.now)) }
 {
     text.push_str(pick.enum_name)?;
     text.push_str("::")?;

@@ -25,15 +25,18 @@ pub fn paths_equal_by_segments()
 /// The order of keys is total, ties only equal keys, and has flat keys first, then categories in their
 /// order, then names by their bytes.
 pub fn keys_are_in_order()
-    ensures derived { (a b : AnyKey) → (derived.ghosts).cmp a b ≡ key_cmp (key_of a) (key_of b) }
+    ensures derived { (a b : AnyKey)
+        → (derived.ghosts).cmp a b ≡ key_cmp (key_of a) (key_of b) }
     ensures total { IsTotalOrder key_cmp }
     ensures ties_are_equal { (a b : Key) → key_cmp a b ≡ Equal → a ≡ b }
-    ensures flat_first { (n m : Name) (c : Category) → key_cmp (flat_key n) (dom_key c m) ≡ Less }
+    ensures flat_first { (n m : Name) (c : Category)
+        → key_cmp (flat_key n) (dom_key c m) ≡ Less }
     ensures by_category { (c d : Category) (n m : Name)
         → category_index c < category_index d → key_cmp (dom_key c n) (dom_key d m) ≡ Less }
     ensures by_name { (c : Category) (n m : Name)
         → key_cmp (dom_key c n) (dom_key c m) ≡ slice_cmp nat_cmp n m }
-    ensures flat_by_name { (n m : Name) → key_cmp (flat_key n) (flat_key m) ≡ slice_cmp nat_cmp n m }
+    ensures flat_by_name { (n m : Name)
+        → key_cmp (flat_key n) (flat_key m) ≡ slice_cmp nat_cmp n m }
 {}
 
 /// Of fields that stand under their stored keys, the first that passes a test is that of least key.
@@ -53,9 +56,11 @@ pub fn flat_fields_go_by_name()
     ensures by_name { (fields : finite.FinMap key_cmp FieldView)
         → All IsStored (finite.entries fields)
         → All (λ f. f.category ≡ Flat) (finite.values fields)
-        → (name : Name) → find (has_name name) (finite.values fields) ≡ finite.get fields (flat_key name) }
+        → (name : Name)
+        → find (has_name name) (finite.values fields) ≡ finite.get fields (flat_key name) }
     ensures by_key { (fields : finite.FinMap key_cmp FieldView)
         → All IsStored (finite.entries fields)
         → All (λ f. f.category ≡ Flat) (finite.values fields)
-        → (key : Key) → find (matches key) (finite.values fields) ≡ finite.get fields (flat_key key.name) }
+        → (key : Key)
+        → find (matches key) (finite.values fields) ≡ finite.get fields (flat_key key.name) }
 {}

@@ -75,7 +75,8 @@ impl<'c> FieldPath<'c> {
         field: &'c str,
         variant: &'c str,
     ) -> Result<Self, AllocError>
-        ensures { IfOk result (λ path. path ≡ self.now ++ by_variant field.now variant.now ∷ []) }
+        ensures { IfOk result
+            (λ path. path ≡ self.now ++ by_variant field.now variant.now ∷ []) }
     {
         self.pushed(alloc, PathSegment::Variant(field, variant))
     }
@@ -115,7 +116,8 @@ impl<'c> FieldPath<'c> {
 
     /// The last segment, if there is one.
     pub fn last(&self) -> Option<&PathSegment<'c>>
-        ensures { option_map (λ s. step_of s.now) result ≡ slice_get self.now (length self.now - 1) }
+        ensures { option_map (λ s. step_of s.now) result
+            ≡ slice_get self.now (length self.now - 1) }
     {
         self.segments.last()
     }

@@ -51,7 +51,8 @@ impl<'c> CatchAlls<'c> {
         category: FieldCategory,
         info: FieldInfo<'c>,
     ) -> Result<(), AllocError>
-        ensures ok { OnOk result (self.new ≡ tree.insert self.old category (field_view info.entry)) }
+        ensures ok { OnOk result
+            (self.new ≡ tree.insert self.old category (field_view info.entry)) }
         ensures err { OnErr result (self.new ≡ self.old) }
     {
         self.entries.insert(category, info)?;

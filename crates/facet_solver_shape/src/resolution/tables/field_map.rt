@@ -54,14 +54,16 @@ impl<'c> FieldMap<'c> {
     }
 
     pub(crate) fn get(&self, key: &FieldKey<'c>) -> Option<&FieldInfo<'c>>
-        ensures { option_map (λ f. field_view f.now) result ≡ tree.get self.now (key_of key.now) }
+        ensures { option_map (λ f. field_view f.now) result
+            ≡ tree.get self.now (key_of key.now) }
     {
         self.entries.get(key)
     }
 
     // The first field that a key means.
     pub(crate) fn first_matched(&self, key: &FieldKey) -> Option<&FieldInfo<'c>>
-        ensures { option_map (λ f. field_view f.now) result ≡ find (matches (key_of key.now)) (tree.values self.now) }
+        ensures { option_map (λ f. field_view f.now) result
+            ≡ find (matches (key_of key.now)) (tree.values self.now) }
     {
         for (_, info) in &self.entries {
             if info.matched_by(key) {
@@ -73,7 +75,8 @@ impl<'c> FieldMap<'c> {
 
     // The first field of a name.
     pub(crate) fn first_named(&self, name: &str) -> Option<&FieldInfo<'c>>
-        ensures { option_map (λ f. field_view f.now) result ≡ find (has_name name.now) (tree.values self.now) }
+        ensures { option_map (λ f. field_view f.now) result
+            ≡ find (has_name name.now) (tree.values self.now) }
     {
         for (_, info) in &self.entries {
             if info.serialized_name == name {
@@ -85,7 +88,8 @@ impl<'c> FieldMap<'c> {
 
     // Puts a field under its stored key.
     pub(crate) fn insert(&mut self, info: FieldInfo<'c>) -> Result<(), AllocError>
-        ensures ok { OnOk result (self.new ≡ tree.insert self.old (key_of_field (field_view info.entry)) (field_view info.entry)) }
+        ensures ok { let f = field_view info.entry in
+            OnOk result (self.new ≡ tree.insert self.old (key_of_field f) f) }
         ensures err { OnErr result (self.new ≡ self.old) }
     {
         let key = info.key();
@@ -116,14 +120,16 @@ impl<'c> FieldMap<'c> {
 
     // No field is required any more.
     pub(crate) fn mark_all_optional(&mut self)
-        ensures { (k : Key) → tree.get self.new k ≡ option_map as_optional (tree.get self.old k) }
+        ensures { (k : Key)
+            → tree.get self.new k ≡ option_map as_optional (tree.get self.old k) }
     {
         make_optional(&mut self.entries);
     }
 }
 
 fn make_optional<'c>(entries: &mut BTreeMap<FieldKey<'c>, FieldInfo<'c>>)
-    ensures { entries.new.entries ≡ map (λ e. (e.0, record e.1 { required = false })) entries.old.entries }
+    ensures { entries.new.entries
+        ≡ map (λ e. (e.0, record e.1 { required = false })) entries.old.entries }
 {
     entries.retain(|_, info| {
         info.required = false;

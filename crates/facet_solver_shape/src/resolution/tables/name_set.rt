@@ -50,7 +50,8 @@ impl<'c> NameSet<'c> {
     pub(crate) fn insert(&mut self, name: &'c str) -> Result<bool, AllocError>
         ensures added { IfOk result (λ added. added ≡ not (set.contains self.old name.now)) }
         ensures ok { OnOk result (self.new ≡ set.insert self.old name.now) }
-        ensures undone { IfOk result (λ added. OnTrue added (set.remove self.new name.now ≡ self.old)) }
+        ensures undone { IfOk result
+            (λ added. OnTrue added (set.remove self.new name.now ≡ self.old)) }
         ensures kept { IfOk result (λ added. OnFalse added (self.new ≡ self.old)) }
         ensures err { OnErr result (self.new ≡ self.old) }
     {
