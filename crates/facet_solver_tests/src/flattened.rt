@@ -278,8 +278,8 @@ fn candidates_pass_a_word_of_bits(rt: HostRuntime) -> Result<(), Fail> {
         let last = Solver::new(alloc, &schema)?
             .candidates(alloc)?
             .last()
-            .map(|h| h.index() + 1);
-        assert_eq!(rt; last, Some(count));
+            .map(|handle| handle.index());
+        assert_eq!(rt; last, Some(count - 1));
     }
     Ok(())
 }

@@ -14,4 +14,6 @@ mod reading;
 #[cfg(test)]
 mod representations;
 #[cfg(test)]
+mod resolutions;
+#[cfg(test)]
 mod variant_formats;
