@@ -7,20 +7,25 @@ use Rattle.std.specs.Cmp.Lexicographic.{nat_list_eq_equiv, lists_equiv}
 use Rattle.facet_solver_shape.specs.Names.{Name}
 use Rattle.facet_solver_shape.specs.Paths.{Step, by_field, by_variant}
 
+-- whether two names have the same bytes
 abbrev pub name_eq : Name → Name → Bool
 name_eq = pointwise nat_eq
 
+-- whether two steps are of one form and have the same names
 abbrev pub step_eq : Step → Step → Bool
 step_eq (by_field a) (by_field b) = name_eq a b
 step_eq (by_variant a v) (by_variant b w) = name_eq a b && name_eq v w
 step_eq _ _ = false
 
+-- whether two paths have the same steps
 abbrev pub path_eq : List Step → List Step → Bool
 path_eq = pointwise step_eq
 
+-- whether two key paths have the same names
 abbrev pub key_path_eq : List Name → List Name → Bool
 key_path_eq = pointwise name_eq
 
+-- that of steps is an equivalence
 pub step_eq_equiv : IsEquivalence step_eq
 step_eq_equiv = record { refl = itself; symm = either_way; congr = alike }
   where
@@ -52,5 +57,6 @@ step_eq_equiv = record { refl = itself; symm = either_way; congr = alike }
         let q = parts (name_eq a b) (name_eq v w) p in
         λ i. nat_list_eq_equiv.congr a b c q.0 i && nat_list_eq_equiv.congr v w u q.1 i
 
+-- that of paths is an equivalence
 pub path_eq_equiv : IsEquivalence path_eq
 path_eq_equiv = lists_equiv step_eq_equiv

@@ -1,4 +1,4 @@
--- A resolution is stored as the tuple of its parts.
+-- How the parts of a resolution are stored, by which proofs tell values apart. No clause speaks of it.
 use Rattle.std.specs.Prelude.{ℕ, List, Bool, Option, ◌⊎◌, ◌≡◌, refl}
 use Rattle.std.specs.Coded.{Coded, code_by, coded×, coded⊎, coded_ℕ, coded_bool, coded_list, coded_option}
 use Rattle.std.proofs.Common.{inl, inr}
@@ -15,24 +15,30 @@ use Rattle.facet_solver_shape.specs.Paths.{Step, by_field, by_variant}
 use Rattle.facet_solver_shape.specs.Keys.{Key, key_cmp, category_cmp}
 use Rattle.facet_solver_shape.specs.Resolved.{FieldView, Pick, Resolved}
 
+-- a name
 abbrev name_code : Coded Name
 name_code = coded_list coded_ℕ
 
+-- a step as its names
 abbrev step_parts : Step → Name ⊎ (Name × Name)
 step_parts (by_field name) = inl name
 step_parts (by_variant field variant) = inr (field, variant)
 
+-- and back
 abbrev step_from : Name ⊎ (Name × Name) → Step
 step_from (inl name) = by_field name
 step_from (inr names) = by_variant names.0 names.1
 
+-- which is the step again
 pub step_back : (s : Step) → step_from (step_parts s) ≡ s
 step_back (by_field name) = refl
 step_back (by_variant field variant) = refl
 
+-- a path
 abbrev path_code : Coded (List Step)
 path_code = coded_list (code_by (Name ⊎ (Name × Name)) (coded⊎ name_code (coded× name_code name_code)) step_parts step_from step_back)
 
+-- a field
 abbrev pub field_view_code : Coded FieldView
 field_view_code =
     code_by ((Name × (List Step)) × ((Bool × ℕ) × (Field × FieldCategory)))
@@ -41,6 +47,7 @@ field_view_code =
     (λ p. record { name = p.0.0; path = p.0.1; is_required = p.1.0.0; shape = p.1.0.1; field = p.1.1.0; category = p.1.1.1 })
     (λ _. refl)
 
+-- a pick
 abbrev pub pick_code : Coded Pick
 pick_code =
     code_by (List Step × (Name × Name)) (coded× path_code (coded× name_code name_code))
@@ -48,6 +55,7 @@ pick_code =
     (λ p. record { path = p.0; enum_name = p.1.0; variant_name = p.1.1 })
     (λ _. refl)
 
+-- a key
 abbrev pub key_code : Coded Key
 key_code =
     code_by (Option FieldCategory × Name) (coded× (coded_option category.the_row.coded) name_code)
@@ -55,18 +63,23 @@ key_code =
     (λ p. record { dom = p.0; name = p.1 })
     (λ _. refl)
 
+-- fields by key
 abbrev pub field_map_code : Coded (map.FinMap key_cmp FieldView)
 field_map_code = map.code key_code field_view_code
 
+-- names
 abbrev pub name_set_code : Coded (set.FinSet (slice_cmp nat_cmp))
 name_set_code = set.code name_code
 
+-- key paths
 abbrev pub key_path_set_code : Coded (set.FinSet (slice_cmp (slice_cmp nat_cmp)))
 key_path_set_code = set.code (coded_list name_code)
 
+-- catch-alls by category
 abbrev pub catch_alls_code : Coded (map.FinMap category_cmp FieldView)
 catch_alls_code = map.code category.the_row.coded field_view_code
 
+-- a resolution as the tuple of its parts
 abbrev pub resolved_code : Coded Resolved
 resolved_code =
     code_by ((map.FinMap key_cmp FieldView × set.FinSet (slice_cmp nat_cmp)) × (set.FinSet (slice_cmp (slice_cmp nat_cmp)) × (List Pick × map.FinMap category_cmp FieldView)))

@@ -18,6 +18,7 @@ use Rattle.facet_solver_shape.specs.Resolved.{FieldView, Pick, Resolved, IsClash
 use Rattle.facet_solver_shape.specs.declared.resolution.error.SchemaError.{SchemaError}
 use Rattle.facet_solver_shape.specs.declared.resolution.error.SchemaError.TheVariants.{DuplicateField, OutOfMemory}
 
+-- what a field says
 abbrev pub field_view : FieldInfo → FieldView
 field_view f = record {
   name = f.serialized_name.now;
@@ -28,6 +29,7 @@ field_view f = record {
   category = f.category;
 }
 
+-- what a picked variant says
 abbrev pub pick_view : VariantSelection → Pick
 pick_view v = record { path = v.path; enum_name = v.enum_name.now; variant_name = v.variant_name.now }
 
