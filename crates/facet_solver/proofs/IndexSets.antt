@@ -1,10 +1,9 @@
 -- Lists of numbers below a bound, and how many pass a test.
-use Rattle.std.proofs.Common.{◌≡◌, ℕ, ◌+◌, ◌<◌, Bool, true, false, cond, List, [], ◌∷◌, ◌++◌, length, filter, All, refl, ap, sym, ◌∙◌, arith, append_assoc, append-nil, get_or}
-use Rattle.std.specs.List.{range_with_len}
+use Rattle.std.proofs.Common.{◌≡◌, ℕ, ◌+◌, ◌<◌, Bool, true, cond, List, [], ◌∷◌, ◌++◌, filter, All, refl, ap, sym, ◌∙◌, arith, append_assoc}
 use Rattle.std.specs.List.Sorted.{IsStrictlyIncreasing}
 use Rattle.std.proofs.lemmas.List.Elements.{filter-append, All-contains, Contains-append_right}
 use Rattle.std.proofs.lemmas.List.FromFn.{get_or-range_with_len, length-range_with_len}
-use Rattle.facet_solver.specs.HowMany.{HowMany, no_number, one_number, several_numbers, how_many}
+use Rattle.facet_solver.specs.HowMany.{no_number, one_number, how_many}
 use Rattle.facet_solver.specs.IndexSet.{upto}
 
 -- the numbers below n are below n

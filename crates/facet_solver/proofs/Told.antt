@@ -10,7 +10,7 @@ use Rattle.facet_solver_shape.specs.contracts.resolution.key.FieldKeyOrd.TheImpl
 use Rattle.facet_solver_shape.specs.declared.resolution.key.FieldKey.{FieldKey}
 use Rattle.facet_solver_shape.proofs.KeyOrder.{key_agrees}
 use Rattle.facet_solver.specs.HowMany.{HowMany, no_number, one_number, several_numbers, how_many}
-use Rattle.facet_solver.specs.KeyAnswer.{Answer, unknown, answer_of, by_number, by_shapes, fields_for, first_of_each_shape}
+use Rattle.facet_solver.specs.KeyAnswer.{unknown, answer_of, by_number, by_shapes, fields_for, first_of_each_shape}
 use Rattle.facet_solver.specs.State.{State, has_key, or_all, passing, told}
 use Rattle.facet_solver.specs.Targets.{Catalogue}
 use Rattle.facet_solver.proofs.IndexSets.{none_of_none}

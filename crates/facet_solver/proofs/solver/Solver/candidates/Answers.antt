@@ -12,7 +12,7 @@ loop-index-preserved c =
     record {
       parts = rest_more c.loop-index.yielded _ _ _ c.in-Some.index before.parts c.in-Some.ensures.steps;
       numbers = ap (map index_of) c.in_ok-push.ensures.items
-        ∙ map-append index_of handles (c.handle.result ∷ [])
-        ∙ (λ j. before.numbers j ++ c.handle.ensures.index j ∷ []);
+          ∙ map-append index_of handles (c.handle.result ∷ [])
+          ∙ (λ j. before.numbers j ++ c.handle.ensures.index j ∷ []);
       handles = rw c.in_ok-push.ensures.items (All-push (IsHandleOf c.self.inside.schema.now) handles c.handle.result before.handles c.handle.ensures.of_schema);
     }

@@ -1,6 +1,5 @@
-use Rattle.std.proofs.Common.{◌≡◌, sym, ◌∙◌, ap, map, string_bytes, Some, None, ◌++◌, append-nil}
+use Rattle.std.proofs.Common.{◌≡◌, sym, ◌∙◌, ap, map, string_bytes, ◌++◌, append-nil}
 use Rattle.facet_solver_shape.specs.Keys.{key_of}
-use Rattle.facet_solver.specs.Verdict.{viable_at}
 use Rattle.facet_solver.proofs.IndexSets.{rest_more}
 use Rattle.facet_solver.proofs.Verdicts.{viable_texts, viable_texts_are, texts_more, texts_same}
 use Rattle.facet_solver.proofs.solver.verdict.descriptions.Goals as goal
@@ -11,8 +10,8 @@ loop-index-preserved-in_ok-push c =
     record {
       parts = rest_more c.loop-index.yielded _ _ _ c.in-Some.index before.parts c.in-Some.ensures.steps;
       texts = ap (map string_bytes) c.in_ok-push.ensures.items
-        ∙ texts_more (map key_of c.args.viable.seen.now.keys) c.args.viable.resolutions.now c.loop-index.yielded c.in-Some.index c.loop-index.texts.items before.texts
-        c.in-Some-resolution_at.resolution.now c.in_ok-describe.field-0 (sym c.in-Some-resolution_at.ensures) c.in_ok-describe.ensures;
+          ∙ texts_more (map key_of c.args.viable.seen.now.keys) c.args.viable.resolutions.now c.loop-index.yielded c.in-Some.index c.loop-index.texts.items before.texts
+          c.in-Some-resolution_at.resolution.now c.in_ok-describe.field-0 (sym c.in-Some-resolution_at.ensures) c.in_ok-describe.ensures;
     }
 
 pub loop-index-preserved : goal.loop-index-preserved
