@@ -1,10 +1,10 @@
 -- Lists of numbers below a bound, and how many pass a test.
-use Rattle.std.proofs.Common.{◌≡◌, ℕ, ◌+◌, ◌<◌, Bool, true, false, cond, List, [], ◌∷◌, ◌++◌, length, filter, All, refl, ap, sym, ◌∙◌, arith, append_assoc, append-nil, get_or}
-use Rattle.std.specs.List.{range_with_len}
+use Rattle.std.proofs.Common.{◌≡◌, ℕ, ◌+◌, ◌<◌, Bool, true, cond, List, [], ◌∷◌, ◌++◌, filter, All, refl, ap, sym, ◌∙◌, arith, append_assoc}
 use Rattle.std.specs.List.Sorted.{IsStrictlyIncreasing}
 use Rattle.std.proofs.lemmas.List.Elements.{filter-append, All-contains, Contains-append_right}
 use Rattle.std.proofs.lemmas.List.FromFn.{get_or-range_with_len, length-range_with_len}
-use Rattle.facet_solver.specs.IndexSet.{upto, Number, no_number, one_number, several_numbers, number_of}
+use Rattle.facet_solver.specs.HowMany.{no_number, one_number, how_many}
+use Rattle.facet_solver.specs.IndexSet.{upto}
 
 -- the numbers below n are below n
 pub below-upto : (n : ℕ) → All (λ j. j < n) (upto n)
@@ -34,12 +34,12 @@ pub filter_more : {X : Type 0} (p : X → Bool) (ys : List X) (x : X) (b : Bool)
 filter_more p ys x b e = filter-append p ys (x ∷ []) ∙ ap (λ t. filter p ys ++ cond t (x ∷ []) []) e
 
 -- no number is the number of the empty list alone
-pub none_of_none : (xs : List ℕ) → number_of xs ≡ no_number → xs ≡ []
+pub none_of_none : (xs : List ℕ) → how_many xs ≡ no_number → xs ≡ []
 none_of_none [] e = refl
 none_of_none (i ∷ []) e = cc
 none_of_none (i ∷ j ∷ rest) e = cc
 
 -- the first number that passes
-pub first_passes : (p : ℕ → Bool) (ys : List ℕ) (i : ℕ) → number_of (filter p ys) ≡ no_number → p i ≡ true → one_number i ≡ number_of (filter p (ys ++ i ∷ []))
+pub first_passes : (p : ℕ → Bool) (ys : List ℕ) (i : ℕ) → how_many (filter p ys) ≡ no_number → p i ≡ true → one_number i ≡ how_many (filter p (ys ++ i ∷ []))
 first_passes p ys i none passes =
-    sym (ap number_of (filter_more p ys i true passes ∙ ap (λ k. k ++ i ∷ []) (none_of_none (filter p ys) none)))
+    sym (ap how_many (filter_more p ys i true passes ∙ ap (λ k. k ++ i ∷ []) (none_of_none (filter p ys) none)))

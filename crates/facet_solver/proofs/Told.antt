@@ -9,8 +9,8 @@ use Rattle.facet_solver_shape.specs.Resolved.{FieldView}
 use Rattle.facet_solver_shape.specs.contracts.resolution.key.FieldKeyOrd.TheImpl as key_order
 use Rattle.facet_solver_shape.specs.declared.resolution.key.FieldKey.{FieldKey}
 use Rattle.facet_solver_shape.proofs.KeyOrder.{key_agrees}
-use Rattle.facet_solver.specs.IndexSet.{Number, no_number, one_number, several_numbers, number_of}
-use Rattle.facet_solver.specs.KeyAnswer.{Answer, unknown, answer_of, by_number, by_shapes, fields_for, first_of_each_shape}
+use Rattle.facet_solver.specs.HowMany.{HowMany, no_number, one_number, several_numbers, how_many}
+use Rattle.facet_solver.specs.KeyAnswer.{unknown, answer_of, by_number, by_shapes, fields_for, first_of_each_shape}
 use Rattle.facet_solver.specs.State.{State, has_key, or_all, passing, told}
 use Rattle.facet_solver.specs.Targets.{Catalogue}
 use Rattle.facet_solver.proofs.IndexSets.{none_of_none}
@@ -32,21 +32,21 @@ shapes_known cat [] e = cc
 shapes_known cat (f ∷ []) e = cc
 shapes_known cat (f ∷ g ∷ fs) e = cc
 
-unknown_number : (cat : Catalogue) (fs : List FieldView) (n : Number) → by_number cat fs n ≡ unknown → n ≡ no_number
+unknown_number : (cat : Catalogue) (fs : List FieldView) (n : HowMany) → by_number cat fs n ≡ unknown → n ≡ no_number
 unknown_number cat fs no_number e = refl
 unknown_number cat fs (one_number i) e = cc
 unknown_number cat fs several_numbers e = absurd (shapes_known cat (first_of_each_shape fs) e)
 
 -- a key is unknown where no candidate has it
 pub none_has : (key : Key) (s : State) → answer_of key s ≡ unknown → passing (has_key key) s ≡ []
-none_has key s e = none_of_none _ (unknown_number s.schema.catalogue (fields_for key s) (number_of (passing (has_key key) s)) e)
+none_has key s e = none_of_none _ (unknown_number s.schema.catalogue (fields_for key s) (how_many (passing (has_key key) s)) e)
 
 or_all_some : (xs all : List ℕ) → (xs ≡ [] → ⊥) → or_all xs all ≡ xs
 or_all_some [] all some = absurd (some refl)
 or_all_some (x ∷ xs) all some = refl
 
-unknown_of_none : (cat : Catalogue) (fs : List FieldView) (xs : List ℕ) → xs ≡ [] → by_number cat fs (number_of xs) ≡ unknown
-unknown_of_none cat fs xs e = ap (λ k. by_number cat fs (number_of k)) e
+unknown_of_none : (cat : Catalogue) (fs : List FieldView) (xs : List ℕ) → xs ≡ [] → by_number cat fs (how_many xs) ≡ unknown
+unknown_of_none cat fs xs e = ap (λ k. by_number cat fs (how_many k)) e
 
 -- the candidates after a key that some of them have
 pub left_known : (key : Key) (s : State) → (answer_of key s ≡ unknown → ⊥) → passing (has_key key) s ≡ (told key s).candidates

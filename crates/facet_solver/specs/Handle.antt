@@ -11,12 +11,12 @@ abbrev pub index_of : ResolutionHandle → ℕ
 index_of handle = handle.index
 
 -- its resolution
-abbrev pub resolution_at : ResolutionHandle → Resolved
-resolution_at handle = handle.resolution.now
+abbrev pub resolution_behind : ResolutionHandle → Resolved
+resolution_behind handle = handle.resolution.now
 
 -- a handle of a schema: it holds the resolution of its number
 abbrev pub IsHandleOf : SchemaView → ResolutionHandle → Type 0
-IsHandleOf schema handle = slice_get schema.resolutions (index_of handle) ≡ Some (resolution_at handle)
+IsHandleOf schema handle = slice_get schema.resolutions (index_of handle) ≡ Some (resolution_behind handle)
 
 -- whether two handles have one number
 abbrev pub same_index : ResolutionHandle → ResolutionHandle → Bool

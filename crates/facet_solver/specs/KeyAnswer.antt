@@ -6,7 +6,7 @@ use Rattle.facet_solver_shape.specs.Keys.{Key}
 use Rattle.facet_solver_shape.specs.Resolved.{FieldView, Resolved}
 use Rattle.facet_solver_shape.specs.Scores.{score_of}
 use Rattle.facet_solver_shape.specs.declared.shape.Shape.{Shape}
-use Rattle.facet_solver.specs.IndexSet.{Number, no_number, one_number, several_numbers, number_of}
+use Rattle.facet_solver.specs.HowMany.{HowMany, no_number, one_number, several_numbers, how_many}
 use Rattle.facet_solver.specs.State.{State, field_for, has_key, passing}
 use Rattle.facet_solver.specs.Targets.{Catalogue}
 
@@ -46,11 +46,11 @@ by_shapes cat (f ∷ []) = unambiguous f.shape
 by_shapes cat fs = ambiguous (map (with_score cat) fs)
 
 -- by how many candidates have the key
-abbrev pub by_number : Catalogue → List FieldView → Number → Answer
+abbrev pub by_number : Catalogue → List FieldView → HowMany → Answer
 by_number cat fs no_number = unknown
 by_number cat fs (one_number i) = solved i
 by_number cat fs several_numbers = by_shapes cat (first_of_each_shape fs)
 
 -- the answer to a key
 abbrev pub answer_of : Key → State → Answer
-answer_of key s = by_number s.schema.catalogue (fields_for key s) (number_of (passing (has_key key) s))
+answer_of key s = by_number s.schema.catalogue (fields_for key s) (how_many (passing (has_key key) s))

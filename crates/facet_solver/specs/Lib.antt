@@ -15,7 +15,8 @@ pub mod Outcome
 pub mod RoleView
 pub mod PlanView
 pub mod IndexSet
-pub mod IndexSetCode
+pub mod HowMany
+pub mod MatchesView
 pub mod SchemaView
 pub mod Handle
 pub mod State

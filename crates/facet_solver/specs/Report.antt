@@ -1,5 +1,5 @@
 -- Why no resolution is the answer.
-use Rattle.std.specs.Prelude.{◌≡◌, ◌≢◌, ℕ, ◌<◌, List, [], length, map, string_bytes}
+use Rattle.std.specs.Prelude.{◌≡◌, ◌≢◌, ◌<◌, List, [], length, map, string_bytes}
 use Rattle.facet_solver_shape.specs.Names.{Name}
 use Rattle.facet_solver.specs.declared.error.SolverError.{SolverError}
 use Rattle.facet_solver.specs.declared.error.SolverError.TheVariants.{NoMatch, Ambiguous, OutOfMemory}

@@ -192,7 +192,7 @@ impl PartialEq for ResolutionHandle<'_, '_> {
     ghost laws = { partial_equiv_from_equiv same_index_equiv };
 
     fn eq(&self, other: &Self) -> bool {
-        self.index == other.index
+        other.index == self.index
     }
 }
 
@@ -203,7 +203,7 @@ impl Eq for ResolutionHandle<'_, '_> {
 }
 
 impl<'s, 'c> ResolutionHandle<'s, 'c> {
-    ghost use Rattle.facet_solver.specs.Handle.{index_of, resolution_at};
+    ghost use Rattle.facet_solver.specs.Handle.{index_of, resolution_behind};
 
     /// The number of the resolution among those of its schema.
     pub fn index(&self) -> usize
@@ -214,7 +214,7 @@ impl<'s, 'c> ResolutionHandle<'s, 'c> {
 
     /// The resolution.
     pub fn resolution(&self) -> &'s Resolution<'c>
-        ensures { result.now ≡ resolution_at self.now }
+        ensures { result.now ≡ resolution_behind self.now }
     {
         self.resolution
     }

@@ -2,8 +2,9 @@
 ghost use Rattle.std.specs.Prelude.{◌≡◌, ◌↔◌, ◌<◌, [], All, IfOk, IsTrue, filter, length, slice_get};
 ghost use Rattle.std.specs.Iterator.{YieldsFirst, item_count};
 ghost use Rattle.std.specs.List.Sorted.{IsStrictlyIncreasing};
-ghost use Rattle.facet_solver.specs.IndexSet.{full, has, number_of};
-ghost use Rattle.facet_solver.specs.IndexSetCode.{number_view, IsWithin};
+ghost use Rattle.facet_solver.specs.HowMany.{how_many};
+ghost use Rattle.facet_solver.specs.IndexSet.{full, has};
+ghost use Rattle.facet_solver.specs.MatchesView.{IsWithin, matches_view};
 
 use std::alloc::{AllocError, Global};
 use std::marker::Model;
@@ -63,7 +64,7 @@ impl ResolutionSet {
 
     /// How many members meet a condition.
     pub(crate) fn matching<C: Condition>(&self, condition: &C) -> Matches
-        ensures number { number_view result ≡ number_of (filter (C.holds condition.now) self.now.members) }
+        ensures number { matches_view result ≡ how_many (filter (C.holds condition.now) self.now.members) }
         ensures within { IsWithin self.now.bound result }
     {
         let mut found = Matches::None;

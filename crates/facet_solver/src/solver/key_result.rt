@@ -35,8 +35,8 @@ impl KeyResult<'_, '_> {
     }
 }
 
-// As the derived form. The borrow of a field inside a vector is shorter than that of its names only to one who looks at it
-// alone, so each pair is printed by itself.
+// Printed as a derived impl would. The derive gets no proof where references lie in pairs in a vector, so each pair is
+// printed by itself.
 impl fmt::Debug for KeyResult<'_, '_> {
     fn fmt<W: fmt::Write>(&self, f: &mut fmt::Formatter<W>) -> fmt::Result {
         match self {

@@ -1,11 +1,11 @@
 use Rattle.std.proofs.Common.{◌≡◌, ◌++◌, filter}
-use Rattle.facet_solver.specs.IndexSet.{number_of}
-use Rattle.facet_solver.specs.IndexSetCode.{number_view, IsWithin}
+use Rattle.facet_solver.specs.HowMany.{how_many}
+use Rattle.facet_solver.specs.MatchesView.{IsWithin, matches_view}
 use Rattle.facet_solver.proofs.set.ResolutionSet.matching.Given as goal
 
 abbrev pub invariant-loop-index : goal.invariant-loop-index
 invariant-loop-index g l = record {
   parts : l.yielded ++ l.index-iterator ≡ l.self.members;
-  number : number_view l.found ≡ number_of (filter (g.C.Condition.holds l.condition) l.yielded);
+  number : matches_view l.found ≡ how_many (filter (g.C.Condition.holds l.condition) l.yielded);
   within : IsWithin l.self.bound l.found;
 }

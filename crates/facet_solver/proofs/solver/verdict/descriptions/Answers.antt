@@ -1,6 +1,5 @@
-use Rattle.std.proofs.Common.{◌≡◌, sym, ◌∙◌, ap, map, string_bytes, Some, None, ◌++◌, append-nil}
+use Rattle.std.proofs.Common.{◌≡◌, sym, ◌∙◌, ap, map, string_bytes, ◌++◌, append-nil}
 use Rattle.facet_solver_shape.specs.Keys.{key_of}
-use Rattle.facet_solver.specs.Verdict.{viable_at}
 use Rattle.facet_solver.proofs.IndexSets.{rest_more}
 use Rattle.facet_solver.proofs.Verdicts.{viable_texts, viable_texts_are, texts_more, texts_same}
 use Rattle.facet_solver.proofs.solver.verdict.descriptions.Goals as goal
