@@ -22,3 +22,4 @@ pub mod CountAnswer
 pub mod CountView
 pub mod Newtype
 pub mod NestedLaws
+pub mod FlatFields
