@@ -30,3 +30,4 @@ pub mod Selectors
 pub mod Checked
 pub mod NestedLaws
 pub mod OwnSteps
+pub mod FlatFields

@@ -81,6 +81,10 @@ pub stops-and_then : (r : Resolved) (w : Walked) (go : List ℕ → Walked) (err
 stops-and_then r w go (DuplicateField d) k h = effect-and_then-stopped r (duplicate_view d) w h.0 go h.1 k
 stops-and_then r w go OutOfMemory k h = tt
 
+-- emissions alone
+pub emit-done : (r t : Resolved) (w : Walked) (es : List Emission) (ns : List ℕ) → w ≡ Some (es, ns) → take_all r es ≡ resolved t → effect r w ≡ Some (resolved t, ns)
+emit-done r t w es ns e h = ap (effect r) e ∙ ap (λ (o : Outcome). Some (o, ns)) h
+
 -- the exit of a `?`
 pub walks-exit : (result : Result (Bor (List ℕ)) schema.SchemaError) (new : Resolved) (e : Option (Outcome × List ℕ)) (err : schema.SchemaError) → IsErrAnd result (λ x. x ≡ err) → StopsBy e err → Walks e result new
 walks-exit result new e err h k =

@@ -5,9 +5,11 @@ ghost use Rattle.facet_solver_shape.specs.Names.{Name};
 ghost use Rattle.facet_solver_shape.specs.Resolved.{Resolved};
 ghost use Rattle.facet_solver_shape.specs.declared.shape.Field.{Field};
 ghost use Rattle.facet_solver_shape.specs.declared.shape.Variant.{Variant};
-ghost use Rattle.facet_solver.specs.Choice.{IsChoice, IsClash, ListsChoices, Enumerates};
+ghost use Rattle.facet_solver.specs.Choice.{IsChoice, IsClash, IsResolution, ListsChoices, Enumerates};
 ghost use Rattle.facet_solver.specs.Count.{count_below, count_fields, count_of_root};
 ghost use Rattle.facet_solver.specs.Emissions.{Path};
+ghost use Rattle.facet_solver.specs.FlatFields.{GoesByName};
+ghost use Rattle.facet_solver.specs.declared.build.representation.Format.TheVariants.{Flat};
 ghost use Rattle.facet_solver.specs.Nested.{nested_paths, content_paths};
 ghost use Rattle.facet_solver.specs.NestedLaws.{FollowsKinds, EndsByLength, HasNoGaps};
 ghost use Rattle.facet_solver.specs.Representation.{Settings};
@@ -69,4 +71,10 @@ pub fn nested_paths_follow_kinds()
 pub fn nested_paths_have_no_gaps()
     ensures nested { (cat : Catalogue) (id : ℕ) → HasNoGaps (nested_paths cat id) }
     ensures content { (cat : Catalogue) (variant : Variant) → HasNoGaps (content_paths cat variant) }
+{}
+
+/// In the flat format the fields of a resolution stand under their names alone, so that no two have one name.
+pub fn flat_fields_go_by_name()
+    ensures { (settings : Settings) (cat : Catalogue) (root : ℕ) (choice : List ℕ) (r : Resolved)
+        → settings.format ≡ Flat → IsResolution settings cat root choice r → GoesByName r }
 {}

@@ -4,7 +4,7 @@ use Rattle.facet_solver.specs.Below.{FieldsBelow}
 use Rattle.facet_solver.specs.Walk.{Walked, walk}
 use Rattle.facet_solver.specs.Emissions.{Path}
 use Rattle.facet_solver.specs.Content.{newtype_fields}
-use Rattle.facet_solver.specs.Outcome.{effect, Outcome}
+use Rattle.facet_solver.specs.Outcome.{effect}
 use Rattle.facet_solver.specs.PlanView.{settings_of}
 use Rattle.facet_solver.specs.RoleView.{role_view}
 use Rattle.std.proofs.Common.{Some, None, Bool}
@@ -12,7 +12,7 @@ use Rattle.facet_solver.proofs.RoleViews.{plain_role}
 use Rattle.facet_solver.proofs.Descent.{FieldsBelow-mono}
 use Rattle.facet_solver.proofs.Limits.{limit_of, limit_of-le, limit_of-at, FieldsBelow-at}
 use Rattle.facet_solver.proofs.Products.{block-below, alternatives-below}
-use Rattle.facet_solver.proofs.Walking.{walk-start, turn-walked, turn-left, turn-stops, turns-done, stops-emit, walks-exit, walks-same, at-block, at-alternatives, at-plain, has_choice, choose-is, VariantsBelow-get, then-inside, then-alone, inside-some, stops-chosen, inside-newtype, inside-own, newtype-limits}
+use Rattle.facet_solver.proofs.Walking.{walk-start, turn-walked, turn-left, turn-stops, turns-done, stops-emit, emit-done, walks-exit, walks-same, at-block, at-alternatives, at-plain, has_choice, choose-is, VariantsBelow-get, then-inside, then-alone, inside-some, stops-chosen, inside-newtype, inside-own, newtype-limits}
 use Rattle.facet_solver.proofs.build.walk.+walk.Goals as goal
 
 pub walk_fields-loop-field-init : goal.walk_fields-loop-field-init
@@ -133,7 +133,7 @@ walk_field-returns-in_ok-emit_plain-in-Regular t c =
     let p = c.args.place.now.path in
     let r = c.args.resolution.now in
     let e = at-plain (settings_of c.args.plan) c.args.plan.shapes.now c.args.field.now p c.args.place.now.unwrapped c.args.numbers.now (role_view c.role_of-role.result) c.role_of-role.ensures (plain_role c.role_of-role.result c.in-Regular.is) in
-    ap (effect r) e ∙ ap (λ (o : Outcome). Some (o, c.args.numbers.now)) c.in_ok-emit_plain-in-Regular.ensures
+    emit-done r c.emit_plain.new.resolution _ _ c.args.numbers.now e c.in_ok-emit_plain-in-Regular.ensures
 
 pub walk_variant-returns-in_err-emit_variant : goal.walk_variant-returns-in_err-emit_variant
 walk_variant-returns-in_err-emit_variant t c =
