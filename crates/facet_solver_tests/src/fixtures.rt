@@ -1,4 +1,4 @@
-//! Catalogues, written as one writes types in Rust.
+//! Catalogues, written much as one writes types in Rust.
 
 use facet_solver::{
     DomMark, Field, ScalarType, Shape, ShapeId, ShapeKind, Shapes, StructKind, Variant,
@@ -6,11 +6,51 @@ use facet_solver::{
 use std::alloc::{AllocError, Global};
 use std::test::Fail;
 
-/// Types that are not checked yet, each at the place that its call gave.
+/// A field to be: its name, its type, and whether it is flattened.
+#[derive(Clone, Copy)]
+pub(crate) struct FieldOf<'n> {
+    name: &'n str,
+    shape: ShapeId,
+    flattened: bool,
+}
+
+/// A field that stands for itself.
+pub(crate) fn plain(name: &str, shape: ShapeId) -> FieldOf<'_> {
+    FieldOf {
+        name,
+        shape,
+        flattened: false,
+    }
+}
+
+/// A flattened field.
+pub(crate) fn flat(name: &str, shape: ShapeId) -> FieldOf<'_> {
+    FieldOf {
+        name,
+        shape,
+        flattened: true,
+    }
+}
+
+/// A variant to be.
+#[derive(Clone, Copy)]
+pub(crate) enum VariantOf<'n> {
+    /// Nothing in it.
+    Unit(&'n str),
+    /// One value without a name.
+    Newtype(&'n str, ShapeId),
+    /// Fields without names, but for their places.
+    Tuple(&'n str, &'n [FieldOf<'n>]),
+    /// Named fields.
+    Struct(&'n str, &'n [FieldOf<'n>]),
+}
+
+/// Types that are not checked yet, each at the place that its call gave. Refused memory is told at the end.
 #[derive(Drop)]
 pub(crate) struct Types {
     alloc: Global,
     shapes: Vec<Shape>,
+    refused: bool,
 }
 
 impl Types {
@@ -18,55 +58,114 @@ impl Types {
         Types {
             alloc,
             shapes: Vec::new(alloc),
+            refused: false,
         }
     }
 
     /// A type of any kind.
-    pub(crate) fn add(&mut self, name: &str, kind: ShapeKind) -> Result<ShapeId, AllocError> {
-        let shape = shape(self.alloc, name, kind)?;
-        self.add_shape(shape)
+    pub(crate) fn add(&mut self, name: &str, kind: ShapeKind) -> ShapeId {
+        let made = shape(self.alloc, name, kind);
+        self.put(made)
     }
 
-    pub(crate) fn add_shape(&mut self, shape: Shape) -> Result<ShapeId, AllocError> {
+    /// A shape that was made, if it was.
+    pub(crate) fn put(&mut self, made: Result<Shape, AllocError>) -> ShapeId {
         let id = ShapeId::new(self.shapes.len());
-        self.shapes.push(shape)?;
-        Ok(id)
+        match made {
+            Ok(shape) => self.refused |= self.shapes.push(shape).is_err(),
+            Err(_refused) => self.refused = true,
+        }
+        id
     }
 
-    pub(crate) fn scalar(&mut self, name: &str, of: ScalarType) -> Result<ShapeId, AllocError> {
+    pub(crate) fn scalar(&mut self, name: &str, of: ScalarType) -> ShapeId {
         self.add(name, ShapeKind::Scalar(of))
     }
 
-    pub(crate) fn structure(
-        &mut self,
-        name: &str,
-        fields: Vec<Field>,
-    ) -> Result<ShapeId, AllocError> {
-        let kind = StructKind::Struct;
-        self.add(name, ShapeKind::Struct { kind, fields })
+    pub(crate) fn structure(&mut self, name: &str, fields: &[FieldOf<'_>]) -> ShapeId {
+        let made = struct_shape(self.alloc, name, fields);
+        self.put(made)
     }
 
-    pub(crate) fn enumeration(
-        &mut self,
-        name: &str,
-        variants: Vec<Variant>,
-    ) -> Result<ShapeId, AllocError> {
-        self.add(name, ShapeKind::Enum { variants })
+    pub(crate) fn enumeration(&mut self, name: &str, variants: &[VariantOf<'_>]) -> ShapeId {
+        let made = enum_shape(self.alloc, name, variants);
+        self.put(made)
     }
 
-    pub(crate) fn option(&mut self, inside: ShapeId) -> Result<ShapeId, AllocError> {
+    /// An enum with a tag and a content name, where given.
+    pub(crate) fn tagged(
+        &mut self,
+        name: &str,
+        variants: &[VariantOf<'_>],
+        tag: Option<&str>,
+        content: Option<&str>,
+    ) -> ShapeId {
+        let made = tagged_shape(self.alloc, name, variants, tag, content);
+        self.put(made)
+    }
+
+    /// An enum of unit variants named by the letters of a text.
+    pub(crate) fn units(&mut self, name: &str, letters: &str) -> ShapeId {
+        let made = units_shape(self.alloc, name, letters);
+        self.put(made)
+    }
+
+    /// A struct that flattens these types.
+    pub(crate) fn block(&mut self, shapes: &[ShapeId]) -> ShapeId {
+        let made = block_shape(self.alloc, shapes);
+        self.put(made)
+    }
+
+    pub(crate) fn option(&mut self, inside: ShapeId) -> ShapeId {
         self.add("Option", ShapeKind::Option(inside))
     }
 
-    /// The catalogue, which has to be one.
-    pub(crate) fn checked(self) -> Result<Shapes, Fail> {
-        let Types { alloc: _, shapes } = self;
-        Ok(Shapes::new(shapes)?)
+    pub(crate) fn byte(&mut self) -> ShapeId {
+        self.scalar("u8", ScalarType::U8)
     }
 
-    pub(crate) fn into_shapes(self) -> Vec<Shape> {
-        let Types { alloc: _, shapes } = self;
-        shapes
+    pub(crate) fn text(&mut self) -> ShapeId {
+        self.scalar("String", ScalarType::String)
+    }
+
+    /// `enum T { A { x: u8 }, B { y: u8 } }`
+    pub(crate) fn enum_t(&mut self, byte: ShapeId) -> ShapeId {
+        let a = [plain("x", byte)];
+        let b = [plain("y", byte)];
+        self.enumeration(
+            "T",
+            &[VariantOf::Struct("A", &a), VariantOf::Struct("B", &b)],
+        )
+    }
+
+    /// `enum E { Tcp { host: String, port: u16 }, Unix { path: String } }`
+    pub(crate) fn enum_e(&mut self, tag: Option<&str>, content: Option<&str>) -> ShapeId {
+        let text = self.text();
+        let port = self.scalar("u16", ScalarType::U16);
+        let tcp = [plain("host", text), plain("port", port)];
+        let unix = [plain("path", text)];
+        let variants = [
+            VariantOf::Struct("Tcp", &tcp),
+            VariantOf::Struct("Unix", &unix),
+        ];
+        self.tagged("E", &variants, tag, content)
+    }
+
+    /// The catalogue, which has to be one, and has to have the root.
+    pub(crate) fn checked(self, root: ShapeId) -> Result<Shapes, Fail> {
+        let Types {
+            alloc: _,
+            shapes,
+            refused,
+        } = self;
+        if refused {
+            return Err("memory was refused".into());
+        }
+        let shapes = Shapes::new(shapes)?;
+        if !shapes.has(root) {
+            return Err("the root is not of the catalogue".into());
+        }
+        Ok(shapes)
     }
 }
 
@@ -97,101 +196,101 @@ pub(crate) fn field(alloc: Global, name: &str, shape: ShapeId) -> Result<Field, 
     })
 }
 
-/// A flattened field.
-pub(crate) fn flat(alloc: Global, name: &str, shape: ShapeId) -> Result<Field, AllocError> {
-    let mut field = field(alloc, name, shape)?;
-    field.flattened = true;
+fn field_of(alloc: Global, of: &FieldOf<'_>) -> Result<Field, AllocError> {
+    let mut field = field(alloc, of.name, of.shape)?;
+    field.flattened = of.flattened;
     Ok(field)
 }
 
-/// A variant with named fields.
+fn fields_of(alloc: Global, of: &[FieldOf<'_>]) -> Result<Vec<Field>, AllocError> {
+    let mut fields = Vec::new(alloc);
+    for field in of {
+        fields.push(field_of(alloc, field)?)?;
+    }
+    Ok(fields)
+}
+
+/// A variant of a kind.
 pub(crate) fn variant(
     alloc: Global,
     name: &str,
+    kind: StructKind,
     fields: Vec<Field>,
 ) -> Result<Variant, AllocError> {
     Ok(Variant {
         name: String::from_str(alloc, name)?,
-        kind: StructKind::Struct,
+        kind,
         fields,
     })
 }
 
-/// A variant with nothing in it.
-pub(crate) fn unit(alloc: Global, name: &str) -> Result<Variant, AllocError> {
-    Ok(Variant {
-        name: String::from_str(alloc, name)?,
-        kind: StructKind::Unit,
-        fields: Vec::new(alloc),
-    })
+/// A variant as it is to be.
+pub(crate) fn variant_of(alloc: Global, of: VariantOf<'_>) -> Result<Variant, AllocError> {
+    match of {
+        VariantOf::Unit(name) => variant(alloc, name, StructKind::Unit, Vec::new(alloc)),
+        VariantOf::Newtype(name, shape) => {
+            let fields = fields_of(alloc, &[plain("0", shape)])?;
+            variant(alloc, name, StructKind::TupleStruct, fields)
+        }
+        VariantOf::Tuple(name, fields) => {
+            let fields = fields_of(alloc, fields)?;
+            variant(alloc, name, StructKind::Tuple, fields)
+        }
+        VariantOf::Struct(name, fields) => {
+            let fields = fields_of(alloc, fields)?;
+            variant(alloc, name, StructKind::Struct, fields)
+        }
+    }
 }
 
-/// A variant round one value.
-pub(crate) fn newtype(alloc: Global, name: &str, shape: ShapeId) -> Result<Variant, AllocError> {
-    Ok(Variant {
-        name: String::from_str(alloc, name)?,
-        kind: StructKind::TupleStruct,
-        fields: vec![in alloc; field(alloc, "0", shape)?]?,
-    })
+fn struct_shape(alloc: Global, name: &str, of: &[FieldOf<'_>]) -> Result<Shape, AllocError> {
+    let kind = StructKind::Struct;
+    let fields = fields_of(alloc, of)?;
+    shape(alloc, name, ShapeKind::Struct { kind, fields })
 }
 
-/// A variant with one named field.
-pub(crate) fn variant_of_one(
+fn enum_shape(alloc: Global, name: &str, of: &[VariantOf<'_>]) -> Result<Shape, AllocError> {
+    let mut variants = Vec::new(alloc);
+    for variant in of {
+        variants.push(variant_of(alloc, *variant)?)?;
+    }
+    shape(alloc, name, ShapeKind::Enum { variants })
+}
+
+fn tagged_shape(
     alloc: Global,
     name: &str,
-    field_name: &str,
-    shape: ShapeId,
-) -> Result<Variant, AllocError> {
-    let fields = vec![in alloc; field(alloc, field_name, shape)?]?;
-    variant(alloc, name, fields)
-}
-
-/// `enum T { A { x: u8 }, B { y: u8 } }`
-pub(crate) fn enum_t(types: &mut Types, byte: ShapeId) -> Result<ShapeId, AllocError> {
-    let alloc = types.alloc;
-    let variants = vec![in alloc;
-        variant_of_one(alloc, "A", "x", byte)?,
-        variant_of_one(alloc, "B", "y", byte)?,
-    ]?;
-    types.enumeration("T", variants)
-}
-
-/// `enum E { Tcp { host: String, port: u16 }, Unix { path: String } }`, with a tag and a content name where given.
-pub(crate) fn enum_e(
-    types: &mut Types,
+    of: &[VariantOf<'_>],
     tag: Option<&str>,
     content: Option<&str>,
-) -> Result<ShapeId, AllocError> {
-    let alloc = types.alloc;
-    let text = types.scalar("String", ScalarType::String)?;
-    let port = types.scalar("u16", ScalarType::U16)?;
-    let tcp = vec![in alloc; field(alloc, "host", text)?, field(alloc, "port", port)?]?;
-    let variants = vec![in alloc;
-        variant(alloc, "Tcp", tcp)?,
-        variant_of_one(alloc, "Unix", "path", text)?,
-    ]?;
-    let mut shape = shape(alloc, "E", ShapeKind::Enum { variants })?;
+) -> Result<Shape, AllocError> {
+    let mut shape = enum_shape(alloc, name, of)?;
     shape.tag = optional(alloc, tag)?;
     shape.content = optional(alloc, content)?;
-    types.add_shape(shape)
+    Ok(shape)
 }
 
-/// An enum of unit variants named by the letters of a text.
-pub(crate) fn enum_of_units(
-    types: &mut Types,
-    name: &str,
-    letters: &str,
-) -> Result<ShapeId, AllocError> {
-    let alloc = types.alloc;
+fn units_shape(alloc: Global, name: &str, letters: &str) -> Result<Shape, AllocError> {
     let mut variants = Vec::new(alloc);
     for letter in letters.chars() {
         let mut name = String::new(alloc);
         name.push(letter)?;
-        variants.push(unit(alloc, name.as_str())?)?;
+        variants.push(variant_of(alloc, VariantOf::Unit(name.as_str()))?)?;
     }
-    types.enumeration(name, variants)
+    shape(alloc, name, ShapeKind::Enum { variants })
 }
 
+fn block_shape(alloc: Global, shapes: &[ShapeId]) -> Result<Shape, AllocError> {
+    let mut fields = Vec::new(alloc);
+    for id in shapes {
+        let name = format!(in alloc; "f{}", fields.len())?;
+        fields.push(field_of(alloc, &flat(name.as_str(), *id))?)?;
+    }
+    let kind = StructKind::Struct;
+    shape(alloc, "Block", ShapeKind::Struct { kind, fields })
+}
+
+/// A text that may be absent.
 pub(crate) fn optional(alloc: Global, text: Option<&str>) -> Result<Option<String>, AllocError> {
     match text {
         Some(text) => Ok(Some(String::from_str(alloc, text)?)),

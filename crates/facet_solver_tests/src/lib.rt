@@ -16,4 +16,6 @@ mod representations;
 #[cfg(test)]
 mod resolutions;
 #[cfg(test)]
+mod solving;
+#[cfg(test)]
 mod variant_formats;

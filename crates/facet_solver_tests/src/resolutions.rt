@@ -44,7 +44,10 @@ fn paths_grow_and_print(rt: HostRuntime) -> Result<(), Fail> {
     assert_eq!(rt; config.depth(), 3);
     assert!(rt; config.last() == Some(&PathSegment::Variant("config", "Advanced")));
     assert!(rt; config.segments()[0] == PathSegment::Field("foo"));
-    assert_eq!(rt; printed(alloc, &config)?.as_str(), "foo.bar.config::Advanced");
+    assert_eq!(rt;
+        printed(alloc, &config)?.as_str(),
+        "foo.bar.config::Advanced"
+    );
     assert_eq!(rt; printed(alloc, &root)?.as_str(), "<root>");
 
     assert!(rt; root.parent(alloc)? == root);
@@ -86,11 +89,19 @@ fn tells_its_fields(rt: &impl Abort, alloc: Global, declared: &Field) -> Result<
     assert!(rt; resolution.required_field_names().contains("host"));
     assert!(rt; !resolution.required_field_names().contains("port"));
     assert!(rt; resolution.field_by_name("port").is_some());
-    assert!(rt; resolution.field_by_key(&FieldKey::element("host")).is_some());
+    assert!(rt;
+        resolution
+            .field_by_key(&FieldKey::element("host"))
+            .is_some()
+    );
     assert!(rt; resolution.field_by_key(&FieldKey::text()).is_none());
     resolution.mark_all_optional();
     assert_eq!(rt; resolution.required_field_names().len(), 0);
-    assert!(rt; resolution.field_by_name("host").is_some_and(|field| !field.required));
+    assert!(rt;
+        resolution
+            .field_by_name("host")
+            .is_some_and(|field| !field.required)
+    );
     Ok(())
 }
 
@@ -143,7 +154,10 @@ fn refuses_a_second_field(rt: &impl Abort, alloc: Global, declared: &Field) -> R
         Err(SchemaError::DuplicateField(duplicate)) => {
             assert!(rt; duplicate.field_name == "id");
             assert_eq!(rt; printed(alloc, &duplicate.first_path)?.as_str(), "id");
-            assert_eq!(rt; printed(alloc, &duplicate.second_path)?.as_str(), "id.id_el");
+            assert_eq!(rt;
+                printed(alloc, &duplicate.second_path)?.as_str(),
+                "id.id_el"
+            );
         }
         _ => assert!(rt; false, "a second field was taken"),
     }

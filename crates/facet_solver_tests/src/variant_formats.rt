@@ -1,36 +1,22 @@
 //! What a value must look like for each variant of an enum, and how specific a type is.
 
-use crate::fixtures::{Types, field, newtype, shape, unit, variant};
+use crate::fixtures::{Types, VariantOf, field, plain, shape, variant_of};
 use facet_solver::{
-    Field, ScalarType, Shape, ShapeId, ShapeKind, StructKind, Variant, VariantFormat,
+    ScalarType, Shape, ShapeId, ShapeKind, Shapes, StructKind, Variant, VariantFormat,
     VariantsByFormat, specificity_score,
 };
 use std::alloc::{AllocError, Global};
 use std::test::Fail;
 
-/// A variant of fields without names.
-fn tuple(alloc: Global, name: &str, fields: Vec<Field>) -> Result<Variant, AllocError> {
-    Ok(Variant {
-        name: String::from_str(alloc, name)?,
-        kind: StructKind::Tuple,
-        fields,
-    })
-}
-
 /// `struct Spanned<T> { span: Span, value: T }`, a metadata container whose span is metadata.
-fn spanned(
-    alloc: Global,
-    types: &mut Types,
-    span: ShapeId,
-    value: ShapeId,
-) -> Result<ShapeId, AllocError> {
+fn spanned(alloc: Global, span: ShapeId, value: ShapeId) -> Result<Shape, AllocError> {
     let mut mark = field(alloc, "span", span)?;
     mark.metadata = true;
     let kind = StructKind::Struct;
     let fields = vec![in alloc; mark, field(alloc, "value", value)?]?;
-    let mut container: Shape = shape(alloc, "Spanned", ShapeKind::Struct { kind, fields })?;
+    let mut container = shape(alloc, "Spanned", ShapeKind::Struct { kind, fields })?;
     container.metadata_container = true;
-    types.add_shape(container)
+    Ok(container)
 }
 
 /// The names of variants in order.
@@ -105,138 +91,149 @@ struct Values {
 }
 
 /// `Box<u8>` at 2, `Spanned<Vec<u8>>` at 4, `Spanned<String>` at 5, a box of that at 6, `Option<u8>`.
-fn value_shapes(alloc: Global, types: &mut Types) -> Result<Values, AllocError> {
-    let byte = types.scalar("u8", ScalarType::U8)?;
-    let text = types.scalar("String", ScalarType::String)?;
-    let boxed_byte = types.add("Box", ShapeKind::Pointer(Some(byte)))?;
-    let bytes = types.add("Vec", ShapeKind::List(byte))?;
-    let spanned_bytes = spanned(alloc, types, byte, bytes)?;
-    let spanned_text = spanned(alloc, types, byte, text)?;
-    let boxed_spanned = types.add("Box", ShapeKind::Pointer(Some(spanned_text)))?;
-    let option = types.option(byte)?;
-    Ok(Values {
+fn value_shapes(alloc: Global, types: &mut Types) -> Values {
+    let byte = types.byte();
+    let text = types.text();
+    let boxed_byte = types.add("Box", ShapeKind::Pointer(Some(byte)));
+    let bytes = types.add("Vec", ShapeKind::List(byte));
+    let spanned_bytes = types.put(spanned(alloc, byte, bytes));
+    let spanned_text = types.put(spanned(alloc, byte, text));
+    let boxed_spanned = types.add("Box", ShapeKind::Pointer(Some(spanned_text)));
+    let option = types.option(byte);
+    Values {
         boxed_byte,
         spanned_bytes,
         spanned_text,
         boxed_spanned,
         option,
-    })
+    }
 }
 
+/// The format of a variant round one value.
+fn newtype_format(
+    alloc: Global,
+    shapes: &Shapes,
+    value: ShapeId,
+) -> Result<VariantFormat, AllocError> {
+    let variant = variant_of(alloc, VariantOf::Newtype("N", value))?;
+    Ok(VariantFormat::from_variant(shapes, &variant))
+}
+
+/// `I(Box<u8>), G(Spanned<Vec<u8>>), H(Box<Spanned<String>>), O(Option<u8>)`
 #[test]
 fn a_format_looks_through_pointers_or_one_container(rt: HostRuntime) -> Result<(), Fail> {
-    let alloc = rt.alloc();
-    let mut types = Types::new(alloc);
-    let of = value_shapes(alloc, &mut types)?;
-    let shapes = types.checked()?;
+    let mut types = Types::new(rt.alloc());
+    let of = value_shapes(rt.alloc(), &mut types);
+    let shapes = types.checked(of.option)?;
 
-    let scalar = VariantFormat::from_variant(&shapes, &newtype(alloc, "I", of.boxed_byte)?);
+    let scalar = newtype_format(rt.alloc(), &shapes, of.boxed_byte)?;
     let inner_shape = of.boxed_byte;
     assert_eq!(rt; scalar, VariantFormat::NewtypeScalar { inner_shape });
     assert!(rt; scalar.expects_scalar());
 
-    let sequence = VariantFormat::from_variant(&shapes, &newtype(alloc, "G", of.spanned_bytes)?);
+    let sequence = newtype_format(rt.alloc(), &shapes, of.spanned_bytes)?;
     let inner_shape = of.spanned_bytes;
     assert_eq!(rt; sequence, VariantFormat::NewtypeSequence { inner_shape });
     assert!(rt; sequence.expects_sequence());
 
-    let mapping = VariantFormat::from_variant(&shapes, &newtype(alloc, "H", of.boxed_spanned)?);
+    let mapping = newtype_format(rt.alloc(), &shapes, of.boxed_spanned)?;
     let inner_shape = of.spanned_text;
     assert_eq!(rt; mapping, VariantFormat::NewtypeStruct { inner_shape });
     assert!(rt; mapping.expects_mapping());
 
-    let other = VariantFormat::from_variant(&shapes, &newtype(alloc, "O", of.option)?);
+    let other = newtype_format(rt.alloc(), &shapes, of.option)?;
     let inner_shape = of.option;
     assert_eq!(rt; other, VariantFormat::NewtypeOther { inner_shape });
     assert!(rt; !other.expects_scalar() && !other.expects_sequence() && !other.expects_mapping());
+    Ok(())
+}
 
-    let named = VariantFormat::from_variant(&shapes, &variant(alloc, "Q", Vec::new(alloc))?);
-    assert_eq!(rt; named, VariantFormat::Struct);
-    assert!(rt; !named.is_unit());
-    assert!(rt; VariantFormat::from_variant(&shapes, &unit(alloc, "U")?).is_unit());
+#[test]
+fn a_format_goes_by_the_kind_of_the_variant(rt: HostRuntime) -> Result<(), Fail> {
+    let mut types = Types::new(rt.alloc());
+    let byte = types.byte();
+    let shapes = types.checked(byte)?;
+    let named = variant_of(rt.alloc(), VariantOf::Struct("Q", &[]))?;
+    let format = VariantFormat::from_variant(&shapes, &named);
+    assert_eq!(rt; format, VariantFormat::Struct);
+    assert!(rt; format.expects_mapping() && !format.is_unit());
+    let unit = variant_of(rt.alloc(), VariantOf::Unit("U"))?;
+    assert!(rt; VariantFormat::from_variant(&shapes, &unit).is_unit());
     Ok(())
 }
 
 /// `W { I(Box<u8>), G(Spanned<Vec<u8>>), H(Box<Spanned<String>>), O(Option<u8>), Q { } }`
 #[test]
 fn each_newtype_stands_in_the_list_of_its_value(rt: HostRuntime) -> Result<(), Fail> {
-    let alloc = rt.alloc();
-    let mut types = Types::new(alloc);
-    let of = value_shapes(alloc, &mut types)?;
-    let variants = vec![in alloc;
-        newtype(alloc, "I", of.boxed_byte)?,
-        newtype(alloc, "G", of.spanned_bytes)?,
-        newtype(alloc, "H", of.boxed_spanned)?,
-        newtype(alloc, "O", of.option)?,
-        variant(alloc, "Q", Vec::new(alloc))?,
-    ]?;
-    let root = types.enumeration("W", variants)?;
-    let shapes = types.checked()?;
-    let groups = VariantsByFormat::from_shape(alloc, &shapes, root)?.ok_or("an enum")?;
+    let mut types = Types::new(rt.alloc());
+    let of = value_shapes(rt.alloc(), &mut types);
+    let variants = [
+        VariantOf::Newtype("I", of.boxed_byte),
+        VariantOf::Newtype("G", of.spanned_bytes),
+        VariantOf::Newtype("H", of.boxed_spanned),
+        VariantOf::Newtype("O", of.option),
+        VariantOf::Struct("Q", &[]),
+    ];
+    let root = types.enumeration("W", &variants);
+    let shapes = types.checked(root)?;
+    let groups = VariantsByFormat::from_shape(rt.alloc(), &shapes, root)?.ok_or("an enum")?;
     assert_eq!(rt;
-        listed(alloc, &groups)?.as_str(),
+        listed(rt.alloc(), &groups)?.as_str(),
         "unit; struct H Q; other O; scalar I:2; bool; int I:2; float; string; tuple G:0"
     );
     Ok(())
 }
 
 /// `V { U, B(bool), L(Vec<u8>), P(u8, u8), E(), S(Spanned<String>), X(Box<Named>), Z(Never) }`
-fn enum_v(alloc: Global, types: &mut Types) -> Result<ShapeId, AllocError> {
-    let byte = types.scalar("u8", ScalarType::U8)?; // 0
-    let truth = types.scalar("bool", ScalarType::Bool)?; // 1
-    let text = types.scalar("String", ScalarType::String)?; // 2
-    let bytes = types.add("Vec", ShapeKind::List(byte))?;
-    let spanned_text = spanned(alloc, types, byte, text)?;
-    let named = types.structure("Named", vec![in alloc; field(alloc, "a", byte)?]?)?;
-    let boxed_named = types.add("Box", ShapeKind::Pointer(Some(named)))?;
-    let never = types.enumeration("Never", Vec::new(alloc))?; // 7
-    let variants = vec![in alloc;
-        unit(alloc, "U")?,
-        newtype(alloc, "B", truth)?,
-        newtype(alloc, "L", bytes)?,
-        tuple(
-            alloc,
-            "P",
-            vec![in alloc; field(alloc, "0", byte)?, field(alloc, "1", byte)?]?
-        )?,
-        tuple(alloc, "E", Vec::new(alloc))?,
-        newtype(alloc, "S", spanned_text)?,
-        newtype(alloc, "X", boxed_named)?,
-        newtype(alloc, "Z", never)?,
-    ]?;
-    types.enumeration("V", variants)
+fn enum_v(alloc: Global, types: &mut Types) -> ShapeId {
+    let byte = types.byte(); // 0
+    let truth = types.scalar("bool", ScalarType::Bool); // 1
+    let text = types.text(); // 2
+    let bytes = types.add("Vec", ShapeKind::List(byte));
+    let spanned_text = types.put(spanned(alloc, byte, text));
+    let named = types.structure("Named", &[plain("a", byte)]);
+    let boxed_named = types.add("Box", ShapeKind::Pointer(Some(named)));
+    let never = types.enumeration("Never", &[]); // 7
+    let pair = [plain("0", byte), plain("1", byte)];
+    let variants = [
+        VariantOf::Unit("U"),
+        VariantOf::Newtype("B", truth),
+        VariantOf::Newtype("L", bytes),
+        VariantOf::Tuple("P", &pair),
+        VariantOf::Tuple("E", &[]),
+        VariantOf::Newtype("S", spanned_text),
+        VariantOf::Newtype("X", boxed_named),
+        VariantOf::Newtype("Z", never),
+    ];
+    types.enumeration("V", &variants)
 }
 
 #[test]
 fn variants_stand_in_nine_lists(rt: HostRuntime) -> Result<(), Fail> {
-    let alloc = rt.alloc();
-    let mut types = Types::new(alloc);
-    let root = enum_v(alloc, &mut types)?;
-    let shapes = types.checked()?;
-    let groups = VariantsByFormat::from_shape(alloc, &shapes, root)?.ok_or("an enum")?;
+    let mut types = Types::new(rt.alloc());
+    let root = enum_v(rt.alloc(), &mut types);
+    let shapes = types.checked(root)?;
+    let groups = VariantsByFormat::from_shape(rt.alloc(), &shapes, root)?.ok_or("an enum")?;
     assert_eq!(rt;
-        listed(alloc, &groups)?.as_str(),
+        listed(rt.alloc(), &groups)?.as_str(),
         "unit U; struct X; other; scalar B:1 S:2 Z:7; bool B:1; int; float; string S:2; tuple L:0 P:2 E:0"
     );
+    let any_length = groups.tuple_variants_with_arity(rt.alloc(), 0)?;
+    assert_eq!(rt; names(rt.alloc(), &any_length)?.as_str(), " L E");
     assert!(rt; groups.has_scalar_variants());
     assert!(rt; groups.has_tuple_variants());
     assert!(rt; groups.has_struct_variants());
-    let any_length = groups.tuple_variants_with_arity(alloc, 0)?;
-    assert_eq!(rt; names(alloc, &any_length)?.as_str(), " L E");
-    let pairs = groups.tuple_variants_with_arity(alloc, 2)?;
-    assert_eq!(rt; names(alloc, &pairs)?.as_str(), " P");
     Ok(())
 }
 
 #[test]
 fn only_an_enum_has_variants(rt: HostRuntime) -> Result<(), Fail> {
-    let alloc = rt.alloc();
-    let mut types = Types::new(alloc);
-    let byte = types.scalar("u8", ScalarType::U8)?;
-    let never = types.enumeration("Never", Vec::new(alloc))?;
-    let shapes = types.checked()?;
-    assert!(rt; VariantsByFormat::from_shape(alloc, &shapes, byte)?.is_none());
-    let none = VariantsByFormat::from_shape(alloc, &shapes, never)?.ok_or("an enum")?;
+    let mut types = Types::new(rt.alloc());
+    let byte = types.byte();
+    let never = types.enumeration("Never", &[]);
+    let shapes = types.checked(never)?;
+    assert!(rt; VariantsByFormat::from_shape(rt.alloc(), &shapes, byte)?.is_none());
+    let none = VariantsByFormat::from_shape(rt.alloc(), &shapes, never)?.ok_or("an enum")?;
     assert!(rt; !none.has_scalar_variants());
     assert!(rt; !none.has_tuple_variants());
     assert!(rt; !none.has_struct_variants());
