@@ -42,5 +42,4 @@ pub use Rattle.facet_solver_shape.specs.Views
 pub use Rattle.facet_solver_shape.specs.Matching
 pub use Rattle.facet_solver_shape.specs.Descriptions
 pub use Rattle.facet_solver_shape.specs.Scores
-pub mod NestedLaws
 pub mod FlatFields
