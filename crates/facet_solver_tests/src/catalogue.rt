@@ -1,6 +1,6 @@
 //! Which lists of shapes are catalogues, and what the reads of a shape answer.
 
-use crate::fixtures::{VariantOf, field, shape, variant, variant_of};
+use crate::fixtures::{field, shape, unit, variant, variant_of};
 use facet_solver::{Field, ScalarType, Shape, ShapeId, ShapeKind, Shapes, StructKind};
 use std::alloc::{AllocError, Global};
 use std::test::Fail;
@@ -132,15 +132,15 @@ fn lowest_number_comes_first(rt: HostRuntime) -> Result<(), Fail> {
     assert_eq!(rt; refusal_of(past), Some((1, 1)));
 
     let fields = vec![in alloc; field_of(alloc, "f", 0)?, field_of(alloc, "f", 0)?]?;
-    let first = variant_of(alloc, VariantOf::Unit("A"))?;
+    let first = variant_of(alloc, &unit("A"))?;
     let second = variant(alloc, "A", StructKind::Struct, fields)?;
     let variants = vec![in alloc; first, second]?;
     let scalar = ShapeKind::Scalar(ScalarType::U8);
     let both = shapes_of(alloc, vec![in alloc; scalar, ShapeKind::Enum { variants }]?)?;
     assert_eq!(rt; refusal_of(both), Some((4, 1)));
 
-    let first = variant_of(alloc, VariantOf::Unit("A"))?;
-    let second = variant_of(alloc, VariantOf::Unit("A"))?;
+    let first = variant_of(alloc, &unit("A"))?;
+    let second = variant_of(alloc, &unit("A"))?;
     let variants = vec![in alloc; first, second]?;
     let one = shapes_of(alloc, vec![in alloc; ShapeKind::Enum { variants }]?)?;
     assert_eq!(rt; refusal_of(one), Some((5, 0)));

@@ -1,6 +1,6 @@
 //! The number of resolutions, small and large, without building them.
 
-use crate::fixtures::{Types, VariantOf, flat};
+use crate::fixtures::{Types, flat, newtype, record, unit};
 use facet_solver::{EnumRepr, Schema, ShapeId};
 use std::alloc::Global;
 use std::test::Fail;
@@ -86,11 +86,7 @@ fn of_contents(types: &mut Types) -> ShapeId {
     let pair = types.units("Pair", "AB");
     let three = types.block(&[pair, pair, pair]);
     let own = [flat("a", pair), flat("b", pair)];
-    let variants = [
-        VariantOf::Newtype("N", three),
-        VariantOf::Struct("S", &own),
-        VariantOf::Unit("U"),
-    ];
+    let variants = [newtype("N", three), record("S", &own), unit("U")];
     types.enumeration("E", &variants)
 }
 

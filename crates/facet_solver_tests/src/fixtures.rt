@@ -1,4 +1,5 @@
 //! Catalogues, written much as one writes types in Rust.
+ghost use Rattle.std.specs.Prelude.{◌<◌, length, IfOk};
 
 use facet_solver::{
     DomMark, Field, ScalarType, Shape, ShapeId, ShapeKind, Shapes, StructKind, Variant,
@@ -32,17 +33,53 @@ pub(crate) fn flat(name: &str, shape: ShapeId) -> FieldOf<'_> {
     }
 }
 
-/// A variant to be.
+/// A variant to be: with one value without a name, or with fields.
 #[derive(Clone, Copy)]
-pub(crate) enum VariantOf<'n> {
-    /// Nothing in it.
-    Unit(&'n str),
-    /// One value without a name.
-    Newtype(&'n str, ShapeId),
-    /// Fields without names, but for their places.
-    Tuple(&'n str, &'n [FieldOf<'n>]),
-    /// Named fields.
-    Struct(&'n str, &'n [FieldOf<'n>]),
+pub(crate) struct VariantOf<'n> {
+    name: &'n str,
+    kind: StructKind,
+    value: Option<ShapeId>,
+    fields: &'n [FieldOf<'n>],
+}
+
+/// A variant with nothing in it.
+pub(crate) fn unit(name: &str) -> VariantOf<'_> {
+    VariantOf {
+        name,
+        kind: StructKind::Unit,
+        value: None,
+        fields: &[],
+    }
+}
+
+/// A variant round one value.
+pub(crate) fn newtype(name: &str, value: ShapeId) -> VariantOf<'_> {
+    VariantOf {
+        name,
+        kind: StructKind::TupleStruct,
+        value: Some(value),
+        fields: &[],
+    }
+}
+
+/// A variant with fields without names, but for their places.
+pub(crate) fn tuple<'n>(name: &'n str, fields: &'n [FieldOf<'n>]) -> VariantOf<'n> {
+    VariantOf {
+        name,
+        kind: StructKind::Tuple,
+        value: None,
+        fields,
+    }
+}
+
+/// A variant with named fields.
+pub(crate) fn record<'n>(name: &'n str, fields: &'n [FieldOf<'n>]) -> VariantOf<'n> {
+    VariantOf {
+        name,
+        kind: StructKind::Struct,
+        value: None,
+        fields,
+    }
 }
 
 /// Types that are not checked yet, each at the place that its call gave. Refused memory is told at the end.
@@ -132,10 +169,7 @@ impl Types {
     pub(crate) fn enum_t(&mut self, byte: ShapeId) -> ShapeId {
         let a = [plain("x", byte)];
         let b = [plain("y", byte)];
-        self.enumeration(
-            "T",
-            &[VariantOf::Struct("A", &a), VariantOf::Struct("B", &b)],
-        )
+        self.enumeration("T", &[record("A", &a), record("B", &b)])
     }
 
     /// `enum E { Tcp { host: String, port: u16 }, Unix { path: String } }`
@@ -144,15 +178,14 @@ impl Types {
         let port = self.scalar("u16", ScalarType::U16);
         let tcp = [plain("host", text), plain("port", port)];
         let unix = [plain("path", text)];
-        let variants = [
-            VariantOf::Struct("Tcp", &tcp),
-            VariantOf::Struct("Unix", &unix),
-        ];
+        let variants = [record("Tcp", &tcp), record("Unix", &unix)];
         self.tagged("E", &variants, tag, content)
     }
 
     /// The catalogue, which has to be one, and has to have the root.
-    pub(crate) fn checked(self, root: ShapeId) -> Result<Shapes, Fail> {
+    pub(crate) fn checked(self, root: ShapeId) -> Result<Shapes, Fail>
+        ensures { IfOk result (λ shapes. root < length shapes) }
+    {
         let Types {
             alloc: _,
             shapes,
@@ -225,22 +258,12 @@ pub(crate) fn variant(
 }
 
 /// A variant as it is to be.
-pub(crate) fn variant_of(alloc: Global, of: VariantOf<'_>) -> Result<Variant, AllocError> {
-    match of {
-        VariantOf::Unit(name) => variant(alloc, name, StructKind::Unit, Vec::new(alloc)),
-        VariantOf::Newtype(name, shape) => {
-            let fields = fields_of(alloc, &[plain("0", shape)])?;
-            variant(alloc, name, StructKind::TupleStruct, fields)
-        }
-        VariantOf::Tuple(name, fields) => {
-            let fields = fields_of(alloc, fields)?;
-            variant(alloc, name, StructKind::Tuple, fields)
-        }
-        VariantOf::Struct(name, fields) => {
-            let fields = fields_of(alloc, fields)?;
-            variant(alloc, name, StructKind::Struct, fields)
-        }
-    }
+pub(crate) fn variant_of(alloc: Global, of: &VariantOf<'_>) -> Result<Variant, AllocError> {
+    let fields = match of.value {
+        Some(value) => vec![in alloc; field(alloc, "0", value)?]?,
+        None => fields_of(alloc, of.fields)?,
+    };
+    variant(alloc, of.name, of.kind, fields)
 }
 
 fn struct_shape(alloc: Global, name: &str, of: &[FieldOf<'_>]) -> Result<Shape, AllocError> {
@@ -252,7 +275,7 @@ fn struct_shape(alloc: Global, name: &str, of: &[FieldOf<'_>]) -> Result<Shape, 
 fn enum_shape(alloc: Global, name: &str, of: &[VariantOf<'_>]) -> Result<Shape, AllocError> {
     let mut variants = Vec::new(alloc);
     for variant in of {
-        variants.push(variant_of(alloc, *variant)?)?;
+        variants.push(variant_of(alloc, variant)?)?;
     }
     shape(alloc, name, ShapeKind::Enum { variants })
 }
@@ -275,7 +298,8 @@ fn units_shape(alloc: Global, name: &str, letters: &str) -> Result<Shape, AllocE
     for letter in letters.chars() {
         let mut name = String::new(alloc);
         name.push(letter)?;
-        variants.push(variant_of(alloc, VariantOf::Unit(name.as_str()))?)?;
+        let made = variant(alloc, name.as_str(), StructKind::Unit, Vec::new(alloc))?;
+        variants.push(made)?;
     }
     shape(alloc, name, ShapeKind::Enum { variants })
 }

@@ -1,6 +1,6 @@
 //! The resolutions of types with flattened fields: one for each choice of variants, in order.
 
-use crate::fixtures::{Types, VariantOf, flat, plain, shape};
+use crate::fixtures::{Types, flat, newtype, plain, record, shape};
 use crate::reading::{described, key_paths, keys, printed, required_names};
 use facet_solver::{
     FieldCategory, FieldKey, KeyResult, ScalarType, Schema, SchemaError, ShapeId, ShapeKind,
@@ -15,10 +15,7 @@ fn two_enums_pair_each_with_each(rt: HostRuntime) -> Result<(), Fail> {
     let byte = types.byte();
     let t = types.enum_t(byte);
     let (c, d) = ([plain("c", byte)], [plain("d", byte)]);
-    let u = types.enumeration(
-        "U",
-        &[VariantOf::Struct("C", &c), VariantOf::Struct("D", &d)],
-    );
+    let u = types.enumeration("U", &[record("C", &c), record("D", &d)]);
     let root = types.structure("S", &[flat("p", t), flat("q", u)]);
     let shapes = types.checked(root)?;
     let schema = Schema::build(rt.alloc(), &shapes, root)?;
@@ -103,10 +100,7 @@ fn a_clash_beside_an_empty_enum_is_none(rt: HostRuntime) -> Result<(), Fail> {
     let byte = types.byte();
     let never = types.enumeration("Never", &[]);
     let (a, b) = ([plain("x", byte), flat("n", never)], [plain("y", byte)]);
-    let v2 = types.enumeration(
-        "V2",
-        &[VariantOf::Struct("A", &a), VariantOf::Struct("B", &b)],
-    );
+    let v2 = types.enumeration("V2", &[record("A", &a), record("B", &b)]);
     let root = types.structure("S", &[plain("x", byte), flat("e", v2)]);
     let shapes = types.checked(root)?;
     let schema = Schema::build(rt.alloc(), &shapes, root)?;
@@ -270,10 +264,7 @@ fn a_newtype_is_walked_at_its_effective_shape(rt: HostRuntime) -> Result<(), Fai
     narrow.inner = Some(general);
     let narrow = types.put(Ok(narrow));
     let level = [plain("z", byte)];
-    let variants = [
-        VariantOf::Newtype("Linear", narrow),
-        VariantOf::Struct("Level", &level),
-    ];
+    let variants = [newtype("Linear", narrow), record("Level", &level)];
     let curve = types.enumeration("Curve", &variants);
     let root = types.structure("S", &[flat("c", curve)]);
     let shapes = types.checked(root)?;

@@ -1,6 +1,6 @@
 //! Enums by tag, by variant name, and by tag and content; and nested key paths.
 
-use crate::fixtures::{Types, VariantOf, flat, optional, plain, shape};
+use crate::fixtures::{Types, flat, newtype, optional, plain, record, shape};
 use crate::reading::{described, key_paths, keys, printed};
 use facet_solver::{
     EnumRepr, FieldKey, KeyResult, ScalarType, Schema, SchemaError, ShapeId, ShapeKind, Solver,
@@ -85,7 +85,7 @@ fn a_selector_clashes_by_name(rt: HostRuntime) -> Result<(), Fail> {
     let mut types = Types::new(rt.alloc());
     let text = types.text();
     let tcp = [plain("host", text)];
-    let w = types.tagged("W", &[VariantOf::Struct("Tcp", &tcp)], Some("type"), None);
+    let w = types.tagged("W", &[record("Tcp", &tcp)], Some("type"), None);
     let root = types.structure("S", &[plain("type", text), flat("e", w)]);
     let shapes = types.checked(root)?;
     let Err(SchemaError::DuplicateField(duplicate)) = Schema::build_auto(rt.alloc(), &shapes, root)
@@ -110,7 +110,7 @@ fn a_flattened_field_of_a_variant_names_what_is_in_it(rt: HostRuntime) -> Result
     let byte = types.byte();
     let inner = types.structure("In", &[plain("z", byte)]);
     let v = [flat("i", inner)];
-    let v1 = types.enumeration("V1", &[VariantOf::Struct("V", &v)]);
+    let v1 = types.enumeration("V1", &[record("V", &v)]);
     let root = types.structure("S", &[flat("e", v1)]);
     let shapes = types.checked(root)?;
     let external = EnumRepr::ExternallyTagged;
@@ -158,7 +158,7 @@ fn pool(types: &mut Types) -> ShapeId {
     let number = types.scalar("u64", ScalarType::U64);
     let pg = types.structure("PgD", &[plain("schema", text)]);
     let my = types.structure("MyD", &[plain("charset", text)]);
-    let variants = [VariantOf::Newtype("Pg", pg), VariantOf::Newtype("My", my)];
+    let variants = [newtype("Pg", pg), newtype("My", my)];
     let db = types.enumeration("Db", &variants);
     types.structure("Pool", &[plain("max", number), flat("db", db)])
 }

@@ -1,6 +1,6 @@
 //! A solver that is told the keys of a document.
 
-use crate::fixtures::{Types, VariantOf, flat, plain};
+use crate::fixtures::{Types, flat, newtype, plain};
 use crate::reading::printed;
 use facet_solver::{
     FieldKey, Format, KeyResult, ResolutionHandle, ScalarType, Schema, ShapeId, ShapeKind, Shapes,
@@ -19,8 +19,8 @@ fn message(types: &mut Types) -> ShapeId {
     let binary = [plain("data", bytes), plain("encoding", text)];
     let binary_message = types.structure("BinaryMessage", &binary);
     let variants = [
-        VariantOf::Newtype("Text", text_message),
-        VariantOf::Newtype("Binary", binary_message),
+        newtype("Text", text_message),
+        newtype("Binary", binary_message),
     ];
     let payload = types.enumeration("MessagePayload", &variants);
     types.structure("Message", &[plain("id", text), flat("payload", payload)])
@@ -31,10 +31,7 @@ fn source(types: &mut Types) -> ShapeId {
     let text = types.text();
     let http = types.structure("HttpConfig", &[plain("url", text)]);
     let git = types.structure("GitConfig", &[plain("url", text), plain("branch", text)]);
-    let variants = [
-        VariantOf::Newtype("Http", http),
-        VariantOf::Newtype("Git", git),
-    ];
+    let variants = [newtype("Http", http), newtype("Git", git)];
     let config = types.enumeration("SourceConfig", &variants);
     types.structure("Source", &[flat("config", config)])
 }
@@ -50,10 +47,7 @@ fn letters(types: &mut Types) -> ShapeId {
 fn integers(types: &mut Types) -> ShapeId {
     let small = types.byte();
     let large = types.scalar("u16", ScalarType::U16);
-    let variants = [
-        VariantOf::Newtype("Small", small),
-        VariantOf::Newtype("Large", large),
-    ];
+    let variants = [newtype("Small", small), newtype("Large", large)];
     let range = types.enumeration("IntegerRange", &variants);
     types.structure("IntegerContainer", &[flat("value", range)])
 }

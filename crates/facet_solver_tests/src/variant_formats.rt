@@ -1,6 +1,6 @@
 //! What a value must look like for each variant of an enum, and how specific a type is.
 
-use crate::fixtures::{Types, VariantOf, field, plain, shape, variant_of};
+use crate::fixtures::{Types, field, newtype, plain, record, shape, tuple, unit, variant_of};
 use facet_solver::{
     ScalarType, Shape, ShapeId, ShapeKind, Shapes, StructKind, Variant, VariantFormat,
     VariantsByFormat, specificity_score,
@@ -115,7 +115,7 @@ fn newtype_format(
     shapes: &Shapes,
     value: ShapeId,
 ) -> Result<VariantFormat, AllocError> {
-    let variant = variant_of(alloc, VariantOf::Newtype("N", value))?;
+    let variant = variant_of(alloc, &newtype("N", value))?;
     Ok(VariantFormat::from_variant(shapes, &variant))
 }
 
@@ -153,11 +153,11 @@ fn a_format_goes_by_the_kind_of_the_variant(rt: HostRuntime) -> Result<(), Fail>
     let mut types = Types::new(rt.alloc());
     let byte = types.byte();
     let shapes = types.checked(byte)?;
-    let named = variant_of(rt.alloc(), VariantOf::Struct("Q", &[]))?;
+    let named = variant_of(rt.alloc(), &record("Q", &[]))?;
     let format = VariantFormat::from_variant(&shapes, &named);
     assert_eq!(rt; format, VariantFormat::Struct);
     assert!(rt; format.expects_mapping() && !format.is_unit());
-    let unit = variant_of(rt.alloc(), VariantOf::Unit("U"))?;
+    let unit = variant_of(rt.alloc(), &unit("U"))?;
     assert!(rt; VariantFormat::from_variant(&shapes, &unit).is_unit());
     Ok(())
 }
@@ -168,11 +168,11 @@ fn each_newtype_stands_in_the_list_of_its_value(rt: HostRuntime) -> Result<(), F
     let mut types = Types::new(rt.alloc());
     let of = value_shapes(rt.alloc(), &mut types);
     let variants = [
-        VariantOf::Newtype("I", of.boxed_byte),
-        VariantOf::Newtype("G", of.spanned_bytes),
-        VariantOf::Newtype("H", of.boxed_spanned),
-        VariantOf::Newtype("O", of.option),
-        VariantOf::Struct("Q", &[]),
+        newtype("I", of.boxed_byte),
+        newtype("G", of.spanned_bytes),
+        newtype("H", of.boxed_spanned),
+        newtype("O", of.option),
+        record("Q", &[]),
     ];
     let root = types.enumeration("W", &variants);
     let shapes = types.checked(root)?;
@@ -196,14 +196,14 @@ fn enum_v(alloc: Global, types: &mut Types) -> ShapeId {
     let never = types.enumeration("Never", &[]); // 7
     let pair = [plain("0", byte), plain("1", byte)];
     let variants = [
-        VariantOf::Unit("U"),
-        VariantOf::Newtype("B", truth),
-        VariantOf::Newtype("L", bytes),
-        VariantOf::Tuple("P", &pair),
-        VariantOf::Tuple("E", &[]),
-        VariantOf::Newtype("S", spanned_text),
-        VariantOf::Newtype("X", boxed_named),
-        VariantOf::Newtype("Z", never),
+        unit("U"),
+        newtype("B", truth),
+        newtype("L", bytes),
+        tuple("P", &pair),
+        tuple("E", &[]),
+        newtype("S", spanned_text),
+        newtype("X", boxed_named),
+        newtype("Z", never),
     ];
     types.enumeration("V", &variants)
 }
