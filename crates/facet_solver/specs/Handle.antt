@@ -22,6 +22,7 @@ IsHandleOf schema handle = slice_get schema.resolutions (index_of handle) ≡ So
 abbrev pub same_index : ResolutionHandle → ResolutionHandle → Bool
 same_index g h = nat_eq (index_of g) (index_of h)
 
+-- which is an equivalence
 pub same_index_equiv : IsEquivalence same_index
 same_index_equiv = record {
   refl = λ g. nat_eq_equiv.refl (index_of g);

@@ -1,4 +1,4 @@
--- What schemas and solvers say is stored as the tuple of its parts.
+-- How what schemas and solvers say is stored, by which proofs tell values apart. No clause speaks of it.
 use Rattle.std.specs.Prelude.{◌≡◌, ℕ, zero, suc, List, [], Option, refl}
 use Rattle.std.specs.Coded.{Coded, code_by, coded×, coded_ℕ, coded_list, coded_option}
 use Rattle.facet_solver_shape.specs.Keys.{Key}
@@ -13,24 +13,28 @@ use Rattle.facet_solver.specs.SchemaView.{SchemaView}
 use Rattle.facet_solver.specs.State.{State}
 use Rattle.facet_solver.specs.Targets.{Catalogue}
 
+-- a representation as its place among the four and its names
 abbrev repr_parts : Repr → ℕ × (Name × Name)
 repr_parts flattened = (0, ([], []))
 repr_parts externally_tagged = (1, ([], []))
 repr_parts (internally_tagged tag) = (2, (tag, []))
 repr_parts (adjacently_tagged tag content) = (3, (tag, content))
 
+-- and back
 abbrev repr_numbered : Name → Name → ℕ → Repr
 repr_numbered tag content zero = flattened
 repr_numbered tag content (suc zero) = externally_tagged
 repr_numbered tag content (suc (suc zero)) = internally_tagged tag
 repr_numbered tag content (suc (suc (suc n))) = adjacently_tagged tag content
 
+-- which is the representation again
 pub repr_back : (r : Repr) → repr_numbered (repr_parts r).1.0 (repr_parts r).1.1 (repr_parts r).0 ≡ r
 repr_back flattened = refl
 repr_back externally_tagged = refl
 repr_back (internally_tagged tag) = refl
 repr_back (adjacently_tagged tag content) = refl
 
+-- a representation
 abbrev pub repr_code : Coded Repr
 repr_code =
     code_by (ℕ × (Name × Name)) (coded× coded_ℕ (coded× (coded_list coded_ℕ) (coded_list coded_ℕ)))
@@ -38,6 +42,7 @@ repr_code =
     (λ p. repr_numbered p.1.0 p.1.1 p.0)
     repr_back
 
+-- settings
 abbrev pub settings_code : Coded Settings
 settings_code =
     code_by (Option Repr × Format) (coded× (coded_option repr_code) format.the_row.coded)
@@ -45,6 +50,7 @@ settings_code =
     (λ p. record { representation = p.0; format = p.1 })
     (λ _. refl)
 
+-- a schema as the tuple of its parts
 abbrev pub schema_code : Coded SchemaView
 schema_code =
     code_by ((Catalogue × ℕ) × (Settings × List Resolved))
@@ -53,6 +59,7 @@ schema_code =
     (λ p. record { catalogue = p.0.0; root = p.0.1; settings = p.1.0; resolutions = p.1.1 })
     (λ _. refl)
 
+-- a state as the tuple of its parts
 abbrev pub state_code : Coded State
 state_code =
     code_by (SchemaView × (List ℕ × List Key)) (coded× schema_code (coded× (coded_list coded_ℕ) (coded_list key_code)))

@@ -10,21 +10,21 @@ use std::alloc::{AllocError, Global};
 use std::process::Abort;
 use std::test::Fail;
 
-/// A field of that name and category, at the path of its name alone.
+/// A flat field of a name, at the path of a field of the root.
 fn field_of<'c>(
     alloc: Global,
     field: &'c Field,
     name: &'c str,
-    category: FieldCategory,
+    place: &'c str,
     required: bool,
 ) -> Result<FieldInfo<'c>, AllocError> {
     Ok(FieldInfo {
         serialized_name: name,
-        path: FieldPath::empty(alloc).push_field(alloc, name)?,
+        path: FieldPath::empty(alloc).push_field(alloc, place)?,
         required,
         value_shape: ShapeId::new(0),
         field,
-        category,
+        category: FieldCategory::Flat,
     })
 }
 
@@ -72,6 +72,20 @@ fn keys_have_names_and_an_order(rt: HostRuntime) {
     assert!(rt; FieldKey::element("a") < FieldKey::element("b"));
 }
 
+/// A resolution of one required field and one picked variant.
+fn resolution_of<'c>(
+    alloc: Global,
+    declared: &'c Field,
+    name: &'c str,
+    variant: &'c str,
+) -> Result<Resolution<'c>, Fail> {
+    let mut resolution = Resolution::new(alloc);
+    let info = field_of(alloc, declared, name, name, true)?;
+    resolution.add_field(info)?;
+    resolution.add_variant_selection(FieldPath::empty(alloc), "E", variant)?;
+    Ok(resolution)
+}
+
 #[test]
 fn a_resolution_tells_its_fields(rt: HostRuntime) -> Result<(), Fail> {
     let alloc = rt.alloc();
@@ -80,15 +94,25 @@ fn a_resolution_tells_its_fields(rt: HostRuntime) -> Result<(), Fail> {
 }
 
 fn tells_its_fields(rt: &impl Abort, alloc: Global, declared: &Field) -> Result<(), Fail> {
-    let mut resolution = Resolution::new(alloc);
-    let host = field_of(alloc, declared, "host", FieldCategory::Flat, true)?;
-    resolution.add_field(host)?;
-    let port = field_of(alloc, declared, "port", FieldCategory::Flat, false)?;
+    let mut resolution = resolution_of(alloc, declared, "host", "A")?;
+    let port = field_of(alloc, declared, "port", "port", false)?;
     resolution.add_field(port)?;
     assert_eq!(rt; resolution.fields().len(), 2);
     assert!(rt; resolution.required_field_names().contains("host"));
     assert!(rt; !resolution.required_field_names().contains("port"));
     assert!(rt; resolution.field_by_name("port").is_some());
+    Ok(())
+}
+
+#[test]
+fn a_key_finds_its_field(rt: HostRuntime) -> Result<(), Fail> {
+    let alloc = rt.alloc();
+    let field = field(alloc, "host", ShapeId::new(0))?;
+    finds_its_field(&rt, alloc, &field)
+}
+
+fn finds_its_field(rt: &impl Abort, alloc: Global, declared: &Field) -> Result<(), Fail> {
+    let mut resolution = resolution_of(alloc, declared, "host", "A")?;
     assert!(rt;
         resolution
             .field_by_key(&FieldKey::element("host"))
@@ -130,7 +154,7 @@ fn a_resolution_tells_its_catch_all(rt: HostRuntime) -> Result<(), Fail> {
 
 fn tells_its_catch_all(rt: &impl Abort, alloc: Global, declared: &Field) -> Result<(), Fail> {
     let mut resolution = Resolution::new(alloc);
-    let rest = field_of(alloc, declared, "rest", FieldCategory::Flat, false)?;
+    let rest = field_of(alloc, declared, "rest", "rest", false)?;
     resolution.set_catch_all_map(FieldCategory::Flat, rest)?;
     assert!(rt; resolution.catch_all_map(FieldCategory::Flat).is_some());
     assert!(rt; resolution.catch_all_map(FieldCategory::Attribute).is_none());
@@ -145,59 +169,52 @@ fn a_second_field_of_a_key_is_refused(rt: HostRuntime) -> Result<(), Fail> {
 }
 
 fn refuses_a_second_field(rt: &impl Abort, alloc: Global, declared: &Field) -> Result<(), Fail> {
-    let mut resolution = Resolution::new(alloc);
-    let id = field_of(alloc, declared, "id", FieldCategory::Flat, true)?;
-    resolution.add_field(id)?;
-    let mut again = field_of(alloc, declared, "id", FieldCategory::Flat, false)?;
-    again.path = again.path.push_field(alloc, "id_el")?;
-    match resolution.add_field(again) {
-        Err(SchemaError::DuplicateField(duplicate)) => {
-            assert!(rt; duplicate.field_name == "id");
-            assert_eq!(rt; printed(alloc, &duplicate.first_path)?.as_str(), "id");
-            assert_eq!(rt;
-                printed(alloc, &duplicate.second_path)?.as_str(),
-                "id.id_el"
-            );
-        }
-        _ => assert!(rt; false, "a second field was taken"),
-    }
+    let mut resolution = resolution_of(alloc, declared, "id", "A")?;
+    let again = field_of(alloc, declared, "id", "id_el", false)?;
+    let Err(SchemaError::DuplicateField(duplicate)) = resolution.add_field(again) else {
+        return Err("a second field was taken".into());
+    };
+    assert!(rt; duplicate.field_name == "id");
+    assert_eq!(rt; printed(alloc, &duplicate.first_path)?.as_str(), "id");
+    assert_eq!(rt;
+        printed(alloc, &duplicate.second_path)?.as_str(),
+        "id.id_el"
+    );
     assert_eq!(rt; resolution.fields().len(), 1);
-    assert!(rt; resolution.required_field_names().contains("id"));
     Ok(())
 }
 
 #[test]
-fn merging_joins_or_refuses(rt: HostRuntime) -> Result<(), Fail> {
+fn merging_joins(rt: HostRuntime) -> Result<(), Fail> {
     let alloc = rt.alloc();
     let field = field(alloc, "a", ShapeId::new(0))?;
-    joins_or_refuses(&rt, alloc, &field)
+    joins(&rt, alloc, &field)
 }
 
-fn joins_or_refuses(rt: &impl Abort, alloc: Global, declared: &Field) -> Result<(), Fail> {
-    let mut first = Resolution::new(alloc);
-    let a = field_of(alloc, declared, "a", FieldCategory::Flat, true)?;
-    first.add_field(a)?;
-    first.add_variant_selection(FieldPath::empty(alloc), "P", "A")?;
-    let mut second = Resolution::new(alloc);
-    let b = field_of(alloc, declared, "b", FieldCategory::Flat, true)?;
-    second.add_field(b)?;
-    second.add_variant_selection(FieldPath::empty(alloc), "Q", "B")?;
-
+fn joins(rt: &impl Abort, alloc: Global, declared: &Field) -> Result<(), Fail> {
+    let mut first = resolution_of(alloc, declared, "a", "A")?;
+    let second = resolution_of(alloc, declared, "b", "B")?;
     first.merge(&second)?;
     assert_eq!(rt; first.fields().len(), 2);
     assert_eq!(rt; first.required_field_names().len(), 2);
-    let text = first.describe(alloc)?;
-    assert_eq!(rt; text.as_str(), "P::A + Q::B");
+    assert_eq!(rt; first.describe(alloc)?.as_str(), "E::A + E::B");
+    Ok(())
+}
 
-    match first.merge(&second) {
-        Err(SchemaError::DuplicateField(duplicate)) => {
-            assert!(rt; duplicate.field_name == "b");
-            assert_eq!(rt; printed(alloc, &duplicate.first_path)?.as_str(), "b");
-            assert_eq!(rt; printed(alloc, &duplicate.second_path)?.as_str(), "b");
-        }
-        _ => assert!(rt; false, "a second field was taken"),
-    }
-    let text = first.describe(alloc)?;
-    assert_eq!(rt; text.as_str(), "P::A + Q::B");
+#[test]
+fn merging_refuses_a_second_field(rt: HostRuntime) -> Result<(), Fail> {
+    let alloc = rt.alloc();
+    let field = field(alloc, "a", ShapeId::new(0))?;
+    refuses_to_merge(&rt, alloc, &field)
+}
+
+fn refuses_to_merge(rt: &impl Abort, alloc: Global, declared: &Field) -> Result<(), Fail> {
+    let mut first = resolution_of(alloc, declared, "a", "A")?;
+    let second = resolution_of(alloc, declared, "a", "B")?;
+    let Err(SchemaError::DuplicateField(duplicate)) = first.merge(&second) else {
+        return Err("a second field was taken".into());
+    };
+    assert!(rt; duplicate.field_name == "a");
+    assert_eq!(rt; first.describe(alloc)?.as_str(), "E::A");
     Ok(())
 }
