@@ -1,6 +1,6 @@
 //! What the program answers.
 ghost use Rattle.std.specs.Prelude.{◌≡◌, ◌<◌, length, IfOk, string_bytes};
-ghost use Rattle.facet_solver.specs.Handle.{index_of, resolution_at};
+ghost use Rattle.facet_solver.specs.Handle.{index_of, resolution_behind};
 ghost use Rattle.facet_solver.specs.Targets.{Catalogue};
 ghost use Rattle.facet_solver_program.specs.Replies.{resolved_text, NamesResolution};
 
@@ -72,7 +72,7 @@ fn solve(alloc: Global, shapes: &Shapes, root: ShapeId) -> Result<Reply, AllocEr
 // The reply that names a resolution.
 fn resolved(alloc: Global, handle: ResolutionHandle<'_, '_>) -> Result<Reply, AllocError>
     ensures status { IfOk result (λ reply. reply.status ≡ 0) }
-    ensures text { IfOk result (λ reply. string_bytes reply.text ≡ resolved_text (index_of handle.entry) (resolution_at handle.entry)) }
+    ensures text { IfOk result (λ reply. string_bytes reply.text ≡ resolved_text (index_of handle.entry) (resolution_behind handle.entry)) }
 {
     let index = handle.index();
     let description = handle.resolution().describe(alloc)?;

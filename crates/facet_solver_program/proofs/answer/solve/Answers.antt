@@ -1,6 +1,6 @@
 use Rattle.std.proofs.Common.{ap, sym, ◌∙◌, slice_get}
 use Rattle.std.proofs.lemmas.Result.{IfOk-weaker}
-use Rattle.facet_solver.specs.Handle.{index_of, resolution_at}
+use Rattle.facet_solver.specs.Handle.{index_of, resolution_behind}
 use Rattle.facet_solver.specs.SchemaView.{SchemaView}
 use Rattle.facet_solver_program.proofs.answer.solve.Goals as goal
 
@@ -13,7 +13,7 @@ returns-in-Ok-finish c =
       resolutions = c.in-Ok.schema.resolutions;
       all = c.in-Ok.ensures.built.enumerates;
       index = index_of c.in-Ok-finish.handle;
-      resolved = resolution_at c.in-Ok-finish.handle;
+      resolved = resolution_behind c.in-Ok-finish.handle;
       here = here;
       is = is;
     }) c.resolved.ensures.text
