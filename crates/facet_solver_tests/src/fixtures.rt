@@ -176,10 +176,18 @@ impl Types {
     pub(crate) fn enum_e(&mut self, tag: Option<&str>, content: Option<&str>) -> ShapeId {
         let text = self.text();
         let port = self.scalar("u16", ScalarType::U16);
-        let tcp = [plain("host", text), plain("port", port)];
-        let unix = [plain("path", text)];
-        let variants = [record("Tcp", &tcp), record("Unix", &unix)];
-        self.tagged("E", &variants, tag, content)
+        let fields = [
+            plain("host", text),
+            plain("port", port),
+            plain("path", text),
+        ];
+        let (tcp, unix) = fields.split_at(2);
+        self.tagged(
+            "E",
+            &[record("Tcp", tcp), record("Unix", unix)],
+            tag,
+            content,
+        )
     }
 
     /// The catalogue, which has to be one, and has to have the root.

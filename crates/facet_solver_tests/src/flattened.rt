@@ -99,8 +99,9 @@ fn a_clash_beside_an_empty_enum_is_none(rt: HostRuntime) -> Result<(), Fail> {
     let mut types = Types::new(rt.alloc());
     let byte = types.byte();
     let never = types.enumeration("Never", &[]);
-    let (a, b) = ([plain("x", byte), flat("n", never)], [plain("y", byte)]);
-    let v2 = types.enumeration("V2", &[record("A", &a), record("B", &b)]);
+    let fields = [plain("x", byte), flat("n", never), plain("y", byte)];
+    let (a, b) = fields.split_at(2);
+    let v2 = types.enumeration("V2", &[record("A", a), record("B", b)]);
     let root = types.structure("S", &[plain("x", byte), flat("e", v2)]);
     let shapes = types.checked(root)?;
     let schema = Schema::build(rt.alloc(), &shapes, root)?;
