@@ -176,10 +176,7 @@ fn refuses_a_second_field(rt: &impl Abort, alloc: Global, declared: &Field) -> R
     };
     assert!(rt; duplicate.field_name == "id");
     assert_eq!(rt; printed(alloc, &duplicate.first_path)?.as_str(), "id");
-    assert_eq!(rt;
-        printed(alloc, &duplicate.second_path)?.as_str(),
-        "id.id_el"
-    );
+    assert_eq!(rt; printed(alloc, &duplicate.second_path)?.as_str(), "id_el");
     assert_eq!(rt; resolution.fields().len(), 1);
     Ok(())
 }
