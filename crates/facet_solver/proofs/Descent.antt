@@ -1,14 +1,14 @@
 -- What goes down a checked catalogue ends: definitions by levels don't depend on the levels that are left.
 use Rattle.std.proofs.Common.{◌≡◌, ℕ, zero, suc, ◌<◌, ◌≤◌, List, [], ◌∷◌, Option, Some, None, Bool, true, false, sym, refl, ◌∙◌, slice_get, length, arith, string_bytes}
 use Rattle.std.specs.Prelude.{if◌then◌else◌}
-use Rattle.std.specs.Option.{option_or}
+use Rattle.std.specs.Option.{IfSome, option_or}
 use Rattle.facet_solver_shape.specs.declared.shape.Shape.{Shape}
 use Rattle.facet_solver_shape.specs.declared.shape.ShapeKind.{ShapeKind}
 use Rattle.facet_solver_shape.specs.declared.shape.ShapeKind.TheVariants.{Struct, Enum, Option as OptionOf}
 use Rattle.facet_solver_shape.specs.declared.shape.Field.{Field}
 use Rattle.facet_solver_shape.specs.declared.shape.Variant.{Variant}
+use Rattle.facet_solver_shape.specs.Places.{FieldsBelow, VariantsBelow, KindBelow, NamesEarlier}
 use Rattle.facet_solver.specs.Targets.{Catalogue, kind_of, kind_at, target_of, or_else, option_inside, effective, effective_within, go_on, next_inside}
-use Rattle.facet_solver.specs.Below.{FieldsBelow, VariantsBelow, KindBelow, IdBelow, NamesEarlier}
 use Rattle.facet_solver.specs.Roles.{Role, a_regular, a_block, some_alternatives, a_rest, a_leaf, role_of, role_of_target, role_by_kind}
 use Rattle.facet_solver.specs.Content.{struct_fields, newtype_fields, content_of, content_or, is_zero}
 
@@ -44,7 +44,7 @@ role_by_kind-below limit s _ h = tt
 module _ (cat : Catalogue) (checked : NamesEarlier cat) where
   pub role_of_target-below : (id : ℕ) (o : Option Shape) → slice_get cat id ≡ o → RoleBelow id (role_of_target o)
   role_of_target-below id None e = tt
-  role_of_target-below id (Some s) e = role_by_kind-below id s s.kind (checked id s e).by_kind
+  role_of_target-below id (Some s) e = role_by_kind-below id s s.kind (checked id s e).kind
 
   -- an option's inside stands before it
   or_else-inside-le : (limit : ℕ) (id : ℕ) (k : ShapeKind) → KindBelow limit k → limit ≤ id → or_else (option_inside k) id ≤ id
@@ -54,7 +54,7 @@ module _ (cat : Catalogue) (checked : NamesEarlier cat) where
 
   pub kind_of-below : (id : ℕ) (o : Option Shape) → slice_get cat id ≡ o → KindBelow id (kind_of o)
   kind_of-below id None e = tt
-  kind_of-below id (Some s) e = (checked id s e).by_kind
+  kind_of-below id (Some s) e = (checked id s e).kind
 
   pub target_of-le : (f : Field) → (target_of cat f) ≤ f.shape
   target_of-le f = or_else-inside-le f.shape f.shape (kind_at cat f.shape) (kind_of-below f.shape (slice_get cat f.shape) refl) (omega arith)
@@ -69,11 +69,11 @@ module _ (cat : Catalogue) (checked : NamesEarlier cat) where
       (RoleBelow-mono (target_of cat f) f.shape (role_of_target (slice_get cat (target_of cat f))) (target_of-le f)
       (role_of_target-below (target_of cat f) (slice_get cat (target_of cat f)) refl))
 
-  pub next_inside-below : (id : ℕ) (o : Option Shape) → slice_get cat id ≡ o → IdBelow id (next_inside o)
+  pub next_inside-below : (id : ℕ) (o : Option Shape) → slice_get cat id ≡ o → IfSome (next_inside o) (λ p. p < id)
   next_inside-below id None e = tt
-  next_inside-below id (Some s) e = both s.inner s.proxy (checked id s e).by_inner (checked id s e).by_proxy
+  next_inside-below id (Some s) e = both s.inner s.proxy (checked id s e).inner (checked id s e).proxy
     where
-      both : (a b : Option ℕ) → IdBelow id a → IdBelow id b → IdBelow id (option_or a b)
+      both : (a b : Option ℕ) → IfSome a (λ p. p < id) → IfSome b (λ p. p < id) → IfSome (option_or a b) (λ p. p < id)
       both None b h k = k
       both (Some a) b h k = h
 
@@ -81,7 +81,7 @@ module _ (cat : Catalogue) (checked : NamesEarlier cat) where
   effective_within-le zero id = omega arith
   effective_within-le (suc n) id = go (next_inside (slice_get cat id)) (next_inside-below id (slice_get cat id) refl) (λ next. effective_within-le n next)
     where
-      go : (o : Option ℕ) → IdBelow id o → ((next : ℕ) → effective_within n cat next ≤ next) → go_on (effective_within n cat) id o ≤ id
+      go : (o : Option ℕ) → IfSome o (λ p. p < id) → ((next : ℕ) → effective_within n cat next ≤ next) → go_on (effective_within n cat) id o ≤ id
       go None h below = omega arith
       go (Some next) h below = omega (arith, below next)
 

@@ -27,7 +27,6 @@ pub mod Enumerations
 pub mod KeyPaths
 pub mod Nested
 pub mod Selectors
-pub mod Checked
 pub mod NestedLaws
 pub mod OwnSteps
 pub mod FlatFields

@@ -5,8 +5,8 @@ use Rattle.std.proofs.lemmas.Option.{slice_get_within}
 use Rattle.std.proofs.Math.ListN.{drop_of_length-le}
 use Rattle.facet_solver_shape.specs.declared.shape.Field.{Field}
 use Rattle.facet_solver_shape.specs.declared.shape.Variant.{Variant}
+use Rattle.facet_solver_shape.specs.Places.{FieldsBelow, VariantsBelow, KindBelow, NamesEarlier}
 use Rattle.facet_solver.specs.Targets.{Catalogue}
-use Rattle.facet_solver.specs.Below.{FieldsBelow, VariantsBelow, KindBelow, NamesEarlier}
 use Rattle.facet_solver.specs.Representation.{Settings, is_walked, repr_for}
 use Rattle.facet_solver.specs.Roles.{a_regular, a_block, some_alternatives, a_rest, a_leaf, role_of}
 use Rattle.facet_solver.specs.Content.{content_of}
@@ -184,7 +184,7 @@ module _ (settings : Settings) (cat : Catalogue) (root : ℕ) (s : Shape) (is : 
       go _ e = refl
 
   kind-below : NamesEarlier cat → KindBelow root s.kind
-  kind-below checked = (checked root s is).by_kind
+  kind-below checked = (checked root s is).kind
 
   pub struct-below : NamesEarlier cat → (kind : StructKind) (fs : Vec Field Global) → s.kind ≡ Struct kind fs → FieldsBelow (length cat) fs.items
   struct-below checked kind fs e = FieldsBelow-mono root (length cat) fs.items (omega (arith, here)) (subst (KindBelow root) e (kind-below checked))

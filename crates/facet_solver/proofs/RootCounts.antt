@@ -6,8 +6,8 @@ use Rattle.facet_solver_shape.specs.declared.shape.Shape.{Shape}
 use Rattle.facet_solver_shape.specs.declared.shape.ShapeKind.{ShapeKind}
 use Rattle.facet_solver_shape.specs.declared.shape.ShapeKind.TheVariants.{Enum}
 use Rattle.facet_solver_shape.specs.declared.shape.Variant.{Variant}
+use Rattle.facet_solver_shape.specs.Places.{VariantsBelow, KindBelow, NamesEarlier}
 use Rattle.facet_solver.specs.Targets.{Catalogue}
-use Rattle.facet_solver.specs.Below.{VariantsBelow, KindBelow, NamesEarlier}
 use Rattle.facet_solver.specs.Representation.{Settings}
 use Rattle.facet_solver.specs.Roles.{role_of_target, role_by_kind}
 use Rattle.facet_solver.specs.Count.{count_role, count_below, count_of_root, count_of_shape, count_of_kind}
@@ -35,7 +35,7 @@ module _ (settings : Settings) (cat : Catalogue) (root : ℕ) where
   pub enum-below : (s : Shape) (vs : Vec Variant Global) (n : ℕ) → NamesEarlier cat → slice_get cat root ≡ Some s → s.kind ≡ Enum vs → n ≡ length cat → VariantsBelow n vs.items
   enum-below s vs n checked here is_enum all =
       let within = slice_get_within cat root s here in
-      VariantsBelow-mono root n vs.items (omega arith) (subst (KindBelow root) is_enum (checked root s here).by_kind)
+      VariantsBelow-mono root n vs.items (omega arith) (subst (KindBelow root) is_enum (checked root s here).kind)
 
   -- any other shape counts as where it is flattened
   pub other-count : (s : Shape) → slice_get cat root ≡ Some s → ((vs : Vec Variant Global) → s.kind ≡ Enum vs → ⊥) → count_of_root settings cat root ≡ count_at settings cat root

@@ -1,11 +1,12 @@
 -- On a checked catalogue the walk and the choices of a list of fields are their own steps.
 use Rattle.std.proofs.Common.{◌⊎◌, inl, inr, ◌≡◌, ℕ, zero, suc, ◌<◌, ◌≤◌, List, [], ◌∷◌, ◌++◌, map, Option, Some, None, Bool, true, false, sym, refl, ap, ◌∙◌, slice_get, length, arith}
 use Rattle.std.specs.Prelude.{if◌then◌else◌}
+use Rattle.std.specs.Option.{IfSome}
 use Rattle.facet_solver_shape.specs.declared.shape.Shape.{Shape}
 use Rattle.facet_solver_shape.specs.declared.shape.Field.{Field}
 use Rattle.facet_solver_shape.specs.declared.shape.Variant.{Variant}
+use Rattle.facet_solver_shape.specs.Places.{FieldsBelow, VariantsBelow, NamesEarlier}
 use Rattle.facet_solver.specs.Targets.{Catalogue, effective, effective_within, go_on, next_inside}
-use Rattle.facet_solver.specs.Below.{FieldsBelow, VariantsBelow, IdBelow, NamesEarlier}
 use Rattle.facet_solver.specs.Emissions.{Path, variant_emissions, variant_path, unwrapped_at, field_path}
 use Rattle.facet_solver.specs.Walk.{Walked, Walk, put_before, and_then, emit, choose, at_chosen, walk_variant, walk_content, walk_role, walk_fields, walk_within, walk}
 use Rattle.facet_solver.specs.Representation.{Settings, is_walked, repr_for}
@@ -94,24 +95,24 @@ module _ (settings : Settings) (cat : Catalogue) (checked : NamesEarlier cat) wh
 
 -- the effective shape is that of what is inside
 module _ (cat : Catalogue) (checked : NamesEarlier cat) where
-  next-below : (id : ℕ) → IdBelow id (next_inside (slice_get cat id))
+  next-below : (id : ℕ) → IfSome (next_inside (slice_get cat id)) (λ p. p < id)
   next-below id = next_inside-below cat checked id (slice_get cat id) refl
 
   same_effective : (n m : ℕ) (id : ℕ) → id ≤ n → id ≤ m → effective_within n cat id ≡ effective_within m cat id
   same_effective zero zero id p q = refl
   same_effective zero (suc m) id p q = go (next_inside (slice_get cat id)) (next-below id)
     where
-      go : (o : Option ℕ) → IdBelow id o → id ≡ go_on (effective_within m cat) id o
+      go : (o : Option ℕ) → IfSome o (λ p. p < id) → id ≡ go_on (effective_within m cat) id o
       go None b = refl
       go (Some next) b = absurd (omega arith)
   same_effective (suc n) zero id p q = go (next_inside (slice_get cat id)) (next-below id)
     where
-      go : (o : Option ℕ) → IdBelow id o → go_on (effective_within n cat) id o ≡ id
+      go : (o : Option ℕ) → IfSome o (λ p. p < id) → go_on (effective_within n cat) id o ≡ id
       go None b = refl
       go (Some next) b = absurd (omega arith)
   same_effective (suc n) (suc m) id p q = go (next_inside (slice_get cat id)) (next-below id) (λ next b. same_effective n m next (omega arith) (omega arith))
     where
-      go : (o : Option ℕ) → IdBelow id o → ((next : ℕ) → next < id → effective_within n cat next ≡ effective_within m cat next) → go_on (effective_within n cat) id o ≡ go_on (effective_within m cat) id o
+      go : (o : Option ℕ) → IfSome o (λ p. p < id) → ((next : ℕ) → next < id → effective_within n cat next ≡ effective_within m cat next) → go_on (effective_within n cat) id o ≡ go_on (effective_within m cat) id o
       go None b x = refl
       go (Some next) b x = x next b
 

@@ -9,10 +9,10 @@ use Rattle.facet_solver_shape.specs.declared.shape.Shape.{Shape}
 use Rattle.facet_solver_shape.specs.declared.shape.ShapeKind.{ShapeKind}
 use Rattle.facet_solver_shape.specs.declared.shape.ShapeKind.TheVariants.{Struct}
 use Rattle.facet_solver_shape.specs.declared.shape.Variant.{Variant}
+use Rattle.facet_solver_shape.specs.Places.{FieldsBelow, NamesEarlier}
 use Rattle.facet_solver.specs.declared.build.count.tally.Tally.{Tally}
 use Rattle.facet_solver.specs.declared.build.count.tally.Tally.TheVariants.{Exact}
 use Rattle.facet_solver.specs.Targets.{Catalogue, kind_of, target_of}
-use Rattle.facet_solver.specs.Below.{FieldsBelow, NamesEarlier}
 use Rattle.facet_solver.specs.Representation.{Settings}
 use Rattle.facet_solver.specs.Roles.{role_of, role_of_target, role_by_kind, a_regular}
 use Rattle.facet_solver.specs.Content.{content_or, struct_fields, newtype_fields}

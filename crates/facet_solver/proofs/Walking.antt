@@ -5,17 +5,17 @@ use Rattle.std.specs.Borrow.{Bor}
 use Rattle.std.proofs.lemmas.Result.{err_from_is_err_and}
 use Rattle.facet_solver_shape.specs.declared.resolution.error.SchemaError as schema
 use Rattle.facet_solver_shape.specs.declared.resolution.error.SchemaError.TheVariants.{DuplicateField, OutOfMemory}
+use Rattle.facet_solver_shape.specs.Places.{FieldsBelow, VariantsBelow, NamesEarlier}
+use Rattle.facet_solver_shape.specs.Paths.{by_field}
+use Rattle.facet_solver_shape.specs.Resolved.{Resolved}
 use Rattle.facet_solver.specs.Filling.{ErrorOf, StopsBy, Walks, duplicate_view}
 use Rattle.facet_solver.specs.RoleView.{IsPlain}
 use Rattle.facet_solver.specs.Targets.{Catalogue}
-use Rattle.facet_solver.specs.Below.{FieldsBelow, VariantsBelow, NamesEarlier}
 use Rattle.facet_solver.specs.Representation.{Settings, is_walked, repr_for}
 use Rattle.facet_solver.specs.Roles.{Role, a_regular, a_block, some_alternatives, a_rest, a_leaf, role_of}
 use Rattle.facet_solver.specs.Content.{newtype_fields, content_or}
 use Rattle.facet_solver.specs.Emissions.{Emission, Path, field_path, unwrapped_at, variant_path, variant_emissions}
 use Rattle.facet_solver.specs.Walk.{Walked, put_before, and_then, emit, choose, at_chosen, walk, walk_at, walk_chosen, walk_inside, walk_role, walk_content, walk_fields, plain_emissions, HasChoice}
-use Rattle.facet_solver_shape.specs.Paths.{by_field}
-use Rattle.facet_solver_shape.specs.Resolved.{Resolved}
 use Rattle.facet_solver.specs.Outcome.{Outcome, resolved, take_all, effect}
 use Rattle.facet_solver.proofs.Limits.{limit_of, limit_of-content}
 use Rattle.facet_solver.proofs.Descent.{content_of-below}

@@ -83,8 +83,8 @@ selector_field name settings cat f q o = record {
 }
 
 -- a field, the key path of its name, and further emissions
-abbrev pub with_key_path : FieldView → List Emission → List Emission
-with_key_path f es = a_field f ∷ a_key_path (f.name ∷ []) ∷ es
+abbrev pub field_and_path : FieldView → List Emission → List Emission
+field_and_path f es = a_field f ∷ a_key_path (f.name ∷ []) ∷ es
 
 -- key paths behind a name
 abbrev pub paths_behind : Name → List KeyPath → List Emission
@@ -93,7 +93,7 @@ paths_behind name paths = map (λ q. a_key_path (name ∷ q)) paths
 -- a regular field emits itself, and the key paths under it
 unfoldable pub regular_emissions : Settings → Catalogue → Field → Path → Bool → List Emission
 regular_emissions settings cat f p o =
-    with_key_path (regular_field settings cat f p o) (paths_behind (effective_name f) (nested_paths cat f.shape))
+    field_and_path (regular_field settings cat f p o) (paths_behind (effective_name f) (nested_paths cat f.shape))
 
 -- a flattened map or dynamic value emits a catch-all
 unfoldable pub rest_emissions : Settings → Catalogue → Field → Path → List Emission
@@ -101,16 +101,16 @@ rest_emissions settings cat f p = a_catch_all (rest_field settings cat f p) ∷ 
 
 -- any other flattened field emits itself
 unfoldable pub leaf_emissions : Settings → Catalogue → Field → Path → Bool → List Emission
-leaf_emissions settings cat f p o = with_key_path (leaf_field settings cat f p o) []
+leaf_emissions settings cat f p o = field_and_path (leaf_field settings cat f p o) []
 
 -- the selector of a variant and its key paths, by the representation
 unfoldable pub selector_emissions : Repr → Settings → Catalogue → Field → Variant → Path → Bool → List Emission
 selector_emissions flattened settings cat f v q o = []
 selector_emissions externally_tagged settings cat f v q o =
-    with_key_path (selector_field (string_bytes v.name) settings cat f q o) (paths_behind (string_bytes v.name) (content_paths cat v))
-selector_emissions (internally_tagged tag) settings cat f v q o = with_key_path (selector_field tag settings cat f q o) []
+    field_and_path (selector_field (string_bytes v.name) settings cat f q o) (paths_behind (string_bytes v.name) (content_paths cat v))
+selector_emissions (internally_tagged tag) settings cat f v q o = field_and_path (selector_field tag settings cat f q o) []
 selector_emissions (adjacently_tagged tag content) settings cat f v q o =
-    with_key_path (selector_field tag settings cat f q o) (a_key_path (content ∷ []) ∷ paths_behind content (content_paths cat v))
+    field_and_path (selector_field tag settings cat f q o) (a_key_path (content ∷ []) ∷ paths_behind content (content_paths cat v))
 
 -- the pick of a variant
 abbrev pub pick_of : Shape → Variant → Path → Emission

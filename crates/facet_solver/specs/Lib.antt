@@ -1,4 +1,3 @@
-pub mod Below
 pub mod Targets
 pub mod Representation
 pub mod Categories

@@ -35,10 +35,7 @@ pub fn answer(alloc: Global) -> Result<Reply, AllocError>
     ensures { IfOk result (λ reply. reply.status ≡ 0 → (cat : Catalogue) × NamesResolution cat MESSAGE (string_bytes reply.text)) }
 {
     match Shapes::new(message(alloc)?) {
-        Ok(shapes) if shapes.has(ShapeId::new(MESSAGE)) => {
-            solve(alloc, &shapes, ShapeId::new(MESSAGE))
-        }
-        Ok(_) => Reply::new(alloc, 4, "bad input"),
+        Ok(shapes) => solve(alloc, &shapes, ShapeId::new(MESSAGE)),
         Err(fault) => {
             let number = fault.number();
             let text = format!(in alloc; "bad catalogue {number}")?;

@@ -1,4 +1,5 @@
 //! The built-in catalogue: a message with an identifier, and a flattened payload that is text or binary.
+ghost use Rattle.std.specs.Prelude.{◌<◌, IfOk, length};
 
 use facet_solver::{DomMark, Field, ScalarType, Shape, ShapeId, ShapeKind, StructKind, Variant};
 use std::alloc::{AllocError, Global};
@@ -19,7 +20,11 @@ const MESSAGE_PAYLOAD: usize = 5;
 pub const MESSAGE: usize = 6;
 
 /// The shapes of the message, each before those that name it.
-pub fn message(alloc: Global) -> Result<Vec<Shape>, AllocError> {
+///
+/// An error comes only where memory is refused.
+pub fn message(alloc: Global) -> Result<Vec<Shape>, AllocError>
+    ensures { IfOk result (λ shapes. MESSAGE < length shapes.items) }
+{
     let text = vec![in alloc; field(alloc, "content", STRING)?]?;
     let binary = vec![in alloc;
         field(alloc, "data", BYTES)?,

@@ -1,15 +1,16 @@
 -- What the places that a shape names are, by the tests of them.
 use Rattle.std.proofs.Common.{◌≡◌, ℕ, ◌<◌, ◌≤◌, Bool, true, false, List, [], ◌∷◌, ◌++◌, length, Some, None, Option, slice_get, nat_le, refl, sym, ◌∙◌, inl, inr}
-use Rattle.std.specs.List.{list_any, All, Any}
-use Rattle.std.specs.Option.{option_to_list, ForSome, IfSome}
+use Rattle.std.specs.List.{list_any, Any}
+use Rattle.std.specs.Option.{option_to_list, IfSome}
 use Rattle.std.proofs.lemmas.Bool.{false≢true, false_from_ne_true, leb-true, leb-false, le-leb, cases_lt, or_parts}
-use Rattle.std.proofs.lemmas.List.Elements.{All-nil, All-cons}
 use Rattle.std.proofs.lemmas.List.Folds.{list_any-append, Any-from_list_any, list_any-from_Any}
 use Rattle.facet_solver_shape.specs.declared.shape.Shape.{Shape}
+use Rattle.facet_solver_shape.specs.declared.shape.Field.{Field}
+use Rattle.facet_solver_shape.specs.declared.shape.Variant.{Variant}
 use Rattle.facet_solver_shape.specs.declared.shape.ShapeKind.{ShapeKind}
 use Rattle.facet_solver_shape.specs.declared.shape.ShapeKind.TheVariants.{Struct, Enum, Option as OptionOf}
 use Rattle.facet_solver_shape.specs.declared.shape.catalogue.CatalogueError.TheVariants.{OutOfRange, NotEarlier}
-use Rattle.facet_solver_shape.specs.Places.{early_places, early_places_of_kind, late_places_of_kind, named_places, NamesBelow, IsEarlierThan, NamesEarlier}
+use Rattle.facet_solver_shape.specs.Places.{early_places, early_places_of_kind, late_places_of_kind, named_places, FieldsBelow, VariantsBelow, KindBelow, IsEarlierThan, NamesEarlier}
 use Rattle.facet_solver_shape.specs.Faults.{HasFault, IsChecked, NamesPast, NamesLater}
 use Rattle.facet_solver_shape.proofs.Named.{list_any-map, list_any-fields}
 
@@ -54,24 +55,30 @@ module _ (shapes : List Shape) (place : ℕ) (s : Shape) (here : slice_get shape
       let later : NamesLater (length shapes) place s = rw here at fault in
       false≢true (sym none ∙ found_from place (early_places s) (any_then _ _ (early_places s) (λ p both. both.0) later))
 
--- where no element passes a test, each has what the test's failure says
-none_pass : {X : Type 0} (p : X → Bool) (P : X → Type 0) → ((x : X) → p x ≡ false → P x) → (xs : List X) → list_any p xs ≡ false → All P xs
-none_pass p P says [] none = All-nil P
-none_pass p P says (x ∷ xs) none =
-    let parts = or_parts (p x) (list_any p xs) none in
-    All-cons P x xs (says x parts.0) (none_pass p P says xs parts.1)
+-- where no field passes the test for a place that is not below another, each names one below it
+fields_below : (place : ℕ) (fs : List Field) → list_any (λ f. nat_le place f.shape) fs ≡ false → FieldsBelow place fs
+fields_below place [] none = tt
+fields_below place (f ∷ fs) none =
+    let parts = or_parts (nat_le place f.shape) _ none in
+    (leb-false place f.shape parts.0, fields_below place fs parts.1)
 
-kind_below : (place : ℕ) (k : ShapeKind) → list_any (λ p. nat_le place p) (early_places_of_kind k) ≡ false → NamesBelow place k
+variants_below : (place : ℕ) (vs : List Variant) → list_any (λ v. list_any (λ f. nat_le place f.shape) v.fields.items) vs ≡ false → VariantsBelow place vs
+variants_below place [] none = tt
+variants_below place (v ∷ vs) none =
+    let parts = or_parts (list_any (λ f. nat_le place f.shape) v.fields.items) _ none in
+    (fields_below place v.fields.items parts.0, variants_below place vs parts.1)
+
+kind_below : (place : ℕ) (k : ShapeKind) → list_any (λ p. nat_le place p) (early_places_of_kind k) ≡ false → KindBelow place k
 kind_below place (Struct kind fields) none =
-    none_pass (λ f. nat_le place f.shape) _ (λ f. leb-false place f.shape) fields.items (sym (list_any-map (λ p. nat_le place p) (λ f. f.shape) fields.items) ∙ none)
+    fields_below place fields.items (sym (list_any-map (λ p. nat_le place p) (λ f. f.shape) fields.items) ∙ none)
 kind_below place (Enum variants) none =
-    none_pass (λ v. list_any (λ f. nat_le place f.shape) v.fields.items) _ (λ v. none_pass (λ f. nat_le place f.shape) _ (λ f. leb-false place f.shape) v.fields.items) variants.items (sym (list_any-fields (λ p. nat_le place p) variants.items) ∙ none)
+    variants_below place variants.items (sym (list_any-fields (λ p. nat_le place p) variants.items) ∙ none)
 kind_below place (OptionOf inside) none = leb-false place inside (or_parts _ _ none).0
 kind_below place _ none = tt
 
-place_below : (place : ℕ) (o : Option ℕ) → list_any (λ p. nat_le place p) (option_to_list o) ≡ false → ForSome o (λ p. p < place)
-place_below place None none = λ x is. cc
-place_below place (Some p) none = λ x is. let same : p ≡ x = cc in rw same at (leb-false place p (or_parts _ _ none).0)
+place_below : (place : ℕ) (o : Option ℕ) → list_any (λ p. nat_le place p) (option_to_list o) ≡ false → IfSome o (λ p. p < place)
+place_below place None none = tt
+place_below place (Some p) none = leb-false place p (or_parts _ _ none).0
 
 -- in a catalogue each shape names earlier ones where it has to
 pub names_earlier : (shapes : List Shape) → IsChecked shapes → NamesEarlier shapes

@@ -1,9 +1,10 @@
 -- The places that a shape names.
 use Rattle.std.specs.Prelude.{◌≡◌, ℕ, ◌<◌, List, [], ◌∷◌, ◌++◌, map, ⊤, Some, slice_get}
-use Rattle.std.specs.Option.{option_to_list, ForSome}
-use Rattle.std.specs.List.{flat_map, All}
+use Rattle.std.specs.Option.{option_to_list, IfSome}
+use Rattle.std.specs.List.{flat_map}
 use Rattle.facet_solver_shape.specs.declared.shape.Shape.{Shape}
 use Rattle.facet_solver_shape.specs.declared.shape.Field.{Field}
+use Rattle.facet_solver_shape.specs.declared.shape.Variant.{Variant}
 use Rattle.facet_solver_shape.specs.declared.shape.ShapeKind.{ShapeKind}
 use Rattle.facet_solver_shape.specs.declared.shape.ShapeKind.TheVariants.{Struct, Enum, Option as OptionOf, Pointer, List as ListOf, Array, Slice, Set, Map}
 
@@ -36,18 +37,28 @@ early_places s = early_places_of_kind s.kind ++ (option_to_list s.inner ++ optio
 abbrev pub named_places : Shape → List ℕ
 named_places s = early_places s ++ late_places_of_kind s.kind
 
--- what a kind names that has to be earlier is below place
-abbrev pub NamesBelow : ℕ → ShapeKind → Type 0
-NamesBelow place (Struct kind fields) = All (λ f. f.shape < place) fields.items
-NamesBelow place (Enum variants) = All (λ v. All (λ f. f.shape < place) v.fields.items) variants.items
-NamesBelow place (OptionOf inside) = inside < place
-NamesBelow place _ = ⊤
+-- each field names a place below another
+abbrev pub FieldsBelow : ℕ → List Field → Type 0
+FieldsBelow place [] = ⊤
+FieldsBelow place (f ∷ fs) = (f.shape < place) × FieldsBelow place fs
+
+-- each field of each variant does
+abbrev pub VariantsBelow : ℕ → List Variant → Type 0
+VariantsBelow place [] = ⊤
+VariantsBelow place (v ∷ vs) = FieldsBelow place v.fields.items × VariantsBelow place vs
+
+-- what a kind names that has to be earlier is below a place
+abbrev pub KindBelow : ℕ → ShapeKind → Type 0
+KindBelow place (Struct kind fields) = FieldsBelow place fields.items
+KindBelow place (Enum variants) = VariantsBelow place variants.items
+KindBelow place (OptionOf inside) = inside < place
+KindBelow place _ = ⊤
 
 -- what a shape at place names that has to be earlier is below it
 pub record IsEarlierThan (place : ℕ) (s : Shape) : Type 0 where
-  pub kind : NamesBelow place s.kind
-  pub inner : ForSome s.inner (λ p. p < place)
-  pub proxy : ForSome s.proxy (λ p. p < place)
+  pub kind : KindBelow place s.kind
+  pub inner : IfSome s.inner (λ p. p < place)
+  pub proxy : IfSome s.proxy (λ p. p < place)
 
 -- what the shapes of a list name that has to be earlier is below their own places
 abbrev pub NamesEarlier : List Shape → Type 0

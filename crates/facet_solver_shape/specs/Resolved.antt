@@ -72,7 +72,7 @@ pub record IsAdded (old : Resolved) (f : FieldView) (new : Resolved) : Type 0 wh
   pub after : new ≡ with_field old f
 
 -- a refusal of one more field: its key is taken, and these are the name and the two paths
-pub record IsClash (old : Resolved) (f : FieldView) (name : Name) (first second : List Step) : Type 0 where
+pub record IsFieldClash (old : Resolved) (f : FieldView) (name : Name) (first second : List Step) : Type 0 where
   pub taken : IsSomeAnd (map.get old.fields (key_of_field f)) (λ present. present.path ≡ first)
   pub same_name : name ≡ f.name
   pub same_path : second ≡ f.path
@@ -114,7 +114,7 @@ pub record IsMerged (old other made : Resolved) : Type 0 where
 pub record IsMergeClash (old other : Resolved) (name : Name) (first second : List Step) : Type 0 where
   pub field : FieldView
   pub among : map.get other.fields (key_of_field field) ≡ Some field
-  pub clash : IsClash old field name first second
+  pub clash : IsFieldClash old field name first second
 
 -- the same field, but not required
 abbrev pub as_optional : FieldView → FieldView

@@ -14,7 +14,7 @@ use Rattle.facet_solver_shape.specs.declared.resolution.key.FieldCategory.{Field
 use Rattle.facet_solver_shape.specs.declared.resolution.field.VariantSelection.{VariantSelection}
 use Rattle.facet_solver_shape.specs.Names.{Name}
 use Rattle.facet_solver_shape.specs.Keys.{key_cmp, key_of, category_cmp}
-use Rattle.facet_solver_shape.specs.Resolved.{FieldView, Pick, Resolved, IsClash, IsMergeClash}
+use Rattle.facet_solver_shape.specs.Resolved.{FieldView, Pick, Resolved, IsFieldClash, IsMergeClash}
 use Rattle.facet_solver_shape.specs.declared.resolution.error.SchemaError.{SchemaError}
 use Rattle.facet_solver_shape.specs.declared.resolution.error.SchemaError.TheVariants.{DuplicateField, OutOfMemory}
 
@@ -35,7 +35,7 @@ pick_view v = record { path = v.path; enum_name = v.enum_name.now; variant_name 
 
 -- what a refusal of the field f says
 abbrev pub IsRefusalOf : Resolved → FieldView → SchemaError → Type 0
-IsRefusalOf old f (DuplicateField d) = IsClash old f d.field_name.now d.first_path d.second_path
+IsRefusalOf old f (DuplicateField d) = IsFieldClash old f d.field_name.now d.first_path d.second_path
 IsRefusalOf old f OutOfMemory = ⊤
 
 -- what a refusal of all that other has says

@@ -1,7 +1,7 @@
 //! What a walk emits, taken into a resolution.
 ghost use Rattle.std.specs.Prelude.{◌≡◌, ◌∷◌, [], map, IfOk, OnOk};
 ghost use Rattle.facet_solver_shape.specs.Views.{field_view};
-ghost use Rattle.facet_solver.specs.Below.{NamesEarlier};
+ghost use Rattle.facet_solver_shape.specs.Places.{NamesEarlier};
 ghost use Rattle.facet_solver.specs.Emissions as emissions;
 ghost use Rattle.facet_solver.specs.Emissions.{a_key_path};
 ghost use Rattle.facet_solver.specs.Nested.{content_paths};
@@ -38,7 +38,7 @@ fn add_with_path<'c>(
     info: FieldInfo<'c>,
     resolution: &mut Resolution<'c>,
 ) -> Result<(), SchemaError<'c>>
-    ensures { Gives (take_all resolution.old (emissions.with_key_path (field_view info.entry) [])) result resolution.new }
+    ensures { Gives (take_all resolution.old (emissions.field_and_path (field_view info.entry) [])) result resolution.new }
 {
     let path = key_path(plan.alloc, info.serialized_name)?;
     resolution.add_field(info)?;
@@ -132,7 +132,7 @@ fn add_selector<'c>(
     place: &Place<'c>,
     resolution: &mut Resolution<'c>,
 ) -> Result<(), SchemaError<'c>>
-    ensures { Gives (take_all resolution.old (emissions.with_key_path (emissions.selector_field name.now (settings_of plan.entry) plan.entry.shapes.now chosen.entry.field.now
+    ensures { Gives (take_all resolution.old (emissions.field_and_path (emissions.selector_field name.now (settings_of plan.entry) plan.entry.shapes.now chosen.entry.field.now
         (emissions.variant_path place.now.path chosen.entry.field.now chosen.entry.variant.now) place.now.unwrapped) [])) result resolution.new }
 {
     let info = selector_field(plan, name, chosen, place)?;

@@ -1,6 +1,6 @@
-use Rattle.facet_solver.proofs.Checked.{checked_earlier}
+use Rattle.facet_solver_shape.proofs.EarlierPlaces.{names_earlier}
 use Rattle.facet_solver.proofs.Steps.{effective-step}
 use Rattle.facet_solver.proofs.laws.effective_shapes_follow_inner_and_proxy.Goals as goal
 
 pub returns : goal.returns
-returns c = λ cat checked. effective-step cat (checked_earlier cat checked)
+returns c = λ cat checked. effective-step cat (names_earlier cat checked)

@@ -7,9 +7,9 @@ use Rattle.facet_solver_shape.specs.declared.shape.StructKind.{StructKind}
 use Rattle.facet_solver_shape.specs.declared.shape.ShapeKind.TheVariants.{Struct, Enum, Other}
 use Rattle.facet_solver_shape.specs.declared.shape.Field.{Field}
 use Rattle.facet_solver_shape.specs.declared.shape.Variant.{Variant}
+use Rattle.facet_solver_shape.specs.Views.{names_of}
 use Rattle.facet_solver.specs.Targets.{kind_of}
 use Rattle.facet_solver.specs.Nested.{KeyPath, through_field, under_variant, under_shape}
-use Rattle.facet_solver.specs.KeyPaths.{names_of}
 use Rattle.facet_solver.specs.EnteredView.{entered_view}
 use Rattle.facet_solver.proofs.Limits.{limit_of, limit_of_variants, limit_of-at, limit_of_variants-at}
 use Rattle.facet_solver.proofs.KeyPaths.{behind-more, behind-end, behind-none, behind-regular}

@@ -1,6 +1,7 @@
 use Rattle.std.proofs.Common.{◌≡◌, ◌+◌, ◌*◌, drop}
+use Rattle.facet_solver_shape.specs.Views.{names_of}
 use Rattle.facet_solver.specs.Nested as nested
-use Rattle.facet_solver.specs.KeyPaths.{with_paths_behind, names_of}
+use Rattle.facet_solver.specs.KeyPaths.{with_paths_behind}
 use Rattle.facet_solver.specs.EnteredView.{entered_view}
 use Rattle.facet_solver.proofs.Limits.{limit_of, limit_of_variants}
 use Rattle.facet_solver.proofs.build.nested.+nested.Given as goal

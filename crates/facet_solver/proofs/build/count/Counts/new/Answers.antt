@@ -1,19 +1,19 @@
 use Rattle.std.proofs.Common.{◌≡◌, [], ◌∷◌, length, length-append, slice_get, sym, ap, ◌∙◌, arith}
 use Rattle.std.proofs.lemmas.Option.{slice_get_within}
+use Rattle.facet_solver_shape.proofs.EarlierPlaces.{names_earlier}
 use Rattle.facet_solver.specs.PlanView.{settings_of}
-use Rattle.facet_solver.proofs.Checked.{checked_earlier}
 use Rattle.facet_solver.proofs.TallyTables.{one_more_place, all_places}
 use Rattle.facet_solver.proofs.build.count.Counts.new.Goals as goal
 
 pub count_shape-requires-clause-checked : goal.count_shape-requires-clause-checked
-count_shape-requires-clause-checked c = checked_earlier c.args.plan.shapes.now c.get.ensures.checked
+count_shape-requires-clause-checked c = names_earlier c.args.plan.shapes.now c.get.ensures.checked
 
 pub count_shape-requires-clause-below : goal.count_shape-requires-clause-below
 count_shape-requires-clause-below c =
     let cat = c.args.plan.shapes.now in
     let place : c.new.result ≡ length c.loop-shape.by_place.items = omega (arith, c.loop-shape.by_place.ok.0) in
     let here = ap (slice_get cat) (sym place) ∙ sym c.in-Some.ensures.entry in
-    rw c.as_slice.ensures.value ((checked_earlier cat c.get.ensures.checked (length c.loop-shape.by_place.items) c.in-Some.shape.now here).by_kind)
+    rw c.as_slice.ensures.value ((names_earlier cat c.get.ensures.checked (length c.loop-shape.by_place.items) c.in-Some.shape.now here).kind)
 
 pub loop-shape-smaller : goal.loop-shape-smaller
 loop-shape-smaller c =

@@ -1,12 +1,12 @@
 use Rattle.std.proofs.Common.{◌<◌, ℕ, List, true, length, get_or, sym, subst, ap, ◌∙◌, arith}
 use Rattle.std.proofs.lemmas.Option.{slice_get_within}
+use Rattle.facet_solver_shape.specs.declared.shape.Variant.{Variant}
+use Rattle.facet_solver_shape.specs.Places.{VariantsBelow}
+use Rattle.facet_solver_shape.proofs.EarlierPlaces.{names_earlier}
 use Rattle.facet_solver.specs.declared.build.count.tally.Tally.{Tally}
 use Rattle.facet_solver.specs.declared.build.count.tally.Tally.TheVariants.{Exact}
-use Rattle.facet_solver_shape.specs.declared.shape.Variant.{Variant}
-use Rattle.facet_solver.specs.Below.{VariantsBelow}
 use Rattle.facet_solver.specs.PlanView.{settings_of}
 use Rattle.facet_solver.specs.CountView.{Tells, AreFirstCounts, count_among, count_at}
-use Rattle.facet_solver.proofs.Checked.{checked_earlier}
 use Rattle.facet_solver.proofs.RootCounts.{absent-count, enum-count, enum-below, other-count}
 use Rattle.facet_solver.proofs.Tallies.{told}
 use Rattle.facet_solver.proofs.build.count.Counts.of_root.Goals as goal
@@ -15,13 +15,13 @@ pub returns-in_default : goal.returns-in_default
 returns-in_default c = absent-count (settings_of c.args.plan) c.args.plan.shapes.now c.args.root (sym c.in_default.ensures.entry)
 
 pub count_variants-requires-clause-checked : goal.count_variants-requires-clause-checked
-count_variants-requires-clause-checked c = checked_earlier c.args.plan.shapes.now c.get.ensures.checked
+count_variants-requires-clause-checked c = names_earlier c.args.plan.shapes.now c.get.ensures.checked
 
 pub count_variants-requires-clause-below : goal.count_variants-requires-clause-below
 count_variants-requires-clause-below c =
     let all = ap length (c.as_slice-tallies.ensures.value ∙ c.self.view_is) ∙ c.requires.counted.all in
     subst (λ (vs : List Variant). VariantsBelow (length c.as_slice-tallies.result.now) vs) (sym c.as_slice.ensures.value)
-    (enum-below (settings_of c.args.plan) c.args.plan.shapes.now c.args.root c.in-Some.shape.now c.in-Enum.variants _ (checked_earlier c.args.plan.shapes.now c.get.ensures.checked) (sym c.in-Some.ensures.entry) c.in-Enum.is all)
+    (enum-below (settings_of c.args.plan) c.args.plan.shapes.now c.args.root c.in-Some.shape.now c.in-Enum.variants _ (names_earlier c.args.plan.shapes.now c.get.ensures.checked) (sym c.in-Some.ensures.entry) c.in-Enum.is all)
 
 pub bounds-tallies-index : goal.bounds-tallies-index
 bounds-tallies-index c =
