@@ -1,8 +1,11 @@
 -- What goes down a checked catalogue ends: definitions by levels don't depend on the levels that are left.
-use Rattle.std.proofs.Common.{◌≡◌, ℕ, zero, suc, ◌<◌, ◌≤◌, List, [], ◌∷◌, Option, Some, None, Bool, true, false, sym, refl, ◌∙◌, slice_get, length, arith, string_bytes}
+use Rattle.std.proofs.Common.{◌≡◌, ℕ, zero, suc, ◌<◌, ◌≤◌, List, [], ◌∷◌, Option, Some, None, Bool, true, false, sym, refl, subst, ◌∙◌, slice_get, length, arith, string_bytes, Vec}
 use Rattle.std.specs.Prelude.{if◌then◌else◌}
 use Rattle.std.specs.Option.{IfSome, option_or}
+use Rattle.std.specs.declared.alloc.Global.{Global}
+use Rattle.std.proofs.lemmas.Option.{slice_get_within}
 use Rattle.facet_solver_shape.specs.declared.shape.Shape.{Shape}
+use Rattle.facet_solver_shape.specs.declared.shape.StructKind.{StructKind}
 use Rattle.facet_solver_shape.specs.declared.shape.ShapeKind.{ShapeKind}
 use Rattle.facet_solver_shape.specs.declared.shape.ShapeKind.TheVariants.{Struct, Enum, Option as OptionOf}
 use Rattle.facet_solver_shape.specs.declared.shape.Field.{Field}
@@ -114,6 +117,17 @@ module _ (cat : Catalogue) (checked : NamesEarlier cat) where
       go [] b = h
       go (f ∷ []) b = by_name (is_zero (string_bytes f.name)) f b.0
       go (f ∷ g ∷ fs) b = h
+
+-- what the shape at a place names as fields is of the catalogue
+module _ (cat : Catalogue) (checked : NamesEarlier cat) (root : ℕ) (s : Shape) (is : slice_get cat root ≡ Some s) where
+  inside : root < length cat
+  inside = slice_get_within cat root s is
+
+  pub struct-below : (kind : StructKind) (fs : Vec Field Global) → s.kind ≡ Struct kind fs → FieldsBelow (length cat) fs.items
+  struct-below kind fs e = FieldsBelow-mono root (length cat) fs.items (omega (arith, inside)) (subst (KindBelow root) e (checked root s is).kind)
+
+  pub enum-below : (vs : Vec Variant Global) → s.kind ≡ Enum vs → VariantsBelow (length cat) vs.items
+  enum-below vs e = VariantsBelow-mono root (length cat) vs.items (omega (arith, inside)) (subst (KindBelow root) e (checked root s is).kind)
 
 -- a step of a definition by levels looks only at fields that name smaller places
 abbrev pub IsLocal : {X : Type 0} → ((List Field → X) → List Field → X) → Type 0

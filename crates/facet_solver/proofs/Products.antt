@@ -1,11 +1,10 @@
 -- Laws of products, and the choices of fields and variants part by part.
 use Rattle.std.proofs.Common.{◌≡◌, ℕ, suc, ◌+◌, ◌<◌, ◌≤◌, List, [], ◌∷◌, ◌++◌, map, Some, slice_get, Bool, true, false, sym, refl, ap, ◌∙◌, subst, length, get_or, drop, append_assoc, append-nil, arith}
 use Rattle.std.proofs.lemmas.List.{drop_more}
-use Rattle.std.proofs.lemmas.Option.{slice_get_within}
 use Rattle.std.proofs.Math.ListN.{drop_of_length-le}
 use Rattle.facet_solver_shape.specs.declared.shape.Field.{Field}
 use Rattle.facet_solver_shape.specs.declared.shape.Variant.{Variant}
-use Rattle.facet_solver_shape.specs.Places.{FieldsBelow, VariantsBelow, KindBelow, NamesEarlier}
+use Rattle.facet_solver_shape.specs.Places.{FieldsBelow, VariantsBelow, NamesEarlier}
 use Rattle.facet_solver.specs.Targets.{Catalogue}
 use Rattle.facet_solver.specs.Representation.{Settings, is_walked, repr_for}
 use Rattle.facet_solver.specs.Roles.{a_regular, a_block, some_alternatives, a_rest, a_leaf, role_of}
@@ -17,7 +16,7 @@ use Rattle.facet_solver_shape.specs.declared.shape.Shape.{Shape}
 use Rattle.facet_solver_shape.specs.declared.shape.StructKind.{StructKind}
 use Rattle.facet_solver_shape.specs.declared.shape.ShapeKind.{ShapeKind}
 use Rattle.facet_solver_shape.specs.declared.shape.ShapeKind.TheVariants.{Struct, Enum}
-use Rattle.facet_solver.proofs.Descent.{RoleBelow, role_of-below, FieldsBelow-mono, VariantsBelow-mono}
+use Rattle.facet_solver.proofs.Descent.{RoleBelow, role_of-below}
 use Rattle.facet_solver.proofs.Steps.{choices_below-step}
 
 product-append : (cs ds es : Choices) → product (cs ++ ds) es ≡ product cs es ++ product ds es
@@ -161,9 +160,6 @@ module _ (settings : Settings) (cat : Catalogue) (walked : Bool) where
 
 -- the choices of a root, by its kind
 module _ (settings : Settings) (cat : Catalogue) (root : ℕ) (s : Shape) (is : slice_get cat root ≡ Some s) where
-  here : root < length cat
-  here = slice_get_within cat root s is
-
   of_root : choices_of_root settings cat root ≡ choices_of_root_kind settings cat s.kind
   unfolding choices_of_root
   of_root = ap (choices_of_root_shape settings cat) is
@@ -182,12 +178,3 @@ module _ (settings : Settings) (cat : Catalogue) (root : ℕ) (s : Shape) (is : 
       go (Struct kind fs) e = absurd (no_struct kind fs e)
       go (Enum vs) e = absurd (no_enum vs e)
       go _ e = refl
-
-  kind-below : NamesEarlier cat → KindBelow root s.kind
-  kind-below checked = (checked root s is).kind
-
-  pub struct-below : NamesEarlier cat → (kind : StructKind) (fs : Vec Field Global) → s.kind ≡ Struct kind fs → FieldsBelow (length cat) fs.items
-  struct-below checked kind fs e = FieldsBelow-mono root (length cat) fs.items (omega (arith, here)) (subst (KindBelow root) e (kind-below checked))
-
-  pub enum-below : NamesEarlier cat → (vs : Vec Variant Global) → s.kind ≡ Enum vs → VariantsBelow (length cat) vs.items
-  enum-below checked vs e = VariantsBelow-mono root (length cat) vs.items (omega (arith, here)) (subst (KindBelow root) e (kind-below checked))

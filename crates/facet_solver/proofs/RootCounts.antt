@@ -1,18 +1,15 @@
 -- The count of a root by its kind.
-use Rattle.std.proofs.Common.{◌≡◌, ℕ, Option, Some, None, true, refl, ap, sym, subst, ◌∙◌, slice_get, length, Vec, arith}
-use Rattle.std.proofs.lemmas.Option.{slice_get_within}
+use Rattle.std.proofs.Common.{◌≡◌, ℕ, Option, Some, None, true, refl, ap, sym, ◌∙◌, slice_get, Vec}
 use Rattle.std.specs.declared.alloc.Global.{Global}
 use Rattle.facet_solver_shape.specs.declared.shape.Shape.{Shape}
 use Rattle.facet_solver_shape.specs.declared.shape.ShapeKind.{ShapeKind}
 use Rattle.facet_solver_shape.specs.declared.shape.ShapeKind.TheVariants.{Enum}
 use Rattle.facet_solver_shape.specs.declared.shape.Variant.{Variant}
-use Rattle.facet_solver_shape.specs.Places.{VariantsBelow, KindBelow, NamesEarlier}
 use Rattle.facet_solver.specs.Targets.{Catalogue}
 use Rattle.facet_solver.specs.Representation.{Settings}
 use Rattle.facet_solver.specs.Roles.{role_of_target, role_by_kind}
 use Rattle.facet_solver.specs.Count.{count_role, count_below, count_of_root, count_of_shape, count_of_kind}
 use Rattle.facet_solver.specs.CountView.{count_at, count_among}
-use Rattle.facet_solver.proofs.Descent.{VariantsBelow-mono}
 
 module _ (settings : Settings) (cat : Catalogue) (root : ℕ) where
   by_shape : (o : Option Shape) → slice_get cat root ≡ o → count_of_root settings cat root ≡ count_of_shape settings cat o
@@ -30,12 +27,6 @@ module _ (settings : Settings) (cat : Catalogue) (root : ℕ) where
   kind-count : (s : Shape) (k : ShapeKind) → ((vs : Vec Variant Global) → k ≡ Enum vs → ⊥) → count_of_kind settings cat k ≡ count_role (count_below settings cat) settings cat (role_by_kind s k)
   kind-count s (Enum vs) no_enum = absurd (no_enum vs refl)
   kind-count s _ no_enum = refl
-
-  -- the fields of its variants name places of the catalogue
-  pub enum-below : (s : Shape) (vs : Vec Variant Global) (n : ℕ) → NamesEarlier cat → slice_get cat root ≡ Some s → s.kind ≡ Enum vs → n ≡ length cat → VariantsBelow n vs.items
-  enum-below s vs n checked here is_enum all =
-      let within = slice_get_within cat root s here in
-      VariantsBelow-mono root n vs.items (omega arith) (subst (KindBelow root) is_enum (checked root s here).kind)
 
   -- any other shape counts as where it is flattened
   pub other-count : (s : Shape) → slice_get cat root ≡ Some s → ((vs : Vec Variant Global) → s.kind ≡ Enum vs → ⊥) → count_of_root settings cat root ≡ count_at settings cat root

@@ -10,14 +10,8 @@ use Rattle.std.proofs.lemmas.Cmp.{nat_list_cmp_total, tied_itself}
 use Rattle.facet_solver_shape.specs.Names.{Name}
 use Rattle.facet_solver_shape.specs.Keys.{Key, key_cmp}
 use Rattle.facet_solver_shape.specs.Resolved.{FieldView, key_of_field, IsRequiredName, AreRequiredNames, IsUnionOf, as_optional}
-use Rattle.facet_solver_shape.proofs.Finite.{equal, cases_bool}
+use Rattle.facet_solver_shape.proofs.Finite.{equal, cases_bool, none_is_some, same_value}
 use Rattle.facet_solver_shape.proofs.KeyOrder.{key_cmp_total, key_cmp_same, name_cmp_same}
-
-none_is_some : {X : Type 0} (x : X) {A : Type 0} → None ≡ Some x → A
-none_is_some x e = cc
-
-same_value : (x y : FieldView) → Some x ≡ Some y → x ≡ y
-same_value x y e = cc
 
 one_of : (a b : Bool) → (a || b) ≡ true → (a ≡ true) ⊎ (b ≡ true)
 one_of true b e = inl refl

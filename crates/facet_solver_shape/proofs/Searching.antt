@@ -17,7 +17,7 @@ use Rattle.facet_solver_shape.specs.Least.{IsLeastIfAny}
 use Rattle.facet_solver_shape.specs.Matching.{matches, has_name, means}
 use Rattle.facet_solver_shape.specs.PathEq.{name_eq}
 use Rattle.facet_solver_shape.specs.Resolved.{FieldView, IsStored, key_of_field}
-use Rattle.facet_solver_shape.proofs.Finite.{equal, cases_bool}
+use Rattle.facet_solver_shape.proofs.Finite.{equal, cases_bool, none_is_some, same_value}
 use Rattle.facet_solver_shape.proofs.KeyOrder.{key_cmp_total, key_cmp_same}
 use Rattle.facet_solver_shape.proofs.Merging.{first_part, second_part, none_above, none_below}
 
@@ -35,12 +35,6 @@ record IsLeastIn (es : List (Key × FieldView)) (test : FieldView → Bool) (fou
 
 abbrev IsAnswer : List (Key × FieldView) → (FieldView → Bool) → Option FieldView → Type 0
 IsAnswer es test r = MatchOption r (NonePassesIn es test) (IsLeastIn es test)
-
-none_is_some : {X : Type 0} (x : X) {A : Type 0} → None ≡ Some x → A
-none_is_some x e = cc
-
-same_value : (x y : FieldView) → Some x ≡ Some y → x ≡ y
-same_value x y e = cc
 
 -- what stands at a key of a list with one more entry
 at_key : (k : Key) (e : Key × FieldView) (es : List (Key × FieldView)) (f : FieldView) → find_at key_cmp k (e ∷ es) ≡ Some f

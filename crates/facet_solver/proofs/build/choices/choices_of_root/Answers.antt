@@ -12,7 +12,8 @@ use Rattle.facet_solver.specs.ChoiceLists.{lists}
 use Rattle.facet_solver.specs.PlanView.{settings_of}
 use Rattle.facet_solver.proofs.Bijection.{choices_listed}
 use Rattle.facet_solver.proofs.Counts.{root_count}
-use Rattle.facet_solver.proofs.Products.{struct-below, enum-below, root-struct, root-enum, root-other}
+use Rattle.facet_solver.proofs.Descent.{struct-below, enum-below}
+use Rattle.facet_solver.proofs.Products.{root-struct, root-enum, root-other}
 use Rattle.facet_solver.proofs.build.choices.choices_of_root.Goals as goal
 
 -- a list that equals the one by parts lists the choices
@@ -31,11 +32,11 @@ numbered_so settings cat root r cs e h =
 
 pub choices_of_fields-requires-clause-below : goal.choices_of_fields-requires-clause-below
 choices_of_fields-requires-clause-below c =
-    rw c.deref.ensures.value (struct-below (settings_of c.args.plan) c.args.plan.shapes.now c.args.root c.shape-shape.result.now c.shape-shape.ensures.found c.shape-shape.ensures.checked c.in-Struct.kind c.in-Struct.fields c.in-Struct.is)
+    rw c.deref.ensures.value (struct-below c.args.plan.shapes.now c.shape-shape.ensures.checked c.args.root c.shape-shape.result.now c.shape-shape.ensures.found c.in-Struct.kind c.in-Struct.fields c.in-Struct.is)
 
 pub choices_of_variants-requires-clause-below : goal.choices_of_variants-requires-clause-below
 choices_of_variants-requires-clause-below c =
-    rw c.deref-in-Enum.ensures.value (enum-below (settings_of c.args.plan) c.args.plan.shapes.now c.args.root c.shape-shape.result.now c.shape-shape.ensures.found c.shape-shape.ensures.checked c.in-Enum.variants c.in-Enum.is)
+    rw c.deref-in-Enum.ensures.value (enum-below c.args.plan.shapes.now c.shape-shape.ensures.checked c.args.root c.shape-shape.result.now c.shape-shape.ensures.found c.in-Enum.variants c.in-Enum.is)
 
 pub returns-in-Struct-clause-listed : goal.returns-in-Struct-clause-listed
 returns-in-Struct-clause-listed c =

@@ -7,13 +7,13 @@ use Rattle.facet_solver.specs.Outcome.{Outcome, effect}
 use Rattle.facet_solver.specs.PlanView.{settings_of}
 use Rattle.facet_solver.proofs.Outcomes.{take_all-nil}
 use Rattle.facet_solver.proofs.Walking.{walks-same, has_choice, choose-is, VariantsBelow-get}
-use Rattle.facet_solver.proofs.Products.{struct-below, enum-below}
+use Rattle.facet_solver.proofs.Descent.{struct-below, enum-below}
 use Rattle.facet_solver.proofs.Roots.{root-fields, root-variants, root-nothing}
 use Rattle.facet_solver.proofs.build.resolve.walk_root.Goals as goal
 
 pub walk_fields-requires-clause-below : goal.walk_fields-requires-clause-below
 walk_fields-requires-clause-below c =
-    rw c.deref.ensures.value (struct-below (settings_of c.args.plan) c.args.plan.shapes.now c.args.root c.shape-shape.result.now c.shape-shape.ensures.found c.shape-shape.ensures.checked c.in-Struct.kind c.in-Struct.fields c.in-Struct.is)
+    rw c.deref.ensures.value (struct-below c.args.plan.shapes.now c.shape-shape.ensures.checked c.args.root c.shape-shape.result.now c.shape-shape.ensures.found c.in-Struct.kind c.in-Struct.fields c.in-Struct.is)
 
 pub walk_fields-requires-clause-walked : goal.walk_fields-requires-clause-walked
 walk_fields-requires-clause-walked c =
@@ -35,7 +35,7 @@ next_variant-requires c =
 
 pub walk_root_variant-requires-clause-below : goal.walk_root_variant-requires-clause-below
 walk_root_variant-requires-clause-below c =
-    let b = enum-below (settings_of c.args.plan) c.args.plan.shapes.now c.args.root c.shape-shape.result.now c.shape-shape.ensures.found c.shape-shape.ensures.checked c.in-Enum.variants c.in-Enum.is in
+    let b = enum-below c.args.plan.shapes.now c.shape-shape.ensures.checked c.args.root c.shape-shape.result.now c.shape-shape.ensures.found c.in-Enum.variants c.in-Enum.is in
     VariantsBelow-get (length c.args.plan.shapes.now) c.deref-in-Enum.result.now _ c.next_variant.result.0.now c.next_variant.ensures.variant (rw c.deref-in-Enum.ensures.value b)
 
 pub walk_root_variant-requires-clause-walked : goal.walk_root_variant-requires-clause-walked

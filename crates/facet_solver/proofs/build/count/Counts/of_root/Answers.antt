@@ -7,7 +7,8 @@ use Rattle.facet_solver.specs.declared.build.count.tally.Tally.{Tally}
 use Rattle.facet_solver.specs.declared.build.count.tally.Tally.TheVariants.{Exact}
 use Rattle.facet_solver.specs.PlanView.{settings_of}
 use Rattle.facet_solver.specs.CountView.{Tells, AreFirstCounts, count_among, count_at}
-use Rattle.facet_solver.proofs.RootCounts.{absent-count, enum-count, enum-below, other-count}
+use Rattle.facet_solver.proofs.Descent.{enum-below}
+use Rattle.facet_solver.proofs.RootCounts.{absent-count, enum-count, other-count}
 use Rattle.facet_solver.proofs.Tallies.{told}
 use Rattle.facet_solver.proofs.build.count.Counts.of_root.Goals as goal
 
@@ -19,9 +20,10 @@ count_variants-requires-clause-checked c = names_earlier c.args.plan.shapes.now 
 
 pub count_variants-requires-clause-below : goal.count_variants-requires-clause-below
 count_variants-requires-clause-below c =
+    let cat = c.args.plan.shapes.now in
     let all = ap length (c.as_slice-tallies.ensures.value ∙ c.self.view_is) ∙ c.requires.counted.all in
-    subst (λ (vs : List Variant). VariantsBelow (length c.as_slice-tallies.result.now) vs) (sym c.as_slice.ensures.value)
-    (enum-below (settings_of c.args.plan) c.args.plan.shapes.now c.args.root c.in-Some.shape.now c.in-Enum.variants _ (names_earlier c.args.plan.shapes.now c.get.ensures.checked) (sym c.in-Some.ensures.entry) c.in-Enum.is all)
+    rw (all, c.as_slice.ensures.value)
+    (enum-below cat (names_earlier cat c.get.ensures.checked) c.args.root c.in-Some.shape.now (sym c.in-Some.ensures.entry) c.in-Enum.variants c.in-Enum.is)
 
 pub bounds-tallies-index : goal.bounds-tallies-index
 bounds-tallies-index c =
