@@ -1,8 +1,11 @@
 //! What the program answers.
-ghost use Rattle.std.specs.Prelude.{◌≡◌, ◌<◌, length, IfOk, string_bytes};
+ghost use Rattle.std.specs.Prelude.{◌≡◌, ◌<◌, ◌∷◌, [], List, codes, length, IfOk, OnOk, string_bytes};
 ghost use Rattle.facet_solver.specs.Handle.{index_of, resolution_behind};
 ghost use Rattle.facet_solver.specs.Targets.{Catalogue};
-ghost use Rattle.facet_solver_program.specs.Replies.{resolved_text, NamesResolution};
+ghost use Rattle.facet_solver.specs.Views.{names_of};
+ghost use Rattle.facet_solver_program.specs.Message.{IsMessage};
+ghost use Rattle.facet_solver_program.specs.Replies as replies;
+ghost use Rattle.facet_solver_program.specs.Replies.{AreOf, IsErrorAs, IsReply, Outcome, told_names};
 
 use crate::message::{MESSAGE, message};
 use facet_solver::{
@@ -22,20 +25,20 @@ pub struct Reply {
 
 impl Reply {
     fn new(alloc: Global, status: u8, text: &str) -> Result<Self, AllocError>
-        ensures status { IfOk result (λ reply. reply.status ≡ status) }
-        ensures text { IfOk result (λ reply. string_bytes reply.text ≡ text.now) }
+        ensures { IfOk result (λ reply. (reply.status ≡ status) × (string_bytes reply.text ≡ text.now)) }
     {
         let text = String::from_str(alloc, text)?;
         Ok(Reply { status, text })
     }
 }
 
-/// Solves the built-in message. A reply of status 0 names one of its resolutions.
+/// Solves the built-in message. An error comes only where memory is refused.
 pub fn answer(alloc: Global) -> Result<Reply, AllocError>
-    ensures { IfOk result (λ reply. reply.status ≡ 0 → (cat : Catalogue) × NamesResolution cat MESSAGE (string_bytes reply.text)) }
+    ensures { IfOk result (λ reply. (shapes : Catalogue) × IsMessage shapes
+        × IsReply shapes MESSAGE (codes "id" ∷ codes "content" ∷ []) reply.status (string_bytes reply.text)) }
 {
     match Shapes::new(message(alloc)?) {
-        Ok(shapes) => solve(alloc, &shapes, ShapeId::new(MESSAGE)),
+        Ok(shapes) => solve(alloc, &shapes, ShapeId::new(MESSAGE), &KEYS),
         Err(fault) => {
             let number = fault.number();
             let text = format!(in alloc; "bad catalogue {number}")?;
@@ -45,9 +48,9 @@ pub fn answer(alloc: Global) -> Result<Reply, AllocError>
 }
 
 // Builds the schema of a root, tells it the keys, and says what they resolve to.
-fn solve(alloc: Global, shapes: &Shapes, root: ShapeId) -> Result<Reply, AllocError>
+fn solve(alloc: Global, shapes: &Shapes, root: ShapeId, keys: &[&str]) -> Result<Reply, AllocError>
     requires { root < length shapes.now }
-    ensures { IfOk result (λ reply. reply.status ≡ 0 → NamesResolution shapes.now root (string_bytes reply.text)) }
+    ensures { IfOk result (λ reply. IsReply shapes.now root (names_of keys.now) reply.status (string_bytes reply.text)) }
 {
     let schema = match Schema::build(alloc, shapes, root) {
         Ok(schema) => schema,
@@ -55,21 +58,42 @@ fn solve(alloc: Global, shapes: &Shapes, root: ShapeId) -> Result<Reply, AllocEr
         Err(SchemaError::OutOfMemory) => return Err(AllocError),
     };
     let mut solver = Solver::new(alloc, &schema)?;
-    for key in KEYS {
-        let _answer = solver.see_key(alloc, FieldKey::flat(key))?;
-    }
+    tell(alloc, &mut solver, keys)?;
     match solver.finish(alloc) {
         Ok(handle) => resolved(alloc, handle),
-        Err(SolverError::OutOfMemory) => Err(AllocError),
-        Err(SolverError::NoMatch { .. }) => Reply::new(alloc, 1, "no match"),
-        Err(SolverError::Ambiguous { .. }) => Reply::new(alloc, 1, "ambiguous"),
+        Err(error) => unsolved(alloc, error),
+    }
+}
+
+// Tells keys, one after another.
+fn tell<'a>(
+    alloc: Global,
+    solver: &mut Solver<'_, '_, 'a>,
+    keys: &[&'a str],
+) -> Result<(), AllocError>
+    ensures { OnOk result (solver.new ≡ told_names solver.old (names_of keys.now)) }
+{
+    for key in keys {
+        solver.see_key(alloc, FieldKey::flat(key))?;
+    }
+    Ok(())
+}
+
+// The reply where not one resolution alone is left.
+fn unsolved(alloc: Global, error: SolverError<'_>) -> Result<Reply, AllocError>
+    ensures { IfOk result (λ reply. (outcome : Outcome) × IsErrorAs error.entry outcome
+        × AreOf outcome reply.status (string_bytes reply.text)) }
+{
+    match error {
+        SolverError::OutOfMemory => Err(AllocError),
+        SolverError::NoMatch { .. } => Reply::new(alloc, 1, "no match"),
+        SolverError::Ambiguous { .. } => Reply::new(alloc, 1, "ambiguous"),
     }
 }
 
 // The reply that names a resolution.
 fn resolved(alloc: Global, handle: ResolutionHandle<'_, '_>) -> Result<Reply, AllocError>
-    ensures status { IfOk result (λ reply. reply.status ≡ 0) }
-    ensures text { IfOk result (λ reply. string_bytes reply.text ≡ resolved_text (index_of handle.entry) (resolution_behind handle.entry)) }
+    ensures { IfOk result (λ reply. AreOf (replies.resolved (index_of handle.entry) (resolution_behind handle.entry)) reply.status (string_bytes reply.text)) }
 {
     let index = handle.index();
     let description = handle.resolution().describe(alloc)?;

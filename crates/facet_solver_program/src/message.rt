@@ -1,5 +1,7 @@
 //! The built-in catalogue: a message with an identifier, and a flattened payload that is text or binary.
-ghost use Rattle.std.specs.Prelude.{◌<◌, IfOk, length};
+ghost use Rattle.std.specs.Prelude.{◌≡◌, ◌<◌, ◌∷◌, [], Some, map, IfOk, codes, length, string_bytes};
+ghost use Rattle.facet_solver.specs.Content.{struct_fields};
+ghost use Rattle.facet_solver_program.specs.Message.{IsMessage, StandsForItself, field_said, plain};
 
 use facet_solver::{DomMark, Field, ScalarType, Shape, ShapeId, ShapeKind, StructKind, Variant};
 use std::alloc::{AllocError, Global};
@@ -23,7 +25,8 @@ pub const MESSAGE: usize = 6;
 ///
 /// An error comes only where memory is refused.
 pub fn message(alloc: Global) -> Result<Vec<Shape>, AllocError>
-    ensures { IfOk result (λ shapes. MESSAGE < length shapes.items) }
+    ensures has { IfOk result (λ shapes. MESSAGE < length shapes.items) }
+    ensures message { IfOk result (λ shapes. IsMessage shapes.items) }
 {
     let text = vec![in alloc; field(alloc, "content", STRING)?]?;
     let binary = vec![in alloc;
@@ -48,7 +51,9 @@ pub fn message(alloc: Global) -> Result<Vec<Shape>, AllocError>
     ]?)
 }
 
-fn shape(alloc: Global, name: &str, kind: ShapeKind) -> Result<Shape, AllocError> {
+fn shape(alloc: Global, name: &str, kind: ShapeKind) -> Result<Shape, AllocError>
+    ensures { IfOk result (λ s. (string_bytes s.type_identifier ≡ name.now) × (s.kind ≡ kind) × StandsForItself s) }
+{
     Ok(Shape {
         type_identifier: String::from_str(alloc, name)?,
         kind,
@@ -61,12 +66,16 @@ fn shape(alloc: Global, name: &str, kind: ShapeKind) -> Result<Shape, AllocError
     })
 }
 
-fn structure(alloc: Global, name: &str, fields: Vec<Field>) -> Result<Shape, AllocError> {
+fn structure(alloc: Global, name: &str, fields: Vec<Field>) -> Result<Shape, AllocError>
+    ensures { IfOk result (λ s. (string_bytes s.type_identifier ≡ name.now) × (struct_fields s.kind ≡ Some fields.items) × StandsForItself s) }
+{
     let kind = StructKind::Struct;
     shape(alloc, name, ShapeKind::Struct { kind, fields })
 }
 
-fn field(alloc: Global, name: &str, shape: usize) -> Result<Field, AllocError> {
+fn field(alloc: Global, name: &str, shape: usize) -> Result<Field, AllocError>
+    ensures { IfOk result (λ f. field_said f ≡ plain name.now shape) }
+{
     Ok(Field {
         name: String::from_str(alloc, name)?,
         rename: None,
@@ -78,7 +87,9 @@ fn field(alloc: Global, name: &str, shape: usize) -> Result<Field, AllocError> {
     })
 }
 
-fn newtype(alloc: Global, name: &str, shape: usize) -> Result<Variant, AllocError> {
+fn newtype(alloc: Global, name: &str, shape: usize) -> Result<Variant, AllocError>
+    ensures { IfOk result (λ v. (string_bytes v.name ≡ name.now) × (map field_said v.fields.items ≡ plain (codes "0") shape ∷ [])) }
+{
     Ok(Variant {
         name: String::from_str(alloc, name)?,
         kind: StructKind::TupleStruct,
