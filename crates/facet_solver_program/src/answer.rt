@@ -5,7 +5,7 @@ ghost use Rattle.facet_solver.specs.Targets.{Catalogue};
 ghost use Rattle.facet_solver.specs.Views.{names_of};
 ghost use Rattle.facet_solver_program.specs.Message.{IsMessage};
 ghost use Rattle.facet_solver_program.specs.Replies as replies;
-ghost use Rattle.facet_solver_program.specs.Replies.{AreOf, IsErrorAs, IsReply, Outcome, told_names};
+ghost use Rattle.facet_solver_program.specs.Replies.{AreOf, IsErrorAs, IsReply, Ending, told_names};
 
 use crate::message::{MESSAGE, message};
 use facet_solver::{
@@ -81,8 +81,8 @@ fn tell<'a>(
 
 // The reply where not one resolution alone is left.
 fn unsolved(alloc: Global, error: SolverError<'_>) -> Result<Reply, AllocError>
-    ensures { IfOk result (λ reply. (outcome : Outcome) × IsErrorAs error.entry outcome
-        × AreOf outcome reply.status (string_bytes reply.text)) }
+    ensures { IfOk result (λ reply. (ending : Ending) × IsErrorAs error.entry ending
+        × AreOf ending reply.status (string_bytes reply.text)) }
 {
     match error {
         SolverError::OutOfMemory => Err(AllocError),

@@ -8,7 +8,7 @@ returns-in_ok-text-in-Err c = (
   c.in_ok-message.field-0.items,
   c.in_ok-message.ensures.message,
   record {
-    outcome = bad_catalogue c.in-Err.fault;
+    ending = bad_catalogue c.in-Err.fault;
     is = c.in-Err.ensures.refused;
     said = (refl, c.in_ok-text-in-Err.ensures.ok ∙ ap (λ n. codes "bad catalogue " ++ decimal n) c.number-number.ensures);
   },

@@ -12,7 +12,7 @@ use Rattle.facet_solver.specs.State.{State, at_first, told}
 use Rattle.facet_solver.specs.Targets.{Catalogue}
 use Rattle.facet_solver.specs.Verdict.{viable}
 use Rattle.facet_solver.specs.Views.{names_of}
-use Rattle.facet_solver_program.specs.Replies.{Outcome, resolved, IsErrorAs, IsOutcome, left_by, told_names}
+use Rattle.facet_solver_program.specs.Replies.{Ending, resolved, IsErrorAs, IsEnding, left_by, told_names}
 use Rattle.facet_solver_program.proofs.answer.solve.Goals as goal
 
 -- a solver keeps its schema
@@ -33,9 +33,9 @@ module _ (schema : SchemaView) (names : List Name) (first last : State) (first_i
 
   -- what an error of the solver says of the root
   ended : (shapes : Catalogue) (root : ℕ) → IsBuilt (flat_settings (Some flattened)) shapes root schema
-      → (error : SolverError) (o : Outcome) → IsReportOn last error → IsErrorAs error o → IsOutcome shapes root names o
-  ended shapes root built (NoMatch _ _ _ _ _ _) o report is = subst (IsOutcome shapes root names) (sym is) (schema, built, sym left ∙ report)
-  ended shapes root built (Ambiguous _ _) o report is = subst (IsOutcome shapes root names) (sym is) (schema, built, subst (λ is. 1 < length is) left report.0)
+      → (error : SolverError) (o : Ending) → IsReportOn last error → IsErrorAs error o → IsEnding shapes root names o
+  ended shapes root built (NoMatch _ _ _ _ _ _) o report is = subst (IsEnding shapes root names) (sym is) (schema, built, sym left ∙ report)
+  ended shapes root built (Ambiguous _ _) o report is = subst (IsEnding shapes root names) (sym is) (schema, built, subst (λ is. 1 < length is) left report.0)
   ended shapes root built OutOfMemory o report is = absurd is
 
 pub returns-in-Ok-finish : goal.returns-in-Ok-finish
@@ -49,7 +49,7 @@ returns-in-Ok-finish c =
     let same = kept schema names first last c.in_ok-solver.ensures c.in_ok-tell.ensures in
     let here = ap (λ (s : SchemaView). slice_get s.resolutions index) (sym same) ∙ c.in-Ok-finish.ensures.handle in
     IfOk-weaker c.resolved.result _ _ (λ reply said. record {
-      outcome = resolved index (resolution_behind c.in-Ok-finish.handle);
+      ending = resolved index (resolution_behind c.in-Ok-finish.handle);
       is = (schema, c.in-Ok.ensures.built, (alone, here));
       said = said;
     }) c.resolved.ensures
@@ -59,7 +59,7 @@ returns c =
     let names = names_of c.args.keys.now in
     let say = ended c.in-Ok.schema names c.in_ok-solver.solver c.tell.new.solver c.in_ok-solver.ensures c.in_ok-tell.ensures c.args.shapes.now c.args.root c.in-Ok.ensures.built c.in-Err.error in
     IfOk-weaker c.unsolved.result _ _ (λ reply said. record {
-      outcome = said.0;
+      ending = said.0;
       is = say said.0 c.in-Err.ensures.refused said.1;
       said = said.2;
     }) c.unsolved.ensures
