@@ -1,41 +1,26 @@
 //! What the program answers.
-ghost use Rattle.std.specs.Prelude.{◌≡◌, ◌<◌, ◌∷◌, [], List, codes, length, IfOk, OnOk, string_bytes};
+ghost use Rattle.std.specs.Prelude.{◌≡◌, ◌<◌, ◌∷◌, [], List, codes, length, IfOk, OnOk};
 ghost use Rattle.facet_solver.specs.Handle.{index_of, resolution_behind};
 ghost use Rattle.facet_solver.specs.Targets.{Catalogue};
 ghost use Rattle.facet_solver.specs.Views.{names_of};
 ghost use Rattle.facet_solver_program.specs.Message.{IsMessage};
 ghost use Rattle.facet_solver_program.specs.Replies as replies;
-ghost use Rattle.facet_solver_program.specs.Replies.{AreOf, IsErrorAs, IsReply, Ending, told_names};
+ghost use Rattle.facet_solver_program.specs.Replies.{Ending, IsErrorAs, IsReply, Says};
 
 use crate::message::{MESSAGE, message};
+use crate::reply::Reply;
 use facet_solver::{
     FieldKey, ResolutionHandle, Schema, SchemaError, ShapeId, Shapes, Solver, SolverError,
 };
 use std::alloc::{AllocError, Global};
 
-/// The keys that the message is told.
+/// The keys of the document.
 const KEYS: [&str; 2] = ["id", "content"];
-
-/// The status with which the program ends, and the text that it prints.
-#[derive(Drop)]
-pub struct Reply {
-    pub status: u8,
-    pub text: String,
-}
-
-impl Reply {
-    fn new(alloc: Global, status: u8, text: &str) -> Result<Self, AllocError>
-        ensures { IfOk result (λ reply. (reply.status ≡ status) × (string_bytes reply.text ≡ text.now)) }
-    {
-        let text = String::from_str(alloc, text)?;
-        Ok(Reply { status, text })
-    }
-}
 
 /// Solves the built-in message. An error comes only where memory is refused.
 pub fn answer(alloc: Global) -> Result<Reply, AllocError>
-    ensures { IfOk result (λ reply. (shapes : Catalogue) × IsMessage shapes
-        × IsReply shapes MESSAGE (codes "id" ∷ codes "content" ∷ []) reply.status (string_bytes reply.text)) }
+    ensures { IfOk result (λ reply. (shapes : Catalogue) × IsMessage shapes MESSAGE
+        × IsReply shapes MESSAGE (codes "id" ∷ codes "content" ∷ []) reply) }
 {
     match Shapes::new(message(alloc)?) {
         Ok(shapes) => solve(alloc, &shapes, ShapeId::new(MESSAGE), &KEYS),
@@ -47,10 +32,10 @@ pub fn answer(alloc: Global) -> Result<Reply, AllocError>
     }
 }
 
-// Builds the schema of a root, tells it the keys, and says what they resolve to.
+// Builds the schema of a root, shows a solver of it the keys, and says what they resolve to.
 fn solve(alloc: Global, shapes: &Shapes, root: ShapeId, keys: &[&str]) -> Result<Reply, AllocError>
     requires { root < length shapes.now }
-    ensures { IfOk result (λ reply. IsReply shapes.now root (names_of keys.now) reply.status (string_bytes reply.text)) }
+    ensures { IfOk result (IsReply shapes.now root (names_of keys.now)) }
 {
     let schema = match Schema::build(alloc, shapes, root) {
         Ok(schema) => schema,
@@ -58,20 +43,20 @@ fn solve(alloc: Global, shapes: &Shapes, root: ShapeId, keys: &[&str]) -> Result
         Err(SchemaError::OutOfMemory) => return Err(AllocError),
     };
     let mut solver = Solver::new(alloc, &schema)?;
-    tell(alloc, &mut solver, keys)?;
+    see_keys(alloc, &mut solver, keys)?;
     match solver.finish(alloc) {
         Ok(handle) => resolved(alloc, handle),
         Err(error) => unsolved(alloc, error),
     }
 }
 
-// Tells keys, one after another.
-fn tell<'a>(
+// Shows a solver keys, one after another.
+fn see_keys<'a>(
     alloc: Global,
     solver: &mut Solver<'_, '_, 'a>,
     keys: &[&'a str],
 ) -> Result<(), AllocError>
-    ensures { OnOk result (solver.new ≡ told_names solver.old (names_of keys.now)) }
+    ensures { OnOk result (solver.new ≡ replies.see_keys solver.old (names_of keys.now)) }
 {
     for key in keys {
         solver.see_key(alloc, FieldKey::flat(key))?;
@@ -81,8 +66,8 @@ fn tell<'a>(
 
 // The reply where not one resolution alone is left.
 fn unsolved(alloc: Global, error: SolverError<'_>) -> Result<Reply, AllocError>
-    ensures { IfOk result (λ reply. (ending : Ending) × IsErrorAs error.entry ending
-        × AreOf ending reply.status (string_bytes reply.text)) }
+    ensures { IfOk result (λ reply. (ending : Ending)
+        × IsErrorAs error.entry ending × Says reply ending) }
 {
     match error {
         SolverError::OutOfMemory => Err(AllocError),
@@ -93,7 +78,8 @@ fn unsolved(alloc: Global, error: SolverError<'_>) -> Result<Reply, AllocError>
 
 // The reply that names a resolution.
 fn resolved(alloc: Global, handle: ResolutionHandle<'_, '_>) -> Result<Reply, AllocError>
-    ensures { IfOk result (λ reply. AreOf (replies.resolved (index_of handle.entry) (resolution_behind handle.entry)) reply.status (string_bytes reply.text)) }
+    ensures { IfOk result (λ reply. Says reply
+        (replies.resolved (index_of handle.entry) (resolution_behind handle.entry))) }
 {
     let index = handle.index();
     let description = handle.resolution().describe(alloc)?;

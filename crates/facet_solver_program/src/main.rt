@@ -2,24 +2,17 @@
 #![tactic(auto)]
 
 mod answer;
+mod exit;
 mod message;
+mod reply;
 
-use answer::{Reply, answer};
+use answer::answer;
+use exit::{exit_status, printed};
 use std::process::ExitCode;
 
-/// The status of a write that failed.
-const UNWRITTEN: u8 = 4;
-
-/// The status of a run that was refused memory.
-const OUT_OF_MEMORY: u8 = 5;
-
 fn main(rt: HostRuntime) -> ExitCode {
-    let (written, status) = match answer(rt.alloc()) {
-        Ok(Reply { status, text }) => (println!(rt; "{text}"), status),
-        Err(_refused) => (println!(rt; "out of memory"), OUT_OF_MEMORY),
-    };
-    match written {
-        Ok(()) => ExitCode::from(status),
-        Err(_failed) => ExitCode::from(UNWRITTEN),
-    }
+    let answer = answer(rt.alloc());
+    let (text, status) = printed(&answer);
+    let written = println!(rt; "{text}");
+    ExitCode::from(exit_status(&written, status))
 }

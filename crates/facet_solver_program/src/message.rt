@@ -1,7 +1,7 @@
-//! The built-in catalogue: a message with an identifier, and a flattened payload that is text or binary.
-ghost use Rattle.std.specs.Prelude.{◌≡◌, ◌<◌, ◌∷◌, [], Some, map, IfOk, codes, length, string_bytes};
-ghost use Rattle.facet_solver.specs.Content.{struct_fields};
-ghost use Rattle.facet_solver_program.specs.Message.{IsMessage, StandsForItself, field_said, plain};
+//! The built-in catalogue: a message with an identifier and a flattened payload, a text or binary.
+ghost use Rattle.std.specs.Prelude.{◌≡◌, ◌<◌, IfOk, length, map};
+ghost use Rattle.facet_solver_program.specs.Message as views;
+ghost use Rattle.facet_solver_program.specs.Message.{IsMessage, field_view, kind_view, shape_view, variant_view};
 
 use facet_solver::{DomMark, Field, ScalarType, Shape, ShapeId, ShapeKind, StructKind, Variant};
 use std::alloc::{AllocError, Global};
@@ -18,7 +18,7 @@ const BINARY_MESSAGE: usize = 4;
 
 const MESSAGE_PAYLOAD: usize = 5;
 
-/// The place of the message in the list.
+/// The index of the message in the list.
 pub const MESSAGE: usize = 6;
 
 /// The shapes of the message, each before those that name it.
@@ -26,7 +26,7 @@ pub const MESSAGE: usize = 6;
 /// An error comes only where memory is refused.
 pub fn message(alloc: Global) -> Result<Vec<Shape>, AllocError>
     ensures has { IfOk result (λ shapes. MESSAGE < length shapes.items) }
-    ensures message { IfOk result (λ shapes. IsMessage shapes.items) }
+    ensures message { IfOk result (λ shapes. IsMessage shapes.items MESSAGE) }
 {
     let text = vec![in alloc; field(alloc, "content", STRING)?]?;
     let binary = vec![in alloc;
@@ -52,7 +52,7 @@ pub fn message(alloc: Global) -> Result<Vec<Shape>, AllocError>
 }
 
 fn shape(alloc: Global, name: &str, kind: ShapeKind) -> Result<Shape, AllocError>
-    ensures { IfOk result (λ s. (string_bytes s.type_identifier ≡ name.now) × (s.kind ≡ kind) × StandsForItself s) }
+    ensures { IfOk result (λ s. shape_view s ≡ views.bare name.now (kind_view kind)) }
 {
     Ok(Shape {
         type_identifier: String::from_str(alloc, name)?,
@@ -67,14 +67,15 @@ fn shape(alloc: Global, name: &str, kind: ShapeKind) -> Result<Shape, AllocError
 }
 
 fn structure(alloc: Global, name: &str, fields: Vec<Field>) -> Result<Shape, AllocError>
-    ensures { IfOk result (λ s. (string_bytes s.type_identifier ≡ name.now) × (struct_fields s.kind ≡ Some fields.items) × StandsForItself s) }
+    ensures { IfOk result (λ s. shape_view s
+        ≡ views.named_struct name.now (map field_view fields.items)) }
 {
     let kind = StructKind::Struct;
     shape(alloc, name, ShapeKind::Struct { kind, fields })
 }
 
 fn field(alloc: Global, name: &str, shape: usize) -> Result<Field, AllocError>
-    ensures { IfOk result (λ f. field_said f ≡ plain name.now shape) }
+    ensures { IfOk result (λ f. field_view f ≡ views.plain name.now shape) }
 {
     Ok(Field {
         name: String::from_str(alloc, name)?,
@@ -88,7 +89,7 @@ fn field(alloc: Global, name: &str, shape: usize) -> Result<Field, AllocError>
 }
 
 fn newtype(alloc: Global, name: &str, shape: usize) -> Result<Variant, AllocError>
-    ensures { IfOk result (λ v. (string_bytes v.name ≡ name.now) × (map field_said v.fields.items ≡ plain (codes "0") shape ∷ [])) }
+    ensures { IfOk result (λ v. variant_view v ≡ views.newtype name.now shape) }
 {
     Ok(Variant {
         name: String::from_str(alloc, name)?,

@@ -12,24 +12,24 @@ use Rattle.facet_solver.specs.State.{State, at_first, told}
 use Rattle.facet_solver.specs.Targets.{Catalogue}
 use Rattle.facet_solver.specs.Verdict.{viable}
 use Rattle.facet_solver.specs.Views.{names_of}
-use Rattle.facet_solver_program.specs.Replies.{Ending, resolved, IsErrorAs, IsEnding, left_by, told_names}
+use Rattle.facet_solver_program.specs.Replies.{Ending, resolved, IsErrorAs, IsEnding, left_by, see_keys}
 use Rattle.facet_solver_program.proofs.answer.solve.Goals as goal
 
 -- a solver keeps its schema
-told_names-schema : (s : State) (names : List Name) → (told_names s names).schema ≡ s.schema
-told_names-schema s [] = refl
-told_names-schema s (name ∷ names) = told_names-schema (told (flat_key name) s) names
+see_keys-schema : (s : State) (names : List Name) → (see_keys s names).schema ≡ s.schema
+see_keys-schema s [] = refl
+see_keys-schema s (name ∷ names) = see_keys-schema (told (flat_key name) s) names
 
--- what a solver of a schema is that was told all names
-module _ (schema : SchemaView) (names : List Name) (first last : State) (first_is : first ≡ at_first schema) (last_is : last ≡ told_names first names) where
-  at_last : last ≡ told_names (at_first schema) names
-  at_last = last_is ∙ ap (λ s. told_names s names) first_is
+-- what a solver of a schema is that saw all keys
+module _ (schema : SchemaView) (names : List Name) (first last : State) (first_is : first ≡ at_first schema) (last_is : last ≡ see_keys first names) where
+  at_last : last ≡ see_keys (at_first schema) names
+  at_last = last_is ∙ ap (λ s. see_keys s names) first_is
 
   left : viable last ≡ left_by schema names
   left = ap viable at_last
 
   kept : last.schema ≡ schema
-  kept = ap (λ s. s.schema) at_last ∙ told_names-schema (at_first schema) names
+  kept = ap (λ s. s.schema) at_last ∙ see_keys-schema (at_first schema) names
 
   -- what an error of the solver says of the root
   ended : (shapes : Catalogue) (root : ℕ) → IsBuilt (flat_settings (Some flattened)) shapes root schema
@@ -43,10 +43,10 @@ returns-in-Ok-finish c =
     let schema = c.in-Ok.schema in
     let names = names_of c.args.keys.now in
     let first = c.in_ok-solver.solver in
-    let last = c.tell.new.solver in
+    let last = c.see_keys.new.solver in
     let index = index_of c.in-Ok-finish.handle in
-    let alone = sym (left schema names first last c.in_ok-solver.ensures c.in_ok-tell.ensures) ∙ c.in-Ok-finish.ensures.number in
-    let same = kept schema names first last c.in_ok-solver.ensures c.in_ok-tell.ensures in
+    let alone = sym (left schema names first last c.in_ok-solver.ensures c.in_ok-see_keys.ensures) ∙ c.in-Ok-finish.ensures.number in
+    let same = kept schema names first last c.in_ok-solver.ensures c.in_ok-see_keys.ensures in
     let here = ap (λ (s : SchemaView). slice_get s.resolutions index) (sym same) ∙ c.in-Ok-finish.ensures.handle in
     IfOk-weaker c.resolved.result _ _ (λ reply said. record {
       ending = resolved index (resolution_behind c.in-Ok-finish.handle);
@@ -57,7 +57,7 @@ returns-in-Ok-finish c =
 pub returns : goal.returns
 returns c =
     let names = names_of c.args.keys.now in
-    let say = ended c.in-Ok.schema names c.in_ok-solver.solver c.tell.new.solver c.in_ok-solver.ensures c.in_ok-tell.ensures c.args.shapes.now c.args.root c.in-Ok.ensures.built c.in-Err.error in
+    let say = ended c.in-Ok.schema names c.in_ok-solver.solver c.see_keys.new.solver c.in_ok-solver.ensures c.in_ok-see_keys.ensures c.args.shapes.now c.args.root c.in-Ok.ensures.built c.in-Err.error in
     IfOk-weaker c.unsolved.result _ _ (λ reply said. record {
       ending = said.0;
       is = say said.0 c.in-Err.ensures.refused said.1;
