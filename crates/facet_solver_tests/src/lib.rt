@@ -12,6 +12,8 @@ mod flattened;
 #[cfg(test)]
 mod reading;
 #[cfg(test)]
+mod readme;
+#[cfg(test)]
 mod representations;
 #[cfg(test)]
 mod resolutions;

@@ -1,0 +1,112 @@
+//! The sample of the README, whole.
+
+use facet_solver::{
+    DomMark, Field, FieldKey, KeyResult, ScalarType, Schema, Shape, ShapeId, ShapeKind, Shapes,
+    Solver, SolverError, StructKind, Variant,
+};
+use std::alloc::{AllocError, Global};
+use std::test::Fail;
+
+fn field(alloc: Global, name: &str, shape: usize) -> Result<Field, AllocError> {
+    Ok(Field {
+        name: String::from_str(alloc, name)?,
+        rename: None,
+        shape: ShapeId::new(shape),
+        flattened: false,
+        has_default: false,
+        metadata: false,
+        dom: DomMark::None,
+    })
+}
+
+fn variant(alloc: Global, name: &str, value: usize) -> Result<Variant, AllocError> {
+    Ok(Variant {
+        name: String::from_str(alloc, name)?,
+        kind: StructKind::TupleStruct,
+        fields: vec![in alloc; field(alloc, "0", value)?]?,
+    })
+}
+
+fn shape(alloc: Global, name: &str, kind: ShapeKind) -> Result<Shape, AllocError> {
+    Ok(Shape {
+        type_identifier: String::from_str(alloc, name)?,
+        kind,
+        inner: None,
+        proxy: None,
+        tag: None,
+        content: None,
+        untagged: false,
+        metadata_container: false,
+    })
+}
+
+fn structure(fields: Vec<Field>) -> ShapeKind {
+    ShapeKind::Struct {
+        kind: StructKind::Struct,
+        fields,
+    }
+}
+
+// The shapes of `Message`. A shape names others by index, and stands after those that it names.
+fn message(alloc: Global) -> Result<Vec<Shape>, AllocError> {
+    let text = vec![in alloc; field(alloc, "content", 0)?]?;
+    let binary = vec![in alloc; field(alloc, "data", 2)?, field(alloc, "encoding", 0)?]?;
+    let variants = vec![in alloc; variant(alloc, "Text", 3)?, variant(alloc, "Binary", 4)?]?;
+    let mut payload = field(alloc, "payload", 5)?;
+    payload.flattened = true;
+    let fields = vec![in alloc; field(alloc, "id", 0)?, payload]?;
+    Ok(vec![in alloc;
+        shape(alloc, "String", ShapeKind::Scalar(ScalarType::String))?,
+        shape(alloc, "u8", ShapeKind::Scalar(ScalarType::U8))?,
+        shape(alloc, "Vec<u8>", ShapeKind::List(ShapeId::new(1)))?,
+        shape(alloc, "TextMessage", structure(text))?,
+        shape(alloc, "BinaryMessage", structure(binary))?,
+        shape(alloc, "MessagePayload", ShapeKind::Enum { variants })?,
+        shape(alloc, "Message", structure(fields))?,
+    ]?)
+}
+
+// What one key tells.
+fn learned(alloc: Global, answer: &KeyResult<'_, '_>) -> Result<String, AllocError> {
+    match answer {
+        KeyResult::Unambiguous { shape } => format!(in alloc; "a value of shape {}", shape.index()),
+        KeyResult::Ambiguous { fields } => format!(in alloc; "one of {} shapes", fields.len()),
+        KeyResult::Solved(handle) => format!(in alloc; "resolution {}", handle.index()),
+        KeyResult::Unknown => format!(in alloc; "no such field"),
+    }
+}
+
+// What the end of the document tells.
+fn meaning(alloc: Global, solver: Solver<'_, '_, '_>) -> Result<String, AllocError> {
+    match solver.finish(alloc) {
+        Ok(handle) => {
+            let description = handle.resolution().describe(alloc)?;
+            format!(in alloc; "{}: {description}", handle.index())
+        }
+        Err(SolverError::NoMatch { .. }) => format!(in alloc; "each lacks a field"),
+        Err(SolverError::Ambiguous { candidates, .. }) => {
+            format!(in alloc; "one of {}", candidates.len())
+        }
+        Err(SolverError::OutOfMemory) => Err(AllocError),
+    }
+}
+
+#[test]
+fn keys_tell_the_payload(rt: HostRuntime) -> Result<(), Fail> {
+    let alloc = rt.alloc();
+    let shapes = Shapes::new(message(alloc)?)?;
+    let root = ShapeId::new(6);
+    if !shapes.has(root) {
+        return Err("no such shape".into());
+    }
+    let schema = Schema::build(alloc, &shapes, root)?;
+    let mut solver = Solver::new(alloc, &schema)?;
+    // An identifier is a String, the shape of index 0, in both.
+    let id = solver.see_key(alloc, FieldKey::flat("id"))?;
+    assert_eq!(rt; learned(alloc, &id)?.as_str(), "a value of shape 0");
+    // Only a text has content.
+    let content = solver.see_key(alloc, FieldKey::flat("content"))?;
+    assert_eq!(rt; learned(alloc, &content)?.as_str(), "resolution 0");
+    assert_eq!(rt; meaning(alloc, solver)?.as_str(), "0: MessagePayload::Text");
+    Ok(())
+}
