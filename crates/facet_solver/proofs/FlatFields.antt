@@ -11,7 +11,6 @@ use Rattle.facet_solver_shape.specs.declared.shape.ShapeKind.{ShapeKind}
 use Rattle.facet_solver_shape.specs.declared.shape.ShapeKind.TheVariants.{Struct, Enum}
 use Rattle.facet_solver_shape.specs.declared.resolution.key.FieldCategory.{FieldCategory}
 use Rattle.facet_solver_shape.specs.declared.resolution.key.FieldCategory.TheVariants.{Flat as FlatCategory}
-use Rattle.facet_solver_shape.specs.Names.{effective_name}
 use Rattle.facet_solver_shape.specs.Paths.{by_variant}
 use Rattle.facet_solver_shape.specs.Keys.{key_cmp, stored_key}
 use Rattle.facet_solver_shape.specs.Resolved.{FieldView, Resolved, nothing, key_of_field}

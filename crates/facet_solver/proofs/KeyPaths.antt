@@ -1,17 +1,16 @@
 -- Sets of key paths: what is in them, and what a resolution with more of them is.
 use Rattle.std.proofs.Common.{◌≡◌, ◌⊎◌, inl, inr, ◌||◌, ℕ, ◌+◌, ◌<◌, ◌≤◌, List, [], ◌∷◌, ◌++◌, map, refl, ap, sym, ◌∙◌, subst, length, get_or, drop, append_assoc, Bool, true, false}
-use Rattle.std.specs.Prelude.{if◌then◌else◌}
 use Rattle.std.specs.List.{list_any}
 use Rattle.std.specs.Ordering.{nat_cmp, eq_by_cmp}
 use Rattle.std.specs.Cmp.Lexicographic.{slice_cmp}
 use Rattle.std.specs.FinSet as set
-use Rattle.std.proofs.Math.Bool.{or-false, or_assoc}
+use Rattle.std.proofs.Math.Bool.{or_assoc}
 use Rattle.std.proofs.Math.ListN.{drop_of_length-le}
 use Rattle.std.proofs.lemmas.List.{drop_more}
 use Rattle.std.proofs.lemmas.Cmp.{eq_by_cmp_equiv}
 use Rattle.facet_solver_shape.specs.Names.{Name}
 use Rattle.facet_solver_shape.specs.Resolved.{Resolved, with_key_path}
-use Rattle.facet_solver_shape.proofs.Finite.{equal, cases_bool}
+use Rattle.facet_solver_shape.proofs.Finite.{equal}
 use Rattle.facet_solver_shape.proofs.KeyOrder.{path_cmp_total, path_cmp_same}
 use Rattle.facet_solver.specs.KeyPaths.{KeyPath, KeyPaths, no_paths, paths_of_each, behind_prefix, named, with_key_paths, with_paths_behind}
 
@@ -34,11 +33,8 @@ or-right : (a b : Bool) → b ≡ true → (a || b) ≡ true
 or-right true b e = refl
 or-right false b e = e
 
-not_in_none : {A : Type 0} (q : KeyPath) → Has no_paths q → A
-not_in_none q h = let none = set.contains-empty (slice_cmp (slice_cmp nat_cmp)) q in cc
-
 pub Has-none : {A : Type 0} (q : KeyPath) → Has no_paths q → A
-Has-none q h = not_in_none q h
+Has-none q h = let none = set.contains-empty (slice_cmp (slice_cmp nat_cmp)) q in cc
 
 module _ (ps qs : KeyPaths) (q : KeyPath) where
   pub Has-union : Has (set.union ps qs) q → Has ps q ⊎ Has qs q
@@ -95,7 +91,7 @@ module _ (prefix : KeyPath) (ps : KeyPaths) (q : KeyPath) where
 
 -- sets that have the same key paths are equal
 module _ (ps qs : KeyPaths) (there : (q : KeyPath) → Has ps q → Has qs q) (back : (q : KeyPath) → Has qs q → Has ps q) where
-  pub same_paths : ps ≡ qs
+  same_paths : ps ≡ qs
   same_paths = set.same_set path_cmp_total path_cmp_same ps qs (λ q. go (set.contains ps q) (set.contains qs q) (there q) (back q))
     where
       go : (a b : Bool) → (a ≡ true → b ≡ true) → (b ≡ true → a ≡ true) → a ≡ b
@@ -104,7 +100,7 @@ module _ (ps qs : KeyPaths) (there : (q : KeyPath) → Has ps q → Has qs q) (b
       go false false h k = refl
 
 union-none : (ps : KeyPaths) → set.union ps no_paths ≡ ps
-union-none ps = same_paths (set.union ps no_paths) ps (λ q h. elim (Has-union ps no_paths q h) [ inl a ↦ a | inr b ↦ not_in_none q b ]) (λ q h. Has-left ps no_paths q h)
+union-none ps = same_paths (set.union ps no_paths) ps (λ q h. elim (Has-union ps no_paths q h) [ inl a ↦ a | inr b ↦ Has-none q b ]) (λ q h. Has-left ps no_paths q h)
 
 union_assoc : (ps qs rs : KeyPaths) → set.union ps (set.union qs rs) ≡ set.union (set.union ps qs) rs
 union_assoc ps qs rs = set.same_set path_cmp_total path_cmp_same _ _ (λ q.
@@ -132,18 +128,18 @@ union-insert ps qs p = same_paths _ _
 
 behind_prefix-none : (prefix : KeyPath) → behind_prefix prefix no_paths ≡ no_paths
 behind_prefix-none prefix = same_paths _ _
-    (λ q h. let r = Has-behind_from prefix no_paths q h in not_in_none r.0 r.1)
-    (λ q h. not_in_none q h)
+    (λ q h. let r = Has-behind_from prefix no_paths q h in Has-none r.0 r.1)
+    (λ q h. Has-none q h)
 
 behind_prefix-union : (prefix : KeyPath) (ps qs : KeyPaths) → behind_prefix prefix (set.union ps qs) ≡ set.union (behind_prefix prefix ps) (behind_prefix prefix qs)
 behind_prefix-union prefix ps qs = same_paths _ _
     (λ q h.
-        let r = Has-behind_from prefix (set.union ps qs) q h in
-        subst (Has (set.union (behind_prefix prefix ps) (behind_prefix prefix qs))) r.2
-        (elim (Has-union ps qs r.0 r.1) [
-          | inl a ↦ Has-left (behind_prefix prefix ps) (behind_prefix prefix qs) (prefix ++ r.0) (Has-behind prefix ps r.0 a)
-          | inr b ↦ Has-right (behind_prefix prefix ps) (behind_prefix prefix qs) (prefix ++ r.0) (Has-behind prefix qs r.0 b)
-        ]))
+    let r = Has-behind_from prefix (set.union ps qs) q h in
+    subst (Has (set.union (behind_prefix prefix ps) (behind_prefix prefix qs))) r.2
+    (elim (Has-union ps qs r.0 r.1) [
+      | inl a ↦ Has-left (behind_prefix prefix ps) (behind_prefix prefix qs) (prefix ++ r.0) (Has-behind prefix ps r.0 a)
+      | inr b ↦ Has-right (behind_prefix prefix ps) (behind_prefix prefix qs) (prefix ++ r.0) (Has-behind prefix qs r.0 b)
+    ]))
     (λ q h. elim (Has-union (behind_prefix prefix ps) (behind_prefix prefix qs) q h) [
       | inl a ↦ (let r = Has-behind_from prefix ps q a in subst (Has (behind_prefix prefix (set.union ps qs))) r.2 (Has-behind prefix (set.union ps qs) r.0 (Has-left ps qs r.0 r.1)))
       | inr b ↦ (let r = Has-behind_from prefix qs q b in subst (Has (behind_prefix prefix (set.union ps qs))) r.2 (Has-behind prefix (set.union ps qs) r.0 (Has-right ps qs r.0 r.1)))
@@ -153,17 +149,17 @@ behind_prefix-union prefix ps qs = same_paths _ _
 behind_prefix-named : (prefix : KeyPath) (name : Name) (ps : KeyPaths) → behind_prefix prefix (named name ps) ≡ set.insert (behind_prefix (prefix ++ name ∷ []) ps) (prefix ++ name ∷ [])
 behind_prefix-named prefix name ps = same_paths _ _
     (λ q h.
-        let longer = behind_prefix (prefix ++ name ∷ []) ps in
-        let path = prefix ++ name ∷ [] in
-        let r = Has-behind_from prefix (named name ps) q h in
-        subst (Has (set.insert longer path)) r.2
-        (elim (Has-insert (behind_prefix (name ∷ []) ps) (name ∷ []) r.0 r.1) [
-          | inl same ↦ subst (λ (x : KeyPath). Has (set.insert longer path) (prefix ++ x)) (sym same) (Has-itself longer path)
-          | inr deeper ↦
-              (let s = Has-behind_from (name ∷ []) ps r.0 deeper in
-              Has-other longer path (prefix ++ r.0)
-              (subst (Has longer) (append_assoc prefix (name ∷ []) s.0 ∙ ap (λ (x : KeyPath). prefix ++ x) s.2) (Has-behind path ps s.0 s.1)))
-        ]))
+    let longer = behind_prefix (prefix ++ name ∷ []) ps in
+    let path = prefix ++ name ∷ [] in
+    let r = Has-behind_from prefix (named name ps) q h in
+    subst (Has (set.insert longer path)) r.2
+    (elim (Has-insert (behind_prefix (name ∷ []) ps) (name ∷ []) r.0 r.1) [
+      | inl same ↦ subst (λ (x : KeyPath). Has (set.insert longer path) (prefix ++ x)) (sym same) (Has-itself longer path)
+      | inr deeper ↦
+          (let s = Has-behind_from (name ∷ []) ps r.0 deeper in
+          Has-other longer path (prefix ++ r.0)
+          (subst (Has longer) (append_assoc prefix (name ∷ []) s.0 ∙ ap (λ (x : KeyPath). prefix ++ x) s.2) (Has-behind path ps s.0 s.1)))
+    ]))
     (λ q h. elim (Has-insert (behind_prefix (prefix ++ name ∷ []) ps) (prefix ++ name ∷ []) q h) [
       | inl same ↦ subst (Has (behind_prefix prefix (named name ps))) (sym same) (Has-behind prefix (named name ps) (name ∷ []) (Has-itself (behind_prefix (name ∷ []) ps) (name ∷ [])))
       | inr deeper ↦
@@ -174,11 +170,11 @@ behind_prefix-named prefix name ps = same_paths _ _
 
 -- a resolution with more key paths
 module _ (r : Resolved) where
-  pub with_key_paths-union : (ps qs : KeyPaths) → with_key_paths r (set.union ps qs) ≡ with_key_paths (with_key_paths r ps) qs
+  with_key_paths-union : (ps qs : KeyPaths) → with_key_paths r (set.union ps qs) ≡ with_key_paths (with_key_paths r ps) qs
   unfolding with_key_paths
   with_key_paths-union ps qs = ap (λ (s : KeyPaths). record r { key_paths = s }) (union_assoc r.key_paths ps qs)
 
-  pub with_key_paths-none : with_key_paths r no_paths ≡ r
+  with_key_paths-none : with_key_paths r no_paths ≡ r
   unfolding with_key_paths
   with_key_paths-none = ap (λ (s : KeyPaths). record r { key_paths = s }) (union-none r.key_paths)
 
@@ -190,7 +186,7 @@ module _ (r : Resolved) where
     pub behind-none : with_paths_behind r prefix no_paths ≡ r
     behind-none = ap (with_key_paths r) (behind_prefix-none prefix) ∙ with_key_paths-none
 
-    pub behind-union : (ps qs : KeyPaths) → with_paths_behind r prefix (set.union ps qs) ≡ with_paths_behind (with_paths_behind r prefix ps) prefix qs
+    behind-union : (ps qs : KeyPaths) → with_paths_behind r prefix (set.union ps qs) ≡ with_paths_behind (with_paths_behind r prefix ps) prefix qs
     behind-union ps qs = ap (with_key_paths r) (behind_prefix-union prefix ps qs) ∙ with_key_paths-union (behind_prefix prefix ps) (behind_prefix prefix qs)
 
     pub behind-named : (name : Name) (ps : KeyPaths) → with_paths_behind r prefix (named name ps) ≡ with_paths_behind (with_key_path r (prefix ++ name ∷ [])) (prefix ++ name ∷ []) ps

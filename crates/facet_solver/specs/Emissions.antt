@@ -107,7 +107,8 @@ selector_emissions externally_tagged settings cat f v q o =
     field_and_paths (selector_field (string_bytes v.name) settings cat f q o) (content_paths cat v)
 selector_emissions (internally_tagged tag) settings cat f v q o = field_and_paths (selector_field tag settings cat f q o) no_paths
 selector_emissions (adjacently_tagged tag content) settings cat f v q o =
-    field_and_paths (selector_field tag settings cat f q o) no_paths ++ some_key_paths (named content (content_paths cat v)) ∷ []
+    field_and_paths (selector_field tag settings cat f q o) no_paths
+    ++ some_key_paths (named content (content_paths cat v)) ∷ []
 
 -- the pick of a variant
 abbrev pub pick_of : Shape → Variant → Path → Emission

@@ -1,5 +1,6 @@
--- Nested key paths: what lies under a shape or a variant, by names alone. Five sets, and the one definition that they share. They
--- end since fields name earlier shapes; the definition goes down as many levels as the catalogue has shapes.
+-- Nested key paths: what lies under a shape or a variant, by names alone. They are five sets that share
+-- one definition. They end since fields name earlier shapes: the definition goes down as many levels as
+-- the catalogue has shapes.
 use Rattle.std.specs.Prelude.{◌≡◌, ◌⊎◌, ◌<◌, ℕ, zero, suc, Bool, true, false, ◌&&◌, List, [], ◌∷◌, ◌++◌, if◌then◌else◌, string_bytes, length}
 use Rattle.std.specs.FinSet as set
 use Rattle.facet_solver_shape.specs.declared.shape.Field.{Field}
@@ -35,7 +36,8 @@ abbrev pub entered_view : code.Entered → Entered
 entered_view StructsAlone = structs_alone
 entered_view EveryKind = every_kind
 
--- through a field: a flattened one gives what is under its shape, a regular one its name and what is behind it
+-- through a field: a flattened one gives what is under its shape, a regular one its name and what is
+-- behind it
 abbrev pub through_field_step : Under → Under → Field → KeyPaths
 through_field_step regular flattened f =
     if f.flattened then flattened f.shape else named (effective_name f) (regular f.shape)
@@ -116,7 +118,7 @@ under_variants entered cat = paths_of_each (under_variant entered cat)
 unfoldable pub nested_paths : Catalogue → Under
 nested_paths cat = if_entered structs_alone cat
 
--- what a flattened field gives, by its shape: a struct's nested paths, or those of all variants of an enum
+-- what a flattened field gives, by its shape: a struct's nested paths, or those of an enum's variants
 unfoldable pub flattened_paths : Catalogue → Under
 flattened_paths cat = under_shape structs_alone cat
 
@@ -132,22 +134,26 @@ content_paths_of_shape cat = under_shape every_kind cat
 unfoldable pub content_paths : Catalogue → Variant → KeyPaths
 content_paths cat = under_variant every_kind cat
 
--- each of the five sets is what the kind of its shape, or the fields of its variant, make of the others
+-- each of the five sets is what the kind of its shape, or its variant's fields, make of the others
 pub record FollowsKinds (cat : Catalogue) : Type 0 where
   pub nested : (id : ℕ) → nested_paths cat id
       ≡ under_struct (through_fields_step (nested_paths cat) (flattened_paths cat)) (kind_at cat id)
   pub flattened : (id : ℕ) → flattened_paths cat id
-      ≡ under_kind (through_fields_step (nested_paths cat) (flattened_paths cat)) (variant_paths cat) (kind_at cat id)
+      ≡ under_kind (through_fields_step (nested_paths cat) (flattened_paths cat))
+      (variant_paths cat) (kind_at cat id)
   pub variants : (v : Variant) → variant_paths cat v
       ≡ under_variant_step structs_alone cat (nested_paths cat) (flattened_paths cat) v
   pub content_of_shape : (id : ℕ) → content_paths_of_shape cat id
-      ≡ under_kind (through_fields_step (content_paths_of_shape cat) (content_paths_of_shape cat)) (content_paths cat) (kind_at cat id)
+      ≡ under_kind (through_fields_step (content_paths_of_shape cat) (content_paths_of_shape cat))
+      (content_paths cat) (kind_at cat id)
   pub content : (v : Variant) → content_paths cat v
-      ≡ under_variant_step every_kind cat (content_paths_of_shape cat) (content_paths_of_shape cat) v
+      ≡ under_variant_step every_kind cat
+      (content_paths_of_shape cat) (content_paths_of_shape cat) v
 
 -- more levels than there are shapes find nothing more
 abbrev pub EndsByLength : Catalogue → Type 0
-EndsByLength cat = (entered : Entered) (levels id : ℕ) → length cat < levels → under_within levels entered cat id ≡ under_shape entered cat id
+EndsByLength cat = (entered : Entered) (levels id : ℕ) → length cat < levels
+    → under_within levels entered cat id ≡ under_shape entered cat id
 
 -- no key path is empty, and each that a longer one goes through is among them
 pub record HasNoGaps (paths : KeyPaths) : Type 0 where

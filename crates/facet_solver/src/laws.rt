@@ -73,9 +73,10 @@ pub fn nested_paths_follow_kinds()
 pub fn nested_paths_have_no_gaps()
     ensures nested { (cat : Catalogue) (id : ℕ) → HasNoGaps (nested_paths cat id) }
     ensures flattened { (cat : Catalogue) (id : ℕ) → HasNoGaps (flattened_paths cat id) }
-    ensures variants { (cat : Catalogue) (variant : Variant) → HasNoGaps (variant_paths cat variant) }
-    ensures content_of_shape { (cat : Catalogue) (id : ℕ) → HasNoGaps (content_paths_of_shape cat id) }
-    ensures content { (cat : Catalogue) (variant : Variant) → HasNoGaps (content_paths cat variant) }
+    ensures variants { (cat : Catalogue) (v : Variant) → HasNoGaps (variant_paths cat v) }
+    ensures content_of_shape { (cat : Catalogue) (id : ℕ)
+        → HasNoGaps (content_paths_of_shape cat id) }
+    ensures content { (cat : Catalogue) (v : Variant) → HasNoGaps (content_paths cat v) }
 {}
 
 /// In the flat format the fields of a resolution stand under their names alone, so that no two have one name.

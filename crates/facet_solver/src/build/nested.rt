@@ -73,8 +73,8 @@ fn add_if_entered<'c>(
     resolution: &mut Resolution<'c>,
 ) -> Result<(), AllocError>
     requires { NamesEarlier plan.shapes.now }
-    ensures { let paths = nested.if_entered (entered_view entered) plan.entry.shapes.now id in
-        OnOk result (resolution.new ≡ with_paths_behind resolution.old (names_of prefix.now) paths) }
+    ensures { OnOk result (resolution.new ≡ with_paths_behind resolution.old (names_of prefix.now)
+        (nested.if_entered (entered_view entered) plan.entry.shapes.now id)) }
 {
     if entered.has(plan.shapes, id) {
         add_under_shape(plan, entered, id, prefix, resolution)
@@ -93,8 +93,8 @@ fn add_under_shape<'c>(
     resolution: &mut Resolution<'c>,
 ) -> Result<(), AllocError>
     requires { NamesEarlier plan.shapes.now }
-    ensures { let paths = nested.under_shape (entered_view entered) plan.entry.shapes.now id in
-        OnOk result (resolution.new ≡ with_paths_behind resolution.old (names_of prefix.now) paths) }
+    ensures { OnOk result (resolution.new ≡ with_paths_behind resolution.old (names_of prefix.now)
+        (nested.under_shape (entered_view entered) plan.entry.shapes.now id)) }
 {
     let Some(shape) = plan.shapes.get(id) else {
         return Ok(());
@@ -120,8 +120,8 @@ fn add_under_variants<'c>(
     resolution: &mut Resolution<'c>,
 ) -> Result<(), AllocError>
     requires { NamesEarlier plan.shapes.now }
-    ensures { let paths = nested.under_variants (entered_view entered) plan.entry.shapes.now variants.now in
-        OnOk result (resolution.new ≡ with_paths_behind resolution.old (names_of prefix.now) paths) }
+    ensures { OnOk result (resolution.new ≡ with_paths_behind resolution.old (names_of prefix.now)
+        (nested.under_variants (entered_view entered) plan.entry.shapes.now variants.now)) }
 {
     for variant in variants {
         add_under_variant(plan, entered, variant, prefix, resolution)?;
@@ -139,8 +139,8 @@ fn add_under_variant<'c>(
     resolution: &mut Resolution<'c>,
 ) -> Result<(), AllocError>
     requires { NamesEarlier plan.shapes.now }
-    ensures { let paths = nested.under_variant (entered_view entered) plan.entry.shapes.now variant.now in
-        OnOk result (resolution.new ≡ with_paths_behind resolution.old (names_of prefix.now) paths) }
+    ensures { OnOk result (resolution.new ≡ with_paths_behind resolution.old (names_of prefix.now)
+        (nested.under_variant (entered_view entered) plan.entry.shapes.now variant.now)) }
 {
     let fields = variant.fields.as_slice();
     if let [field] = fields
@@ -162,8 +162,8 @@ fn add_through_fields<'c>(
     resolution: &mut Resolution<'c>,
 ) -> Result<(), AllocError>
     requires { NamesEarlier plan.shapes.now }
-    ensures { let paths = nested.through_fields (entered_view entered) plan.entry.shapes.now fields.now in
-        OnOk result (resolution.new ≡ with_paths_behind resolution.old (names_of prefix.now) paths) }
+    ensures { OnOk result (resolution.new ≡ with_paths_behind resolution.old (names_of prefix.now)
+        (nested.through_fields (entered_view entered) plan.entry.shapes.now fields.now)) }
 {
     for field in fields {
         add_through_field(plan, entered, field, prefix, resolution)?;
@@ -181,8 +181,8 @@ fn add_through_field<'c>(
     resolution: &mut Resolution<'c>,
 ) -> Result<(), AllocError>
     requires { NamesEarlier plan.shapes.now }
-    ensures { let paths = nested.through_field (entered_view entered) plan.entry.shapes.now field.now in
-        OnOk result (resolution.new ≡ with_paths_behind resolution.old (names_of prefix.now) paths) }
+    ensures { OnOk result (resolution.new ≡ with_paths_behind resolution.old (names_of prefix.now)
+        (nested.through_field (entered_view entered) plan.entry.shapes.now field.now)) }
 {
     if field.flattened {
         return add_under_shape(plan, entered, field.shape, prefix, resolution);

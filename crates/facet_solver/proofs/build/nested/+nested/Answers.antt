@@ -9,7 +9,7 @@ use Rattle.facet_solver_shape.specs.declared.shape.Field.{Field}
 use Rattle.facet_solver_shape.specs.declared.shape.Variant.{Variant}
 use Rattle.facet_solver_shape.specs.Views.{names_of}
 use Rattle.facet_solver.specs.Targets.{kind_of}
-use Rattle.facet_solver.specs.KeyPaths.{KeyPath, KeyPaths, named, with_paths_behind}
+use Rattle.facet_solver.specs.KeyPaths.{KeyPath, named, with_paths_behind}
 use Rattle.facet_solver.specs.Nested.{entered_view, if_entered, through_field, under_variant, under_shape}
 use Rattle.facet_solver.proofs.Limits.{limit_of, limit_of_variants, limit_of-at, limit_of_variants-at}
 use Rattle.facet_solver.proofs.KeyPaths.{behind-more, behind-end, behind-none, behind-named}
@@ -36,7 +36,7 @@ add_through_field-returns t c =
     let cat = c.args.plan.shapes.now in
     let paths = if_entered e cat c.args.field.now.shape in
     let regular : with_paths_behind r (names_of c.args.prefix.now) (through_field e cat c.args.field.now) ≡ with_paths_behind r (names_of c.args.prefix.now) (named (effective_name c.args.field.now) paths)
-        = ap (λ (b : Bool). with_paths_behind r (names_of c.args.prefix.now) (if b then under_shape e cat c.args.field.now.shape else named (effective_name c.args.field.now) paths)) c.if-field.false in
+    = ap (λ (b : Bool). with_paths_behind r (names_of c.args.prefix.now) (if b then under_shape e cat c.args.field.now.shape else named (effective_name c.args.field.now) paths)) c.if-field.false in
     rw (regular, behind-named r (names_of c.args.prefix.now) (effective_name c.args.field.now) paths, is, made, ← c.deref-2.ensures.value)
     c.add_if_entered.ensures
 
