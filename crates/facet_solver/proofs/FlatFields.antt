@@ -11,7 +11,6 @@ use Rattle.facet_solver_shape.specs.declared.shape.ShapeKind.{ShapeKind}
 use Rattle.facet_solver_shape.specs.declared.shape.ShapeKind.TheVariants.{Struct, Enum}
 use Rattle.facet_solver_shape.specs.declared.resolution.key.FieldCategory.{FieldCategory}
 use Rattle.facet_solver_shape.specs.declared.resolution.key.FieldCategory.TheVariants.{Flat as FlatCategory}
-use Rattle.facet_solver_shape.specs.Names.{Name, effective_name}
 use Rattle.facet_solver_shape.specs.Paths.{by_variant}
 use Rattle.facet_solver_shape.specs.Keys.{key_cmp, stored_key}
 use Rattle.facet_solver_shape.specs.Resolved.{FieldView, Resolved, nothing, key_of_field}
@@ -24,17 +23,17 @@ use Rattle.facet_solver.specs.Representation.{Settings, Repr, flattened, externa
 use Rattle.facet_solver.specs.Categories.{field_category, selector_category}
 use Rattle.facet_solver.specs.Content.{content_of}
 use Rattle.facet_solver.specs.Roles.{Role, a_regular, a_block, some_alternatives, a_rest, a_leaf, role_of}
-use Rattle.facet_solver.specs.Nested.{KeyPath, nested_paths, content_paths}
-use Rattle.facet_solver.specs.Emissions.{Emission, a_field, a_key_path, a_pick, a_catch_all, Path, paths_behind, variant_path, unwrapped_at, field_path, pick_of, regular_field, leaf_field, selector_field, regular_emissions, rest_emissions, leaf_emissions, selector_emissions, variant_emissions}
+use Rattle.facet_solver.specs.Emissions.{Emission, a_field, some_key_paths, a_pick, a_catch_all, field_and_paths, Path, variant_path, unwrapped_at, field_path, pick_of, regular_field, leaf_field, selector_field, regular_emissions, rest_emissions, leaf_emissions, selector_emissions, variant_emissions}
 use Rattle.facet_solver.specs.Walk.{Walked, Walk, put_before, and_then, emit, choose, at_chosen, plain_emissions, walk_variant, walk_content, walk_role, walk_fields, walk_within, walk, walk_root, walk_root_shape, walk_root_kind, root_variant, walk_inside}
 use Rattle.facet_solver.specs.Choice.{with_emission, resolution_of, IsResolution}
+use Rattle.facet_solver.specs.KeyPaths.{with_key_paths}
 use Rattle.facet_solver.specs.FlatFields.{GoesByName}
 
 -- each field among emissions is of category Flat
 AllFlat : List Emission → Type 0
 AllFlat [] = Unit {0}
 AllFlat (a_field f ∷ es) = (f.category ≡ FlatCategory) × AllFlat es
-AllFlat (a_key_path p ∷ es) = AllFlat es
+AllFlat (some_key_paths p ∷ es) = AllFlat es
 AllFlat (a_pick p ∷ es) = AllFlat es
 AllFlat (a_catch_all f ∷ es) = AllFlat es
 
@@ -42,14 +41,9 @@ AllFlat-append : (es fs : List Emission) → AllFlat es → AllFlat fs → AllFl
 unfolding AllFlat
 AllFlat-append [] fs h k = k
 AllFlat-append (a_field f ∷ es) fs h k = (h.0, AllFlat-append es fs h.1 k)
-AllFlat-append (a_key_path p ∷ es) fs h k = AllFlat-append es fs h k
+AllFlat-append (some_key_paths p ∷ es) fs h k = AllFlat-append es fs h k
 AllFlat-append (a_pick p ∷ es) fs h k = AllFlat-append es fs h k
 AllFlat-append (a_catch_all f ∷ es) fs h k = AllFlat-append es fs h k
-
-AllFlat-paths : (name : Name) (paths : List KeyPath) → AllFlat (paths_behind name paths)
-unfolding AllFlat
-AllFlat-paths name [] = tt
-AllFlat-paths name (p ∷ paths) = AllFlat-paths name paths
 
 -- what was walked emits flat fields
 Emits-flat : Walked → Type 0
@@ -81,19 +75,19 @@ module _ (settings : Settings) (cat : Catalogue) (flat : settings.format ≡ Fla
   AllWalksFlat below = (fs : List Field) (p : Path) (o : Bool) (ns : List ℕ) → Emits-flat (below fs p o ns)
 
   flat-selector : (repr : Repr) (f : Field) (v : Variant) (q : Path) (o : Bool) → AllFlat (selector_emissions repr settings cat f v q o)
-  unfolding selector_emissions AllFlat selector_field
+  unfolding selector_emissions AllFlat selector_field field_and_paths
   flat-selector flattened f v q o = tt
-  flat-selector externally_tagged f v q o = (ap selector_category flat, AllFlat-paths (string_bytes v.name) (content_paths cat v))
+  flat-selector externally_tagged f v q o = (ap selector_category flat, tt)
   flat-selector (internally_tagged tag) f v q o = (ap selector_category flat, tt)
-  flat-selector (adjacently_tagged tag content) f v q o = (ap selector_category flat, AllFlat-paths content (content_paths cat v))
+  flat-selector (adjacently_tagged tag content) f v q o = (ap selector_category flat, tt)
 
   flat-variant : (f : Field) (s : Shape) (v : Variant) (p : Path) (o : Bool) → AllFlat (variant_emissions settings cat f s v p o)
   unfolding variant_emissions AllFlat
   flat-variant f s v p o = flat-selector (repr_for settings s) f v (variant_path p f v) o
 
   flat-plain : (f : Field) (p : Path) (o : Bool) (r : Role) → AllFlat (plain_emissions settings cat f p o r)
-  unfolding plain_emissions regular_emissions rest_emissions leaf_emissions regular_field leaf_field AllFlat
-  flat-plain f p o a_regular = (ap (λ (format : Format). field_category format f.dom) flat, AllFlat-paths (effective_name f) (nested_paths cat f.shape))
+  unfolding plain_emissions regular_emissions rest_emissions leaf_emissions regular_field leaf_field field_and_paths AllFlat
+  flat-plain f p o a_regular = (ap (λ (format : Format). field_category format f.dom) flat, tt)
   flat-plain f p o (a_block fs) = tt
   flat-plain f p o (some_alternatives s vs) = tt
   flat-plain f p o a_rest = tt
@@ -153,7 +147,7 @@ module _ (settings : Settings) (cat : Catalogue) (flat : settings.format ≡ Fla
 
 -- fields of category Flat that were taken in are found by their names alone
 kept-by_name : (r : Resolved) (es : List Emission) → GoesByName r → AllFlat es → GoesByName (fold with_emission r es)
-unfolding AllFlat
+unfolding AllFlat with_key_paths
 kept-by_name r [] h flat = h
 kept-by_name r (a_field f ∷ es) h flat = kept-by_name (with_emission r (a_field f)) es there flat.1
   where
@@ -169,7 +163,7 @@ kept-by_name r (a_field f ∷ es) h flat = kept-by_name (with_emission r (a_fiel
             ∙ ap (λ (c : FieldCategory). stored_key c f.name) flat.0
             ∙ ap (λ (x : FieldView). stored_key FlatCategory x.name) same
         go false tie found = h k g found
-kept-by_name r (a_key_path p ∷ es) h flat = kept-by_name (with_emission r (a_key_path p)) es h flat
+kept-by_name r (some_key_paths p ∷ es) h flat = kept-by_name (with_emission r (some_key_paths p)) es h flat
 kept-by_name r (a_pick p ∷ es) h flat = kept-by_name (with_emission r (a_pick p)) es h flat
 kept-by_name r (a_catch_all f ∷ es) h flat = kept-by_name (with_emission r (a_catch_all f)) es h flat
 

@@ -1,54 +1,214 @@
--- Key paths taken in, part by part.
-use Rattle.std.proofs.Common.{◌≡◌, ℕ, ◌+◌, ◌<◌, ◌≤◌, List, [], ◌∷◌, ◌++◌, map, refl, ap, sym, ◌∙◌, length, get_or, drop, append_assoc, Bool, false}
-use Rattle.std.specs.Prelude.{flat_map, if◌then◌else◌}
-use Rattle.std.proofs.lemmas.List.{map-append, drop_more}
-use Rattle.std.proofs.lemmas.List.Sums.{fold-append}
+-- Sets of key paths: what is in them, and what a resolution with more of them is.
+use Rattle.std.proofs.Common.{◌≡◌, ◌⊎◌, inl, inr, ◌||◌, ℕ, ◌+◌, ◌<◌, ◌≤◌, List, [], ◌∷◌, ◌++◌, map, refl, ap, sym, ◌∙◌, subst, length, get_or, drop, append_assoc, Bool, true, false}
+use Rattle.std.specs.List.{list_any}
+use Rattle.std.specs.Ordering.{nat_cmp, eq_by_cmp}
+use Rattle.std.specs.Cmp.Lexicographic.{slice_cmp}
+use Rattle.std.specs.FinSet as set
+use Rattle.std.proofs.Math.Bool.{or_assoc}
 use Rattle.std.proofs.Math.ListN.{drop_of_length-le}
-use Rattle.facet_solver_shape.specs.declared.shape.Field.{Field}
-use Rattle.facet_solver_shape.specs.Names.{Name, effective_name}
+use Rattle.std.proofs.lemmas.List.{drop_more}
+use Rattle.std.proofs.lemmas.Cmp.{eq_by_cmp_equiv}
+use Rattle.facet_solver_shape.specs.Names.{Name}
 use Rattle.facet_solver_shape.specs.Resolved.{Resolved, with_key_path}
-use Rattle.facet_solver.specs.Targets.{Catalogue}
-use Rattle.facet_solver.specs.Nested.{KeyPath, Under, Entered, if_entered, named, through_field}
-use Rattle.facet_solver.specs.KeyPaths.{with_key_paths, with_paths_behind}
+use Rattle.facet_solver_shape.proofs.Finite.{equal}
+use Rattle.facet_solver_shape.proofs.KeyOrder.{path_cmp_total, path_cmp_same}
+use Rattle.facet_solver.specs.KeyPaths.{KeyPath, KeyPaths, no_paths, paths_of_each, behind_prefix, named, with_key_paths, with_paths_behind}
 
-pub with_key_paths-append : (r : Resolved) (ps qs : List KeyPath) → with_key_paths r (ps ++ qs) ≡ with_key_paths (with_key_paths r ps) qs
-unfolding with_key_paths
-with_key_paths-append r ps qs = fold-append with_key_path r ps qs
+-- whether two key paths are equal
+abbrev is_path : KeyPath → KeyPath → Bool
+is_path = eq_by_cmp (slice_cmp (slice_cmp nat_cmp))
 
-pub behind-append : (r : Resolved) (prefix : KeyPath) (ps qs : List KeyPath) → with_paths_behind r prefix (ps ++ qs) ≡ with_paths_behind (with_paths_behind r prefix ps) prefix qs
-behind-append r prefix ps qs =
-    ap (with_key_paths r) (map-append (λ q. prefix ++ q) ps qs)
-    ∙ with_key_paths-append r (map (λ q. prefix ++ q) ps) (map (λ q. prefix ++ q) qs)
+is_path_same : (p q : KeyPath) → is_path p q ≡ true → p ≡ q
+is_path_same p q e = path_cmp_same p q (equal (slice_cmp (slice_cmp nat_cmp) p q) e)
 
-pub behind-none : (r : Resolved) (prefix : KeyPath) → with_paths_behind r prefix [] ≡ r
-unfolding with_key_paths
-behind-none r prefix = refl
+-- a set has a key path
+abbrev pub Has : KeyPaths → KeyPath → Type 0
+Has paths q = set.contains paths q ≡ true
+
+either : (a b : Bool) → (a || b) ≡ true → (a ≡ true) ⊎ (b ≡ true)
+either true b e = inl refl
+either false b e = inr e
+
+or-right : (a b : Bool) → b ≡ true → (a || b) ≡ true
+or-right true b e = refl
+or-right false b e = e
+
+pub Has-none : {A : Type 0} (q : KeyPath) → Has no_paths q → A
+Has-none q h = let none = set.contains-empty (slice_cmp (slice_cmp nat_cmp)) q in cc
+
+module _ (ps qs : KeyPaths) (q : KeyPath) where
+  pub Has-union : Has (set.union ps qs) q → Has ps q ⊎ Has qs q
+  Has-union h = either (set.contains ps q) (set.contains qs q) (sym (set.contains-union path_cmp_total ps qs q) ∙ h)
+
+  pub Has-left : Has ps q → Has (set.union ps qs) q
+  Has-left h = set.contains-union path_cmp_total ps qs q ∙ ap (λ b. b || set.contains qs q) h
+
+  pub Has-right : Has qs q → Has (set.union ps qs) q
+  Has-right h = set.contains-union path_cmp_total ps qs q ∙ or-right (set.contains ps q) (set.contains qs q) h
+
+module _ (ps : KeyPaths) (p q : KeyPath) where
+  pub Has-insert : Has (set.insert ps p) q → (q ≡ p) ⊎ Has ps q
+  Has-insert h = elim (either (is_path q p) (set.contains ps q) (sym (set.contains-insert path_cmp_total ps p q) ∙ h)) [
+    | inl tie ↦ inl (is_path_same q p tie)
+    | inr there ↦ inr there
+  ]
+
+  pub Has-other : Has ps q → Has (set.insert ps p) q
+  Has-other h = set.contains-insert path_cmp_total ps p q ∙ or-right (is_path q p) (set.contains ps q) h
+
+pub Has-itself : (ps : KeyPaths) (p : KeyPath) → Has (set.insert ps p) p
+Has-itself ps p =
+    set.contains-insert path_cmp_total ps p p
+    ∙ ap (λ b. b || set.contains ps p) ((eq_by_cmp_equiv path_cmp_total).refl p)
+
+-- what is behind a prefix, by recursion over a list
+any_behind : (prefix q : KeyPath) (ps : List KeyPath) → list_any (is_path q) ps ≡ true → list_any (is_path (prefix ++ q)) (map (λ q. prefix ++ q) ps) ≡ true
+any_behind prefix q [] h = absurd (cc)
+any_behind prefix q (p ∷ ps) h = elim (either (is_path q p) (list_any (is_path q) ps) h) [
+  | inl tie ↦ (ap (λ b. b || list_any (is_path (prefix ++ q)) (map (λ q. prefix ++ q) ps)) (ap (λ (r : KeyPath). is_path (prefix ++ q) (prefix ++ r)) (sym (is_path_same q p tie)) ∙ (eq_by_cmp_equiv path_cmp_total).refl (prefix ++ q)))
+  | inr later ↦ or-right (is_path (prefix ++ q) (prefix ++ p)) _ (any_behind prefix q ps later)
+]
+
+any_behind_from : (prefix q : KeyPath) (ps : List KeyPath) → list_any (is_path q) (map (λ q. prefix ++ q) ps) ≡ true → (r : KeyPath) × (list_any (is_path r) ps ≡ true) × (prefix ++ r ≡ q)
+any_behind_from prefix q [] h = absurd (cc)
+any_behind_from prefix q (p ∷ ps) h = elim (either (is_path q (prefix ++ p)) _ h) [
+  | inl tie ↦ (p, ap (λ b. b || list_any (is_path p) ps) ((eq_by_cmp_equiv path_cmp_total).refl p), sym (is_path_same q (prefix ++ p) tie))
+  | inr later ↦ (let r = any_behind_from prefix q ps later in (r.0, or-right (is_path r.0 p) _ r.1, r.2))
+]
+
+module _ (prefix : KeyPath) (ps : KeyPaths) (q : KeyPath) where
+  pub Has-behind : Has ps q → Has (behind_prefix prefix ps) (prefix ++ q)
+  unfolding behind_prefix
+  Has-behind h =
+      set.contains-from_list path_cmp_total (map (λ q. prefix ++ q) (set.items ps)) (prefix ++ q)
+      ∙ any_behind prefix q (set.items ps) (sym (set.contains-items ps q) ∙ h)
+
+  pub Has-behind_from : Has (behind_prefix prefix ps) q → (r : KeyPath) × Has ps r × (prefix ++ r ≡ q)
+  unfolding behind_prefix
+  Has-behind_from h =
+      let r = any_behind_from prefix q (set.items ps) (sym (set.contains-from_list path_cmp_total (map (λ q. prefix ++ q) (set.items ps)) q) ∙ h) in
+      (r.0, set.contains-items ps r.0 ∙ r.1, r.2)
+
+-- sets that have the same key paths are equal
+module _ (ps qs : KeyPaths) (there : (q : KeyPath) → Has ps q → Has qs q) (back : (q : KeyPath) → Has qs q → Has ps q) where
+  same_paths : ps ≡ qs
+  same_paths = set.same_set path_cmp_total path_cmp_same ps qs (λ q. go (set.contains ps q) (set.contains qs q) (there q) (back q))
+    where
+      go : (a b : Bool) → (a ≡ true → b ≡ true) → (b ≡ true → a ≡ true) → a ≡ b
+      go true b h k = sym (h refl)
+      go false true h k = k refl
+      go false false h k = refl
+
+union-none : (ps : KeyPaths) → set.union ps no_paths ≡ ps
+union-none ps = same_paths (set.union ps no_paths) ps (λ q h. elim (Has-union ps no_paths q h) [ inl a ↦ a | inr b ↦ Has-none q b ]) (λ q h. Has-left ps no_paths q h)
+
+union_assoc : (ps qs rs : KeyPaths) → set.union ps (set.union qs rs) ≡ set.union (set.union ps qs) rs
+union_assoc ps qs rs = set.same_set path_cmp_total path_cmp_same _ _ (λ q.
+    set.contains-union path_cmp_total ps (set.union qs rs) q
+    ∙ ap (λ b. set.contains ps q || b) (set.contains-union path_cmp_total qs rs q)
+    ∙ sym (or_assoc (set.contains ps q) (set.contains qs q) (set.contains rs q))
+    ∙ sym (set.contains-union path_cmp_total (set.union ps qs) rs q ∙ ap (λ b. b || set.contains rs q) (set.contains-union path_cmp_total ps qs q)))
+
+union-insert : (ps qs : KeyPaths) (p : KeyPath) → set.union ps (set.insert qs p) ≡ set.union (set.insert ps p) qs
+union-insert ps qs p = same_paths _ _
+    (λ q h. elim (Has-union ps (set.insert qs p) q h) [
+      | inl a ↦ Has-left (set.insert ps p) qs q (Has-other ps p q a)
+      | inr b ↦ (elim (Has-insert qs p q b) [
+        | inl same ↦ Has-left (set.insert ps p) qs q (subst (Has (set.insert ps p)) (sym same) (Has-itself ps p))
+        | inr c ↦ Has-right (set.insert ps p) qs q c
+      ])
+    ])
+    (λ q h. elim (Has-union (set.insert ps p) qs q h) [
+      | inl a ↦ (elim (Has-insert ps p q a) [
+        | inl same ↦ Has-right ps (set.insert qs p) q (subst (Has (set.insert qs p)) (sym same) (Has-itself qs p))
+        | inr c ↦ Has-left ps (set.insert qs p) q c
+      ])
+      | inr b ↦ Has-right ps (set.insert qs p) q (Has-other qs p q b)
+    ])
+
+behind_prefix-none : (prefix : KeyPath) → behind_prefix prefix no_paths ≡ no_paths
+behind_prefix-none prefix = same_paths _ _
+    (λ q h. let r = Has-behind_from prefix no_paths q h in Has-none r.0 r.1)
+    (λ q h. Has-none q h)
+
+behind_prefix-union : (prefix : KeyPath) (ps qs : KeyPaths) → behind_prefix prefix (set.union ps qs) ≡ set.union (behind_prefix prefix ps) (behind_prefix prefix qs)
+behind_prefix-union prefix ps qs = same_paths _ _
+    (λ q h.
+    let r = Has-behind_from prefix (set.union ps qs) q h in
+    subst (Has (set.union (behind_prefix prefix ps) (behind_prefix prefix qs))) r.2
+    (elim (Has-union ps qs r.0 r.1) [
+      | inl a ↦ Has-left (behind_prefix prefix ps) (behind_prefix prefix qs) (prefix ++ r.0) (Has-behind prefix ps r.0 a)
+      | inr b ↦ Has-right (behind_prefix prefix ps) (behind_prefix prefix qs) (prefix ++ r.0) (Has-behind prefix qs r.0 b)
+    ]))
+    (λ q h. elim (Has-union (behind_prefix prefix ps) (behind_prefix prefix qs) q h) [
+      | inl a ↦ (let r = Has-behind_from prefix ps q a in subst (Has (behind_prefix prefix (set.union ps qs))) r.2 (Has-behind prefix (set.union ps qs) r.0 (Has-left ps qs r.0 r.1)))
+      | inr b ↦ (let r = Has-behind_from prefix qs q b in subst (Has (behind_prefix prefix (set.union ps qs))) r.2 (Has-behind prefix (set.union ps qs) r.0 (Has-right ps qs r.0 r.1)))
+    ])
 
 -- a prefix with one more name
-longer_prefix : (prefix : KeyPath) (name : Name) (paths : List KeyPath) → map (λ q. prefix ++ q) (map (λ q. name ∷ q) paths) ≡ map (λ q. (prefix ++ name ∷ []) ++ q) paths
-longer_prefix prefix name [] = refl
-longer_prefix prefix name (p ∷ ps) =
-    ap (λ (q : KeyPath). q ∷ map (λ q. prefix ++ q) (map (λ q. name ∷ q) ps)) (sym (append_assoc prefix (name ∷ []) p))
-    ∙ ap (λ (qs : List KeyPath). ((prefix ++ name ∷ []) ++ p) ∷ qs) (longer_prefix prefix name ps)
+behind_prefix-named : (prefix : KeyPath) (name : Name) (ps : KeyPaths) → behind_prefix prefix (named name ps) ≡ set.insert (behind_prefix (prefix ++ name ∷ []) ps) (prefix ++ name ∷ [])
+behind_prefix-named prefix name ps = same_paths _ _
+    (λ q h.
+    let longer = behind_prefix (prefix ++ name ∷ []) ps in
+    let path = prefix ++ name ∷ [] in
+    let r = Has-behind_from prefix (named name ps) q h in
+    subst (Has (set.insert longer path)) r.2
+    (elim (Has-insert (behind_prefix (name ∷ []) ps) (name ∷ []) r.0 r.1) [
+      | inl same ↦ subst (λ (x : KeyPath). Has (set.insert longer path) (prefix ++ x)) (sym same) (Has-itself longer path)
+      | inr deeper ↦
+          (let s = Has-behind_from (name ∷ []) ps r.0 deeper in
+          Has-other longer path (prefix ++ r.0)
+          (subst (Has longer) (append_assoc prefix (name ∷ []) s.0 ∙ ap (λ (x : KeyPath). prefix ++ x) s.2) (Has-behind path ps s.0 s.1)))
+    ]))
+    (λ q h. elim (Has-insert (behind_prefix (prefix ++ name ∷ []) ps) (prefix ++ name ∷ []) q h) [
+      | inl same ↦ subst (Has (behind_prefix prefix (named name ps))) (sym same) (Has-behind prefix (named name ps) (name ∷ []) (Has-itself (behind_prefix (name ∷ []) ps) (name ∷ [])))
+      | inr deeper ↦
+          (let r = Has-behind_from (prefix ++ name ∷ []) ps q deeper in
+          subst (Has (behind_prefix prefix (named name ps))) (sym (append_assoc prefix (name ∷ []) r.0) ∙ r.2)
+          (Has-behind prefix (named name ps) (name ∷ r.0) (Has-other (behind_prefix (name ∷ []) ps) (name ∷ []) (name ∷ r.0) (Has-behind (name ∷ []) ps r.0 r.1))))
+    ])
 
-pub behind-named : (r : Resolved) (prefix : KeyPath) (name : Name) (paths : List KeyPath) → with_paths_behind r prefix (named name paths) ≡ with_paths_behind (with_key_path r (prefix ++ name ∷ [])) (prefix ++ name ∷ []) paths
-unfolding with_key_paths
-behind-named r prefix name paths = ap (with_key_paths (with_key_path r (prefix ++ name ∷ []))) (longer_prefix prefix name paths)
+-- a resolution with more key paths
+module _ (r : Resolved) where
+  with_key_paths-union : (ps qs : KeyPaths) → with_key_paths r (set.union ps qs) ≡ with_key_paths (with_key_paths r ps) qs
+  unfolding with_key_paths
+  with_key_paths-union ps qs = ap (λ (s : KeyPaths). record r { key_paths = s }) (union_assoc r.key_paths ps qs)
 
--- through a regular field: its name, and what is behind it where its shape is entered
-pub behind-regular : (entered : Entered) (cat : Catalogue) (under : Under) (f : Field) (r : Resolved) (prefix : KeyPath) → f.flattened ≡ false
-    → with_paths_behind r prefix (through_field entered cat under f) ≡ with_paths_behind (with_key_path r (prefix ++ effective_name f ∷ [])) (prefix ++ effective_name f ∷ []) (if_entered entered cat under f.shape)
-behind-regular entered cat under f r prefix regular =
-    ap (λ (b : Bool). with_paths_behind r prefix (if b then under f.shape else named (effective_name f) (if_entered entered cat under f.shape))) regular
-    ∙ behind-named r prefix (effective_name f) (if_entered entered cat under f.shape)
+  with_key_paths-none : with_key_paths r no_paths ≡ r
+  unfolding with_key_paths
+  with_key_paths-none = ap (λ (s : KeyPaths). record r { key_paths = s }) (union-none r.key_paths)
 
--- those that the items from place i on have under them
-module _ {X : Type 0} (under : X → List KeyPath) (prefix : KeyPath) (xs : List X) (i : ℕ) where
-  pub behind-more : (r : Resolved) (x : X) → i < length xs → x ≡ get_or xs i x → with_paths_behind (with_paths_behind r prefix (under x)) prefix (flat_map under (drop (i + 1) xs)) ≡ with_paths_behind r prefix (flat_map under (drop i xs))
+  pub with_key_paths-insert : (ps : KeyPaths) (p : KeyPath) → with_key_paths r (set.insert ps p) ≡ with_key_paths (with_key_path r p) ps
+  unfolding with_key_paths
+  with_key_paths-insert ps p = ap (λ (s : KeyPaths). record r { key_paths = s }) (union-insert r.key_paths ps p)
+
+  module _ (prefix : KeyPath) where
+    pub behind-none : with_paths_behind r prefix no_paths ≡ r
+    behind-none = ap (with_key_paths r) (behind_prefix-none prefix) ∙ with_key_paths-none
+
+    behind-union : (ps qs : KeyPaths) → with_paths_behind r prefix (set.union ps qs) ≡ with_paths_behind (with_paths_behind r prefix ps) prefix qs
+    behind-union ps qs = ap (with_key_paths r) (behind_prefix-union prefix ps qs) ∙ with_key_paths-union (behind_prefix prefix ps) (behind_prefix prefix qs)
+
+    pub behind-named : (name : Name) (ps : KeyPaths) → with_paths_behind r prefix (named name ps) ≡ with_paths_behind (with_key_path r (prefix ++ name ∷ [])) (prefix ++ name ∷ []) ps
+    behind-named name ps = ap (with_key_paths r) (behind_prefix-named prefix name ps) ∙ with_key_paths-insert (behind_prefix (prefix ++ name ∷ []) ps) (prefix ++ name ∷ [])
+
+-- a name alone
+pub with-name : (r : Resolved) (name : Name) → with_key_paths r (named name no_paths) ≡ with_key_path r (name ∷ [])
+with-name r name = with_key_paths-insert r (behind_prefix (name ∷ []) no_paths) (name ∷ []) ∙ behind-none (with_key_path r (name ∷ [])) (name ∷ [])
+
+-- a name, and then what is behind it
+pub with-named : (r : Resolved) (name : Name) (ps : KeyPaths) → with_paths_behind (with_key_paths r (named name no_paths)) (name ∷ []) ps ≡ with_key_paths r (named name ps)
+with-named r name ps =
+    ap (λ (s : Resolved). with_paths_behind s (name ∷ []) ps) (with-name r name)
+    ∙ sym (with_key_paths-insert r (behind_prefix (name ∷ []) ps) (name ∷ []))
+
+-- the key paths of the items from place i on
+module _ {X : Type 0} (paths : X → KeyPaths) (prefix : KeyPath) (xs : List X) (i : ℕ) where
+  pub behind-more : (r : Resolved) (x : X) → i < length xs → x ≡ get_or xs i x → with_paths_behind (with_paths_behind r prefix (paths x)) prefix (paths_of_each paths (drop (i + 1) xs)) ≡ with_paths_behind r prefix (paths_of_each paths (drop i xs))
   behind-more r x h is =
-      sym (behind-append r prefix (under x) (flat_map under (drop (i + 1) xs)))
-      ∙ ap (λ (y : X). with_paths_behind r prefix (flat_map under (y ∷ drop (i + 1) xs))) is
-      ∙ ap (λ (ys : List X). with_paths_behind r prefix (flat_map under ys)) (sym (drop_more xs i x h))
+      sym (behind-union r prefix (paths x) (paths_of_each paths (drop (i + 1) xs)))
+      ∙ ap (λ (y : X). with_paths_behind r prefix (paths_of_each paths (y ∷ drop (i + 1) xs))) is
+      ∙ ap (λ (ys : List X). with_paths_behind r prefix (paths_of_each paths ys)) (sym (drop_more xs i x h))
 
-  pub behind-end : (r : Resolved) → length xs ≤ i → with_paths_behind r prefix (flat_map under (drop i xs)) ≡ r
-  behind-end r h = ap (λ (ys : List X). with_paths_behind r prefix (flat_map under ys)) (drop_of_length-le xs h) ∙ behind-none r prefix
+  pub behind-end : (r : Resolved) → length xs ≤ i → with_paths_behind r prefix (paths_of_each paths (drop i xs)) ≡ r
+  behind-end r h = ap (λ (ys : List X). with_paths_behind r prefix (paths_of_each paths ys)) (drop_of_length-le xs h) ∙ behind-none r prefix

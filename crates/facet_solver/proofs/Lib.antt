@@ -27,6 +27,5 @@ pub mod Enumerations
 pub mod KeyPaths
 pub mod Nested
 pub mod Selectors
-pub mod NestedLaws
 pub mod OwnSteps
 pub mod FlatFields

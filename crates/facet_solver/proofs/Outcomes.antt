@@ -1,19 +1,18 @@
 -- Emissions one by one.
 use Rattle.std.proofs.Common.{◌≡◌, ℕ, List, [], ◌∷◌, ◌++◌, Option, Some, None, sym, refl, ap, ◌∙◌, IsSome}
-use Rattle.std.proofs.Common.{subst, map}
+use Rattle.std.proofs.Common.{subst}
 use Rattle.std.specs.Prelude.{Result, IsErrAnd, IsSomeAnd}
 use Rattle.std.specs.FinMap as finite
 use Rattle.std.proofs.lemmas.Result.{err_from_is_err_and}
 use Rattle.facet_solver_shape.specs.declared.resolution.error.SchemaError as schema
 use Rattle.facet_solver_shape.specs.declared.resolution.error.SchemaError.TheVariants.{DuplicateField, OutOfMemory}
 use Rattle.facet_solver.specs.Filling.{Gives, ErrorOf, duplicate_view}
-use Rattle.facet_solver_shape.specs.Names.{Name}
-use Rattle.facet_solver.specs.Nested.{KeyPath}
-use Rattle.facet_solver.specs.KeyPaths.{with_key_paths}
-use Rattle.facet_solver.specs.Emissions.{Emission, a_field, a_key_path, a_pick, a_catch_all, paths_behind}
+use Rattle.facet_solver.specs.KeyPaths.{KeyPaths, no_paths, behind_prefix, named, with_key_paths}
+use Rattle.facet_solver.specs.Emissions.{Emission, a_field, some_key_paths, a_pick, a_catch_all, field_and_paths}
 use Rattle.facet_solver.specs.Walk.{Walked, put_before, and_then}
-use Rattle.facet_solver_shape.specs.Resolved.{FieldView, Pick, Resolved, IsAdded, key_of_field, with_key_path, with_pick, with_catch_all}
+use Rattle.facet_solver_shape.specs.Resolved.{FieldView, Pick, Resolved, IsAdded, key_of_field, with_pick, with_catch_all}
 use Rattle.facet_solver_shape.specs.Views.{IsRefusalOf}
+use Rattle.facet_solver.proofs.KeyPaths.{with-named}
 use Rattle.facet_solver.specs.Outcome.{Outcome, Duplicate, resolved, duplicate, next, with_known, take_in, take_all, effect}
 
 pub take_all-one : (r : Resolved) (e : Emission) → take_all r (e ∷ []) ≡ take_in r e
@@ -126,9 +125,9 @@ refused-field r f (DuplicateField d) h = go (finite.get r.fields (key_of_field f
     go None k = absurd k
     go (Some g) k = λ i. duplicate record { name = sym h.same_name i; first_path = k i; second_path = sym h.same_path i }
 
-pub taken-path : (r s : Resolved) (p q : KeyPath) → p ≡ q → s ≡ with_key_path r p → take_in r (a_key_path q) ≡ resolved s
+pub taken-paths : (r s : Resolved) (ps : KeyPaths) → s ≡ with_key_paths r ps → take_in r (some_key_paths ps) ≡ resolved s
 unfolding take_in
-taken-path r s p q e h = ap (λ (p : KeyPath). resolved (with_key_path r p)) (sym e) ∙ ap resolved (sym h)
+taken-paths r s ps h = ap resolved (sym h)
 
 pub taken-pick : (r s : Resolved) (p : Pick) → s ≡ with_pick r p → take_in r (a_pick p) ≡ resolved s
 unfolding take_in
@@ -138,10 +137,13 @@ pub taken-rest : (r s : Resolved) (f : FieldView) → s ≡ with_catch_all r f.c
 unfolding take_in
 taken-rest r s f h = ap resolved (sym h)
 
--- key paths one by one
-pub take_all-paths : (r : Resolved) (name : Name) (paths : List KeyPath) → take_all r (paths_behind name paths) ≡ resolved (with_key_paths r (map (λ q. name ∷ q) paths))
-unfolding take_all take_in with_key_paths
-take_all-paths r name [] = refl
-take_all-paths r name (q ∷ paths) = take_all-paths (with_key_path r (name ∷ q)) name paths
+-- a field with the key path of its name alone, and then what is behind the name
+pub take_all-field_and_paths : (r : Resolved) (f : FieldView) (ps : KeyPaths) → take_all r (field_and_paths f ps) ≡ take_all r (field_and_paths f no_paths ++ some_key_paths (behind_prefix (f.name ∷ []) ps) ∷ [])
+unfolding take_all take_in field_and_paths
+take_all-field_and_paths r f ps = go (take_in r (a_field f))
+  where
+    go : (o : Outcome) → next o (λ s. resolved (with_key_paths s (named f.name ps))) ≡ next o (λ s. resolved (with_key_paths (with_key_paths s (named f.name no_paths)) (behind_prefix (f.name ∷ []) ps)))
+    go (resolved s) = ap resolved (sym (with-named s f.name ps))
+    go (duplicate d) = refl
 
 pub ruleset takes = (take_all-nil, take_all-one, take_all-next, take_all-stop)

@@ -11,7 +11,8 @@ use Rattle.facet_solver_shape.specs.Keys.{Key, key_cmp}
 use Rattle.facet_solver_shape.specs.Resolved.{FieldView, Resolved, nothing, key_of_field, with_field}
 use Rattle.facet_solver_shape.proofs.Finite.{equal}
 use Rattle.facet_solver_shape.proofs.KeyOrder.{key_cmp_total, key_cmp_same}
-use Rattle.facet_solver.specs.Emissions.{Emission, a_field, a_key_path, a_pick, a_catch_all}
+use Rattle.facet_solver.specs.KeyPaths.{with_key_paths}
+use Rattle.facet_solver.specs.Emissions.{Emission, a_field, some_key_paths, a_pick, a_catch_all}
 use Rattle.facet_solver.specs.Outcome.{Duplicate, Outcome, resolved, duplicate, next, with_known, take_in, take_all}
 use Rattle.facet_solver.specs.Choice.{Clashes, HasNoClash, with_emission, resolution_of}
 
@@ -120,15 +121,15 @@ done-field done r f d fresh = record {
 
 -- one more that is taken in
 push : (done : List Emission) (q r : Resolved) (e : Emission) → IsDone done q → take_in q e ≡ resolved r → IsDone (done ++ e ∷ []) r
-unfolding take_in
+unfolding take_in with_key_paths
 push done q r (a_field f) d h = go (map.get q.fields (key_of_field f)) refl h
   where
     go : (o : Option FieldView) → map.get q.fields (key_of_field f) ≡ o → with_known o q f ≡ resolved r → IsDone (done ++ a_field f ∷ []) r
     go None e h = let same : with_field q f ≡ r = cc in subst (IsDone (done ++ a_field f ∷ [])) same (done-field done q f d e)
     go (Some g) e h = absurd (cc)
-push done q r (a_key_path p) d h =
-    let same : with_emission q (a_key_path p) ≡ r = cc in
-    subst (IsDone (done ++ a_key_path p ∷ [])) same (done-other done q (a_key_path p) d refl (λ f e. absurd (cc)))
+push done q r (some_key_paths p) d h =
+    let same : with_emission q (some_key_paths p) ≡ r = cc in
+    subst (IsDone (done ++ some_key_paths p ∷ [])) same (done-other done q (some_key_paths p) d refl (λ f e. absurd (cc)))
 push done q r (a_pick p) d h =
     let same : with_emission q (a_pick p) ≡ r = cc in
     subst (IsDone (done ++ a_pick p ∷ [])) same (done-other done q (a_pick p) d refl (λ f e. absurd (cc)))
@@ -151,7 +152,7 @@ refused done q (a_field f) d x h = go (map.get q.fields (key_of_field f)) refl h
     go : (o : Option FieldView) → map.get q.fields (key_of_field f) ≡ o → with_known o q f ≡ duplicate d → IsRefused done (a_field f) d
     go None e h = absurd (cc)
     go (Some g) e h = record { first = g; second = f; emitted = refl; before = x.held (key_of_field f) g e; names = cc }
-refused done q (a_key_path p) d x h = absurd (cc)
+refused done q (some_key_paths p) d x h = absurd (cc)
 refused done q (a_pick p) d x h = absurd (cc)
 refused done q (a_catch_all f) d x h = absurd (cc)
 

@@ -2,10 +2,11 @@
 use Rattle.std.specs.Prelude.{◌≡◌, ℕ, ◌<◌, ◌⊎◌, List, [], ◌∷◌, Some, Contains, AllPairs, slice_get, fold}
 use Rattle.facet_solver_shape.specs.Names.{Name}
 use Rattle.facet_solver_shape.specs.Paths.{Step}
-use Rattle.facet_solver_shape.specs.Resolved.{FieldView, Resolved, nothing, key_of_field, with_field, with_key_path, with_pick, with_catch_all}
+use Rattle.facet_solver_shape.specs.Resolved.{FieldView, Resolved, nothing, key_of_field, with_field, with_pick, with_catch_all}
 use Rattle.facet_solver.specs.Targets.{Catalogue}
 use Rattle.facet_solver.specs.Representation.{Settings}
-use Rattle.facet_solver.specs.Emissions.{Emission, a_field, a_key_path, a_pick, a_catch_all}
+use Rattle.facet_solver.specs.KeyPaths.{with_key_paths}
+use Rattle.facet_solver.specs.Emissions.{Emission, a_field, some_key_paths, a_pick, a_catch_all}
 use Rattle.facet_solver.specs.Walk.{walk_root}
 
 -- the walk of the root uses the numbers up exactly, and emits these
@@ -45,7 +46,7 @@ HasNoClash es = (f g : FieldView) → ¬ Clashes es f g
 -- a resolution with one more emission taken in
 abbrev pub with_emission : Resolved → Emission → Resolved
 with_emission r (a_field f) = with_field r f
-with_emission r (a_key_path path) = with_key_path r path
+with_emission r (some_key_paths paths) = with_key_paths r paths
 with_emission r (a_pick pick) = with_pick r pick
 with_emission r (a_catch_all f) = with_catch_all r f.category f
 

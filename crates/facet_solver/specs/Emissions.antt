@@ -1,5 +1,5 @@
 -- What the walk of one choice emits, one thing after another.
-use Rattle.std.specs.Prelude.{List, [], ◌∷◌, ◌++◌, map, Bool, false, ◌||◌, ◌&&◌, not, string_bytes}
+use Rattle.std.specs.Prelude.{List, [], ◌∷◌, ◌++◌, Bool, false, ◌||◌, ◌&&◌, not, string_bytes}
 use Rattle.facet_solver_shape.specs.declared.shape.Shape.{Shape}
 use Rattle.facet_solver_shape.specs.declared.shape.Field.{Field}
 use Rattle.facet_solver_shape.specs.declared.shape.Variant.{Variant}
@@ -9,12 +9,13 @@ use Rattle.facet_solver_shape.specs.Resolved.{FieldView, Pick}
 use Rattle.facet_solver.specs.Targets.{Catalogue, target_of, is_option}
 use Rattle.facet_solver.specs.Representation.{Repr, flattened, externally_tagged, internally_tagged, adjacently_tagged, Settings, repr_for}
 use Rattle.facet_solver.specs.Categories.{field_category, selector_category, rest_category}
-use Rattle.facet_solver.specs.Nested.{KeyPath, nested_paths, content_paths}
+use Rattle.facet_solver.specs.KeyPaths.{KeyPaths, no_paths, named}
+use Rattle.facet_solver.specs.Nested.{nested_paths, content_paths}
 
--- a field, a key path, a pick or a catch-all
+-- a field, key paths, a pick or a catch-all
 pub data Emission : Type 0 where
   a_field : FieldView → Emission
-  a_key_path : KeyPath → Emission
+  some_key_paths : KeyPaths → Emission
   a_pick : Pick → Emission
   a_catch_all : FieldView → Emission
 
@@ -82,18 +83,14 @@ selector_field name settings cat f q o = record {
   category = selector_category settings.format;
 }
 
--- a field, the key path of its name, and further emissions
-abbrev pub field_and_path : FieldView → List Emission → List Emission
-field_and_path f es = a_field f ∷ a_key_path (f.name ∷ []) ∷ es
+-- a field, and the key paths of its name and behind it
+unfoldable pub field_and_paths : FieldView → KeyPaths → List Emission
+field_and_paths f paths = a_field f ∷ some_key_paths (named f.name paths) ∷ []
 
--- key paths behind a name
-abbrev pub paths_behind : Name → List KeyPath → List Emission
-paths_behind name paths = map (λ q. a_key_path (name ∷ q)) paths
-
--- a regular field emits itself, and the key paths under it
+-- a regular field emits itself, and the key paths under its shape behind its name
 unfoldable pub regular_emissions : Settings → Catalogue → Field → Path → Bool → List Emission
 regular_emissions settings cat f p o =
-    field_and_path (regular_field settings cat f p o) (paths_behind (effective_name f) (nested_paths cat f.shape))
+    field_and_paths (regular_field settings cat f p o) (nested_paths cat f.shape)
 
 -- a flattened map or dynamic value emits a catch-all
 unfoldable pub rest_emissions : Settings → Catalogue → Field → Path → List Emission
@@ -101,16 +98,17 @@ rest_emissions settings cat f p = a_catch_all (rest_field settings cat f p) ∷ 
 
 -- any other flattened field emits itself
 unfoldable pub leaf_emissions : Settings → Catalogue → Field → Path → Bool → List Emission
-leaf_emissions settings cat f p o = field_and_path (leaf_field settings cat f p o) []
+leaf_emissions settings cat f p o = field_and_paths (leaf_field settings cat f p o) no_paths
 
 -- the selector of a variant and its key paths, by the representation
 unfoldable pub selector_emissions : Repr → Settings → Catalogue → Field → Variant → Path → Bool → List Emission
 selector_emissions flattened settings cat f v q o = []
 selector_emissions externally_tagged settings cat f v q o =
-    field_and_path (selector_field (string_bytes v.name) settings cat f q o) (paths_behind (string_bytes v.name) (content_paths cat v))
-selector_emissions (internally_tagged tag) settings cat f v q o = field_and_path (selector_field tag settings cat f q o) []
+    field_and_paths (selector_field (string_bytes v.name) settings cat f q o) (content_paths cat v)
+selector_emissions (internally_tagged tag) settings cat f v q o = field_and_paths (selector_field tag settings cat f q o) no_paths
 selector_emissions (adjacently_tagged tag content) settings cat f v q o =
-    field_and_path (selector_field tag settings cat f q o) (a_key_path (content ∷ []) ∷ paths_behind content (content_paths cat v))
+    field_and_paths (selector_field tag settings cat f q o) no_paths
+    ++ some_key_paths (named content (content_paths cat v)) ∷ []
 
 -- the pick of a variant
 abbrev pub pick_of : Shape → Variant → Path → Emission

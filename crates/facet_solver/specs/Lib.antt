@@ -2,8 +2,8 @@ pub mod Targets
 pub mod Representation
 pub mod Categories
 pub mod Content
-pub mod Nested
 pub mod KeyPaths
+pub mod Nested
 pub mod Roles
 pub mod Emissions
 pub mod Walk
@@ -27,8 +27,6 @@ pub mod SchemaCode
 pub mod ChoiceLists
 pub mod Filling
 pub mod Refusal
-pub mod EnteredView
-pub mod NestedLaws
 pub mod CountAnswer
 pub mod CountView
 pub mod Newtype

@@ -2,8 +2,9 @@
 use Rattle.std.specs.Prelude.{ℕ, List, [], ◌∷◌, Option, Some, None}
 use Rattle.std.specs.FinMap as map
 use Rattle.facet_solver_shape.specs.Names.{Name}
-use Rattle.facet_solver_shape.specs.Resolved.{FieldView, Resolved, key_of_field, with_field, with_key_path, with_pick, with_catch_all}
-use Rattle.facet_solver.specs.Emissions.{Path, Emission, a_field, a_key_path, a_pick, a_catch_all}
+use Rattle.facet_solver_shape.specs.Resolved.{FieldView, Resolved, key_of_field, with_field, with_pick, with_catch_all}
+use Rattle.facet_solver.specs.KeyPaths.{with_key_paths}
+use Rattle.facet_solver.specs.Emissions.{Path, Emission, a_field, some_key_paths, a_pick, a_catch_all}
 use Rattle.facet_solver.specs.Walk.{Walked}
 
 -- two fields of one stored key, the first emitted first
@@ -30,7 +31,7 @@ with_known (Some g) r f = duplicate record { name = f.name; first_path = g.path;
 -- one emission
 unfoldable pub take_in : Resolved → Emission → Outcome
 take_in r (a_field f) = with_known (map.get r.fields (key_of_field f)) r f
-take_in r (a_key_path path) = resolved (with_key_path r path)
+take_in r (some_key_paths paths) = resolved (with_key_paths r paths)
 take_in r (a_pick pick) = resolved (with_pick r pick)
 take_in r (a_catch_all f) = resolved (with_catch_all r f.category f)
 

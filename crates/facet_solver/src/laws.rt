@@ -10,8 +10,9 @@ ghost use Rattle.facet_solver.specs.Count.{count_below, count_fields, count_of_r
 ghost use Rattle.facet_solver.specs.Emissions.{Path};
 ghost use Rattle.facet_solver.specs.FlatFields.{GoesByName};
 ghost use Rattle.facet_solver.specs.declared.build.representation.Format.TheVariants.{Flat};
-ghost use Rattle.facet_solver.specs.Nested.{nested_paths, content_paths};
-ghost use Rattle.facet_solver.specs.NestedLaws.{FollowsKinds, EndsByLength, HasNoGaps};
+ghost use Rattle.facet_solver.specs.Nested.{nested_paths, flattened_paths, variant_paths};
+ghost use Rattle.facet_solver.specs.Nested.{content_paths_of_shape, content_paths};
+ghost use Rattle.facet_solver.specs.Nested.{FollowsKinds, EndsByLength, HasNoGaps};
 ghost use Rattle.facet_solver.specs.Representation.{Settings};
 ghost use Rattle.facet_solver.specs.Targets.{Catalogue, effective, go_on, next_inside};
 ghost use Rattle.facet_solver.specs.Walk.{walk, walk_fields};
@@ -61,7 +62,8 @@ pub fn effective_shapes_follow_inner_and_proxy()
         → (id : ℕ) → effective cat id ≡ go_on (effective cat) id (next_inside (slice_get cat id)) }
 {}
 
-/// Nested key paths follow the kinds of shapes, and no level of a catalogue lies too deep for them.
+/// The five sets of nested key paths are made of one another by the kinds of shapes, and no level of a catalogue lies
+/// too deep for them.
 pub fn nested_paths_follow_kinds()
     ensures follow { (cat : Catalogue) → IsChecked cat → FollowsKinds cat }
     ensures ends { (cat : Catalogue) → IsChecked cat → EndsByLength cat }
@@ -70,7 +72,11 @@ pub fn nested_paths_follow_kinds()
 /// No nested key path is empty, and each that a longer one goes through is one too.
 pub fn nested_paths_have_no_gaps()
     ensures nested { (cat : Catalogue) (id : ℕ) → HasNoGaps (nested_paths cat id) }
-    ensures content { (cat : Catalogue) (variant : Variant) → HasNoGaps (content_paths cat variant) }
+    ensures flattened { (cat : Catalogue) (id : ℕ) → HasNoGaps (flattened_paths cat id) }
+    ensures variants { (cat : Catalogue) (v : Variant) → HasNoGaps (variant_paths cat v) }
+    ensures content_of_shape { (cat : Catalogue) (id : ℕ)
+        → HasNoGaps (content_paths_of_shape cat id) }
+    ensures content { (cat : Catalogue) (v : Variant) → HasNoGaps (content_paths cat v) }
 {}
 
 /// In the flat format the fields of a resolution stand under their names alone, so that no two have one name.

@@ -3,11 +3,11 @@ ghost use Rattle.std.specs.Prelude.{◌≡◌, ◌∷◌, [], map, IfOk, OnOk};
 ghost use Rattle.facet_solver_shape.specs.Views.{field_view};
 ghost use Rattle.facet_solver_shape.specs.Places.{NamesEarlier};
 ghost use Rattle.facet_solver.specs.Emissions as emissions;
-ghost use Rattle.facet_solver.specs.Emissions.{a_key_path};
+ghost use Rattle.facet_solver.specs.KeyPaths.{no_paths, named, with_key_paths};
 ghost use Rattle.facet_solver.specs.Nested.{content_paths};
 ghost use Rattle.facet_solver.specs.Representation as representation;
 ghost use Rattle.facet_solver.specs.Walk as walk;
-ghost use Rattle.facet_solver.specs.Outcome.{take_in, take_all, resolved};
+ghost use Rattle.facet_solver.specs.Outcome.{take_in, take_all};
 ghost use Rattle.facet_solver.specs.Filling.{Gives};
 ghost use Rattle.facet_solver.specs.PlanView.{settings_of};
 ghost use Rattle.facet_solver.specs.RoleView.{role_view, IsPlain};
@@ -38,7 +38,7 @@ fn add_with_path<'c>(
     info: FieldInfo<'c>,
     resolution: &mut Resolution<'c>,
 ) -> Result<(), SchemaError<'c>>
-    ensures { Gives (take_all resolution.old (emissions.field_and_path (field_view info.entry) [])) result resolution.new }
+    ensures { Gives (take_all resolution.old (emissions.field_and_paths (field_view info.entry) no_paths)) result resolution.new }
 {
     let path = key_path(plan.alloc, info.serialized_name)?;
     resolution.add_field(info)?;
@@ -132,8 +132,8 @@ fn add_selector<'c>(
     place: &Place<'c>,
     resolution: &mut Resolution<'c>,
 ) -> Result<(), SchemaError<'c>>
-    ensures { Gives (take_all resolution.old (emissions.field_and_path (emissions.selector_field name.now (settings_of plan.entry) plan.entry.shapes.now chosen.entry.field.now
-        (emissions.variant_path place.now.path chosen.entry.field.now chosen.entry.variant.now) place.now.unwrapped) [])) result resolution.new }
+    ensures { Gives (take_all resolution.old (emissions.field_and_paths (emissions.selector_field name.now (settings_of plan.entry) plan.entry.shapes.now chosen.entry.field.now
+        (emissions.variant_path place.now.path chosen.entry.field.now chosen.entry.variant.now) place.now.unwrapped) no_paths)) result resolution.new }
 {
     let info = selector_field(plan, name, chosen, place)?;
     add_with_path(plan, info, resolution)
@@ -147,7 +147,8 @@ fn add_content<'c>(
     resolution: &mut Resolution<'c>,
 ) -> Result<(), AllocError>
     requires checked { NamesEarlier plan.shapes.now }
-    ensures { OnOk result (take_all resolution.old (a_key_path (name.now ∷ []) ∷ emissions.paths_behind name.now (content_paths plan.entry.shapes.now variant.now)) ≡ resolved resolution.new) }
+    ensures ok { let paths = named name.now (content_paths plan.entry.shapes.now variant.now) in
+        OnOk result (resolution.new ≡ with_key_paths resolution.old paths) }
 {
     resolution.add_key_path(key_path(plan.alloc, name)?)?;
     add_content_paths(plan, name, variant, resolution)?;

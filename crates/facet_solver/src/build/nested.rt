@@ -1,11 +1,11 @@
 //! Nested key paths: those under a field's shape, and those under the content of a variant.
-ghost use Rattle.std.specs.Prelude.{◌≡◌, ◌++◌, ◌∷◌, [], map, OnOk, IfOk};
+ghost use Rattle.std.specs.Prelude.{◌≡◌, ◌++◌, ◌∷◌, [], OnOk, IfOk};
 ghost use Rattle.facet_solver_shape.specs.Places.{NamesEarlier};
 ghost use Rattle.facet_solver_shape.specs.Views.{names_of};
 ghost use Rattle.facet_solver.specs.Targets.{kind_at};
 ghost use Rattle.facet_solver.specs.Nested as nested;
-ghost use Rattle.facet_solver.specs.KeyPaths.{with_key_paths, with_paths_behind};
-ghost use Rattle.facet_solver.specs.EnteredView.{entered_view};
+ghost use Rattle.facet_solver.specs.Nested.{entered_view};
+ghost use Rattle.facet_solver.specs.KeyPaths.{with_paths_behind};
 
 use crate::build::plan::Plan;
 use facet_solver_shape::{Field, KeyPath, Resolution, ShapeId, ShapeKind, Shapes, Variant};
@@ -42,7 +42,8 @@ pub(crate) fn add_nested_paths<'c>(
     resolution: &mut Resolution<'c>,
 ) -> Result<(), AllocError>
     requires checked { NamesEarlier plan.shapes.now }
-    ensures ok { OnOk result (resolution.new ≡ with_key_paths resolution.old (map (λ q. name.now ∷ q) (nested.nested_paths plan.entry.shapes.now id))) }
+    ensures ok { let paths = nested.nested_paths plan.entry.shapes.now id in
+        OnOk result (resolution.new ≡ with_paths_behind resolution.old (name.now ∷ []) paths) }
 {
     add_if_entered(plan, Entered::StructsAlone, id, &[name], resolution)
 }
@@ -56,7 +57,8 @@ pub(crate) fn add_content_paths<'c>(
     resolution: &mut Resolution<'c>,
 ) -> Result<(), AllocError>
     requires checked { NamesEarlier plan.shapes.now }
-    ensures ok { OnOk result (resolution.new ≡ with_key_paths resolution.old (map (λ q. name.now ∷ q) (nested.content_paths plan.entry.shapes.now variant.now))) }
+    ensures ok { let paths = nested.content_paths plan.entry.shapes.now variant.now in
+        OnOk result (resolution.new ≡ with_paths_behind resolution.old (name.now ∷ []) paths) }
 {
     add_under_variant(plan, Entered::EveryKind, variant, &[name], resolution)
 }
@@ -71,8 +73,8 @@ fn add_if_entered<'c>(
     resolution: &mut Resolution<'c>,
 ) -> Result<(), AllocError>
     requires { NamesEarlier plan.shapes.now }
-    ensures { let e = entered_view entered in let cat = plan.entry.shapes.now in
-        OnOk result (resolution.new ≡ with_paths_behind resolution.old (names_of prefix.now) (nested.if_entered e cat (nested.under_shape e cat) id)) }
+    ensures { OnOk result (resolution.new ≡ with_paths_behind resolution.old (names_of prefix.now)
+        (nested.if_entered (entered_view entered) plan.entry.shapes.now id)) }
 {
     if entered.has(plan.shapes, id) {
         add_under_shape(plan, entered, id, prefix, resolution)
@@ -91,8 +93,8 @@ fn add_under_shape<'c>(
     resolution: &mut Resolution<'c>,
 ) -> Result<(), AllocError>
     requires { NamesEarlier plan.shapes.now }
-    ensures { let e = entered_view entered in let cat = plan.entry.shapes.now in
-        OnOk result (resolution.new ≡ with_paths_behind resolution.old (names_of prefix.now) (nested.under_shape e cat id)) }
+    ensures { OnOk result (resolution.new ≡ with_paths_behind resolution.old (names_of prefix.now)
+        (nested.under_shape (entered_view entered) plan.entry.shapes.now id)) }
 {
     let Some(shape) = plan.shapes.get(id) else {
         return Ok(());
@@ -118,8 +120,8 @@ fn add_under_variants<'c>(
     resolution: &mut Resolution<'c>,
 ) -> Result<(), AllocError>
     requires { NamesEarlier plan.shapes.now }
-    ensures { let e = entered_view entered in let cat = plan.entry.shapes.now in
-        OnOk result (resolution.new ≡ with_paths_behind resolution.old (names_of prefix.now) (nested.under_variants e cat (nested.under_shape e cat) variants.now)) }
+    ensures { OnOk result (resolution.new ≡ with_paths_behind resolution.old (names_of prefix.now)
+        (nested.under_variants (entered_view entered) plan.entry.shapes.now variants.now)) }
 {
     for variant in variants {
         add_under_variant(plan, entered, variant, prefix, resolution)?;
@@ -137,8 +139,8 @@ fn add_under_variant<'c>(
     resolution: &mut Resolution<'c>,
 ) -> Result<(), AllocError>
     requires { NamesEarlier plan.shapes.now }
-    ensures { let e = entered_view entered in let cat = plan.entry.shapes.now in
-        OnOk result (resolution.new ≡ with_paths_behind resolution.old (names_of prefix.now) (nested.under_variant e cat (nested.under_shape e cat) variant.now)) }
+    ensures { OnOk result (resolution.new ≡ with_paths_behind resolution.old (names_of prefix.now)
+        (nested.under_variant (entered_view entered) plan.entry.shapes.now variant.now)) }
 {
     let fields = variant.fields.as_slice();
     if let [field] = fields
@@ -160,8 +162,8 @@ fn add_through_fields<'c>(
     resolution: &mut Resolution<'c>,
 ) -> Result<(), AllocError>
     requires { NamesEarlier plan.shapes.now }
-    ensures { let e = entered_view entered in let cat = plan.entry.shapes.now in
-        OnOk result (resolution.new ≡ with_paths_behind resolution.old (names_of prefix.now) (nested.through_fields e cat (nested.under_shape e cat) fields.now)) }
+    ensures { OnOk result (resolution.new ≡ with_paths_behind resolution.old (names_of prefix.now)
+        (nested.through_fields (entered_view entered) plan.entry.shapes.now fields.now)) }
 {
     for field in fields {
         add_through_field(plan, entered, field, prefix, resolution)?;
@@ -179,8 +181,8 @@ fn add_through_field<'c>(
     resolution: &mut Resolution<'c>,
 ) -> Result<(), AllocError>
     requires { NamesEarlier plan.shapes.now }
-    ensures { let e = entered_view entered in let cat = plan.entry.shapes.now in
-        OnOk result (resolution.new ≡ with_paths_behind resolution.old (names_of prefix.now) (nested.through_field e cat (nested.under_shape e cat) field.now)) }
+    ensures { OnOk result (resolution.new ≡ with_paths_behind resolution.old (names_of prefix.now)
+        (nested.through_field (entered_view entered) plan.entry.shapes.now field.now)) }
 {
     if field.flattened {
         return add_under_shape(plan, entered, field.shape, prefix, resolution);

@@ -1,13 +1,16 @@
-use Rattle.std.proofs.Common.{◌∙◌, ap, sym}
+use Rattle.std.proofs.Common.{◌∷◌, [], ◌∙◌, ap, sym}
+use Rattle.facet_solver_shape.specs.Resolved.{Resolved, with_key_path}
+use Rattle.facet_solver.specs.KeyPaths.{KeyPath, behind_prefix, with_key_paths}
 use Rattle.facet_solver.specs.Nested.{content_paths}
-use Rattle.facet_solver.specs.Outcome.{resolved}
-use Rattle.facet_solver.proofs.Outcomes.{taken-path, take_all-next, take_all-paths}
+use Rattle.facet_solver.proofs.KeyPaths.{with_key_paths-insert}
 use Rattle.facet_solver.proofs.build.emit.add_content.Goals as goal
 
 pub returns : goal.returns
 returns c =
+    let name = c.args.name.now in
     let r = c.args.resolution.now in
-    let s = c.add_key_path.new.self in
-    take_all-next r s _ _ (taken-path r s _ _ c.in_ok-key_path.ensures c.in_ok-add_key_path.ensures.ok)
-    ∙ take_all-paths s c.args.name.now (content_paths c.args.plan.shapes.now c.args.variant.now)
-    ∙ ap resolved (sym c.in_ok-add_content_paths.ensures.ok)
+    let behind = behind_prefix (name ∷ []) (content_paths c.args.plan.shapes.now c.args.variant.now) in
+    let first = c.in_ok-add_key_path.ensures.ok ∙ ap (λ (p : KeyPath). with_key_path r p) c.in_ok-key_path.ensures in
+    record {
+      ok = c.in_ok-add_content_paths.ensures.ok ∙ ap (λ (s : Resolved). with_key_paths s behind) first ∙ sym (with_key_paths-insert r behind (name ∷ []));
+    }

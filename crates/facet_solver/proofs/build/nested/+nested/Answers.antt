@@ -1,5 +1,5 @@
 use Rattle.std.proofs.Common.{◌≡◌, ◌++◌, ◌∷◌, [], ◌∙◌, sym, ap, arith}
-use Rattle.std.specs.Prelude.{Vec}
+use Rattle.std.specs.Prelude.{Vec, Bool, if◌then◌else◌}
 use Rattle.std.specs.declared.alloc.Global.{Global}
 use Rattle.facet_solver_shape.specs.Names.{Name, effective_name}
 use Rattle.facet_solver_shape.specs.Resolved.{with_key_path}
@@ -9,10 +9,10 @@ use Rattle.facet_solver_shape.specs.declared.shape.Field.{Field}
 use Rattle.facet_solver_shape.specs.declared.shape.Variant.{Variant}
 use Rattle.facet_solver_shape.specs.Views.{names_of}
 use Rattle.facet_solver.specs.Targets.{kind_of}
-use Rattle.facet_solver.specs.Nested.{KeyPath, through_field, under_variant, under_shape}
-use Rattle.facet_solver.specs.EnteredView.{entered_view}
+use Rattle.facet_solver.specs.KeyPaths.{KeyPath, named, with_paths_behind}
+use Rattle.facet_solver.specs.Nested.{entered_view, if_entered, through_field, under_variant, under_shape}
 use Rattle.facet_solver.proofs.Limits.{limit_of, limit_of_variants, limit_of-at, limit_of_variants-at}
-use Rattle.facet_solver.proofs.KeyPaths.{behind-more, behind-end, behind-none, behind-regular}
+use Rattle.facet_solver.proofs.KeyPaths.{behind-more, behind-end, behind-none, behind-named}
 use Rattle.facet_solver.proofs.Nested.{at-struct, at-enum, at-other, struct-limit, enum-limit}
 use Rattle.facet_solver.proofs.build.nested.+nested.Goals as goal
 
@@ -32,7 +32,12 @@ add_through_field-returns t c =
     let path = names_of c.in_ok-path.path.items in
     let is : names_of c.args.prefix.now ++ effective_name c.args.field.now ∷ [] ≡ path = sym (c.in_ok-path.ensures ∙ ap (λ (n : Name). names_of c.args.prefix.now ++ n ∷ []) c.effective_name.ensures) in
     let made : with_key_path r path ≡ c.add_key_path.new.self = sym (c.in_ok-add_key_path.ensures.ok ∙ ap (λ (p : KeyPath). with_key_path r p) (ap names_of (c.in_ok-from_slice.ensures.items ∙ c.deref.ensures.value))) in
-    rw (behind-regular (entered_view c.args.entered) c.args.plan.shapes.now (under_shape (entered_view c.args.entered) c.args.plan.shapes.now) c.args.field.now r (names_of c.args.prefix.now) c.if-field.false, is, made, ← c.deref-2.ensures.value)
+    let e = entered_view c.args.entered in
+    let cat = c.args.plan.shapes.now in
+    let paths = if_entered e cat c.args.field.now.shape in
+    let regular : with_paths_behind r (names_of c.args.prefix.now) (through_field e cat c.args.field.now) ≡ with_paths_behind r (names_of c.args.prefix.now) (named (effective_name c.args.field.now) paths)
+    = ap (λ (b : Bool). with_paths_behind r (names_of c.args.prefix.now) (if b then under_shape e cat c.args.field.now.shape else named (effective_name c.args.field.now) paths)) c.if-field.false in
+    rw (regular, behind-named r (names_of c.args.prefix.now) (effective_name c.args.field.now) paths, is, made, ← c.deref-2.ensures.value)
     c.add_if_entered.ensures
 
 pub add_through_fields-add_through_field-requires :
@@ -47,14 +52,14 @@ add_through_fields-loop-field-preserved t c =
     let e = entered_view c.args.entered in
     let cat = c.args.plan.shapes.now in
     rw c.in_ok-add_through_field.ensures
-    (behind-more (through_field e cat (under_shape e cat)) (names_of c.args.prefix.now) c.args.fields.now c.loop-field.field-index c.loop-field.resolution c.field-item.result c.loop-field-test.true c.field-item.is
+    (behind-more (through_field e cat) (names_of c.args.prefix.now) c.args.fields.now c.loop-field.field-index c.loop-field.resolution c.field-item.result c.loop-field-test.true c.field-item.is
     ∙ c.loop-field.invariant)
 
 pub add_through_fields-returns : goal.add_through_fields-returns
 add_through_fields-returns t c =
     let e = entered_view c.args.entered in
     let cat = c.args.plan.shapes.now in
-    sym (behind-end (through_field e cat (under_shape e cat)) (names_of c.args.prefix.now) c.args.fields.now c.loop-field.field-index c.loop-field.resolution c.loop-field-test.false)
+    sym (behind-end (through_field e cat) (names_of c.args.prefix.now) c.args.fields.now c.loop-field.field-index c.loop-field.resolution c.loop-field-test.false)
     ∙ c.loop-field.invariant
 
 pub add_under_shape-returns-in_default : goal.add_under_shape-returns-in_default
@@ -113,12 +118,12 @@ add_under_variants-loop-variant-preserved t c =
     let e = entered_view c.args.entered in
     let cat = c.args.plan.shapes.now in
     rw c.in_ok-add_under_variant.ensures
-    (behind-more (under_variant e cat (under_shape e cat)) (names_of c.args.prefix.now) c.args.variants.now c.loop-variant.variant-index c.loop-variant.resolution c.variant-item.result c.loop-variant-test.true c.variant-item.is
+    (behind-more (under_variant e cat) (names_of c.args.prefix.now) c.args.variants.now c.loop-variant.variant-index c.loop-variant.resolution c.variant-item.result c.loop-variant-test.true c.variant-item.is
     ∙ c.loop-variant.invariant)
 
 pub add_under_variants-returns : goal.add_under_variants-returns
 add_under_variants-returns t c =
     let e = entered_view c.args.entered in
     let cat = c.args.plan.shapes.now in
-    sym (behind-end (under_variant e cat (under_shape e cat)) (names_of c.args.prefix.now) c.args.variants.now c.loop-variant.variant-index c.loop-variant.resolution c.loop-variant-test.false)
+    sym (behind-end (under_variant e cat) (names_of c.args.prefix.now) c.args.variants.now c.loop-variant.variant-index c.loop-variant.resolution c.loop-variant-test.false)
     ∙ c.loop-variant.invariant

@@ -1,8 +1,7 @@
 use Rattle.std.proofs.Common.{◌≡◌, ◌+◌, ◌*◌, drop}
 use Rattle.facet_solver_shape.specs.Views.{names_of}
-use Rattle.facet_solver.specs.Nested as nested
+use Rattle.facet_solver.specs.Nested.{entered_view, through_fields, under_variants}
 use Rattle.facet_solver.specs.KeyPaths.{with_paths_behind}
-use Rattle.facet_solver.specs.EnteredView.{entered_view}
 use Rattle.facet_solver.proofs.Limits.{limit_of, limit_of_variants}
 use Rattle.facet_solver.proofs.build.nested.+nested.Given as goal
 
@@ -26,15 +25,13 @@ decreases-add_under_variants l = 6 * limit_of_variants l.variants.now + 2
 
 abbrev pub invariant-add_through_fields-loop-field : goal.invariant-add_through_fields-loop-field
 invariant-add_through_fields-loop-field l =
-    let e = entered_view l.entered in
-    let cat = l.plan.shapes.now in
-    with_paths_behind l.resolution (names_of l.prefix) (nested.through_fields e cat (nested.under_shape e cat) (drop l.field-index l.fields))
-    ≡ with_paths_behind l.fn.resolution (names_of l.prefix) (nested.through_fields e cat (nested.under_shape e cat) l.fields)
+    let paths = through_fields (entered_view l.entered) l.plan.shapes.now in
+    with_paths_behind l.resolution (names_of l.prefix) (paths (drop l.field-index l.fields))
+    ≡ with_paths_behind l.fn.resolution (names_of l.prefix) (paths l.fields)
 
 abbrev pub invariant-add_under_variants-loop-variant :
     goal.invariant-add_under_variants-loop-variant
 invariant-add_under_variants-loop-variant l =
-    let e = entered_view l.entered in
-    let cat = l.plan.shapes.now in
-    with_paths_behind l.resolution (names_of l.prefix) (nested.under_variants e cat (nested.under_shape e cat) (drop l.variant-index l.variants))
-    ≡ with_paths_behind l.fn.resolution (names_of l.prefix) (nested.under_variants e cat (nested.under_shape e cat) l.variants)
+    let paths = under_variants (entered_view l.entered) l.plan.shapes.now in
+    with_paths_behind l.resolution (names_of l.prefix) (paths (drop l.variant-index l.variants))
+    ≡ with_paths_behind l.fn.resolution (names_of l.prefix) (paths l.variants)
