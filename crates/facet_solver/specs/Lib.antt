@@ -15,7 +15,7 @@ pub mod RoleView
 pub mod PlanView
 pub mod IndexSet
 pub mod HowMany
-pub mod MatchesView
+pub mod Words
 pub mod SchemaView
 pub mod Handle
 pub mod State
