@@ -17,7 +17,7 @@ pub mod IndexSets
 pub mod Viability
 pub mod Distinct
 pub mod Verdicts
-pub mod Told
+pub mod States
 pub mod RoleViews
 pub mod Resolutions
 pub mod Outcomes
