@@ -12,19 +12,19 @@ use Rattle.facet_solver.specs.Resolved.{Resolved}
 use Rattle.facet_solver.specs.Choice.{IsClash}
 use Rattle.facet_solver.specs.Emissions.{Path}
 use Rattle.facet_solver.specs.Representation.{flattened}
-use Rattle.facet_solver.specs.SchemaView.{SchemaView, IsBuilt, flat_settings}
-use Rattle.facet_solver.specs.State.{State, at_first, told}
+use Rattle.facet_solver.specs.Schema.{SchemaView, IsBuilt, flat_settings}
+use Rattle.facet_solver.specs.State.{State, new_solver, see_key}
 use Rattle.facet_solver.specs.Targets.{Catalogue}
 use Rattle.facet_solver.specs.Verdict.{viable}
 use Rattle.facet_solver_program.specs.declared.reply.Reply.{Reply}
 
 -- a solver that saw keys, by their names
 abbrev pub see_keys : State → List Name → State
-see_keys s names = fold (λ s name. told (flat_key name) s) s names
+see_keys s names = fold (λ s name. see_key (flat_key name) s) s names
 
 -- the resolutions of a schema that are viable once a new solver saw the keys
 abbrev pub left_by : SchemaView → List Name → List ℕ
-left_by schema names = viable (see_keys (at_first schema) names)
+left_by schema names = viable (see_keys (new_solver schema) names)
 
 -- how a run ends: with a fault of the shapes, a clash of a choice, what the solver says at the end,
 -- or refused memory

@@ -1,13 +1,12 @@
-//! What a solver says at the end where not one resolution alone is viable.
-ghost use Rattle.std.specs.Prelude.{◌≡◌, IfOk, map, string_bytes, filter};
-ghost use Rattle.facet_solver_shape.specs.Keys.{key_of};
-ghost use Rattle.facet_solver.specs.Report.{IsAmbiguityOf, IsNoMatch};
+//! What a solver reports where not one candidate alone is viable.
+ghost use Rattle.std.specs.Prelude.{◌≡◌, IfOk, filter, map, string_bytes};
 ghost use Rattle.facet_solver.specs.State.{passes};
 ghost use Rattle.facet_solver.specs.Verdict as verdict;
+ghost use Rattle.facet_solver.specs.Verdict.{IsAmbiguityOf, IsNoMatch};
 
 use crate::error::SolverError;
 use crate::set::ResolutionSet;
-use crate::solver::conditions::IsViable;
+use crate::solver::conditions::{AtIndex, Test};
 use std::alloc::{AllocError, Global};
 
 /// No candidate is viable.
@@ -25,13 +24,14 @@ pub(crate) fn no_match<'c>(alloc: Global) -> SolverError<'c>
 }
 
 /// Several candidates are viable.
-pub(crate) fn ambiguity<'c>(
+pub(crate) fn ambiguity<'c, T: Test>(
     alloc: Global,
     candidates: &ResolutionSet,
-    viable: IsViable<'_, '_, '_>,
+    viable: AtIndex<'_, '_, T>,
 ) -> Result<SolverError<'c>, AllocError>
-    ensures { IfOk result (IsAmbiguityOf (verdict.descriptions viable.entry.resolutions.now
-        (filter (passes (verdict.is_viable (map key_of viable.entry.seen.now.keys)) viable.entry.resolutions.now) candidates.now.members))) }
+    ensures { let resolutions = viable.entry.resolutions.now in
+        IfOk result (IsAmbiguityOf (verdict.descriptions resolutions
+        (filter (passes (T.is_passed viable.entry.test) resolutions) candidates.now.members))) }
 {
     Ok(SolverError::Ambiguous {
         candidates: descriptions(alloc, candidates, viable)?,
@@ -40,13 +40,14 @@ pub(crate) fn ambiguity<'c>(
 }
 
 // The descriptions of the viable candidates, in order.
-fn descriptions(
+fn descriptions<T: Test>(
     alloc: Global,
     candidates: &ResolutionSet,
-    viable: IsViable<'_, '_, '_>,
+    viable: AtIndex<'_, '_, T>,
 ) -> Result<Vec<String>, AllocError>
-    ensures { IfOk result (λ texts. map string_bytes texts.items ≡ verdict.descriptions viable.entry.resolutions.now
-        (filter (passes (verdict.is_viable (map key_of viable.entry.seen.now.keys)) viable.entry.resolutions.now) candidates.now.members)) }
+    ensures { let resolutions = viable.entry.resolutions.now in
+        IfOk result (λ texts. map string_bytes texts.items ≡ verdict.descriptions resolutions
+        (filter (passes (T.is_passed viable.entry.test) resolutions) candidates.now.members)) }
 {
     let mut texts = Vec::new(alloc);
     for index in candidates.iter() {

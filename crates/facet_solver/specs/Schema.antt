@@ -1,19 +1,53 @@
--- How what schemas and solvers say is stored, by which proofs tell values apart. No clause speaks of it.
-use Rattle.std.specs.Prelude.{◌≡◌, ℕ, zero, suc, List, [], Option, refl}
+-- What a schema says.
+use Rattle.std.specs.Prelude.{◌≡◌, ℕ, zero, suc, List, [], Option, length, refl}
 use Rattle.std.specs.Coded.{Coded, code_by, coded×, coded_ℕ, coded_list, coded_option}
-use Rattle.facet_solver_shape.specs.Keys.{Key}
 use Rattle.facet_solver_shape.specs.Names.{Name}
 use Rattle.facet_solver_shape.specs.Resolved.{Resolved}
-use Rattle.facet_solver_shape.specs.ResolvedCode.{key_code, resolved_code}
+use Rattle.facet_solver_shape.specs.ResolvedCode.{resolved_code}
 use Rattle.facet_solver_shape.specs.contracts.shape.Shape as shape
 use Rattle.facet_solver.specs.contracts.build.representation.Format as format
+use Rattle.facet_solver.specs.declared.build.representation.EnumRepr.{EnumRepr}
 use Rattle.facet_solver.specs.declared.build.representation.Format.{Format}
-use Rattle.facet_solver.specs.Representation.{Repr, Settings, flattened, externally_tagged, internally_tagged, adjacently_tagged}
-use Rattle.facet_solver.specs.SchemaView.{SchemaView}
-use Rattle.facet_solver.specs.State.{State}
+use Rattle.facet_solver.specs.declared.build.representation.Format.TheVariants.{Flat}
+use Rattle.facet_solver.specs.Choice.{Enumerates}
+use Rattle.facet_solver.specs.Count.{count_of_root}
+use Rattle.facet_solver.specs.Representation.{Repr, Settings, asked_view, flattened, externally_tagged, internally_tagged, adjacently_tagged}
 use Rattle.facet_solver.specs.Targets.{Catalogue}
 
--- a representation as its place among the four and its names
+-- a catalogue, the root in it, how the resolutions were made, and the resolutions
+pub record SchemaView : Type 0 where
+  pub catalogue : Catalogue
+  pub root : ℕ
+  pub settings : Settings
+  pub resolutions : List Resolved
+
+-- the settings of a format whose keys are names
+abbrev pub flat_settings : Option Repr → Settings
+flat_settings repr = record { representation = repr; format = Flat }
+
+-- a schema of the root, made by the settings: exactly one resolution for each choice, in order
+pub record IsBuilt (settings : Settings) (cat : Catalogue) (root : ℕ) (schema : SchemaView) : Type 0 where
+  pub catalogue : schema.catalogue ≡ cat
+  pub root_place : schema.root ≡ root
+  pub made_by : schema.settings ≡ settings
+  pub enumerates : Enumerates settings cat root schema.resolutions
+  pub counted : length schema.resolutions ≡ count_of_root settings cat root
+
+-- a schema of its own root, made by its own settings
+abbrev pub IsOwnBuild : SchemaView → Type 0
+IsOwnBuild schema = IsBuilt schema.settings schema.catalogue schema.root schema
+
+-- what the parts of a schema say
+abbrev pub schema_view : Catalogue → ℕ → Option EnumRepr → Format → List Resolved → SchemaView
+schema_view cat root repr format resolutions = record {
+  catalogue = cat;
+  root = root;
+  settings = record { representation = asked_view repr; format = format };
+  resolutions = resolutions;
+}
+
+-- How a schema is stored, by which proofs tell values apart. No clause speaks of it: a representation is its place among
+-- the four and its names
 abbrev repr_parts : Repr → ℕ × (Name × Name)
 repr_parts flattened = (0, ([], []))
 repr_parts externally_tagged = (1, ([], []))
@@ -57,12 +91,4 @@ schema_code =
     (coded× (coded× (coded_list shape.the_row.coded) coded_ℕ) (coded× settings_code (coded_list resolved_code)))
     (λ s. ((s.catalogue, s.root), (s.settings, s.resolutions)))
     (λ p. record { catalogue = p.0.0; root = p.0.1; settings = p.1.0; resolutions = p.1.1 })
-    (λ _. refl)
-
--- a state as the tuple of its parts
-abbrev pub state_code : Coded State
-state_code =
-    code_by (SchemaView × (List ℕ × List Key)) (coded× schema_code (coded× (coded_list coded_ℕ) (coded_list key_code)))
-    (λ s. (s.schema, (s.candidates, s.seen)))
-    (λ p. record { schema = p.0; candidates = p.1.0; seen = p.1.1 })
     (λ _. refl)
