@@ -11,7 +11,7 @@ use Rattle.facet_solver_shape.specs.declared.resolution.field.FieldInfo.{FieldIn
 use Rattle.facet_solver.specs.declared.solver.key_result.KeyResult.{KeyResult}
 use Rattle.facet_solver.specs.declared.solver.key_result.KeyResult.TheVariants.{Unambiguous, Ambiguous, Solved, Unknown}
 use Rattle.facet_solver.specs.Handle.{index_of, IsHandleOf}
-use Rattle.facet_solver.specs.HowMany.{HowMany, no_number, one_number, several_numbers, how_many}
+use Rattle.facet_solver.specs.HowMany.{HowMany, no_index, one_index, several_indices, how_many}
 use Rattle.facet_solver.specs.Schema.{SchemaView}
 use Rattle.facet_solver.specs.State.{State, field_by_key, has_key, passing}
 use Rattle.facet_solver.specs.Targets.{Catalogue}
@@ -77,9 +77,9 @@ of_fields es = ambiguous es
 
 -- by how many candidates have the key
 abbrev pub by_number : List (FieldView × ℕ) → HowMany → KeyResultView
-by_number fields no_number = unknown
-by_number fields (one_number index) = solved index
-by_number fields several_numbers = of_fields fields
+by_number fields no_index = unknown
+by_number fields (one_index index) = solved index
+by_number fields several_indices = of_fields fields
 
 -- the answer to a key
 abbrev pub key_result : Key → State → KeyResultView
