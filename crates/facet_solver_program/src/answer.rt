@@ -10,7 +10,8 @@ ghost use Rattle.facet_solver_program.specs.Replies.{Ending, IsErrorAs, IsReply,
 use crate::message::{MESSAGE, message};
 use crate::reply::Reply;
 use facet_solver::{
-    FieldKey, ResolutionHandle, Schema, SchemaError, ShapeId, Shapes, Solver, SolverError,
+    CatalogueError, FieldKey, ResolutionHandle, Schema, SchemaError, ShapeId, Shapes, Solver,
+    SolverError,
 };
 use std::alloc::{AllocError, Global};
 
@@ -24,12 +25,17 @@ pub fn answer(alloc: Global) -> Result<Reply, AllocError>
 {
     match Shapes::new(message(alloc)?) {
         Ok(shapes) => solve(alloc, &shapes, ShapeId::new(MESSAGE), &KEYS),
-        Err(fault) => {
-            let number = fault.number();
-            let text = format!(in alloc; "bad catalogue {number}")?;
-            Ok(Reply { status: 3, text })
-        }
+        Err(fault) => bad_catalogue(alloc, &fault),
     }
+}
+
+// The reply that names a fault of the shapes.
+fn bad_catalogue(alloc: Global, fault: &CatalogueError) -> Result<Reply, AllocError>
+    ensures { IfOk result (λ reply. Says reply (replies.bad_catalogue fault.now)) }
+{
+    let number = fault.number();
+    let text = format!(in alloc; "bad catalogue {number}")?;
+    Ok(Reply { status: 3, text })
 }
 
 // Builds the schema of a root, shows a solver of it the keys, and says what they resolve to.
