@@ -1,6 +1,6 @@
 -- Bits of words.
-use Rattle.std.proofs.Common.{◌≡◌, ℕ, zero, suc, ◌+◌, ◌-◌, ◌*◌, ◌/◌, ◌%◌, ◌^◌, ◌<◌, ◌≤◌, min, Bool, true, false, cond, ◌&&◌, inl, inr, nat_eq, List, [], ◌∷◌, length, get_or, set, filter, add-zero, length-append, refl, ap, sym, ◌∙◌, arith, w64, get_or-set_other, get_or-set_same}
-use Rattle.std.proofs.lemmas.Bool.{and_left, and_right, both_ways, cases_eq, cases_lt, eqb-false}
+use Rattle.std.proofs.Common.{◌≡◌, ℕ, zero, suc, ◌+◌, ◌-◌, ◌*◌, ◌/◌, ◌%◌, ◌^◌, ◌<◌, ◌≤◌, min, Bool, true, false, cond, ◌&&◌, inl, inr, nat_eq, List, ◌∷◌, length, get_or, set, filter, add-zero, length-append, refl, ap, sym, ◌∙◌, arith, w64, get_or-set_other, get_or-set_same}
+use Rattle.std.proofs.lemmas.Bool.{and_left, and_right, cases_eq, cases_lt, eqb-false}
 use Rattle.std.proofs.lemmas.List.{get_or_past}
 use Rattle.std.proofs.lemmas.Nat.Bits.{bit_at-zero, bit_at-lt, bit_at_clear_same, bit_at_clear_other, bit_at_ones, bit_at_ones_above, bit_at_above, bit_at-trailing_zeros, bit_at-suc, bit_at_lowest, same_from_bits_below}
 use Rattle.std.proofs.lemmas.Nat.{shr-shr, shr_le, ones_cat, shr_below}
@@ -9,7 +9,7 @@ use Rattle.std.specs.List.{range_with_len}
 use Rattle.std.specs.Prelude.{bit_and}
 use Rattle.std.specs.Int.{bit_at, bit_not, trailing_zeros}
 use Rattle.facet_solver.specs.IndexSet.{upto}
-use Rattle.facet_solver.specs.Words.{IsClearFrom, IsFull, KeepsBits, bit_of, full_word, has_bit}
+use Rattle.facet_solver.specs.Words.{IsFull, KeepsBits, bit_of, full_word, has_bit}
 use Rattle.facet_solver.proofs.Filters.{IsNext, filter_split}
 
 -- the test of a bit of one word
@@ -140,14 +140,6 @@ none_in_later f from k none before i high below =
       | inr late ↦ let at : i / 64 ≡ k = omega arith in rw (at, none, bit_at-zero (i % 64)) refl
     ]
 
--- the next member is below the bound
-pub next_below : (words : List ℕ) (from i bound : ℕ) → IsClearFrom words bound → IsNext (has_bit words) from i → i < bound
-next_below words from i bound clear next =
-    elim (cases_lt i bound) [
-      | inl low ↦ low
-      | inr high ↦ absurd (both_ways (has_bit words i) (clear i high) next.passes)
-    ]
-
 -- ---- how many bits are set
 -- a bit of a word that is 0 or 1
 ones_small : (r : ℕ) → r < 2 → ones r ≡ r
@@ -242,12 +234,3 @@ word_kept holds old now k word within same kept before i low =
 pub past_kept : (holds : ℕ → Bool) (old now : List ℕ) (i : ℕ) → length now ≡ length old → length old ≤ i / 64 → has_bit now i ≡ (has_bit old i && holds i)
 past_kept holds old now i same past =
     sym (not_set now i (omega arith)) ∙ sym (and_left (has_bit old i) (holds i) (sym (not_set old i past)))
-
--- the bits of a word that is alone
-pub one_kept : (holds : ℕ → Bool) (word kept : ℕ) → KeepsBits (λ bit. holds (0 + bit)) 64 word kept
-    → (i : ℕ) → has_bit (kept ∷ []) i ≡ (has_bit (word ∷ []) i && holds i)
-one_kept holds word kept keeps i =
-    elim (cases_lt i 64) [
-      | inl low ↦ word_kept holds (word ∷ []) (word ∷ []) 0 kept (omega arith) refl keeps (λ j none. absurd (omega arith)) i (omega arith)
-      | inr high ↦ past_kept holds (word ∷ []) (kept ∷ []) i refl (omega arith)
-    ]

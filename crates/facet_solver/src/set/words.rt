@@ -2,7 +2,7 @@
 ghost use Rattle.std.specs.Prelude.{◌≡◌, ℕ, ◌^◌, ◌≤◌, ◌&&◌, IfOk, IsOk, length};
 ghost use Rattle.facet_solver.specs.Words.{IsFull, has_bit, word_count, words_of};
 
-use crate::set::bits::{full_words, kept_bits, low_ones, retain_bits};
+use crate::set::bits::{full_words, low_ones, retain_bits};
 use crate::set::condition::Condition;
 use std::alloc::{AllocError, Global};
 use std::slice;
@@ -46,7 +46,7 @@ impl Words {
             ≡ (has_bit (words_of self.old) i && C.holds condition.now i) }
     {
         match self {
-            Words::One(word) => *word = kept_bits(*word, 0, condition),
+            Words::One(word) => retain_bits(slice::from_mut(word), condition),
             Words::Many(words) => retain_bits(words.as_mut_slice(), condition),
         }
     }
