@@ -1,4 +1,4 @@
-//! The words of a set: a set of indices below 64 or less takes no memory of its own.
+//! The words of a set. One word takes no memory of its own.
 ghost use Rattle.std.specs.Prelude.{◌≡◌, ℕ, ◌^◌, ◌≤◌, ◌&&◌, IfOk, IsOk, length};
 ghost use Rattle.facet_solver.specs.Words.{IsFull, has_bit, word_count, words_of};
 
@@ -7,7 +7,7 @@ use crate::set::condition::Condition;
 use std::alloc::{AllocError, Global};
 use std::slice;
 
-/// Bits, 64 a word: one word, or several.
+/// Bits, 64 a word: one word for indices below a bound up to 64, else several.
 #[derive(Debug, Drop)]
 pub(crate) enum Words {
     One(u64),
