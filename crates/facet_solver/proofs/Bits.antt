@@ -1,6 +1,6 @@
 -- Bits of words.
-use Rattle.std.proofs.Common.{◌≡◌, ℕ, zero, suc, ◌+◌, ◌-◌, ◌*◌, ◌/◌, ◌%◌, ◌^◌, ◌<◌, ◌≤◌, min, Bool, true, false, cond, ◌&&◌, inl, inr, nat_eq, List, [], ◌∷◌, length, get_or, set, filter, add-zero, length-append, refl, ap, sym, ◌∙◌, arith, w64, get_or-set_other, get_or-set_same}
-use Rattle.std.proofs.lemmas.Bool.{and_left, and_right, both_ways, cases_eq, cases_lt, eqb-false}
+use Rattle.std.proofs.Common.{◌≡◌, ℕ, zero, suc, ◌+◌, ◌-◌, ◌*◌, ◌/◌, ◌%◌, ◌^◌, ◌<◌, ◌≤◌, min, Bool, false, cond, ◌&&◌, inl, inr, nat_eq, List, [], ◌∷◌, length, get_or, set, filter, add-zero, length-append, refl, ap, sym, ◌∙◌, arith, le-ltb, w64, get_or-set_other, get_or-set_same}
+use Rattle.std.proofs.lemmas.Bool.{and_left, and_right, cases_eq, cases_lt, eqb-false, lt-ltb}
 use Rattle.std.proofs.lemmas.List.{get_or_past}
 use Rattle.std.proofs.lemmas.Nat.Bits.{bit_at-zero, bit_at-lt, bit_at_clear_same, bit_at_clear_other, bit_at_ones, bit_at_ones_above, bit_at_above, bit_at-trailing_zeros, bit_at-suc, bit_at_lowest, same_from_bits_below}
 use Rattle.std.proofs.lemmas.Nat.{shr-shr, shr_le, ones_cat, shr_below}
@@ -9,7 +9,7 @@ use Rattle.std.specs.List.{range_with_len}
 use Rattle.std.specs.Prelude.{bit_and}
 use Rattle.std.specs.Int.{bit_at, bit_not, trailing_zeros}
 use Rattle.facet_solver.specs.IndexSet.{upto}
-use Rattle.facet_solver.specs.Words.{IsClearFrom, IsFull, KeepsBits, bit_of, full_word, has_bit}
+use Rattle.facet_solver.specs.Words.{IsFull, KeepsBits, bit_of, has_bit}
 use Rattle.facet_solver.proofs.Filters.{IsNext, filter_split}
 
 -- the test of a bit of one word
@@ -45,21 +45,34 @@ zero_of_clear words k fits clear =
     let value : bit_at (get_or words k 0) j ≡ 0 = omega arith in
     value ∙ sym (bit_at-zero j))
 
--- the words of all numbers below a bound
-pub full_has : (words : List ℕ) (bound i : ℕ) → IsFull bound words → i < bound → has_bit words i ≡ true
-unfolding bit_of
-full_has words bound i full low =
-    rw (full (i / 64), bit_at_ones (min 64 (bound - i / 64 * 64)) (i % 64) (omega arith)) refl
+-- word k of the set of all indices below a bound
+abbrev pub full_word : ℕ → ℕ → ℕ
+full_word bound k = 2 ^ (min 64 (bound - k * 64)) - 1
 
-pub full_lacks : (words : List ℕ) (bound i : ℕ) → IsFull bound words → bound ≤ i → has_bit words i ≡ false
+-- its words are those of all indices below the bound
+pub full_bits : (words : List ℕ) (bound : ℕ) → ((k : ℕ) → get_or words k 0 ≡ full_word bound k) → IsFull bound words
 unfolding bit_of
-full_lacks words bound i full high =
-    rw (full (i / 64), bit_at_ones_above (min 64 (bound - i / 64 * 64)) (i % 64) (omega arith)) refl
+full_bits words bound each i =
+    let count : ℕ = min 64 (bound - i / 64 * 64) in
+    elim (cases_lt i bound) [
+      | inl low ↦ rw (each (i / 64), bit_at_ones count (i % 64) (omega arith), lt-ltb i bound low) refl
+      | inr high ↦ rw (each (i / 64), bit_at_ones_above count (i % 64) (omega arith), le-ltb i bound high) refl
+    ]
 
 -- past the last word there is nothing
 pub full_past : (words : List ℕ) (bound k : ℕ) → length words ≤ k → bound ≤ k * 64 → get_or words k 0 ≡ full_word bound k
 full_past words bound k past high =
     let count : min 64 (bound - k * 64) ≡ 0 = omega arith in rw (get_or_past words k 0 past, count) refl
+
+-- the one word of all indices below a bound that it holds
+pub one_full : (word bound : ℕ) → bound ≤ 64 → word ≡ 2 ^ bound - 1 → IsFull bound (word ∷ [])
+one_full word bound within is =
+    full_bits (word ∷ []) bound
+    (λ k.
+    elim (cases_eq k 0) [
+      | inl first ↦ let count : min 64 (bound - 0 * 64) ≡ bound = omega arith in rw (first, count) is
+      | inr later ↦ full_past (word ∷ []) bound k (omega arith) (omega arith)
+    ])
 
 -- ---- the least number from one on, by words
 -- the bits of a shifted word
@@ -140,14 +153,6 @@ none_in_later f from k none before i high below =
       | inr late ↦ let at : i / 64 ≡ k = omega arith in rw (at, none, bit_at-zero (i % 64)) refl
     ]
 
--- the next member is below the bound
-pub next_below : (words : List ℕ) (from i bound : ℕ) → IsClearFrom words bound → IsNext (has_bit words) from i → i < bound
-next_below words from i bound clear next =
-    elim (cases_lt i bound) [
-      | inl low ↦ low
-      | inr high ↦ absurd (both_ways (has_bit words i) (clear i high) next.passes)
-    ]
-
 -- ---- how many bits are set
 -- a bit of a word that is 0 or 1
 ones_small : (r : ℕ) → r < 2 → ones r ≡ r
@@ -194,13 +199,17 @@ count_more words k fits =
 
 -- ---- the bits that meet a condition
 -- where no bit is set there is none to keep
-pub keeps_zero : (holds : ℕ → Bool) (n old : ℕ) → old ≡ 0 → KeepsBits holds n old 0
-keeps_zero holds n old none =
-    record { done = λ bit _. rw (none, bit_at-zero bit) refl; rest = λ bit _ _. rw none refl }
+pub keeps_zero : (holds : ℕ → Bool) (old : ℕ) → old ≡ 0 → KeepsBits holds old 0
+keeps_zero holds old none bit _ = rw (none, bit_at-zero bit) refl
+
+-- the bits below one of them are kept that meet a condition, and the others are as they were
+pub record KeepsBelow (holds : ℕ → Bool) (below old new : ℕ) : Type 0 where
+  pub done : (bit : ℕ) → bit < below → nat_eq (bit_at new bit) 1 ≡ (nat_eq (bit_at old bit) 1 && holds bit)
+  pub rest : (bit : ℕ) → below ≤ bit → bit < 64 → bit_at new bit ≡ bit_at old bit
 
 -- one more does
-pub keeps_met : (holds : ℕ → Bool) (n old new : ℕ) → n < 64 → KeepsBits holds n old new
-    → nat_eq (bit_at old n) 1 ≡ (nat_eq (bit_at old n) 1 && holds n) → KeepsBits holds (n + 1) old new
+pub keeps_met : (holds : ℕ → Bool) (n old new : ℕ) → n < 64 → KeepsBelow holds n old new
+    → nat_eq (bit_at old n) 1 ≡ (nat_eq (bit_at old n) 1 && holds n) → KeepsBelow holds (n + 1) old new
 keeps_met holds n old new within before met =
     record {
       done = λ bit low.
@@ -212,8 +221,8 @@ keeps_met holds n old new within before met =
     }
 
 -- one more does not
-pub keeps_unmet : (holds : ℕ → Bool) (n old new : ℕ) → n < 64 → KeepsBits holds n old new → holds n ≡ false
-    → KeepsBits holds (n + 1) old (bit_and new (bit_not w64 (1 * 2 ^ n % 2 ^ 64)))
+pub keeps_unmet : (holds : ℕ → Bool) (n old new : ℕ) → n < 64 → KeepsBelow holds n old new → holds n ≡ false
+    → KeepsBelow holds (n + 1) old (bit_and new (bit_not w64 (1 * 2 ^ n % 2 ^ 64)))
 keeps_unmet holds n old new within before unmet =
     record {
       done = λ bit low.
@@ -226,7 +235,7 @@ keeps_unmet holds n old new within before unmet =
 
 -- the bits of one more word
 pub word_kept : (holds : ℕ → Bool) (old now : List ℕ) (k word : ℕ) → k < length now → get_or now k 0 ≡ get_or old k 0
-    → KeepsBits (λ bit. holds (k * 64 + bit)) 64 (get_or now k 0) word → ((i : ℕ) → i < k * 64 → has_bit now i ≡ (has_bit old i && holds i))
+    → KeepsBits (λ bit. holds (k * 64 + bit)) (get_or now k 0) word → ((i : ℕ) → i < k * 64 → has_bit now i ≡ (has_bit old i && holds i))
     → (i : ℕ) → i < (k + 1) * 64 → has_bit (set now k word) i ≡ (has_bit old i && holds i)
 unfolding bit_of
 word_kept holds old now k word within same kept before i low =
@@ -235,19 +244,10 @@ word_kept holds old now k word within same kept before i low =
       | inr late ↦
           let place : i / 64 ≡ k = omega arith in
           let index : k * 64 + i % 64 ≡ i = omega arith in
-          rw (place, get_or-set_same now k word 0 within, kept.done (i % 64) (omega arith), same, index) refl
+          rw (place, get_or-set_same now k word 0 within, kept (i % 64) (omega arith), same, index) refl
     ]
 
 -- past the words there are none
 pub past_kept : (holds : ℕ → Bool) (old now : List ℕ) (i : ℕ) → length now ≡ length old → length old ≤ i / 64 → has_bit now i ≡ (has_bit old i && holds i)
 past_kept holds old now i same past =
     sym (not_set now i (omega arith)) ∙ sym (and_left (has_bit old i) (holds i) (sym (not_set old i past)))
-
--- the bits of a word that is alone
-pub one_kept : (holds : ℕ → Bool) (word kept : ℕ) → KeepsBits (λ bit. holds (0 + bit)) 64 word kept
-    → (i : ℕ) → has_bit (kept ∷ []) i ≡ (has_bit (word ∷ []) i && holds i)
-one_kept holds word kept keeps i =
-    elim (cases_lt i 64) [
-      | inl low ↦ word_kept holds (word ∷ []) (word ∷ []) 0 kept (omega arith) refl keeps (λ j none. absurd (omega arith)) i (omega arith)
-      | inr high ↦ past_kept holds (word ∷ []) (kept ∷ []) i refl (omega arith)
-    ]

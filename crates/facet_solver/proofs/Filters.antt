@@ -2,7 +2,7 @@
 use Rattle.std.proofs.Common.{◌≡◌, ℕ, zero, suc, ◌+◌, ◌<◌, ◌≤◌, Bool, true, false, cond, ◌&&◌, ◌⊎◌, inl, inr, nat_eq, List, [], ◌∷◌, ◌++◌, ◌-◌, length, not, filter, All, refl, ap, sym, ◌∙◌, arith, add-zero, zero-add, append-nil, eq-eqb, ne_eqb}
 use Rattle.std.specs.List.{range_with_len}
 use Rattle.std.specs.List.Sorted.{IsStrictlyIncreasing}
-use Rattle.std.proofs.lemmas.Bool.{cases_eq, cases_lt}
+use Rattle.std.proofs.lemmas.Bool.{both_ways, cases_eq, cases_lt}
 use Rattle.std.proofs.lemmas.List.Elements.{All-filter, filter-append}
 use Rattle.std.proofs.lemmas.List.Filters.{length-filter_both}
 use Rattle.std.proofs.lemmas.List.Folds.{list_any_none}
@@ -127,9 +127,19 @@ count_within p n bound clear =
       | inr high ↦ omega (arith, ap length (filter_cut p n bound high clear), length-filter_both p (λ i. not (p i)) (λ i. refl) (upto bound), length-range_with_len 0 bound)
     ]
 
--- the first of a range that passes, and those after it, where the range ends at an index
-pub filter-next : (p : ℕ → Bool) (from i end : ℕ) → i < end → IsNext p from i → filter p (range_with_len from (end - from)) ≡ i ∷ filter p (range_with_len (i + 1) (end - (i + 1)))
-filter-next p from i end low next =
+-- the next that passes is below a bound from which none does
+pub next_below : (p : ℕ → Bool) (from i bound : ℕ) → ((j : ℕ) → bound ≤ j → p j ≡ false) → IsNext p from i → i < bound
+next_below p from i bound clear next =
+    elim (cases_lt i bound) [
+      | inl low ↦ low
+      | inr high ↦ absurd (both_ways (p i) (clear i high) next.passes)
+    ]
+
+-- the next that passes, and those after it
+pub filter-next : (p : ℕ → Bool) (from i end : ℕ) → ((j : ℕ) → end ≤ j → p j ≡ false) → IsNext p from i
+    → filter p (range_with_len from (end - from)) ≡ i ∷ filter p (range_with_len (i + 1) (end - (i + 1)))
+filter-next p from i end clear next =
+    let low : i < end = next_below p from i end clear next in
     let above : from ≤ i = next.above in
     filter_next p from (end - from) i (end - (i + 1)) next (omega arith)
 

@@ -1,11 +1,12 @@
 -- The members of a set that is stored as bits of words.
 use Rattle.std.proofs.Common.{◌≡◌, ℕ, ◌+◌, ◌-◌, ◌*◌, ◌<◌, ◌≤◌, Bool, false, ◌&&◌, List, [], ◌∷◌, length, filter, All, ap, sym, ◌∙◌, arith}
 use Rattle.std.proofs.Math.Nat.{sub-zero}
+use Rattle.std.proofs.lemmas.Bool.{lt-ltb}
 use Rattle.std.specs.List.{range_with_len}
 use Rattle.std.specs.List.Sorted.{IsStrictlyIncreasing}
 use Rattle.facet_solver.specs.IndexSet.{has, upto}
 use Rattle.facet_solver.specs.Words.{HoldBelow, IsFull, has_bit, members_from, members_of}
-use Rattle.facet_solver.proofs.Bits.{clear_past, full_has, next_below}
+use Rattle.facet_solver.proofs.Bits.{clear_past}
 use Rattle.facet_solver.proofs.Filters.{IsNext, filter-below, filter-next, filter-rises, filter_all, filter_cut, filter_filter, filter_none, filter_same, has_passing}
 
 -- a range from 0 on
@@ -14,9 +15,7 @@ members_upto words = ap (λ n. filter (has_bit words) (upto n)) (sub-zero (lengt
 
 -- the members from an index on, where there is a next one
 pub next_member : (words : List ℕ) (from i : ℕ) → IsNext (has_bit words) from i → members_from words from ≡ i ∷ members_from words (i + 1)
-next_member words from i next =
-    let low : i < length words * 64 = next_below words from i (length words * 64) (clear_past words) next in
-    filter-next (has_bit words) from i (length words * 64) low next
+next_member words from i next = filter-next (has_bit words) from i (length words * 64) (clear_past words) next
 
 -- and where there is none
 pub no_members : (words : List ℕ) (from : ℕ) → ((i : ℕ) → from ≤ i → has_bit words i ≡ false) → members_from words from ≡ []
@@ -57,4 +56,4 @@ members_within words bound hold = rw (members_below words bound hold) (filter-be
 -- those of all indices below a bound
 pub full_members : (words : List ℕ) (bound : ℕ) → HoldBelow bound words → IsFull bound words → members_of words ≡ upto bound
 full_members words bound hold full =
-    members_below words bound hold ∙ filter_all (has_bit words) 0 bound (λ i _ low. full_has words bound i full (omega arith))
+    members_below words bound hold ∙ filter_all (has_bit words) 0 bound (λ i _ low. full i ∙ lt-ltb i bound (omega arith))

@@ -1,5 +1,5 @@
 -- Sets of indices as bits of words, 64 a word.
-use Rattle.std.specs.Prelude.{◌≡◌, ℕ, ◌+◌, ◌-◌, ◌*◌, ◌/◌, ◌%◌, ◌^◌, ◌<◌, ◌≤◌, min, Bool, false, ◌&&◌, List, [], ◌∷◌, filter, length, nat_eq, slice_index}
+use Rattle.std.specs.Prelude.{◌≡◌, ℕ, ◌+◌, ◌-◌, ◌*◌, ◌/◌, ◌%◌, ◌^◌, ◌<◌, ◌≤◌, Bool, false, ◌&&◌, List, [], ◌∷◌, filter, length, nat_eq, nat_lt, slice_index}
 use Rattle.std.specs.Int.{bit_at}
 use Rattle.std.specs.List.{range_with_len}
 use Rattle.facet_solver.specs.declared.set.words.Words.{Words}
@@ -40,16 +40,11 @@ pub record HoldBelow (bound : ℕ) (words : List ℕ) : Type 0 where
   pub clear : IsClearFrom words bound
   pub fits : bound < 2 ^ 64
 
--- word k of the set of all indices below a bound
-abbrev pub full_word : ℕ → ℕ → ℕ
-full_word bound k = 2 ^ (min 64 (bound - k * 64)) - 1
-
 -- the words are those of the set of all indices below a bound
 abbrev pub IsFull : ℕ → List ℕ → Type 0
-IsFull bound words = (k : ℕ) → slice_index words k ≡ full_word bound k
+IsFull bound words = (i : ℕ) → has_bit words i ≡ nat_lt i bound
 
--- of the bits below one of them, those are kept that meet a condition; the others are as they were
-pub record KeepsBits (holds : ℕ → Bool) (below old new : ℕ) : Type 0 where
-  pub done : (bit : ℕ) → bit < below
-      → nat_eq (bit_at new bit) 1 ≡ (nat_eq (bit_at old bit) 1 && holds bit)
-  pub rest : (bit : ℕ) → below ≤ bit → bit < 64 → bit_at new bit ≡ bit_at old bit
+-- of the bits of a word those are kept that meet a condition
+abbrev pub KeepsBits : (ℕ → Bool) → ℕ → ℕ → Type 0
+KeepsBits holds old new =
+    (bit : ℕ) → bit < 64 → nat_eq (bit_at new bit) 1 ≡ (nat_eq (bit_at old bit) 1 && holds bit)

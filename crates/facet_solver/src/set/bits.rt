@@ -99,11 +99,10 @@ pub(crate) fn next_bit(words: &[u64], from: usize) -> Option<usize>
     None
 }
 
-/// The bits of a word, which stand for the indices from one on, without those whose index does not meet a condition.
-/// It is asked of set bits alone.
+/// The bits of a word, which stand for the indices from one on, that meet a condition. It is asked of set bits alone.
 pub(crate) fn kept_bits<C: Condition>(word: u64, first: usize, condition: &C) -> u64
     requires { first + 63 < 2 ^ 64 }
-    ensures { KeepsBits (λ bit. C.holds condition.now (first + bit)) 64 word result }
+    ensures { KeepsBits (λ bit. C.holds condition.now (first + bit)) word result }
 {
     if word == 0 {
         return 0;

@@ -1,13 +1,13 @@
-//! The words of a set: a set of indices below 64 or less takes no memory of its own.
+//! The words of a set. One word takes no memory of its own.
 ghost use Rattle.std.specs.Prelude.{◌≡◌, ℕ, ◌^◌, ◌≤◌, ◌&&◌, IfOk, IsOk, length};
 ghost use Rattle.facet_solver.specs.Words.{IsFull, has_bit, word_count, words_of};
 
-use crate::set::bits::{full_words, kept_bits, low_ones, retain_bits};
+use crate::set::bits::{full_words, low_ones, retain_bits};
 use crate::set::condition::Condition;
 use std::alloc::{AllocError, Global};
 use std::slice;
 
-/// Bits, 64 a word: one word, or several.
+/// Bits, 64 a word: one word for indices below a bound up to 64, else several.
 #[derive(Debug, Drop)]
 pub(crate) enum Words {
     One(u64),
@@ -46,7 +46,7 @@ impl Words {
             ≡ (has_bit (words_of self.old) i && C.holds condition.now i) }
     {
         match self {
-            Words::One(word) => *word = kept_bits(*word, 0, condition),
+            Words::One(word) => retain_bits(slice::from_mut(word), condition),
             Words::Many(words) => retain_bits(words.as_mut_slice(), condition),
         }
     }

@@ -1,7 +1,6 @@
-use Rattle.std.proofs.Common.{ℕ, List, ap}
+use Rattle.std.proofs.Common.{ℕ, List, ap, ◌∙◌, le-ltb}
 use Rattle.facet_solver.specs.IndexSet.{IndexSet}
 use Rattle.facet_solver.specs.Words.{words_of}
-use Rattle.facet_solver.proofs.Bits.{full_lacks}
 use Rattle.facet_solver.proofs.Members.{full_members}
 use Rattle.facet_solver.proofs.set.ResolutionSet.full.Goals as goal
 
@@ -9,7 +8,7 @@ pub invariant_of-result : goal.invariant_of-result
 invariant_of-result c =
     record {
       count = c.in_ok-words.ensures.count;
-      clear = λ i high. full_lacks (words_of c.in_ok-words.words) c.args.bound i c.in_ok-words.ensures.full high;
+      clear = λ i high. c.in_ok-words.ensures.full i ∙ le-ltb i c.args.bound high;
       fits = c.ranges.bound.fits;
     }
 

@@ -25,4 +25,7 @@ loop-bit-preserved g c =
     ]
 
 pub returns-then-word-eq0 : goal.returns-then-word-eq0
-returns-then-word-eq0 g c = keeps_zero (λ bit. g.C.Condition.holds c.args.condition.now (c.args.first + bit)) 64 c.args.word (omega arith)
+returns-then-word-eq0 g c = keeps_zero (λ bit. g.C.Condition.holds c.args.condition.now (c.args.first + bit)) c.args.word (omega arith)
+
+pub returns : goal.returns
+returns g c bit low = c.loop-bit.invariant.done bit (omega arith)
