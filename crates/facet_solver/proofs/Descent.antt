@@ -12,7 +12,7 @@ use Rattle.facet_solver_shape.specs.declared.shape.Field.{Field}
 use Rattle.facet_solver_shape.specs.declared.shape.Variant.{Variant}
 use Rattle.facet_solver_shape.specs.Places.{FieldsBelow, VariantsBelow, KindBelow, NamesEarlier}
 use Rattle.facet_solver.specs.Targets.{Catalogue, kind_of, kind_at, target_of, or_else, option_inside, effective, effective_within, go_on, next_inside}
-use Rattle.facet_solver.specs.Roles.{Role, a_regular, a_block, some_alternatives, a_rest, a_leaf, role_of, role_of_target, role_by_kind}
+use Rattle.facet_solver.specs.Roles.{Role, regular, block, alternatives, catch_all, leaf, role_of, role_of_target, role_by_kind}
 use Rattle.facet_solver.specs.Content.{struct_fields, newtype_fields, content_of, content_or, is_zero}
 
 -- a limit may rise
@@ -26,18 +26,18 @@ VariantsBelow-mono m n (v ∷ vs) le h = (FieldsBelow-mono m n v.fields.items le
 
 -- what a flattened field leads to names places below the limit
 abbrev pub RoleBelow : ℕ → Role → Type 0
-RoleBelow limit a_regular = Unit {0}
-RoleBelow limit (a_block fs) = FieldsBelow limit fs
-RoleBelow limit (some_alternatives s vs) = VariantsBelow limit vs
-RoleBelow limit a_rest = Unit {0}
-RoleBelow limit a_leaf = Unit {0}
+RoleBelow limit regular = Unit {0}
+RoleBelow limit (block fs) = FieldsBelow limit fs
+RoleBelow limit (alternatives s vs) = VariantsBelow limit vs
+RoleBelow limit catch_all = Unit {0}
+RoleBelow limit leaf = Unit {0}
 
 RoleBelow-mono : (m n : ℕ) (r : Role) → m ≤ n → RoleBelow m r → RoleBelow n r
-RoleBelow-mono m n a_regular le h = tt
-RoleBelow-mono m n (a_block fs) le h = FieldsBelow-mono m n fs le h
-RoleBelow-mono m n (some_alternatives s vs) le h = VariantsBelow-mono m n vs le h
-RoleBelow-mono m n a_rest le h = tt
-RoleBelow-mono m n a_leaf le h = tt
+RoleBelow-mono m n regular le h = tt
+RoleBelow-mono m n (block fs) le h = FieldsBelow-mono m n fs le h
+RoleBelow-mono m n (alternatives s vs) le h = VariantsBelow-mono m n vs le h
+RoleBelow-mono m n catch_all le h = tt
+RoleBelow-mono m n leaf le h = tt
 
 role_by_kind-below : (limit : ℕ) (s : Shape) (k : ShapeKind) → KindBelow limit k → RoleBelow limit (role_by_kind s k)
 role_by_kind-below limit s (Struct kind fs) h = h
@@ -62,7 +62,7 @@ module _ (cat : Catalogue) (checked : NamesEarlier cat) where
   pub target_of-le : (f : Field) → (target_of cat f) ≤ f.shape
   target_of-le f = or_else-inside-le f.shape f.shape (kind_at cat f.shape) (kind_of-below f.shape (slice_get cat f.shape) refl) (omega arith)
 
-  role_if-below : (b : Bool) (limit : ℕ) (r : Role) → RoleBelow limit r → RoleBelow limit (if b then r else a_regular)
+  role_if-below : (b : Bool) (limit : ℕ) (r : Role) → RoleBelow limit r → RoleBelow limit (if b then r else regular)
   role_if-below true limit r h = h
   role_if-below false limit r h = tt
 

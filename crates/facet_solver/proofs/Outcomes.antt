@@ -134,9 +134,9 @@ pub taken-pick : (r s : Resolved) (p : Pick) → s ≡ with_pick r p → take_in
 unfolding take_in
 taken-pick r s p h = ap resolved (sym h)
 
-pub taken-rest : (r s : Resolved) (f : FieldView) → s ≡ with_catch_all r f.category f → take_in r (a_catch_all f) ≡ resolved s
+pub taken-catch_all : (r s : Resolved) (f : FieldView) → s ≡ with_catch_all r f.category f → take_in r (a_catch_all f) ≡ resolved s
 unfolding take_in
-taken-rest r s f h = ap resolved (sym h)
+taken-catch_all r s f h = ap resolved (sym h)
 
 -- key paths one by one
 pub take_all-paths : (r : Resolved) (name : Name) (paths : List KeyPath) → take_all r (paths_behind name paths) ≡ resolved (with_key_paths r (map (λ q. name ∷ q) paths))

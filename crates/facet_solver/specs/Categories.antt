@@ -26,11 +26,11 @@ selector_category Flat = FlatCategory
 selector_category Dom = Element
 
 -- a catch-all takes attributes or else elements
-abbrev pub rest_category_of_mark : DomMark → FieldCategory
-rest_category_of_mark AttributeMark = Attribute
-rest_category_of_mark _ = Element
+abbrev pub catch_all_category_of_mark : DomMark → FieldCategory
+catch_all_category_of_mark AttributeMark = Attribute
+catch_all_category_of_mark _ = Element
 
 -- the category of a catch-all
-abbrev pub rest_category : Format → DomMark → FieldCategory
-rest_category Flat mark = FlatCategory
-rest_category Dom mark = rest_category_of_mark mark
+abbrev pub catch_all_category : Format → DomMark → FieldCategory
+catch_all_category Flat mark = FlatCategory
+catch_all_category Dom mark = catch_all_category_of_mark mark

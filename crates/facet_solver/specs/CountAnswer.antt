@@ -11,4 +11,5 @@ below_2_64 n = if nat_lt n (2 ^ 64) then Some n else None
 
 -- the number of choices of a root where it is below 2^64, whatever the kind of document
 abbrev pub IsCountOf : Catalogue → ℕ → Option Repr → Option ℕ → Type 0
-IsCountOf cat root representation answer = (format : Format) → answer ≡ below_2_64 (count_of_root record { representation = representation; format = format } cat root)
+IsCountOf cat root representation answer =
+    (format : Format) → answer ≡ below_2_64 (count_of_root record { catalogue = cat; representation = representation; format = format } root)

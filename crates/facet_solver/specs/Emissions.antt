@@ -1,4 +1,5 @@
 -- What the walk of one choice emits, one thing after another.
+use Rattle.facet_solver.specs.Build.{Build, repr_for}
 use Rattle.std.specs.Prelude.{List, [], ◌∷◌, ◌++◌, map, Bool, false, ◌||◌, ◌&&◌, not, string_bytes}
 use Rattle.facet_solver_shape.specs.declared.shape.Shape.{Shape}
 use Rattle.facet_solver_shape.specs.declared.shape.Field.{Field}
@@ -7,8 +8,8 @@ use Rattle.facet_solver_shape.specs.Names.{Name, effective_name}
 use Rattle.facet_solver_shape.specs.Paths.{Step, by_field, by_variant}
 use Rattle.facet_solver_shape.specs.Resolved.{FieldView, Pick}
 use Rattle.facet_solver.specs.Targets.{Catalogue, target_of, is_option}
-use Rattle.facet_solver.specs.Representation.{Repr, flattened, externally_tagged, internally_tagged, adjacently_tagged, Settings, repr_for}
-use Rattle.facet_solver.specs.Categories.{field_category, selector_category, rest_category}
+use Rattle.facet_solver.specs.Representation.{Repr, flattened, externally_tagged, internally_tagged, adjacently_tagged}
+use Rattle.facet_solver.specs.Categories.{field_category, selector_category, catch_all_category}
 use Rattle.facet_solver.specs.Nested.{KeyPath, nested_paths, content_paths}
 
 -- a field, a key path, a pick or a catch-all
@@ -39,47 +40,47 @@ abbrev pub unwrapped_at : Catalogue → Field → Bool → Bool
 unwrapped_at cat f o = o || is_option cat f.shape
 
 -- a regular field, with its own shape: required without default, unless it is an option or under one
-unfoldable pub regular_field : Settings → Catalogue → Field → Path → Bool → FieldView
-regular_field settings cat f p o = record {
+unfoldable pub regular_field : Build → Field → Path → Bool → FieldView
+regular_field build f p o = record {
   name = effective_name f;
   path = field_path p f;
-  is_required = not o && not f.has_default && not (is_option cat f.shape);
+  is_required = not o && not f.has_default && not (is_option build.catalogue f.shape);
   shape = f.shape;
   field = f;
-  category = field_category settings.format f.dom;
+  category = field_category build.format f.dom;
 }
 
 -- a flattened map or dynamic value: never required
-unfoldable pub rest_field : Settings → Catalogue → Field → Path → FieldView
-rest_field settings cat f p = record {
+unfoldable pub catch_all_field : Build → Field → Path → FieldView
+catch_all_field build f p = record {
   name = effective_name f;
   path = field_path p f;
   is_required = false;
-  shape = target_of cat f;
+  shape = target_of build.catalogue f;
   field = f;
-  category = rest_category settings.format f.dom;
+  category = catch_all_category build.format f.dom;
 }
 
 -- any other flattened field, with its target as its shape
-unfoldable pub leaf_field : Settings → Catalogue → Field → Path → Bool → FieldView
-leaf_field settings cat f p o = record {
+unfoldable pub leaf_field : Build → Field → Path → Bool → FieldView
+leaf_field build f p o = record {
   name = effective_name f;
   path = field_path p f;
-  is_required = not (unwrapped_at cat f o) && not f.has_default && not (is_option cat (target_of cat f));
-  shape = target_of cat f;
+  is_required = not (unwrapped_at build.catalogue f o) && not f.has_default && not (is_option build.catalogue (target_of build.catalogue f));
+  shape = target_of build.catalogue f;
   field = f;
-  category = field_category settings.format f.dom;
+  category = field_category build.format f.dom;
 }
 
 -- the field by which a reader of an enum learns the variant: required unless under an option
-unfoldable pub selector_field : Name → Settings → Catalogue → Field → Path → Bool → FieldView
-selector_field name settings cat f q o = record {
+unfoldable pub selector_field : Name → Build → Field → Path → Bool → FieldView
+selector_field name build f q o = record {
   name = name;
   path = q;
-  is_required = not (unwrapped_at cat f o);
-  shape = target_of cat f;
+  is_required = not (unwrapped_at build.catalogue f o);
+  shape = target_of build.catalogue f;
   field = f;
-  category = selector_category settings.format;
+  category = selector_category build.format;
 }
 
 -- a field, the key path of its name, and further emissions
@@ -91,32 +92,32 @@ abbrev pub paths_behind : Name → List KeyPath → List Emission
 paths_behind name paths = map (λ q. a_key_path (name ∷ q)) paths
 
 -- a regular field emits itself, and the key paths under it
-unfoldable pub regular_emissions : Settings → Catalogue → Field → Path → Bool → List Emission
-regular_emissions settings cat f p o =
-    field_and_path (regular_field settings cat f p o) (paths_behind (effective_name f) (nested_paths cat f.shape))
+unfoldable pub regular_emissions : Build → Field → Path → Bool → List Emission
+regular_emissions build f p o =
+    field_and_path (regular_field build f p o) (paths_behind (effective_name f) (nested_paths build.catalogue f.shape))
 
 -- a flattened map or dynamic value emits a catch-all
-unfoldable pub rest_emissions : Settings → Catalogue → Field → Path → List Emission
-rest_emissions settings cat f p = a_catch_all (rest_field settings cat f p) ∷ []
+unfoldable pub catch_all_emissions : Build → Field → Path → List Emission
+catch_all_emissions build f p = a_catch_all (catch_all_field build f p) ∷ []
 
 -- any other flattened field emits itself
-unfoldable pub leaf_emissions : Settings → Catalogue → Field → Path → Bool → List Emission
-leaf_emissions settings cat f p o = field_and_path (leaf_field settings cat f p o) []
+unfoldable pub leaf_emissions : Build → Field → Path → Bool → List Emission
+leaf_emissions build f p o = field_and_path (leaf_field build f p o) []
 
 -- the selector of a variant and its key paths, by the representation
-unfoldable pub selector_emissions : Repr → Settings → Catalogue → Field → Variant → Path → Bool → List Emission
-selector_emissions flattened settings cat f v q o = []
-selector_emissions externally_tagged settings cat f v q o =
-    field_and_path (selector_field (string_bytes v.name) settings cat f q o) (paths_behind (string_bytes v.name) (content_paths cat v))
-selector_emissions (internally_tagged tag) settings cat f v q o = field_and_path (selector_field tag settings cat f q o) []
-selector_emissions (adjacently_tagged tag content) settings cat f v q o =
-    field_and_path (selector_field tag settings cat f q o) (a_key_path (content ∷ []) ∷ paths_behind content (content_paths cat v))
+unfoldable pub selector_emissions : Repr → Build → Field → Variant → Path → Bool → List Emission
+selector_emissions flattened build f v q o = []
+selector_emissions externally_tagged build f v q o =
+    field_and_path (selector_field (string_bytes v.name) build f q o) (paths_behind (string_bytes v.name) (content_paths build.catalogue v))
+selector_emissions (internally_tagged tag) build f v q o = field_and_path (selector_field tag build f q o) []
+selector_emissions (adjacently_tagged tag content) build f v q o =
+    field_and_path (selector_field tag build f q o) (a_key_path (content ∷ []) ∷ paths_behind content (content_paths build.catalogue v))
 
 -- the pick of a variant
 abbrev pub pick_of : Shape → Variant → Path → Emission
 pick_of s v p = a_pick record { path = p; enum_name = string_bytes s.type_identifier; variant_name = string_bytes v.name }
 
 -- what a flattened enum emits before the content of the chosen variant: the pick and the selector
-unfoldable pub variant_emissions : Settings → Catalogue → Field → Shape → Variant → Path → Bool → List Emission
-variant_emissions settings cat f s v p o =
-    pick_of s v (field_path p f) ∷ selector_emissions (repr_for settings s) settings cat f v (variant_path p f v) o
+unfoldable pub variant_emissions : Build → Field → Shape → Variant → Path → Bool → List Emission
+variant_emissions build f s v p o =
+    pick_of s v (field_path p f) ∷ selector_emissions (repr_for build s) build f v (variant_path p f v) o

@@ -12,7 +12,7 @@ pub mod Count
 pub mod Listing
 pub mod Outcome
 pub mod RoleView
-pub mod PlanView
+pub mod Build
 pub mod IndexSet
 pub mod HowMany
 pub mod MatchesView

@@ -38,20 +38,6 @@ tagged (Some tag) (Some content) = adjacently_tagged (string_bytes tag) (string_
 abbrev pub repr_of_shape : Shape → Repr
 repr_of_shape s = if s.untagged then flattened else tagged s.tag s.content
 
--- how a schema is built: one representation for all enums or each enum's own, and the format
-pub record Settings : Type 0 where
-  pub representation : Option Repr
-  pub format : Format
-
--- the one representation, or else the enum's own
-abbrev pub repr_or : Option Repr → Shape → Repr
-repr_or None s = repr_of_shape s
-repr_or (Some repr) s = repr
-
--- the representation of an enum
-abbrev pub repr_for : Settings → Shape → Repr
-repr_for settings s = repr_or settings.representation s
-
 -- whether a variant's content is walked at the enum's own level
 abbrev pub is_walked : Repr → Bool
 is_walked flattened = true

@@ -17,7 +17,7 @@ pub(crate) enum Role<'c> {
     /// Flattened: the variants of an enum.
     Alternatives(&'c Shape, &'c [Variant]),
     /// Flattened: a map or dynamic value, which takes what no field takes.
-    Rest,
+    CatchAll,
     /// Flattened: any other shape.
     Leaf,
 }
@@ -57,7 +57,7 @@ pub(crate) fn role_of<'c>(shapes: &'c Shapes, field: &'c Field) -> Role<'c>
     match &shape.kind {
         ShapeKind::Struct { fields, .. } => Role::Block(fields.as_slice()),
         ShapeKind::Enum { variants } => Role::Alternatives(shape, variants.as_slice()),
-        ShapeKind::Map(_, _) | ShapeKind::DynamicValue => Role::Rest,
+        ShapeKind::Map(_, _) | ShapeKind::DynamicValue => Role::CatchAll,
         _ => Role::Leaf,
     }
 }
