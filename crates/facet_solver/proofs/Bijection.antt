@@ -8,55 +8,59 @@ use Rattle.facet_solver_shape.specs.declared.shape.ShapeKind.TheVariants.{Struct
 use Rattle.facet_solver_shape.specs.declared.shape.Field.{Field}
 use Rattle.facet_solver_shape.specs.declared.shape.Variant.{Variant}
 use Rattle.facet_solver.specs.Targets.{Catalogue}
-use Rattle.facet_solver.specs.Emissions.{Path, variant_emissions, variant_path, unwrapped_at, pick_of}
+use Rattle.facet_solver.specs.Place.{Path, variant_path, unwrapped_at, at_root, choosing, inside_variant}
+use Rattle.facet_solver.specs.Emissions.{emit_variant, pick_of}
 use Rattle.facet_solver.specs.Walk.{Walk, emit, walk_variant_step, walk_content_step, walk_role, walk_fields_step, walk_within, walk_fields, walk_root, walk_root_shape, walk_root_kind, walk_root_variant, walk_content}
 use Rattle.facet_solver.specs.Representation.{is_walked}
 use Rattle.facet_solver.specs.Roles.{Role, regular, block, alternatives, catch_all, leaf, role_of}
 use Rattle.facet_solver.specs.Listing.{Choices, no_choice, product, indexed, choices_of_variant, choices_of_role, choices_of_fields_step, choices_within, choices_of_fields, choices_of_root, choices_of_root_shape, choices_of_root_kind}
 use Rattle.facet_solver.specs.Choice.{IsBefore, ListsChoices}
 use Rattle.facet_solver.proofs.Exact.{In, In-append, In-map_from, In-product_from, IsExact, IsExact-none, IsExact-emit, IsExact-put_before, IsExact-and_then, IsExact-choose}
+use Rattle.facet_solver.specs.declared.build.place.Place.{Place}
 
 -- a walk of lists of fields, at any path and flag, agrees with the choices of each
 abbrev AllExact : Walk → (List Field → Choices) → Type 0
-AllExact below choices = (fs : List Field) (p : Path) (o : Bool) → IsExact (below fs p o) (choices fs)
+AllExact below choices = (fs : List Field) (place : Place) → IsExact (below fs place) (choices fs)
 
 module _ (build : Build) where
-  exact_content : (walked : Bool) (below : Walk) (choices : List Field → Choices) (v : Variant) (q : Path) (o : Bool) → AllExact below choices
-      → IsExact (λ ns. if walked then walk_content_step below build.catalogue v q o ns else emit [] ns) (choices_of_variant choices build.catalogue walked v)
-  exact_content true below choices v q o x = x _ _ o
-  exact_content false below choices v q o x = IsExact-emit []
+  exact_content : (walked : Bool) (below : Walk) (choices : List Field → Choices) (v : Variant) (place : Place) → AllExact below choices
+      → IsExact (λ ns. if walked then walk_content_step below build.catalogue v place ns else emit [] ns) (choices_of_variant choices build.catalogue walked v)
+  exact_content true below choices v place x = x _ _
+  exact_content false below choices v place x = IsExact-emit []
 
-  exact_role : (below : Walk) (choices : List Field → Choices) (f : Field) (p : Path) (o : Bool) (r : Role) → AllExact below choices
-      → IsExact (λ ns. walk_role below build f p o ns r) (choices_of_role choices build r)
-  exact_role below choices f p o regular x = IsExact-emit _
-  exact_role below choices f p o (block fs) x = x fs _ _
-  exact_role below choices f p o (alternatives s vs) x =
-      IsExact-choose (λ v rest. walk_variant_step below build f s v p o rest) (choices_of_variant choices build.catalogue (is_walked (repr_for build s)))
-      (λ v. IsExact-put_before (variant_emissions build f s v p o) _ _ (exact_content (is_walked (repr_for build s)) below choices v (variant_path p f v) (unwrapped_at build.catalogue f o) x)) vs
-  exact_role below choices f p o catch_all x = IsExact-emit _
-  exact_role below choices f p o leaf x = IsExact-emit _
+  exact_role : (below : Walk) (choices : List Field → Choices) (f : Field) (place : Place) (r : Role) → AllExact below choices
+      → IsExact (λ ns. walk_role below build f place r ns) (choices_of_role choices build r)
+  exact_role below choices f place regular x = IsExact-emit _
+  exact_role below choices f place (block target fs) x = x fs _
+  exact_role below choices f place (alternatives target s vs) x =
+      IsExact-choose (λ v rest. walk_variant_step below build (choosing f target s v) place rest) (choices_of_variant choices build.catalogue (is_walked (repr_for build s)))
+      (λ v.
+      IsExact-put_before (emit_variant build (choosing f target s v) place) _ _
+      (exact_content (is_walked (repr_for build s)) below choices v (inside_variant place (choosing f target s v)) x)) vs
+  exact_role below choices f place (catch_all target) x = IsExact-emit _
+  exact_role below choices f place (leaf target) x = IsExact-emit _
 
   exact_fields : (below : Walk) (choices : List Field → Choices) → AllExact below choices → AllExact (walk_fields_step below build) (choices_of_fields_step choices build)
   unfolding walk_fields_step choices_of_fields_step
-  exact_fields below choices x [] p o = IsExact-emit []
-  exact_fields below choices x (f ∷ fs) p o =
-      IsExact-and_then (λ ns. walk_role below build f p o ns (role_of build.catalogue f)) _ _ _ (exact_role below choices f p o (role_of build.catalogue f) x) (exact_fields below choices x fs p o)
+  exact_fields below choices x [] place = IsExact-emit []
+  exact_fields below choices x (f ∷ fs) place =
+      IsExact-and_then (λ ns. walk_role below build f place (role_of build.catalogue f) ns) _ _ _ (exact_role below choices f place (role_of build.catalogue f) x) (exact_fields below choices x fs place)
 
   exact_within : (n : ℕ) → AllExact (walk_within n build) (choices_within n build)
   unfolding walk_within choices_within
-  exact_within zero fs p o = IsExact-none
-  exact_within (suc n) fs p o = exact_fields (walk_within n build) (choices_within n build) (exact_within n) fs p o
+  exact_within zero fs place = IsExact-none
+  exact_within (suc n) fs place = exact_fields (walk_within n build) (choices_within n build) (exact_within n) fs place
 
   pub exact_below : AllExact (walk_fields build) (λ fs. choices_of_fields build fs)
   unfolding walk_fields choices_of_fields
-  exact_below fs p o = exact_within (suc (length build.catalogue)) fs p o
+  exact_below fs place = exact_within (suc (length build.catalogue)) fs place
 
   exact_root_variant : (s : Shape) (v : Variant) → IsExact (λ ns. walk_root_variant build s v ns) (choices_of_variant (choices_of_fields build) build.catalogue true v)
   unfolding walk_root_variant walk_content
-  exact_root_variant s v = IsExact-put_before (pick_of s v [] ∷ []) _ _ (exact_below _ _ false)
+  exact_root_variant s v = IsExact-put_before (pick_of s v [] ∷ []) _ _ (exact_below _ _)
 
   exact_root_kind : (s : Shape) (k : ShapeKind) → IsExact (λ ns. walk_root_kind build s k ns) (choices_of_root_kind build k)
-  exact_root_kind s (Struct kind fs) = exact_below fs.items [] false
+  exact_root_kind s (Struct kind fs) = exact_below fs.items at_root
   exact_root_kind s (Enum vs) = IsExact-choose (walk_root_variant build s) (choices_of_variant (choices_of_fields build) build.catalogue true) (exact_root_variant s) vs.items
   exact_root_kind s _ = IsExact-emit []
 
@@ -167,10 +171,10 @@ module _ (build : Build) where
 
   rise_role : (choices : List Field → Choices) (r : Role) → AllRise choices → Rising (choices_of_role choices build r)
   rise_role choices regular x = Rising-one
-  rise_role choices (block fs) x = x fs
-  rise_role choices (alternatives s vs) x = Rising-indexed 0 _ (λ v. rise_variant (is_walked (repr_for build s)) choices v x) vs
-  rise_role choices catch_all x = Rising-one
-  rise_role choices leaf x = Rising-one
+  rise_role choices (block target fs) x = x fs
+  rise_role choices (alternatives target s vs) x = Rising-indexed 0 _ (λ v. rise_variant (is_walked (repr_for build s)) choices v x) vs
+  rise_role choices (catch_all target) x = Rising-one
+  rise_role choices (leaf target) x = Rising-one
 
   rise_fields : (choices : List Field → Choices) → AllRise choices → AllRise (choices_of_fields_step choices build)
   unfolding choices_of_fields_step

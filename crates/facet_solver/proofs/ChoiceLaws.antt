@@ -3,7 +3,8 @@ use Rattle.facet_solver.specs.Build.{Build}
 use Rattle.std.proofs.Common.{◌≡◌, ◌⊎◌, inl, inr, ℕ, suc, ◌<◌, List, [], ◌∷◌, ◌++◌, Some, sym, refl, ap, ◌∙◌, subst, length, get_or, append-nil, arith}
 use Rattle.std.specs.Prelude.{Contains, AllPairs}
 use Rattle.facet_solver.specs.Targets.{Catalogue}
-use Rattle.facet_solver.specs.Emissions.{Emission, Path}
+use Rattle.facet_solver.specs.Emissions.{Emission}
+use Rattle.facet_solver.specs.Place.{Path}
 use Rattle.facet_solver.specs.Walk.{walk_root}
 use Rattle.facet_solver_shape.specs.Resolved.{Resolved}
 use Rattle.facet_solver.specs.Choice.{Emits, IsChoice, IsBefore, ListsChoices, IsResolution, ResolvesEach, Enumerates, HasNoClash, IsClash, resolution_of}

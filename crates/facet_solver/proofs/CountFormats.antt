@@ -10,8 +10,7 @@ use Rattle.facet_solver.specs.Targets.{Catalogue}
 use Rattle.facet_solver.specs.Build.{Build}
 use Rattle.facet_solver.specs.Representation.{Repr}
 use Rattle.facet_solver.specs.Roles.{Role, regular, block, alternatives, catch_all, leaf, role_of}
-use Rattle.facet_solver.specs.CountAnswer.{below_2_64, IsCountOf}
-use Rattle.facet_solver.specs.Count.{Count, count_variant, count_role, count_fields_step, count_within, count_fields, count_of_kind, count_of_shape, count_of_root}
+use Rattle.facet_solver.specs.Count.{below_2_64, IsCountOf, Count, count_variant, count_role, count_fields_step, count_within, count_fields, count_kind, count_of_shape, count_of_root}
 
 module _ (representation : Option Repr) (cat : Catalogue) (first second : Format) where
   abbrev by_first : Build
@@ -22,10 +21,10 @@ module _ (representation : Option Repr) (cat : Catalogue) (first second : Format
 
   same_role : (below : Count) (r : Role) → count_role below by_first r ≡ count_role below by_second r
   same_role below regular = refl
-  same_role below (block fs) = refl
-  same_role below (alternatives s vs) = refl
-  same_role below catch_all = refl
-  same_role below leaf = refl
+  same_role below (block target fs) = refl
+  same_role below (alternatives target s vs) = refl
+  same_role below (catch_all target) = refl
+  same_role below (leaf target) = refl
 
   same_fields : (below : Count) (fs : List Field) → count_fields_step below by_first fs ≡ count_fields_step below by_second fs
   unfolding count_fields_step
@@ -45,7 +44,7 @@ module _ (representation : Option Repr) (cat : Catalogue) (first second : Format
   unfolding count_fields
   same_below = λ i fs. same_within (suc (length cat)) fs i
 
-  same_kind : (k : ShapeKind) → count_of_kind by_first k ≡ count_of_kind by_second k
+  same_kind : (k : ShapeKind) → count_kind by_first true k ≡ count_kind by_second true k
   same_kind (Struct kind fs) = ap (λ (below : Count). below fs.items) same_below
   same_kind (Enum vs) = ap (λ (below : Count). sum_by (count_variant below cat true) vs.items) same_below
   same_kind _ = refl

@@ -28,10 +28,10 @@ module _ (build : Build) (checked : NamesEarlier build.catalogue) where
 
   pub count_role-same : (g h : Count) (limit : ℕ) (r : Role) → RoleBelow limit r → ((gs : List Field) → FieldsBelow limit gs → g gs ≡ h gs) → count_role g build r ≡ count_role h build r
   count_role-same g h limit regular b x = refl
-  count_role-same g h limit (block fs) b x = x fs b
-  count_role-same g h limit (alternatives s vs) b x = sum_by-same limit _ _ vs b (λ v below. count_variant-same (is_walked (repr_for build s)) g h limit v below x)
-  count_role-same g h limit catch_all b x = refl
-  count_role-same g h limit leaf b x = refl
+  count_role-same g h limit (block target fs) b x = x fs b
+  count_role-same g h limit (alternatives target s vs) b x = sum_by-same limit _ _ vs b (λ v below. count_variant-same (is_walked (repr_for build s)) g h limit v below x)
+  count_role-same g h limit (catch_all target) b x = refl
+  count_role-same g h limit (leaf target) b x = refl
 
   pub count-local : IsLocal (λ below fs. count_fields_step below build fs)
   unfolding count_fields_step

@@ -14,8 +14,7 @@ use Rattle.facet_solver.specs.Representation.{is_walked}
 use Rattle.facet_solver.specs.Roles.{Role, regular, block, alternatives, catch_all, leaf, role_of}
 use Rattle.facet_solver.specs.Content.{content_of}
 use Rattle.facet_solver.specs.Listing.{Choices, product, indexed, choices_of_variant, choices_of_role, choices_of_fields_step, choices_within, choices_of_fields, choices_of_variants, choices_of_root, choices_of_root_shape, choices_of_root_kind}
-use Rattle.facet_solver.specs.Count.{Count, count_variant, count_role, count_fields_step, count_within, count_fields, count_of_root, count_of_shape, count_of_kind}
-use Rattle.facet_solver.specs.CountView.{count_variants}
+use Rattle.facet_solver.specs.Count.{Count, count_variant, count_role, count_fields_step, count_within, count_fields, count_of_root, count_of_shape, count_kind, count_variants}
 
 length-map' : {X Y : Type 0} (f : X → Y) (xs : List X) → length (map f xs) ≡ length xs
 length-map' f [] = refl
@@ -50,10 +49,10 @@ module _ (build : Build) where
 
   pub role_count : (choices : List Field → Choices) (count : Count) (r : Role) → AllCount choices count → length (choices_of_role choices build r) ≡ count_role count build r
   role_count choices count regular h = refl
-  role_count choices count (block fs) h = h fs
-  role_count choices count (alternatives s vs) h = length-indexed 0 _ _ (λ v. variant_count (is_walked (repr_for build s)) choices count v h) vs
-  role_count choices count catch_all h = refl
-  role_count choices count leaf h = refl
+  role_count choices count (block target fs) h = h fs
+  role_count choices count (alternatives target s vs) h = length-indexed 0 _ _ (λ v. variant_count (is_walked (repr_for build s)) choices count v h) vs
+  role_count choices count (catch_all target) h = refl
+  role_count choices count (leaf target) h = refl
 
   fields_count : (choices : List Field → Choices) (count : Count) → AllCount choices count → AllCount (choices_of_fields_step choices build) (count_fields_step count build)
   unfolding choices_of_fields_step count_fields_step
@@ -76,7 +75,7 @@ module _ (build : Build) where
   unfolding choices_of_variants
   among_count walked vs = length-indexed 0 _ _ (λ v. variant_count walked (λ fs. choices_of_fields build fs) (λ fs. count_fields build fs) v below_count) vs
 
-  kind_count : (k : ShapeKind) → length (choices_of_root_kind build k) ≡ count_of_kind build k
+  kind_count : (k : ShapeKind) → length (choices_of_root_kind build k) ≡ count_kind build true k
   kind_count (Struct kind fs) = below_count fs.items
   kind_count (Enum vs) = length-indexed 0 _ _ (λ v. below_count (content_of build.catalogue v).fields) vs.items
   kind_count _ = refl

@@ -9,11 +9,9 @@ use Rattle.facet_solver_shape.specs.declared.resolution.error.SchemaError.TheVar
 use Rattle.facet_solver.specs.Targets.{Catalogue}
 use Rattle.facet_solver.specs.Walk.{walk_root}
 use Rattle.facet_solver_shape.specs.Resolved.{Resolved, nothing}
-use Rattle.facet_solver.specs.Outcome.{Duplicate, Outcome, resolved, duplicate, take_all, effect}
-use Rattle.facet_solver.specs.Filling.{StopsBy, duplicate_view}
-use Rattle.facet_solver.specs.Choice.{IsChoice, ListsChoices, IsResolution, IsClash, ResolvesEach}
-use Rattle.facet_solver.specs.Refusal.{IsRefusal}
-use Rattle.facet_solver.specs.ChoiceLists.{lists}
+use Rattle.facet_solver.specs.Outcome.{Duplicate, Outcome, resolved, duplicate, take_all, effect, StopsBy, duplicate_view}
+use Rattle.facet_solver.specs.Choice.{IsChoice, ListsChoices, IsResolution, IsClash, ResolvesEach, IsRefusal}
+use Rattle.facet_solver.specs.Listing.{lists}
 use Rattle.facet_solver.proofs.Resolutions.{built, clashing}
 
 module _ (build : Build) (root : ℕ) where

@@ -21,15 +21,15 @@ use Rattle.facet_solver_shape.proofs.KeyOrder.{key_cmp_total, key_cmp_same}
 use Rattle.facet_solver.specs.declared.build.representation.Format.{Format}
 use Rattle.facet_solver.specs.declared.build.representation.Format.TheVariants.{Flat}
 use Rattle.facet_solver.specs.Targets.{Catalogue}
-use Rattle.facet_solver.specs.Representation.{Repr, flattened, externally_tagged, internally_tagged, adjacently_tagged, is_walked}
-use Rattle.facet_solver.specs.Categories.{field_category, selector_category}
+use Rattle.facet_solver.specs.Representation.{Repr, flattened, externally_tagged, internally_tagged, adjacently_tagged, is_walked, field_category, selector_category}
 use Rattle.facet_solver.specs.Content.{content_of}
 use Rattle.facet_solver.specs.Roles.{Role, regular, block, alternatives, catch_all, leaf, role_of}
 use Rattle.facet_solver.specs.Nested.{KeyPath, nested_paths, content_paths}
-use Rattle.facet_solver.specs.Emissions.{Emission, a_field, a_key_path, a_pick, a_catch_all, Path, paths_behind, variant_path, unwrapped_at, field_path, pick_of, regular_field, leaf_field, selector_field, regular_emissions, catch_all_emissions, leaf_emissions, selector_emissions, variant_emissions}
-use Rattle.facet_solver.specs.Walk.{Walked, Walk, put_before, and_then, emit, choose, at_chosen, plain_emissions, walk_variant_step, walk_content_step, walk_role, walk_fields_step, walk_within, walk_fields, walk_root, walk_root_shape, walk_root_kind, walk_root_variant, walk_content}
-use Rattle.facet_solver.specs.Choice.{with_emission, resolution_of, IsResolution}
-use Rattle.facet_solver.specs.FlatFields.{GoesByName}
+use Rattle.facet_solver.specs.Emissions.{Emission, a_field, a_key_path, a_pick, a_catch_all, paths_behind, pick_of, regular_field, leaf_field, selector_field, emit_regular, emit_catch_all, emit_leaf, emit_selector_by, emit_variant, emit_plain}
+use Rattle.facet_solver.specs.Place.{Path, variant_path, unwrapped_at, field_path, Chosen, at_root, at_root_variant, choosing, further, inside_field, inside_variant}
+use Rattle.facet_solver.specs.Walk.{Walked, Walk, put_before, and_then, emit, choose, at_chosen, walk_variant_step, walk_content_step, walk_role, walk_fields_step, walk_within, walk_fields, walk_root, walk_root_shape, walk_root_kind, walk_root_variant, walk_content}
+use Rattle.facet_solver.specs.Choice.{with_emission, resolution_of, IsResolution, GoesByName}
+use Rattle.facet_solver.specs.declared.build.place.Place.{Place}
 
 -- each field among emissions is of category Flat
 AllFlat : List Emission → Type 0
@@ -79,67 +79,76 @@ flat-choose vs (k ∷ ns) go h = flat-at_chosen (slice_get vs k) (λ v. go v ns)
 
 module _ (build : Build) (flat : build.format ≡ Flat) where
   AllWalksFlat : Walk → Type 0
-  AllWalksFlat below = (fs : List Field) (p : Path) (o : Bool) (ns : List ℕ) → Emits-flat (below fs p o ns)
+  AllWalksFlat below = (fs : List Field) (place : Place) (ns : List ℕ) → Emits-flat (below fs place ns)
 
-  flat-selector : (repr : Repr) (f : Field) (v : Variant) (q : Path) (o : Bool) → AllFlat (selector_emissions repr build f v q o)
-  unfolding selector_emissions AllFlat selector_field
-  flat-selector flattened f v q o = tt
-  flat-selector externally_tagged f v q o = (ap selector_category flat, AllFlat-paths (string_bytes v.name) (content_paths build.catalogue v))
-  flat-selector (internally_tagged tag) f v q o = (ap selector_category flat, tt)
-  flat-selector (adjacently_tagged tag content) f v q o = (ap selector_category flat, AllFlat-paths content (content_paths build.catalogue v))
+  flat-selector : (repr : Repr) (chosen : Chosen) (place : Place) → AllFlat (emit_selector_by repr build chosen place)
+  unfolding emit_selector_by AllFlat selector_field
+  flat-selector flattened chosen place = tt
+  flat-selector externally_tagged chosen place =
+      (ap selector_category flat, AllFlat-paths (string_bytes chosen.variant.name) (content_paths build.catalogue chosen.variant))
+  flat-selector (internally_tagged tag) chosen place = (ap selector_category flat, tt)
+  flat-selector (adjacently_tagged tag content) chosen place =
+      (ap selector_category flat, AllFlat-paths content (content_paths build.catalogue chosen.variant))
 
-  flat-variant : (f : Field) (s : Shape) (v : Variant) (p : Path) (o : Bool) → AllFlat (variant_emissions build f s v p o)
-  unfolding variant_emissions AllFlat
-  flat-variant f s v p o = flat-selector (repr_for build s) f v (variant_path p f v) o
+  flat-variant : (chosen : Chosen) (place : Place) → AllFlat (emit_variant build chosen place)
+  unfolding emit_variant AllFlat
+  flat-variant chosen place = flat-selector (repr_for build chosen.shape) chosen place
 
-  flat-plain : (f : Field) (p : Path) (o : Bool) (r : Role) → AllFlat (plain_emissions build f p o r)
-  unfolding plain_emissions regular_emissions catch_all_emissions leaf_emissions regular_field leaf_field AllFlat
-  flat-plain f p o regular = (ap (λ (format : Format). field_category format f.dom) flat, AllFlat-paths (effective_name f) (nested_paths build.catalogue f.shape))
-  flat-plain f p o (block fs) = tt
-  flat-plain f p o (alternatives s vs) = tt
-  flat-plain f p o catch_all = tt
-  flat-plain f p o leaf = (ap (λ (format : Format). field_category format f.dom) flat, tt)
+  flat-plain : (f : Field) (place : Place) (r : Role) → AllFlat (emit_plain build f place r)
+  unfolding emit_plain emit_regular emit_catch_all emit_leaf regular_field leaf_field AllFlat
+  flat-plain f place regular =
+      (ap (λ (format : Format). field_category format f.dom) flat, AllFlat-paths (effective_name f) (nested_paths build.catalogue f.shape))
+  flat-plain f place (block target fs) = tt
+  flat-plain f place (alternatives target s vs) = tt
+  flat-plain f place (catch_all target) = tt
+  flat-plain f place (leaf target) = (ap (λ (format : Format). field_category format f.dom) flat, tt)
 
-  flat-content : (walked : Bool) (below : Walk) (v : Variant) (q : Path) (o : Bool) (ns : List ℕ) → AllWalksFlat below → Emits-flat (if walked then walk_content_step below build.catalogue v q o ns else emit [] ns)
+  flat-content : (walked : Bool) (below : Walk) (v : Variant) (place : Place) (ns : List ℕ) → AllWalksFlat below
+      → Emits-flat (if walked then walk_content_step below build.catalogue v place ns else emit [] ns)
   unfolding AllWalksFlat Emits-flat AllFlat
-  flat-content true below v q o ns h = h (content_of build.catalogue v).fields (q ++ (content_of build.catalogue v).path) o ns
-  flat-content false below v q o ns h = tt
+  flat-content true below v place ns h =
+      h (content_of build.catalogue v).fields (further place (content_of build.catalogue v).path) ns
+  flat-content false below v place ns h = tt
 
-  flat-role : (below : Walk) (f : Field) (p : Path) (o : Bool) (ns : List ℕ) (r : Role) → AllWalksFlat below → Emits-flat (walk_role below build f p o ns r)
+  flat-role : (below : Walk) (f : Field) (place : Place) (r : Role) (ns : List ℕ) → AllWalksFlat below → Emits-flat (walk_role below build f place r ns)
   unfolding AllWalksFlat Emits-flat
-  flat-role below f p o ns regular h = flat-plain f p o regular
-  flat-role below f p o ns (block fs) h = h fs (field_path p f) (unwrapped_at build.catalogue f o) ns
-  flat-role below f p o ns (alternatives s vs) h =
-      flat-choose vs ns (λ v rest. walk_variant_step below build f s v p o rest)
-      (λ v rest. flat-put_before (variant_emissions build f s v p o) _ (flat-variant f s v p o) (flat-content (is_walked (repr_for build s)) below v (variant_path p f v) (unwrapped_at build.catalogue f o) rest h))
-  flat-role below f p o ns catch_all h = flat-plain f p o catch_all
-  flat-role below f p o ns leaf h = flat-plain f p o leaf
+  flat-role below f place regular ns h = flat-plain f place regular
+  flat-role below f place (block target fs) ns h = h fs (inside_field place f target) ns
+  flat-role below f place (alternatives target s vs) ns h =
+      flat-choose vs ns (λ v rest. walk_variant_step below build (choosing f target s v) place rest)
+      (λ v rest.
+      flat-put_before (emit_variant build (choosing f target s v) place) _ (flat-variant (choosing f target s v) place)
+      (flat-content (is_walked (repr_for build s)) below v (inside_variant place (choosing f target s v)) rest h))
+  flat-role below f place (catch_all target) ns h = flat-plain f place (catch_all target)
+  flat-role below f place (leaf target) ns h = flat-plain f place (leaf target)
 
-  flat-fields : (below : Walk) → AllWalksFlat below → (fs : List Field) (p : Path) (o : Bool) (ns : List ℕ) → Emits-flat (walk_fields_step below build fs p o ns)
+  flat-fields : (below : Walk) → AllWalksFlat below → (fs : List Field) (place : Place) (ns : List ℕ) → Emits-flat (walk_fields_step below build fs place ns)
   unfolding walk_fields_step Emits-flat AllFlat
-  flat-fields below h [] p o ns = tt
-  flat-fields below h (f ∷ fs) p o ns = flat-and_then (walk_role below build f p o ns (role_of build.catalogue f)) _ (flat-role below f p o ns (role_of build.catalogue f) h) (λ rest. flat-fields below h fs p o rest)
+  flat-fields below h [] place ns = tt
+  flat-fields below h (f ∷ fs) place ns =
+      flat-and_then (walk_role below build f place (role_of build.catalogue f) ns) _
+      (flat-role below f place (role_of build.catalogue f) ns h) (λ rest. flat-fields below h fs place rest)
 
-  flat-within : (n : ℕ) (fs : List Field) (p : Path) (o : Bool) (ns : List ℕ) → Emits-flat (walk_within n build fs p o ns)
+  flat-within : (n : ℕ) (fs : List Field) (place : Place) (ns : List ℕ) → Emits-flat (walk_within n build fs place ns)
   unfolding walk_within Emits-flat AllWalksFlat
-  flat-within zero fs p o ns = tt
-  flat-within (suc n) fs p o ns = flat-fields (walk_within n build) (flat-within n) fs p o ns
+  flat-within zero fs place ns = tt
+  flat-within (suc n) fs place ns = flat-fields (walk_within n build) (flat-within n) fs place ns
 
-  flat-walk : (fs : List Field) (p : Path) (o : Bool) (ns : List ℕ) → Emits-flat (walk_fields build fs p o ns)
+  flat-walk : (fs : List Field) (place : Place) (ns : List ℕ) → Emits-flat (walk_fields build fs place ns)
   unfolding walk_fields
-  flat-walk fs p o ns = flat-within (suc (length build.catalogue)) fs p o ns
+  flat-walk fs place ns = flat-within (suc (length build.catalogue)) fs place ns
 
-  flat-inside : (v : Variant) (q : Path) (o : Bool) (ns : List ℕ) → Emits-flat (walk_content build v q o ns)
+  flat-inside : (v : Variant) (place : Place) (ns : List ℕ) → Emits-flat (walk_content build v place ns)
   unfolding walk_content
-  flat-inside v q o ns = flat-walk (content_of build.catalogue v).fields (q ++ (content_of build.catalogue v).path) o ns
+  flat-inside v place ns = flat-walk (content_of build.catalogue v).fields (further place (content_of build.catalogue v).path) ns
 
   flat-root_variant : (s : Shape) (v : Variant) (ns : List ℕ) → Emits-flat (walk_root_variant build s v ns)
   unfolding walk_root_variant AllFlat
-  flat-root_variant s v ns = flat-put_before (pick_of s v [] ∷ []) (walk_content build v (by_variant [] (string_bytes v.name) ∷ []) false ns) tt (flat-inside v (by_variant [] (string_bytes v.name) ∷ []) false ns)
+  flat-root_variant s v ns = flat-put_before (pick_of s v [] ∷ []) (walk_content build v (at_root_variant v) ns) tt (flat-inside v (at_root_variant v) ns)
 
   flat-kind : (s : Shape) (k : ShapeKind) (ns : List ℕ) → Emits-flat (walk_root_kind build s k ns)
   unfolding Emits-flat AllFlat
-  flat-kind s (Struct kind fs) ns = flat-walk fs.items [] false ns
+  flat-kind s (Struct kind fs) ns = flat-walk fs.items at_root ns
   flat-kind s (Enum vs) ns = flat-choose vs.items ns (λ v rest. walk_root_variant build s v rest) (λ v rest. flat-root_variant s v rest)
   flat-kind s _ ns = tt
 

@@ -1,12 +1,11 @@
 -- Emissions one by one.
-use Rattle.std.proofs.Common.{◌≡◌, ℕ, List, [], ◌∷◌, ◌++◌, Option, Some, None, sym, refl, ap, ◌∙◌, IsSome}
-use Rattle.std.proofs.Common.{subst, map}
+use Rattle.std.proofs.Common.{◌≡◌, ℕ, List, [], ◌∷◌, ◌++◌, Option, Some, None, sym, refl, ap, ◌∙◌, IsSome, subst, map}
 use Rattle.std.specs.Prelude.{Result, IsErrAnd, IsSomeAnd}
 use Rattle.std.specs.FinMap as finite
 use Rattle.std.proofs.lemmas.Result.{err_from_is_err_and}
 use Rattle.facet_solver_shape.specs.declared.resolution.error.SchemaError as schema
 use Rattle.facet_solver_shape.specs.declared.resolution.error.SchemaError.TheVariants.{DuplicateField, OutOfMemory}
-use Rattle.facet_solver.specs.Filling.{Gives, ErrorOf, duplicate_view}
+use Rattle.facet_solver.specs.Outcome.{Gives, ErrorOf, duplicate_view, Outcome, Duplicate, resolved, duplicate, next, with_known, take_in, take_all, effect}
 use Rattle.facet_solver_shape.specs.Names.{Name}
 use Rattle.facet_solver.specs.Nested.{KeyPath}
 use Rattle.facet_solver.specs.KeyPaths.{with_key_paths}
@@ -14,7 +13,6 @@ use Rattle.facet_solver.specs.Emissions.{Emission, a_field, a_key_path, a_pick, 
 use Rattle.facet_solver.specs.Walk.{Walked, put_before, and_then}
 use Rattle.facet_solver_shape.specs.Resolved.{FieldView, Pick, Resolved, IsAdded, key_of_field, with_key_path, with_pick, with_catch_all}
 use Rattle.facet_solver_shape.specs.Views.{IsRefusalOf}
-use Rattle.facet_solver.specs.Outcome.{Outcome, Duplicate, resolved, duplicate, next, with_known, take_in, take_all, effect}
 
 pub take_all-one : (r : Resolved) (e : Emission) → take_all r (e ∷ []) ≡ take_in r e
 unfolding take_all

@@ -8,7 +8,8 @@ use Rattle.facet_solver_shape.specs.declared.shape.Variant.{Variant}
 use Rattle.facet_solver_shape.specs.Places.{FieldsBelow, VariantsBelow, NamesEarlier}
 use Rattle.facet_solver.specs.Targets.{Catalogue}
 use Rattle.facet_solver.specs.Representation.{is_walked}
-use Rattle.facet_solver.specs.Roles.{regular, block, alternatives, catch_all, leaf, role_of}
+use Rattle.facet_solver.specs.declared.build.role.Target.{Target}
+use Rattle.facet_solver.specs.Roles.{Role, regular, block, alternatives, catch_all, leaf, role_of, IsPlain}
 use Rattle.facet_solver.specs.Content.{content_of}
 use Rattle.facet_solver.specs.Listing.{Choices, no_choice, product, indexed, choices_of_variant, choices_of_role, choices_of_fields_step, choices_of_fields, choices_of_field, choices_of_variants, choices_of_root, choices_of_root_shape, choices_of_root_kind}
 use Rattle.std.specs.Prelude.{Vec}
@@ -104,32 +105,32 @@ module _ (choices : Variant → Choices) where
 
 -- what a function that goes by a field's role needs
 module _ (build : Build) (f : Field) where
-  pub at-block : (fs : List Field) → block fs ≡ role_of build.catalogue f → choices_of_field build f ≡ choices_of_fields build fs
+  pub at-block : (target : Target) (fs : List Field) → block target fs ≡ role_of build.catalogue f → choices_of_field build f ≡ choices_of_fields build fs
   unfolding choices_of_field
-  at-block fs e = ap (choices_of_role (choices_of_fields build) build) (sym e)
+  at-block target fs e = ap (choices_of_role (choices_of_fields build) build) (sym e)
 
-  pub at-alternatives : (s : Shape) (vs : List Variant) → alternatives s vs ≡ role_of build.catalogue f → choices_of_field build f ≡ choices_of_variants build (is_walked (repr_for build s)) vs
+  pub at-alternatives : (target : Target) (s : Shape) (vs : List Variant) → alternatives target s vs ≡ role_of build.catalogue f
+      → choices_of_field build f ≡ choices_of_variants build (is_walked (repr_for build s)) vs
   unfolding choices_of_field choices_of_variants
-  at-alternatives s vs e = ap (choices_of_role (choices_of_fields build) build) (sym e)
+  at-alternatives target s vs e = ap (choices_of_role (choices_of_fields build) build) (sym e)
 
-  pub at-regular : regular ≡ role_of build.catalogue f → choices_of_field build f ≡ no_choice
+  pub at-plain : (r : Role) → r ≡ role_of build.catalogue f → IsPlain r → choices_of_field build f ≡ no_choice
   unfolding choices_of_field
-  at-regular e = ap (choices_of_role (choices_of_fields build) build) (sym e)
-
-  pub at-catch_all : catch_all ≡ role_of build.catalogue f → choices_of_field build f ≡ no_choice
-  unfolding choices_of_field
-  at-catch_all e = ap (choices_of_role (choices_of_fields build) build) (sym e)
-
-  pub at-leaf : leaf ≡ role_of build.catalogue f → choices_of_field build f ≡ no_choice
-  unfolding choices_of_field
-  at-leaf e = ap (choices_of_role (choices_of_fields build) build) (sym e)
+  at-plain r e h = ap (choices_of_role (choices_of_fields build) build) (sym e) ∙ go r h
+    where
+      go : (r : Role) → IsPlain r → choices_of_role (choices_of_fields build) build r ≡ no_choice
+      go regular h = refl
+      go (block target fs) h = absurd h
+      go (alternatives target s vs) h = absurd h
+      go (catch_all target) h = refl
+      go (leaf target) h = refl
 
 module _ (cat : Catalogue) (checked : NamesEarlier cat) (f : Field) where
-  pub block-below : (fs : List Field) → block fs ≡ role_of cat f → FieldsBelow f.shape fs
-  block-below fs e = subst (RoleBelow f.shape) (sym e) (role_of-below cat checked f)
+  pub block-below : (target : Target) (fs : List Field) → block target fs ≡ role_of cat f → FieldsBelow f.shape fs
+  block-below target fs e = subst (RoleBelow f.shape) (sym e) (role_of-below cat checked f)
 
-  pub alternatives-below : (s : Shape) (vs : List Variant) → alternatives s vs ≡ role_of cat f → VariantsBelow f.shape vs
-  alternatives-below s vs e = subst (RoleBelow f.shape) (sym e) (role_of-below cat checked f)
+  pub alternatives-below : (target : Target) (s : Shape) (vs : List Variant) → alternatives target s vs ≡ role_of cat f → VariantsBelow f.shape vs
+  alternatives-below target s vs e = subst (RoleBelow f.shape) (sym e) (role_of-below cat checked f)
 
 -- the choices of one variant
 module _ (build : Build) (v : Variant) where

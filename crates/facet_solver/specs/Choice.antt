@@ -1,12 +1,16 @@
 -- The choices of variants of a root, their order, and what each resolves to.
 use Rattle.facet_solver.specs.Build.{Build}
-use Rattle.std.specs.Prelude.{◌≡◌, ℕ, ◌<◌, ◌⊎◌, List, [], ◌∷◌, Some, Contains, AllPairs, slice_get, fold}
+use Rattle.std.specs.Prelude.{◌≡◌, ℕ, ◌<◌, ◌⊎◌, List, [], ◌∷◌, Some, Contains, AllPairs, slice_get, fold, ⊤, None}
 use Rattle.facet_solver_shape.specs.Names.{Name}
 use Rattle.facet_solver_shape.specs.Paths.{Step}
 use Rattle.facet_solver_shape.specs.Resolved.{FieldView, Resolved, nothing, key_of_field, with_field, with_key_path, with_pick, with_catch_all}
 use Rattle.facet_solver.specs.Targets.{Catalogue}
 use Rattle.facet_solver.specs.Emissions.{Emission, a_field, a_key_path, a_pick, a_catch_all}
 use Rattle.facet_solver.specs.Walk.{walk_root}
+use Rattle.facet_solver_shape.specs.declared.resolution.error.SchemaError.{SchemaError}
+use Rattle.facet_solver_shape.specs.declared.resolution.error.SchemaError.TheVariants.{DuplicateField, OutOfMemory}
+use Rattle.std.specs.FinMap as map
+use Rattle.facet_solver_shape.specs.Keys.{Key}
 
 -- the walk of the root uses the numbers up exactly, and emits these
 abbrev pub Emits : Build → ℕ → List ℕ → List Emission → Type 0
@@ -84,3 +88,12 @@ pub record Enumerates (build : Build) (root : ℕ) (resolutions : List Resolved)
   pub choices : List (List ℕ)
   pub listed : ListsChoices build root choices
   pub resolved : ResolvesEach build root choices resolutions
+
+-- a duplicate names a clash of some choice, and want of memory comes at any time
+abbrev pub IsRefusal : Build → ℕ → SchemaError → Type 0
+IsRefusal build root (DuplicateField d) = IsClash build root d.field_name.now d.first_path d.second_path
+IsRefusal build root OutOfMemory = ⊤
+
+-- each field stands under its name without category, so that no two have one name
+abbrev pub GoesByName : Resolved → Type 0
+GoesByName r = (k : Key) (f : FieldView) → map.get r.fields k ≡ Some f → k ≡ record { dom = None; name = f.name }

@@ -1,7 +1,7 @@
 -- The choices as a list, by parts: a product over fields, a sum over variants. No public clause speaks of it: those say
 -- what a list of all choices is.
 use Rattle.facet_solver.specs.Build.{Build, repr_for}
-use Rattle.std.specs.Prelude.{ℕ, zero, suc, List, [], ◌∷◌, ◌++◌, map, flat_map, Bool, true, if◌then◌else◌, Option, Some, None, slice_get, length}
+use Rattle.std.specs.Prelude.{ℕ, zero, suc, List, [], ◌∷◌, ◌++◌, map, flat_map, Bool, true, if◌then◌else◌, Option, Some, None, slice_get, length, Vec}
 use Rattle.facet_solver_shape.specs.declared.shape.Shape.{Shape}
 use Rattle.facet_solver_shape.specs.declared.shape.Field.{Field}
 use Rattle.facet_solver_shape.specs.declared.shape.Variant.{Variant}
@@ -11,6 +11,7 @@ use Rattle.facet_solver.specs.Targets.{Catalogue}
 use Rattle.facet_solver.specs.Representation.{is_walked}
 use Rattle.facet_solver.specs.Content.{content_of}
 use Rattle.facet_solver.specs.Roles.{Role, regular, block, alternatives, catch_all, leaf, role_of}
+use Rattle.std.specs.declared.alloc.Global.{Global}
 
 -- lists of places of variants
 abbrev pub Choices : Type 0
@@ -36,10 +37,10 @@ choices_of_variant below cat walked v = if walked then below (content_of cat v).
 -- those of a field by its role
 abbrev pub choices_of_role : (List Field → Choices) → Build → Role → Choices
 choices_of_role below build regular = no_choice
-choices_of_role below build (block fs) = below fs
-choices_of_role below build (alternatives s vs) = indexed 0 (choices_of_variant below build.catalogue (is_walked (repr_for build s))) vs
-choices_of_role below build catch_all = no_choice
-choices_of_role below build leaf = no_choice
+choices_of_role below build (block target fs) = below fs
+choices_of_role below build (alternatives target s vs) = indexed 0 (choices_of_variant below build.catalogue (is_walked (repr_for build s))) vs
+choices_of_role below build (catch_all target) = no_choice
+choices_of_role below build (leaf target) = no_choice
 
 -- those of fields
 unfoldable pub choices_of_fields_step : (List Field → Choices) → Build → List Field → Choices
@@ -77,3 +78,7 @@ choices_of_field build f = choices_of_role (choices_of_fields build) build (role
 -- those among variants whose contents are walked or not
 unfoldable pub choices_of_variants : Build → Bool → List Variant → Choices
 choices_of_variants build walked vs = indexed 0 (choices_of_variant (choices_of_fields build) build.catalogue walked) vs
+
+-- lists of numbers, wherever they lie
+abbrev pub lists : List (Vec ℕ Global) → List (List ℕ)
+lists vs = map (λ v. v.items) vs

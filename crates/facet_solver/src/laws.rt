@@ -5,10 +5,10 @@ ghost use Rattle.facet_solver_shape.specs.Names.{Name};
 ghost use Rattle.facet_solver_shape.specs.Resolved.{Resolved};
 ghost use Rattle.facet_solver_shape.specs.declared.shape.Field.{Field};
 ghost use Rattle.facet_solver_shape.specs.declared.shape.Variant.{Variant};
-ghost use Rattle.facet_solver.specs.Choice.{IsChoice, IsClash, IsResolution, ListsChoices, Enumerates};
+ghost use Rattle.facet_solver.specs.Choice.{IsChoice, IsClash, IsResolution, ListsChoices, Enumerates, GoesByName};
 ghost use Rattle.facet_solver.specs.Count.{count_fields, count_fields_step, count_of_root};
-ghost use Rattle.facet_solver.specs.Emissions.{Path};
-ghost use Rattle.facet_solver.specs.FlatFields.{GoesByName};
+ghost use Rattle.facet_solver.specs.Place.{Path};
+ghost use Rattle.facet_solver.specs.declared.build.place.Place.{Place};
 ghost use Rattle.facet_solver.specs.declared.build.representation.Format.TheVariants.{Flat};
 ghost use Rattle.facet_solver.specs.Nested.{nested_paths, content_paths};
 ghost use Rattle.facet_solver.specs.NestedLaws.{FollowsKinds, EndsByLength, HasNoGaps};
@@ -33,7 +33,8 @@ pub fn no_choice_begins_another()
 /// A root that has a list of resolutions has no clash.
 pub fn resolutions_exclude_clashes()
     ensures { (build : Build) (root : ℕ) (rs : List Resolved)
-        → Enumerates build root rs → (name : Name) (first second : Path) → ¬ IsClash build root name first second }
+        → Enumerates build root rs
+        → (name : Name) (first second : Path) → ¬ IsClash build root name first second }
 {}
 
 /// The list of all choices is as long as the number of choices.
@@ -45,8 +46,9 @@ pub fn all_choices_are_counted()
 /// The walk of fields is made of the walks of what is flattened into them: no level of a catalogue lies too deep for it.
 pub fn walks_follow_their_fields()
     ensures { (build : Build) → IsChecked build.catalogue
-        → (fields : List Field) (path : Path) (unwrapped : Bool) (numbers : List ℕ)
-        → walk_fields build fields path unwrapped numbers ≡ walk_fields_step (walk_fields build) build fields path unwrapped numbers }
+        → (fields : List Field) (place : Place) (indices : List ℕ)
+        → walk_fields build fields place indices
+        ≡ walk_fields_step (walk_fields build) build fields place indices }
 {}
 
 /// The number of choices at fields is made of the numbers at what is flattened into them.

@@ -1,9 +1,9 @@
 //! All resolutions of a type.
 ghost use Rattle.std.specs.Prelude.{◌≡◌, ◌<◌, IfErr, IfOk, None, Some, length};
 ghost use Rattle.std.specs.Cmp.{partial_equiv_from_equiv};
-ghost use Rattle.facet_solver.specs.CountAnswer.{IsCountOf};
+ghost use Rattle.facet_solver.specs.Count.{IsCountOf};
 ghost use Rattle.facet_solver.specs.Build.{build_of};
-ghost use Rattle.facet_solver.specs.Refusal.{IsRefusal};
+ghost use Rattle.facet_solver.specs.Choice.{IsRefusal};
 ghost use Rattle.facet_solver.specs.Representation.{asked_view, externally_tagged, flattened, repr_view};
 ghost use Rattle.facet_solver.specs.SchemaView.{IsBuilt, flat_build};
 
@@ -141,18 +141,19 @@ impl<'c> Schema<'c> {
         count_of_root(build, root)
     }
 
-    // The schema that a build makes.
+    // The schema of a root, by what a build goes by.
     pub(crate) fn of_build(build: Build<'c>, root: ShapeId) -> Result<Schema<'c>, SchemaError<'c>>
         requires { root < length build.shapes.now }
         ensures built { IfOk result (IsBuilt (build_of build.entry) root) }
         ensures refused { IfErr result (IsRefusal (build_of build.entry) root) }
     {
+        let made = resolutions(build, root)?;
         Ok(Schema {
             shapes: build.shapes,
             root,
             representation: build.representation,
             format: build.format,
-            resolutions: resolutions(build, root)?,
+            resolutions: made,
         })
     }
 

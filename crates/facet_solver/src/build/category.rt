@@ -1,6 +1,6 @@
 //! The category of what a build adds to a resolution.
 ghost use Rattle.std.specs.Prelude.{◌≡◌};
-ghost use Rattle.facet_solver.specs.Categories as categories;
+ghost use Rattle.facet_solver.specs.Representation as categories;
 
 use crate::build::representation::Format;
 use facet_solver_shape::{DomMark, FieldCategory};

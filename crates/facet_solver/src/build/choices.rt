@@ -1,11 +1,11 @@
-//! The choices of variants of a root, as lists of the places of variants.
+//! The choices of variants of a root, as lists of the indices of variants.
 ghost use Rattle.std.specs.Prelude.{◌≡◌, ◌++◌, ◌<◌, map, length, IfOk, OnOk};
 ghost use Rattle.facet_solver_shape.specs.Places.{NamesEarlier, FieldsBelow, VariantsBelow};
 ghost use Rattle.facet_solver.specs.Listing as listing;
 ghost use Rattle.facet_solver.specs.Choice.{ListsChoices};
-ghost use Rattle.facet_solver.specs.ChoiceLists.{lists};
+ghost use Rattle.facet_solver.specs.Listing.{lists};
 ghost use Rattle.facet_solver.specs.Count.{count_of_root};
-ghost use Rattle.facet_solver.specs.CountView.{AreCounts};
+ghost use Rattle.facet_solver.specs.Counts.{AreCounts};
 ghost use Rattle.facet_solver.specs.Build.{build_of};
 
 use crate::build::content::content_fields;
@@ -15,7 +15,7 @@ use crate::build::role::{Role, role_of};
 use facet_solver_shape::{Field, ShapeId, ShapeKind, Variant};
 use std::alloc::{AllocError, Global};
 
-/// The places of the variants that are chosen, one for each enum that a walk meets.
+/// The indices of the variants that are chosen, one for each enum that a walk meets.
 pub(crate) type Choice = Vec<usize>;
 
 /// Adds `first` before each of `seconds`.
@@ -93,15 +93,15 @@ fn choices_of_field<'c>(
     ensures { IfOk result (λ v. lists v.items ≡ listing.choices_of_field (build_of build.entry) field.now) }
 {
     match role_of(build.shapes, field) {
-        Role::Block(fields) => choices_of_fields(build, counts, fields),
-        Role::Alternatives(shape, variants) => {
+        Role::Block(_, fields) => choices_of_fields(build, counts, fields),
+        Role::Alternatives(_, shape, variants) => {
             choices_of_variants(build, counts, build.walks_content(shape), variants)
         }
-        Role::Regular | Role::CatchAll | Role::Leaf => no_choice(build.alloc),
+        Role::Regular | Role::CatchAll(_) | Role::Leaf(_) => no_choice(build.alloc),
     }
 }
 
-/// Each variant's place before the choices of its content, where that is walked.
+/// Each variant's index before the choices of its content, where that is walked.
 #[cycle(choices)]
 fn choices_of_variants<'c>(
     build: Build<'c>,
@@ -115,13 +115,13 @@ fn choices_of_variants<'c>(
     ensures { IfOk result (λ v. lists v.items ≡ listing.choices_of_variants (build_of build.entry) walked variants.now) }
 {
     let mut found = Vec::new(build.alloc);
-    for (place, variant) in variants.iter().enumerate() {
+    for (index, variant) in variants.iter().enumerate() {
         let contents = if walked {
             choices_of_fields(build, counts, content_fields(build.shapes, variant))?
         } else {
             no_choice(build.alloc)?
         };
-        append_each(build.alloc, &mut found, &[place], &contents)?;
+        append_each(build.alloc, &mut found, &[index], &contents)?;
     }
     Ok(found)
 }

@@ -1,25 +1,24 @@
-//! The number of choices of variants, from a table by place.
+//! The number of choices of variants, from a table by index.
 ghost use Rattle.std.specs.Prelude.{◌≡◌, ◌<◌, length, IfOk};
 ghost use Rattle.facet_solver_shape.specs.Places.{NamesEarlier, FieldsBelow};
 ghost use Rattle.facet_solver.specs.Count as count;
-ghost use Rattle.facet_solver.specs.CountAnswer.{below_2_64};
-ghost use Rattle.facet_solver.specs.CountView as view;
-ghost use Rattle.facet_solver.specs.CountView.{CountsTo, AreCounts};
+ghost use Rattle.facet_solver.specs.Count.{below_2_64};
+ghost use Rattle.facet_solver.specs.Counts.{CountsTo, AreCounts};
 ghost use Rattle.facet_solver.specs.Build.{build_of};
 
 pub(crate) mod table;
 pub(crate) mod saturating;
 
 use crate::build::count::table::{
-    count_content, count_field, count_fields, count_shape, count_variants,
+    count_fields, count_shape, count_variants,
 };
 use crate::build::count::saturating::SaturatingCount;
 use crate::build::Build;
-use facet_solver_shape::{Field, ShapeId, ShapeKind, Variant};
+use facet_solver_shape::{Field, ShapeId, ShapeKind};
 use std::alloc::AllocError;
 use std::marker::Model;
 
-/// The number of choices at a flattened field, by the place of its target.
+/// The number of choices at a flattened field, by the index of its target.
 #[derive(Drop)]
 pub(crate) struct Counts {
     by_index: Vec<SaturatingCount>,
@@ -35,7 +34,7 @@ impl Model for Counts {
 }
 
 impl Counts {
-    /// Counts each place once, in order: a shape names earlier places alone.
+    /// Counts each shape once, in order: a shape names earlier ones alone.
     pub(crate) fn new(build: Build) -> Result<Counts, AllocError>
         ensures { IfOk result (AreCounts (build_of build.entry)) }
     {
@@ -46,16 +45,6 @@ impl Counts {
         Ok(Counts { by_index })
     }
 
-    /// The choices at one field.
-    pub(crate) fn of_field(&self, build: Build, field: &Field) -> SaturatingCount
-        requires checked { NamesEarlier build.shapes.now }
-        requires counted { AreCounts (build_of build) self.now }
-        requires below { field.now.shape < length build.shapes.now }
-        ensures { CountsTo result (view.count_field (build_of build.entry) field.now) }
-    {
-        count_field(build, self.by_index.as_slice(), field)
-    }
-
     /// The choices below fields.
     pub(crate) fn of_fields(&self, build: Build, fields: &[Field]) -> SaturatingCount
         requires checked { NamesEarlier build.shapes.now }
@@ -64,16 +53,6 @@ impl Counts {
         ensures { CountsTo result (count.count_fields (build_of build.entry) fields.now) }
     {
         count_fields(build, self.by_index.as_slice(), fields)
-    }
-
-    /// The choices below the content of a variant.
-    pub(crate) fn of_content(&self, build: Build, variant: &Variant) -> SaturatingCount
-        requires checked { NamesEarlier build.shapes.now }
-        requires counted { AreCounts (build_of build) self.now }
-        requires below { FieldsBelow (length build.shapes.now) variant.now.fields.items }
-        ensures { CountsTo result (view.count_content (build_of build.entry) variant.now) }
-    {
-        count_content(build, self.by_index.as_slice(), variant)
     }
 
     /// The choices of a root: an enum's are those of its variants' contents, whatever its representation.

@@ -5,18 +5,17 @@ ghost use Rattle.facet_solver_shape.specs.Places.{NamesEarlier};
 ghost use Rattle.facet_solver.specs.Emissions as emissions;
 ghost use Rattle.facet_solver.specs.Emissions.{a_key_path};
 ghost use Rattle.facet_solver.specs.Nested.{content_paths};
-ghost use Rattle.facet_solver.specs.Walk as walk;
-ghost use Rattle.facet_solver.specs.Outcome.{take_in, take_all, resolved};
-ghost use Rattle.facet_solver.specs.Filling.{Gives};
-ghost use Rattle.facet_solver.specs.Build.{build_of, repr_for};
-ghost use Rattle.facet_solver.specs.RoleView.{role_view, IsPlain};
+ghost use Rattle.facet_solver.specs.Place.{chosen_of};
+ghost use Rattle.facet_solver.specs.Outcome.{take_in, take_all, resolved, Gives};
+ghost use Rattle.facet_solver.specs.Build.{build_of};
+ghost use Rattle.facet_solver.specs.Roles.{role_view, IsPlain};
 
 use crate::build::field::{leaf_field, regular_field, catch_all_field, selector_field};
 use crate::build::nested::{add_content_paths, add_nested_paths};
 use crate::build::place::{Chosen, Place};
 use crate::build::Build;
 use crate::build::representation::EnumRepr;
-use crate::build::role::Role;
+use crate::build::role::{Role, Target};
 use facet_solver_shape::{
     Field, FieldInfo, FieldPath, KeyPath, Resolution, SchemaError, Shape, Variant,
 };
@@ -37,7 +36,8 @@ fn add_with_path<'c>(
     info: FieldInfo<'c>,
     resolution: &mut Resolution<'c>,
 ) -> Result<(), SchemaError<'c>>
-    ensures { Gives (take_all resolution.old (emissions.field_and_path (field_view info.entry) [])) result resolution.new }
+    ensures { let emitted = emissions.field_and_path (field_view info.entry) [] in
+        Gives (take_all resolution.old emitted) result resolution.new }
 {
     let path = key_path(build.alloc, info.serialized_name)?;
     resolution.add_field(info)?;
@@ -53,7 +53,8 @@ fn emit_regular<'c>(
     resolution: &mut Resolution<'c>,
 ) -> Result<(), SchemaError<'c>>
     requires checked { NamesEarlier build.shapes.now }
-    ensures { Gives (take_all resolution.old (emissions.regular_emissions (build_of build.entry) field.now place.now.path place.now.unwrapped)) result resolution.new }
+    ensures { let emitted = emissions.emit_regular (build_of build.entry) field.now place.now in
+        Gives (take_all resolution.old emitted) result resolution.new }
 {
     let info = regular_field(build, field, place)?;
     add_with_path(build, info, resolution)?;
@@ -65,48 +66,53 @@ fn emit_regular<'c>(
 fn emit_catch_all<'c>(
     build: Build<'c>,
     field: &'c Field,
+    target: Target,
     place: &Place<'c>,
     resolution: &mut Resolution<'c>,
 ) -> Result<(), SchemaError<'c>>
-    ensures { Gives (take_all resolution.old (emissions.catch_all_emissions (build_of build.entry) field.now place.now.path)) result resolution.new }
+    ensures { let emitted = emissions.emit_catch_all (build_of build.entry) field.now target place.now in
+        Gives (take_all resolution.old emitted) result resolution.new }
 {
-    let info = catch_all_field(build, field, place)?;
+    let info = catch_all_field(build, field, target, place)?;
     resolution.set_catch_all_map(info.category, info)?;
     Ok(())
 }
 
 /// What a flattened field emits that is no struct, enum, map or dynamic value.
-#[tactic(auto, unfolding(crate::specs::Emissions::leaf_emissions))]
+#[tactic(auto, unfolding(crate::specs::Emissions::emit_leaf))]
 fn emit_leaf<'c>(
     build: Build<'c>,
     field: &'c Field,
+    target: Target,
     place: &Place<'c>,
     resolution: &mut Resolution<'c>,
 ) -> Result<(), SchemaError<'c>>
-    ensures { Gives (take_all resolution.old (emissions.leaf_emissions (build_of build.entry) field.now place.now.path place.now.unwrapped)) result resolution.new }
+    ensures { let emitted = emissions.emit_leaf (build_of build.entry) field.now target place.now in
+        Gives (take_all resolution.old emitted) result resolution.new }
 {
-    let info = leaf_field(build, field, place)?;
+    let info = leaf_field(build, field, target, place)?;
     add_with_path(build, info, resolution)
 }
 
-/// What a field emits that takes no number and has nothing below it.
-#[tactic(auto, unfolding(crate::specs::Walk::plain_emissions))]
+/// What a field emits that takes no variant and has nothing below it.
+#[tactic(auto, unfolding(crate::specs::Emissions::emit_plain))]
 pub(crate) fn emit_plain<'c>(
     build: Build<'c>,
-    role: Role<'c>,
+    role: &Role<'c>,
     field: &'c Field,
     place: &Place<'c>,
     resolution: &mut Resolution<'c>,
 ) -> Result<(), SchemaError<'c>>
     requires checked { NamesEarlier build.shapes.now }
-    requires plain { IsPlain (role_view role) }
-    ensures { Gives (take_all resolution.old (walk.plain_emissions (build_of build.entry) field.now place.now.path place.now.unwrapped (role_view role.entry))) result resolution.new }
+    requires plain { IsPlain (role_view role.now) }
+    ensures { let emitted = emissions.emit_plain (build_of build.entry) field.now place.now (role_view role.now) in
+        Gives (take_all resolution.old emitted) result resolution.new }
 {
     match role {
         Role::Regular => emit_regular(build, field, place, resolution),
-        Role::CatchAll => emit_catch_all(build, field, place, resolution),
-        Role::Leaf => emit_leaf(build, field, place, resolution),
-        Role::Block(_) | Role::Alternatives(_, _) => unreachable!(),
+        Role::CatchAll(target) => emit_catch_all(build, field, *target, place, resolution),
+        Role::Leaf(target) => emit_leaf(build, field, *target, place, resolution),
+        Role::Block(_, _) | Role::Alternatives(_, _, _) => unreachable!(),
     }
 }
 
@@ -127,12 +133,12 @@ pub(crate) fn add_pick<'c>(
 fn add_selector<'c>(
     build: Build<'c>,
     name: &'c str,
-    chosen: Chosen<'c>,
+    chosen: &Chosen<'c>,
     place: &Place<'c>,
     resolution: &mut Resolution<'c>,
 ) -> Result<(), SchemaError<'c>>
-    ensures { Gives (take_all resolution.old (emissions.field_and_path (emissions.selector_field name.now (build_of build.entry) chosen.entry.field.now
-        (emissions.variant_path place.now.path chosen.entry.field.now chosen.entry.variant.now) place.now.unwrapped) [])) result resolution.new }
+    ensures { let field = emissions.selector_field (build_of build.entry) name.now (chosen_of chosen.now) place.now in
+        Gives (take_all resolution.old (emissions.field_and_path field [])) result resolution.new }
 {
     let info = selector_field(build, name, chosen, place)?;
     add_with_path(build, info, resolution)
@@ -146,7 +152,8 @@ fn add_content<'c>(
     resolution: &mut Resolution<'c>,
 ) -> Result<(), AllocError>
     requires checked { NamesEarlier build.shapes.now }
-    ensures { OnOk result (take_all resolution.old (a_key_path (name.now ∷ []) ∷ emissions.paths_behind name.now (content_paths build.entry.shapes.now variant.now)) ≡ resolved resolution.new) }
+    ensures { let paths = emissions.paths_behind name.now (content_paths build.entry.shapes.now variant.now) in
+        OnOk result (take_all resolution.old (a_key_path (name.now ∷ []) ∷ paths) ≡ resolved resolution.new) }
 {
     resolution.add_key_path(key_path(build.alloc, name)?)?;
     add_content_paths(build, name, variant, resolution)?;
@@ -156,13 +163,13 @@ fn add_content<'c>(
 /// Adds the selector of a chosen variant and its key paths, by the enum's representation.
 fn emit_selector<'c>(
     build: Build<'c>,
-    chosen: Chosen<'c>,
+    chosen: &Chosen<'c>,
     place: &Place<'c>,
     resolution: &mut Resolution<'c>,
 ) -> Result<(), SchemaError<'c>>
     requires checked { NamesEarlier build.shapes.now }
-    ensures { Gives (take_all resolution.old (emissions.selector_emissions (repr_for (build_of build.entry) chosen.entry.shape.now) (build_of build.entry)
-        chosen.entry.field.now chosen.entry.variant.now (emissions.variant_path place.now.path chosen.entry.field.now chosen.entry.variant.now) place.now.unwrapped)) result resolution.new }
+    ensures { let emitted = emissions.emit_selector (build_of build.entry) (chosen_of chosen.now) place.now in
+        Gives (take_all resolution.old emitted) result resolution.new }
 {
     let variant = chosen.variant;
     match build.repr_for(chosen.shape) {
@@ -184,15 +191,15 @@ fn emit_selector<'c>(
 /// What a flattened enum emits at a chosen variant, before the variant's content: the pick and the selector.
 pub(crate) fn emit_variant<'c>(
     build: Build<'c>,
-    chosen: Chosen<'c>,
+    chosen: &Chosen<'c>,
     place: &Place<'c>,
     resolution: &mut Resolution<'c>,
 ) -> Result<(), SchemaError<'c>>
     requires checked { NamesEarlier build.shapes.now }
-    ensures { Gives (take_all resolution.old (emissions.variant_emissions (build_of build.entry)
-        chosen.entry.field.now chosen.entry.shape.now chosen.entry.variant.now place.now.path place.now.unwrapped)) result resolution.new }
+    ensures { let emitted = emissions.emit_variant (build_of build.entry) (chosen_of chosen.now) place.now in
+        Gives (take_all resolution.old emitted) result resolution.new }
 {
-    let path = place.field_path(build, chosen.field)?;
+    let path = place.field_path(build.alloc, chosen.field)?;
     add_pick(path, chosen.shape, chosen.variant, resolution)?;
     emit_selector(build, chosen, place, resolution)
 }

@@ -2,11 +2,12 @@
 ghost use Rattle.std.specs.Prelude.{◌≡◌, IfOk};
 ghost use Rattle.facet_solver_shape.specs.Views.{field_view};
 ghost use Rattle.facet_solver.specs.Emissions as emissions;
+ghost use Rattle.facet_solver.specs.Place.{chosen_of};
 ghost use Rattle.facet_solver.specs.Build.{build_of};
 
 use crate::build::place::{Chosen, Place};
 use crate::build::Build;
-use crate::build::role::{is_option, target_of};
+use crate::build::role::{Target, is_option};
 use facet_solver_shape::{Field, FieldInfo};
 use std::alloc::AllocError;
 
@@ -17,11 +18,11 @@ pub(crate) fn regular_field<'c>(
     field: &'c Field,
     place: &Place<'c>,
 ) -> Result<FieldInfo<'c>, AllocError>
-    ensures { IfOk result (λ info. field_view info ≡ emissions.regular_field (build_of build.entry) field.now place.now.path place.now.unwrapped) }
+    ensures { IfOk result (λ info. field_view info ≡ emissions.regular_field (build_of build.entry) field.now place.now) }
 {
     Ok(FieldInfo {
         serialized_name: field.effective_name(),
-        path: place.field_path(build, field)?,
+        path: place.field_path(build.alloc, field)?,
         required: !place.unwrapped && !field.has_default && !is_option(build.shapes, field.shape),
         value_shape: field.shape,
         field,
@@ -34,15 +35,16 @@ pub(crate) fn regular_field<'c>(
 pub(crate) fn catch_all_field<'c>(
     build: Build<'c>,
     field: &'c Field,
+    target: Target,
     place: &Place<'c>,
 ) -> Result<FieldInfo<'c>, AllocError>
-    ensures { IfOk result (λ info. field_view info ≡ emissions.catch_all_field (build_of build.entry) field.now place.now.path) }
+    ensures { IfOk result (λ info. field_view info ≡ emissions.catch_all_field (build_of build.entry) field.now target place.now) }
 {
     Ok(FieldInfo {
         serialized_name: field.effective_name(),
-        path: place.field_path(build, field)?,
+        path: place.field_path(build.alloc, field)?,
         required: false,
-        value_shape: target_of(build.shapes, field),
+        value_shape: target.shape,
         field,
         category: build.format.catch_all_category(field.dom),
     })
@@ -53,18 +55,18 @@ pub(crate) fn catch_all_field<'c>(
 pub(crate) fn leaf_field<'c>(
     build: Build<'c>,
     field: &'c Field,
+    target: Target,
     place: &Place<'c>,
 ) -> Result<FieldInfo<'c>, AllocError>
-    ensures { IfOk result (λ info. field_view info ≡ emissions.leaf_field (build_of build.entry) field.now place.now.path place.now.unwrapped) }
+    ensures { IfOk result (λ info. field_view info ≡ emissions.leaf_field (build_of build.entry) field.now target place.now) }
 {
-    let target = target_of(build.shapes, field);
     Ok(FieldInfo {
         serialized_name: field.effective_name(),
-        path: place.field_path(build, field)?,
-        required: !place.unwrapped_at(build, field)
+        path: place.field_path(build.alloc, field)?,
+        required: !place.unwrapped_at(target)
             && !field.has_default
-            && !is_option(build.shapes, target),
-        value_shape: target,
+            && !is_option(build.shapes, target.shape),
+        value_shape: target.shape,
         field,
         category: build.format.field_category(field.dom),
     })
@@ -75,17 +77,17 @@ pub(crate) fn leaf_field<'c>(
 pub(crate) fn selector_field<'c>(
     build: Build<'c>,
     name: &'c str,
-    chosen: Chosen<'c>,
+    chosen: &Chosen<'c>,
     place: &Place<'c>,
 ) -> Result<FieldInfo<'c>, AllocError>
-    ensures { IfOk result (λ info. field_view info ≡ emissions.selector_field name.now (build_of build.entry) chosen.entry.field.now
-        (emissions.variant_path place.now.path chosen.entry.field.now chosen.entry.variant.now) place.now.unwrapped) }
+    ensures { let chosen = chosen_of chosen.now in
+        IfOk result (λ info. field_view info ≡ emissions.selector_field (build_of build.entry) name.now chosen place.now) }
 {
     Ok(FieldInfo {
         serialized_name: name,
-        path: place.variant_path(build, chosen)?,
-        required: !place.unwrapped_at(build, chosen.field),
-        value_shape: target_of(build.shapes, chosen.field),
+        path: place.variant_path(build.alloc, chosen)?,
+        required: !place.unwrapped_at(chosen.target),
+        value_shape: chosen.target.shape,
         field: chosen.field,
         category: build.format.selector_category(),
     })

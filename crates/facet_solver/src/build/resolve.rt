@@ -1,12 +1,10 @@
 //! The resolutions of a root.
 ghost use Rattle.std.specs.Prelude.{◌≡◌, ◌<◌, ◌∷◌, [], IsSome, IfOk, IfErr, length};
 ghost use Rattle.facet_solver_shape.specs.Places.{NamesEarlier, FieldsBelow};
-ghost use Rattle.facet_solver.specs.Choice.{IsChoice, IsResolution, Enumerates};
+ghost use Rattle.facet_solver.specs.Choice.{IsChoice, IsResolution, Enumerates, IsRefusal};
 ghost use Rattle.facet_solver.specs.Count.{count_of_root};
-ghost use Rattle.facet_solver.specs.Filling.{Walks};
-ghost use Rattle.facet_solver.specs.Outcome.{effect};
+ghost use Rattle.facet_solver.specs.Outcome.{Walks, effect};
 ghost use Rattle.facet_solver.specs.Build.{build_of};
-ghost use Rattle.facet_solver.specs.Refusal.{IsRefusal};
 ghost use Rattle.facet_solver.specs.Walk as walk;
 
 use crate::build::choices::choices_of_root;
@@ -56,24 +54,25 @@ fn resolve<'c>(
 fn walk_root<'c, 'n>(
     build: Build<'c>,
     root: ShapeId,
-    numbers: &'n [usize],
+    indices: &'n [usize],
     resolution: &mut Resolution<'c>,
 ) -> Result<&'n [usize], SchemaError<'c>>
     requires has { root < length build.shapes.now }
-    requires walked { IsSome (walk.walk_root (build_of build) root numbers.now) }
-    ensures { Walks (effect resolution.old (walk.walk_root (build_of build.entry) root numbers.now)) result resolution.new }
+    requires walked { IsSome (walk.walk_root (build_of build) root indices.now) }
+    ensures { let walked = walk.walk_root (build_of build.entry) root indices.now in
+        Walks (effect resolution.old walked) result resolution.new }
 {
     let shape = build.shape(root);
     match &shape.kind {
         ShapeKind::Struct { fields, .. } => {
-            let place = Place::root(build);
-            walk_fields(build, fields, &place, numbers, resolution)
+            let place = Place::root(build.alloc);
+            walk_fields(build, fields, &place, indices, resolution)
         }
         ShapeKind::Enum { variants } => {
-            let (variant, rest) = next_variant(variants, numbers);
+            let (variant, rest) = next_variant(variants, indices);
             walk_root_variant(build, shape, variant, rest, resolution)
         }
-        _ => Ok(numbers),
+        _ => Ok(indices),
     }
 }
 
@@ -82,15 +81,16 @@ fn walk_root_variant<'c, 'n>(
     build: Build<'c>,
     shape: &'c Shape,
     variant: &'c Variant,
-    numbers: &'n [usize],
+    indices: &'n [usize],
     resolution: &mut Resolution<'c>,
 ) -> Result<&'n [usize], SchemaError<'c>>
     requires checked { NamesEarlier build.shapes.now }
     requires below { FieldsBelow (length build.shapes.now) variant.now.fields.items }
-    requires walked { IsSome (walk.walk_root_variant (build_of build) shape.now variant.now numbers.now) }
-    ensures { Walks (effect resolution.old (walk.walk_root_variant (build_of build.entry) shape.now variant.now numbers.now)) result resolution.new }
+    requires walked { IsSome (walk.walk_root_variant (build_of build) shape.now variant.now indices.now) }
+    ensures { let walked = walk.walk_root_variant (build_of build.entry) shape.now variant.now indices.now in
+        Walks (effect resolution.old walked) result resolution.new }
 {
-    let inside = Place::root_variant(build, variant)?;
+    let inside = Place::root_variant(build.alloc, variant)?;
     add_pick(FieldPath::empty(build.alloc), shape, variant, resolution)?;
-    walk_content(build, variant, &inside, numbers, resolution)
+    walk_content(build, variant, &inside, indices, resolution)
 }

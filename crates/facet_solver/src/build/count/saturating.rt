@@ -1,7 +1,7 @@
 //! A number that is exact as long as it is small.
 ghost use Rattle.std.specs.Prelude.{◌≡◌, ℕ, ◌+◌, ◌*◌, ◌↔◌, IsTrue};
-ghost use Rattle.facet_solver.specs.CountAnswer.{below_2_64};
-ghost use Rattle.facet_solver.specs.CountView.{CountsTo, saturating_of};
+ghost use Rattle.facet_solver.specs.Count.{below_2_64};
+ghost use Rattle.facet_solver.specs.Counts.{CountsTo, saturating_of};
 
 /// A number without bound: exact below 2^64, or else only known to be larger.
 #[derive(Clone, Copy)]

@@ -1,17 +1,14 @@
-//! The number of choices at a place of the catalogue, from those at the places before it.
+//! The number of choices at an index of the catalogue, from those at the indices before it.
 ghost use Rattle.std.specs.Prelude.{◌≡◌, ◌<◌, length};
 ghost use Rattle.facet_solver_shape.specs.Places.{NamesEarlier, FieldsBelow, VariantsBelow, KindBelow};
 ghost use Rattle.facet_solver.specs.Count as count;
-ghost use Rattle.facet_solver.specs.Count.{count_role};
-ghost use Rattle.facet_solver.specs.CountView as view;
-ghost use Rattle.facet_solver.specs.CountView.{CountsTo, AreFirstCounts};
+ghost use Rattle.facet_solver.specs.Counts.{CountsTo, AreFirstCounts};
 ghost use Rattle.facet_solver.specs.Build.{build_of};
-ghost use Rattle.facet_solver.specs.Roles as roles;
 
 use crate::build::content::newtype_struct;
 use crate::build::count::saturating::SaturatingCount;
 use crate::build::Build;
-use crate::build::role::target_of;
+use crate::build::role::{Role, role_of};
 use facet_solver_shape::{Field, Shape, ShapeKind, Variant};
 
 /// The choices at one field.
@@ -19,12 +16,11 @@ pub(crate) fn count_field(build: Build, counts: &[SaturatingCount], field: &Fiel
     requires checked { NamesEarlier build.shapes.now }
     requires counted { AreFirstCounts (build_of build) counts.now }
     requires below { field.now.shape < length counts.now }
-    ensures { CountsTo result (view.count_field (build_of build.entry) field.now) }
+    ensures { CountsTo result (count.count_field (build_of build.entry) field.now) }
 {
-    if field.flattened {
-        counts[target_of(build.shapes, field).index()]
-    } else {
-        SaturatingCount::Exact(1)
+    match role_of(build.shapes, field) {
+        Role::Block(target, _) | Role::Alternatives(target, _, _) => counts[target.shape.index()],
+        Role::Regular | Role::CatchAll(_) | Role::Leaf(_) => SaturatingCount::Exact(1),
     }
 }
 
@@ -47,7 +43,7 @@ pub(crate) fn count_content(build: Build, counts: &[SaturatingCount], variant: &
     requires checked { NamesEarlier build.shapes.now }
     requires counted { AreFirstCounts (build_of build) counts.now }
     requires below { FieldsBelow (length counts.now) variant.now.fields.items }
-    ensures { CountsTo result (view.count_content (build_of build.entry) variant.now) }
+    ensures { CountsTo result (count.count_content (build_of build.entry) variant.now) }
 {
     match newtype_struct(build.shapes, variant.fields.as_slice()) {
         Some(id) => counts[id.index()],
@@ -65,7 +61,7 @@ pub(crate) fn count_variants(
     requires checked { NamesEarlier build.shapes.now }
     requires counted { AreFirstCounts (build_of build) counts.now }
     requires below { VariantsBelow (length counts.now) variants.now }
-    ensures { CountsTo result (view.count_variants (build_of build.entry) walked variants.now) }
+    ensures { CountsTo result (count.count_variants (build_of build.entry) walked variants.now) }
 {
     let mut sum = SaturatingCount::Exact(0);
     for variant in variants {
@@ -84,7 +80,7 @@ pub(crate) fn count_shape(build: Build, counts: &[SaturatingCount], shape: &Shap
     requires checked { NamesEarlier build.shapes.now }
     requires counted { AreFirstCounts (build_of build) counts.now }
     requires below { KindBelow (length counts.now) shape.now.kind }
-    ensures { CountsTo result (count_role (count.count_fields (build_of build.entry)) (build_of build.entry) (roles.role_by_kind shape.now shape.now.kind)) }
+    ensures { CountsTo result (count.count_shape (build_of build.entry) shape.now) }
 {
     match &shape.kind {
         ShapeKind::Struct { fields, .. } => count_fields(build, counts, fields.as_slice()),

@@ -1,6 +1,5 @@
 use Rattle.std.proofs.Common.{◌≡◌, ◌++◌, drop, ◌+◌, ◌*◌}
-use Rattle.facet_solver.specs.Listing.{product, indexed, choices_of_fields, choices_of_variant, choices_of_variants}
-use Rattle.facet_solver.specs.ChoiceLists.{lists}
+use Rattle.facet_solver.specs.Listing.{product, indexed, choices_of_fields, choices_of_variant, choices_of_variants, lists}
 use Rattle.facet_solver.specs.Build.{build_of}
 use Rattle.facet_solver.proofs.Limits.{limit_of, limit_of_variants}
 use Rattle.facet_solver.proofs.Products.{choices_left}
@@ -20,7 +19,7 @@ invariant-choices_of_fields-loop-field l =
     product (lists l.found.items) (choices_left (build_of l.build) (drop l.field-index l.fields))
     ≡ choices_of_fields (build_of l.build) l.fields
 
-abbrev pub invariant-choices_of_variants-loop-place : goal.invariant-choices_of_variants-loop-place
-invariant-choices_of_variants-loop-place l =
-    lists l.found.items ++ indexed l.place (choices_of_variant (choices_of_fields (build_of l.build)) l.build.shapes.now l.walked) (drop l.place l.variants)
+abbrev pub invariant-choices_of_variants-loop-index : goal.invariant-choices_of_variants-loop-index
+invariant-choices_of_variants-loop-index l =
+    lists l.found.items ++ indexed l.index (choices_of_variant (choices_of_fields (build_of l.build)) l.build.shapes.now l.walked) (drop l.index l.variants)
     ≡ choices_of_variants (build_of l.build) l.walked l.variants

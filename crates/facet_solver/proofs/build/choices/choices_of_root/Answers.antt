@@ -6,8 +6,7 @@ use Rattle.std.specs.declared.alloc.AllocError.{AllocError}
 use Rattle.facet_solver.specs.Targets.{Catalogue}
 use Rattle.facet_solver.specs.Choice.{ListsChoices}
 use Rattle.facet_solver.specs.Count.{count_of_root}
-use Rattle.facet_solver.specs.Listing.{Choices, choices_of_root}
-use Rattle.facet_solver.specs.ChoiceLists.{lists}
+use Rattle.facet_solver.specs.Listing.{Choices, choices_of_root, lists}
 use Rattle.facet_solver.specs.Build.{Build, build_of}
 use Rattle.facet_solver.proofs.Bijection.{choices_listed}
 use Rattle.facet_solver.proofs.Counts.{root_count}

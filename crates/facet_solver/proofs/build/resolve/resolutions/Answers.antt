@@ -1,10 +1,9 @@
-use Rattle.std.proofs.Common.{ap, ◌∙◌, sym, subst, length, List, ℕ}
+use Rattle.std.proofs.Common.{ap, ◌∙◌, sym, subst, length, List, ℕ, take}
 use Rattle.std.specs.Prelude.{Vec}
-use Rattle.std.proofs.Common.{take}
 use Rattle.std.proofs.lemmas.List.{take_all}
 use Rattle.std.specs.declared.alloc.Global.{Global}
 use Rattle.facet_solver.specs.Choice.{IsChoice, ListsChoices, IsResolution}
-use Rattle.facet_solver.specs.ChoiceLists.{lists}
+use Rattle.facet_solver.specs.Listing.{lists}
 use Rattle.facet_solver.specs.Build.{build_of}
 use Rattle.facet_solver.proofs.Enumerations.{listed-choice, resolves-more, resolves-length}
 use Rattle.facet_solver.proofs.build.resolve.resolutions.Goals as goal

@@ -1,6 +1,6 @@
 use Rattle.std.proofs.Common.{take}
 use Rattle.facet_solver.specs.Choice.{ResolvesEach}
-use Rattle.facet_solver.specs.ChoiceLists.{lists}
+use Rattle.facet_solver.specs.Listing.{lists}
 use Rattle.facet_solver.specs.Build.{build_of}
 use Rattle.facet_solver.proofs.build.resolve.resolutions.Given as goal
 

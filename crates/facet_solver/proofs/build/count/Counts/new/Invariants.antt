@@ -1,5 +1,5 @@
 use Rattle.std.proofs.Common.{◌-◌, length}
-use Rattle.facet_solver.specs.CountView.{AreFirstCounts}
+use Rattle.facet_solver.specs.Counts.{AreFirstCounts}
 use Rattle.facet_solver.specs.Build.{build_of}
 use Rattle.facet_solver.proofs.build.count.Counts.new.Given as goal
 

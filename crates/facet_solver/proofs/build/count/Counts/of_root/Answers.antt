@@ -5,7 +5,8 @@ use Rattle.facet_solver_shape.proofs.EarlierPlaces.{names_earlier}
 use Rattle.facet_solver.specs.declared.build.count.saturating.SaturatingCount.{SaturatingCount}
 use Rattle.facet_solver.specs.declared.build.count.saturating.SaturatingCount.TheVariants.{Exact}
 use Rattle.facet_solver.specs.Build.{build_of}
-use Rattle.facet_solver.specs.CountView.{CountsTo, AreFirstCounts, count_variants, count_at}
+use Rattle.facet_solver.specs.Counts.{CountsTo, AreFirstCounts, count_at}
+use Rattle.facet_solver.specs.Count.{count_variants}
 use Rattle.facet_solver.proofs.Descent.{enum-below}
 use Rattle.facet_solver.proofs.RootCounts.{absent-count, enum-count, other-count}
 use Rattle.facet_solver.proofs.FieldCounts.{entry_counted}

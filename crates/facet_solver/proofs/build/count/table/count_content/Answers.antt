@@ -1,5 +1,5 @@
 use Rattle.std.proofs.Common.{◌<◌, length, arith}
-use Rattle.facet_solver.specs.Newtype.{IsNewtypeOf}
+use Rattle.facet_solver.specs.Content.{IsNewtypeOf}
 use Rattle.facet_solver.specs.Build.{build_of}
 use Rattle.facet_solver.proofs.FieldCounts.{newtype_counted}
 use Rattle.facet_solver.proofs.build.count.table.count_content.Goals as goal

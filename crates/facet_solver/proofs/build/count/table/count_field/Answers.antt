@@ -1,18 +1,17 @@
-use Rattle.std.proofs.Common.{◌<◌, ◌∙◌, length, arith}
+use Rattle.std.proofs.Common.{◌<◌, length, arith}
 use Rattle.facet_solver.specs.Build.{build_of}
-use Rattle.facet_solver.proofs.Descent.{target_of-le}
+use Rattle.facet_solver.proofs.Descent.{target_in_role-le}
 use Rattle.facet_solver.proofs.FieldCounts.{field_counted}
+use Rattle.facet_solver.proofs.RoleViews.{target_in_hand}
 use Rattle.facet_solver.proofs.build.count.table.count_field.Goals as goal
 
-pub returns-then-field : goal.returns-then-field
-returns-then-field c =
-    field_counted (build_of c.args.build) c.args.counts.now c.args.field.now c.index.result _
-    c.requires.checked c.requires.counted c.requires.below c.if-field.true (c.index.ensures ∙ c.target_of.ensures)
-
--- the target's place is not past the field's
+-- the target stands no later than the field's shape
 within : (c : goal.After-index) → c.index.result < length c.args.counts.now
 within c =
-    omega (arith, target_of-le c.args.build.shapes.now c.requires.checked c.args.field.now, c.requires.below, c.index.ensures, c.target_of.ensures)
+    let cat = c.args.build.shapes.now in
+    let f = c.args.field.now in
+    let target = target_in_hand cat f c.role_of.result c.in-Block.target c.role_of.ensures c.in-Block.is in
+    omega (arith, target_in_role-le cat c.requires.checked f c.in-Block.target target, c.requires.below, c.index.ensures)
 
 pub bounds-counts-index : goal.bounds-counts-index
 bounds-counts-index c = within c
@@ -21,3 +20,10 @@ pub offset_bounds-counts-index : goal.offset_bounds-counts-index
 offset_bounds-counts-index c =
     let at = within c in
     omega arith
+
+pub returns-in-Block : goal.returns-in-Block
+returns-in-Block c =
+    let f = c.args.field.now in
+    rw c.index.ensures
+    (field_counted (build_of c.args.build) c.args.counts.now f c.in-Block.target _ c.requires.checked c.requires.counted c.requires.below
+    (target_in_hand c.args.build.shapes.now f c.role_of.result c.in-Block.target c.role_of.ensures c.in-Block.is))

@@ -1,7 +1,7 @@
 use Rattle.std.proofs.Common.{◌<◌, ℕ, length, sym, subst, refl}
 use Rattle.facet_solver_shape.specs.declared.shape.Field.{Field}
-use Rattle.facet_solver.specs.Count.{count_fields_step, count_fields}
-use Rattle.facet_solver.specs.CountView.{CountsTo, count_field}
+use Rattle.facet_solver.specs.Count.{count_fields_step, count_fields, count_field}
+use Rattle.facet_solver.specs.Counts.{CountsTo}
 use Rattle.facet_solver.specs.Build.{build_of}
 use Rattle.facet_solver.proofs.Limits.{FieldsBelow-at}
 use Rattle.facet_solver.proofs.FieldCounts.{count_fields_step-more, count_fields_step-all}

@@ -1,6 +1,6 @@
 use Rattle.std.proofs.Common.{take}
 use Rattle.facet_solver.specs.Count.{count_fields_step, count_fields}
-use Rattle.facet_solver.specs.CountView.{CountsTo}
+use Rattle.facet_solver.specs.Counts.{CountsTo}
 use Rattle.facet_solver.specs.Build.{build_of}
 use Rattle.facet_solver.proofs.build.count.table.count_fields.Given as goal
 

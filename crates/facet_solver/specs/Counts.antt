@@ -8,40 +8,29 @@ use Rattle.facet_solver_shape.specs.declared.shape.Variant.{Variant}
 use Rattle.facet_solver.specs.Targets.{Catalogue}
 use Rattle.facet_solver.specs.Content.{content_of}
 use Rattle.facet_solver.specs.Roles.{role_of, role_of_target}
-use Rattle.facet_solver.specs.Count.{count_role, count_variant, count_fields}
+use Rattle.std.specs.Option.{option_map_or}
+use Rattle.facet_solver.specs.Count.{count_shape}
 
--- what a tally tells of a number without bound: the number, or that it is 2^64 or more
+-- what a saturating count says of a number without bound: the number, or that it is 2^64 or more
 abbrev pub CountsTo : SaturatingCount → ℕ → Type 0
 CountsTo (Exact k) n = n ≡ k
 CountsTo Larger n = 2 ^ 64 ≤ n
 
--- the tally of a number that is None from 2^64 on
+-- the saturating count of a number that is None from 2^64 on
 abbrev pub saturating_of : Option ℕ → SaturatingCount
 saturating_of (Some k) = Exact k
 saturating_of None = Larger
 
--- the number of choices at one field
-abbrev pub count_field : Build → Field → ℕ
-count_field build f = count_role (count_fields build) build (role_of build.catalogue f)
-
--- the number of choices below the content of a variant
-abbrev pub count_content : Build → Variant → ℕ
-count_content build v = count_fields build (content_of build.catalogue v).fields
-
--- the number of choices among variants whose contents are walked or not
-abbrev pub count_variants : Build → Bool → List Variant → ℕ
-count_variants build walked vs = sum_by (count_variant (count_fields build) build.catalogue walked) vs
-
--- the number of choices at a flattened field whose target stands at a place
+-- the number of choices at a flattened field whose target stands at an index
 unfoldable pub count_at : Build → ℕ → ℕ
-count_at build id = count_role (count_fields build) build (role_of_target (slice_get build.catalogue id))
+count_at build id = option_map_or (count_shape build) (slice_get build.catalogue id) 1
 
--- the counts of the first places of a catalogue
+-- the counts at the first indices of a catalogue
 pub record AreFirstCounts (build : Build) (counts : List SaturatingCount) : Type 0 where
   pub within : length counts ≤ length build.catalogue
   pub each : (id : ℕ) (t : SaturatingCount) → slice_get counts id ≡ Some t → CountsTo t (count_at build id)
 
--- the counts of all places of a catalogue
+-- the counts at all indices of a catalogue
 pub record AreCounts (build : Build) (counts : List SaturatingCount) : Type 0 where
   pub all : length counts ≡ length build.catalogue
   pub first : AreFirstCounts build counts
