@@ -1,19 +1,17 @@
 -- Emissions one by one.
-use Rattle.std.proofs.Common.{◌≡◌, ℕ, List, [], ◌∷◌, ◌++◌, Option, Some, None, sym, refl, ap, ◌∙◌, IsSome}
-use Rattle.std.proofs.Common.{subst}
+use Rattle.std.proofs.Common.{◌≡◌, ℕ, List, [], ◌∷◌, ◌++◌, Option, Some, None, sym, refl, ap, ◌∙◌, IsSome, subst}
 use Rattle.std.specs.Prelude.{Result, IsErrAnd, IsSomeAnd}
 use Rattle.std.specs.FinMap as finite
 use Rattle.std.proofs.lemmas.Result.{err_from_is_err_and}
 use Rattle.facet_solver_shape.specs.declared.resolution.error.SchemaError as schema
 use Rattle.facet_solver_shape.specs.declared.resolution.error.SchemaError.TheVariants.{DuplicateField, OutOfMemory}
-use Rattle.facet_solver.specs.Filling.{Gives, ErrorOf, duplicate_view}
+use Rattle.facet_solver.specs.Outcome.{Gives, ErrorOf, duplicate_view, Outcome, Duplicate, resolved, duplicate, next, with_known, take_in, take_all, effect}
 use Rattle.facet_solver.specs.KeyPaths.{KeyPaths, no_paths, behind_prefix, named, with_key_paths}
+use Rattle.facet_solver.proofs.KeyPaths.{with-named}
 use Rattle.facet_solver.specs.Emissions.{Emission, a_field, some_key_paths, a_pick, a_catch_all, field_and_paths}
 use Rattle.facet_solver.specs.Walk.{Walked, put_before, and_then}
 use Rattle.facet_solver_shape.specs.Resolved.{FieldView, Pick, Resolved, IsAdded, key_of_field, with_pick, with_catch_all}
 use Rattle.facet_solver_shape.specs.Views.{IsRefusalOf}
-use Rattle.facet_solver.proofs.KeyPaths.{with-named}
-use Rattle.facet_solver.specs.Outcome.{Outcome, Duplicate, resolved, duplicate, next, with_known, take_in, take_all, effect}
 
 pub take_all-one : (r : Resolved) (e : Emission) → take_all r (e ∷ []) ≡ take_in r e
 unfolding take_all
@@ -133,9 +131,9 @@ pub taken-pick : (r s : Resolved) (p : Pick) → s ≡ with_pick r p → take_in
 unfolding take_in
 taken-pick r s p h = ap resolved (sym h)
 
-pub taken-rest : (r s : Resolved) (f : FieldView) → s ≡ with_catch_all r f.category f → take_in r (a_catch_all f) ≡ resolved s
+pub taken-catch_all : (r s : Resolved) (f : FieldView) → s ≡ with_catch_all r f.category f → take_in r (a_catch_all f) ≡ resolved s
 unfolding take_in
-taken-rest r s f h = ap resolved (sym h)
+taken-catch_all r s f h = ap resolved (sym h)
 
 -- a field with the key path of its name alone, and then what is behind the name
 pub take_all-field_and_paths : (r : Resolved) (f : FieldView) (ps : KeyPaths) → take_all r (field_and_paths f ps) ≡ take_all r (field_and_paths f no_paths ++ some_key_paths (behind_prefix (f.name ∷ []) ps) ∷ [])

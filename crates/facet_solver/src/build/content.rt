@@ -4,7 +4,7 @@ ghost use Rattle.std.specs.Option.{option_copied, option_map};
 ghost use Rattle.facet_solver_shape.specs.Places.{NamesEarlier};
 ghost use Rattle.facet_solver.specs.Targets as targets;
 ghost use Rattle.facet_solver.specs.Content as content;
-ghost use Rattle.facet_solver.specs.Newtype.{IsNewtypeOf};
+ghost use Rattle.facet_solver.specs.Content.{IsNewtypeOf};
 
 use facet_solver_shape::{Field, ShapeId, ShapeKind, Shapes, Variant};
 
