@@ -17,12 +17,3 @@ module _ (build : Build) where
   -- below fields, and so below the content of a variant
   pub none_below : (fs : List Field) → count_fields build fs ≡ 0 → choices_of_fields build fs ≡ []
   none_below fs e = empty (choices_of_fields build fs) (below_count build fs ∙ e)
-
-  -- at one field
-  pub none_at : (f : Field) → count_field build f ≡ 0 → choices_of_field build f ≡ []
-  unfolding choices_of_field
-  none_at f e = empty (choices_of_field build f) (role_count build (λ fs. choices_of_fields build fs) (λ fs. count_fields build fs) (role_of build.catalogue f) (below_count build) ∙ e)
-
-  -- among variants
-  pub none_among : (walked : Bool) (vs : List Variant) → count_variants build walked vs ≡ 0 → choices_of_variants build walked vs ≡ []
-  none_among walked vs e = empty (choices_of_variants build walked vs) (among_count build walked vs ∙ e)

@@ -28,7 +28,8 @@ count_at build id = option_map_or (count_shape build) (slice_get build.catalogue
 -- the counts at the first indices of a catalogue
 pub record AreFirstCounts (build : Build) (counts : List SaturatingCount) : Type 0 where
   pub within : length counts ≤ length build.catalogue
-  pub each : (id : ℕ) (t : SaturatingCount) → slice_get counts id ≡ Some t → CountsTo t (count_at build id)
+  pub each : (id : ℕ) (t : SaturatingCount) → slice_get counts id ≡ Some t
+      → CountsTo t (count_at build id)
 
 -- the counts at all indices of a catalogue
 pub record AreCounts (build : Build) (counts : List SaturatingCount) : Type 0 where

@@ -54,7 +54,8 @@ pub fn walks_follow_their_fields()
 /// The number of choices at fields is made of the numbers at what is flattened into them.
 pub fn counts_follow_their_fields()
     ensures { (build : Build) → IsChecked build.catalogue
-        → (fields : List Field) → count_fields build fields ≡ count_fields_step (count_fields build) build fields }
+        → (fields : List Field)
+        → count_fields build fields ≡ count_fields_step (count_fields build) build fields }
 {}
 
 /// The effective shape is that of `inner`, or else of `proxy`, or else the shape itself.
@@ -72,7 +73,8 @@ pub fn nested_paths_follow_kinds()
 /// No nested key path is empty, and each that a longer one goes through is one too.
 pub fn nested_paths_have_no_gaps()
     ensures nested { (cat : Catalogue) (id : ℕ) → HasNoGaps (nested_paths cat id) }
-    ensures content { (cat : Catalogue) (variant : Variant) → HasNoGaps (content_paths cat variant) }
+    ensures content { (cat : Catalogue) (variant : Variant)
+        → HasNoGaps (content_paths cat variant) }
 {}
 
 /// In the flat format the fields of a resolution stand under their names alone, so that no two have one name.

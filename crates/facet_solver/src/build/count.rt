@@ -78,7 +78,8 @@ impl Counts {
 
 /// The number of choices of a root where it is below 2^64.
 pub(crate) fn count_of_root(build: Build, root: ShapeId) -> Result<Option<u64>, AllocError>
-    ensures { IfOk result (λ number. number ≡ below_2_64 (count.count_of_root (build_of build.entry) root)) }
+    ensures { IfOk result
+        (λ number. number ≡ below_2_64 (count.count_of_root (build_of build.entry) root)) }
 {
     let counts = Counts::new(build)?;
     Ok(counts.of_root(build, root).exact())

@@ -70,7 +70,8 @@ fn emit_catch_all<'c>(
     place: &Place<'c>,
     resolution: &mut Resolution<'c>,
 ) -> Result<(), SchemaError<'c>>
-    ensures { let emitted = emissions.emit_catch_all (build_of build.entry) field.now target place.now in
+    ensures { let emitted =
+        emissions.emit_catch_all (build_of build.entry) field.now target place.now in
         Gives (take_all resolution.old emitted) result resolution.new }
 {
     let info = catch_all_field(build, field, target, place)?;
@@ -105,7 +106,8 @@ pub(crate) fn emit_plain<'c>(
 ) -> Result<(), SchemaError<'c>>
     requires checked { NamesEarlier build.shapes.now }
     requires plain { IsPlain (role_view role.now) }
-    ensures { let emitted = emissions.emit_plain (build_of build.entry) field.now place.now (role_view role.now) in
+    ensures { let emitted =
+        emissions.emit_plain (build_of build.entry) field.now place.now (role_view role.now) in
         Gives (take_all resolution.old emitted) result resolution.new }
 {
     match role {
@@ -123,7 +125,8 @@ pub(crate) fn add_pick<'c>(
     variant: &'c Variant,
     resolution: &mut Resolution<'c>,
 ) -> Result<(), SchemaError<'c>>
-    ensures { Gives (take_in resolution.old (emissions.pick_of shape.now variant.now path.entry)) result resolution.new }
+    ensures { let pick = emissions.pick_of shape.now variant.now path.entry in
+        Gives (take_in resolution.old pick) result resolution.new }
 {
     resolution.add_variant_selection(path, &shape.type_identifier, &variant.name)?;
     Ok(())
@@ -137,7 +140,8 @@ fn add_selector<'c>(
     place: &Place<'c>,
     resolution: &mut Resolution<'c>,
 ) -> Result<(), SchemaError<'c>>
-    ensures { let field = emissions.selector_field (build_of build.entry) name.now (chosen_of chosen.now) place.now in
+    ensures { let field =
+        emissions.selector_field (build_of build.entry) name.now (chosen_of chosen.now) place.now in
         Gives (take_all resolution.old (emissions.field_and_path field [])) result resolution.new }
 {
     let info = selector_field(build, name, chosen, place)?;
@@ -152,8 +156,10 @@ fn add_content<'c>(
     resolution: &mut Resolution<'c>,
 ) -> Result<(), AllocError>
     requires checked { NamesEarlier build.shapes.now }
-    ensures { let paths = emissions.paths_behind name.now (content_paths build.entry.shapes.now variant.now) in
-        OnOk result (take_all resolution.old (a_key_path (name.now ∷ []) ∷ paths) ≡ resolved resolution.new) }
+    ensures { let paths =
+        emissions.paths_behind name.now (content_paths build.entry.shapes.now variant.now) in
+        OnOk result (take_all resolution.old (a_key_path (name.now ∷ []) ∷ paths)
+            ≡ resolved resolution.new) }
 {
     resolution.add_key_path(key_path(build.alloc, name)?)?;
     add_content_paths(build, name, variant, resolution)?;
@@ -168,7 +174,8 @@ fn emit_selector<'c>(
     resolution: &mut Resolution<'c>,
 ) -> Result<(), SchemaError<'c>>
     requires checked { NamesEarlier build.shapes.now }
-    ensures { let emitted = emissions.emit_selector (build_of build.entry) (chosen_of chosen.now) place.now in
+    ensures { let emitted =
+        emissions.emit_selector (build_of build.entry) (chosen_of chosen.now) place.now in
         Gives (take_all resolution.old emitted) result resolution.new }
 {
     let variant = chosen.variant;
@@ -196,7 +203,8 @@ pub(crate) fn emit_variant<'c>(
     resolution: &mut Resolution<'c>,
 ) -> Result<(), SchemaError<'c>>
     requires checked { NamesEarlier build.shapes.now }
-    ensures { let emitted = emissions.emit_variant (build_of build.entry) (chosen_of chosen.now) place.now in
+    ensures { let emitted =
+        emissions.emit_variant (build_of build.entry) (chosen_of chosen.now) place.now in
         Gives (take_all resolution.old emitted) result resolution.new }
 {
     let path = place.field_path(build.alloc, chosen.field)?;
