@@ -1,5 +1,5 @@
 -- What a field is to the fields that it stands among.
-use Rattle.std.specs.Prelude.{⊤, Bool, true, false, if◌then◌else◌, ℕ, List, Option, Some, None, slice_get}
+use Rattle.std.specs.Prelude.{⊤, true, false, if◌then◌else◌, ℕ, List, Option, Some, None, slice_get}
 use Rattle.facet_solver_shape.specs.declared.shape.Shape.{Shape}
 use Rattle.facet_solver_shape.specs.declared.shape.Field.{Field}
 use Rattle.facet_solver_shape.specs.declared.shape.Variant.{Variant}
@@ -45,7 +45,7 @@ role_of_target target (Some s) = role_by_kind target s s.kind
 abbrev pub role_of : Catalogue → Field → Role
 role_of cat f =
     if f.flattened then role_of_target (target_of cat f) (slice_get cat (target_of cat f).shape)
-        else regular
+    else regular
 
 -- a role, wherever its fields and variants lie
 abbrev pub role_view : code.Role → Role
