@@ -1,22 +1,28 @@
 -- The list of choices by parts lists the choices of the walk, each once and in order.
 use Rattle.facet_solver.specs.Build.{Build, repr_for}
 use Rattle.std.proofs.Common.{◌≡◌, ℕ, zero, suc, ◌+◌, ◌<◌, ◌⊎◌, inl, inr, List, [], ◌∷◌, ◌++◌, map, Option, Some, None, Bool, true, false, sym, refl, ap, ◌∙◌, subst, slice_get, length, get_or, append-nil, arith}
-use Rattle.std.specs.Prelude.{if◌then◌else◌, Contains, AllPairs}
+use Rattle.std.specs.Prelude.{if◌then◌else◌, Contains}
 use Rattle.facet_solver_shape.specs.declared.shape.Shape.{Shape}
 use Rattle.facet_solver_shape.specs.declared.shape.ShapeKind.{ShapeKind}
 use Rattle.facet_solver_shape.specs.declared.shape.ShapeKind.TheVariants.{Struct, Enum}
 use Rattle.facet_solver_shape.specs.declared.shape.Field.{Field}
 use Rattle.facet_solver_shape.specs.declared.shape.Variant.{Variant}
-use Rattle.facet_solver.specs.Targets.{Catalogue}
-use Rattle.facet_solver.specs.Place.{Path, variant_path, unwrapped_at, at_root, choosing, inside_variant}
+use Rattle.facet_solver.specs.Place.{at_root, choosing, inside_variant}
 use Rattle.facet_solver.specs.Emissions.{emit_variant, pick_of}
 use Rattle.facet_solver.specs.Walk.{Walk, emit, walk_variant_step, walk_content_step, walk_role, walk_fields_step, walk_within, walk_fields, walk_root, walk_root_shape, walk_root_kind, walk_root_variant, walk_content}
 use Rattle.facet_solver.specs.Representation.{is_walked}
 use Rattle.facet_solver.specs.Roles.{Role, regular, block, alternatives, catch_all, leaf, role_of}
 use Rattle.facet_solver.specs.Listing.{Choices, no_choice, product, indexed, choices_of_variant, choices_of_role, choices_of_fields_step, choices_within, choices_of_fields, choices_of_root, choices_of_root_shape, choices_of_root_kind}
-use Rattle.facet_solver.specs.Choice.{IsBefore, ListsChoices}
+use Rattle.facet_solver.specs.Choice.{ListsChoices}
 use Rattle.facet_solver.proofs.Exact.{In, In-append, In-map_from, In-product_from, IsExact, IsExact-none, IsExact-emit, IsExact-put_before, IsExact-and_then, IsExact-choose}
 use Rattle.facet_solver.specs.declared.build.place.Place.{Place}
+use Rattle.std.specs.Cmp.Lexicographic.{slice_cmp}
+use Rattle.std.specs.Ordering.{nat_cmp, ordering_then}
+use Rattle.std.specs.List.{AllByRecursion}
+use Rattle.std.specs.List.Sorted.{IsStrictlySortedBy}
+use Rattle.std.specs.Cmp.{nat_cmp_is}
+use Rattle.std.specs.declared.cmp.Ordering.{Ordering}
+use Rattle.std.specs.declared.cmp.Ordering.TheVariants.{Less, Equal}
 
 -- a walk of lists of fields, at any path and flag, agrees with the choices of each
 abbrev AllExact : Walk → (List Field → Choices) → Type 0
@@ -72,18 +78,19 @@ module _ (build : Build) where
   unfolding walk_root choices_of_root
   exact_root root = exact_root_shape (slice_get build.catalogue root)
 
--- the first fork of two lists of numbers goes to a smaller number in the first: stronger than the
+-- the first fork of two choices goes to a smaller index in the first: stronger than the
 -- lexicographic order, for neither begins the other
 abbrev pub Forks : List ℕ → List ℕ → Type 0
 Forks [] ns = ⊥
 Forks (m ∷ ms) [] = ⊥
 Forks (m ∷ ms) (n ∷ ns) = (m < n) ⊎ ((m ≡ n) × Forks ms ns)
 
-pub before_from_forks : (ms ns : List ℕ) → Forks ms ns → IsBefore ms ns
-before_from_forks [] ns h = absurd h
-before_from_forks (m ∷ ms) [] h = h
-before_from_forks (m ∷ ms) (n ∷ ns) (inl h) = inl h
-before_from_forks (m ∷ ms) (n ∷ ns) (inr h) = inr (h.0, before_from_forks ms ns h.1)
+pub less_from_forks : (ms ns : List ℕ) → Forks ms ns → slice_cmp nat_cmp ms ns ≡ Less
+less_from_forks [] ns h = absurd h
+less_from_forks (m ∷ ms) [] h = absurd h
+less_from_forks (m ∷ ms) (n ∷ ns) (inl h) = ap (λ (o : Ordering). ordering_then o (slice_cmp nat_cmp ms ns)) (sym (nat_cmp_is m n Less h))
+less_from_forks (m ∷ ms) (n ∷ ns) (inr h) =
+    ap (λ (o : Ordering). ordering_then o (slice_cmp nat_cmp ms ns)) (sym (nat_cmp_is m n Equal h.0)) ∙ less_from_forks ms ns h.1
 
 forks_after : (c ms ns : List ℕ) → Forks ms ns → Forks (c ++ ms) (c ++ ns)
 forks_after [] ms ns h = h
@@ -217,11 +224,14 @@ In-get_or (y ∷ xs) (suc k) d h = inr (In-get_or xs k d (omega arith))
 pub In_from_contains : {X : Type 0} (x : X) (xs : List X) → Contains xs x → In x xs
 In_from_contains x xs h = subst (λ y. In y xs) h.2 (In-get_or xs h.0 x h.1)
 
-pairs_from_rising : (cs : Choices) → Rising cs → AllPairs IsBefore cs
-pairs_from_rising [] h i j d a b = absurd (omega arith)
-pairs_from_rising (c ∷ cs) h i zero d a b = absurd (omega arith)
-pairs_from_rising (c ∷ cs) h zero (suc j) d a b = before_from_forks c (get_or cs j d) (h.0 (get_or cs j d) (In-get_or cs j d (omega arith)))
-pairs_from_rising (c ∷ cs) h (suc i) (suc j) d a b = pairs_from_rising cs h.1 i j d (omega arith) (omega arith)
+sorted_from_rising : (cs : Choices) → Rising cs → IsStrictlySortedBy (slice_cmp nat_cmp) cs
+unfolding IsStrictlySortedBy
+sorted_from_rising [] h = tt
+sorted_from_rising (c ∷ cs) h = (each cs (λ d i. less_from_forks c d (h.0 d i)), sorted_from_rising cs h.1)
+  where
+    each : (ds : Choices) → ((d : List ℕ) → In d ds → slice_cmp nat_cmp c d ≡ Less) → AllByRecursion (λ d. slice_cmp nat_cmp c d ≡ Less) ds
+    each [] k = tt
+    each (d ∷ ds) k = (k d (inl refl), each ds (λ x i. k x (inr i)))
 
 -- the list by parts lists the choices
 pub choices_listed : (build : Build) (root : ℕ) → ListsChoices build root (choices_of_root build root)
@@ -235,5 +245,5 @@ choices_listed build root =
           let r = x.complete c h.0 [] h.1 in
           let same : r.0 ≡ c = sym (append-nil r.0) ∙ r.2 in
           contains_from_In c _ (subst (λ y. In y (choices_of_root build root)) same r.1);
-      in_order = pairs_from_rising _ (rise_root build root);
+      in_order = sorted_from_rising _ (rise_root build root);
     }

@@ -6,13 +6,13 @@ use Rattle.std.specs.declared.alloc.Global.{Global}
 use Rattle.std.proofs.lemmas.List.{take_more}
 use Rattle.facet_solver_shape.specs.declared.resolution.error.SchemaError as schema
 use Rattle.facet_solver_shape.specs.declared.resolution.error.SchemaError.TheVariants.{DuplicateField, OutOfMemory}
-use Rattle.facet_solver.specs.Targets.{Catalogue}
 use Rattle.facet_solver.specs.Walk.{walk_root}
 use Rattle.facet_solver_shape.specs.Resolved.{Resolved, nothing}
 use Rattle.facet_solver.specs.Outcome.{Duplicate, Outcome, resolved, duplicate, take_all, effect, StopsBy, duplicate_view}
-use Rattle.facet_solver.specs.Choice.{IsChoice, ListsChoices, IsResolution, IsClash, ResolvesEach, IsRefusal}
+use Rattle.facet_solver.specs.Choice.{IsChoice, ListsChoices, IsResolution, IsClash, IsRefusal}
 use Rattle.facet_solver.specs.Listing.{lists}
 use Rattle.facet_solver.proofs.Resolutions.{built, clashing}
+use Rattle.std.specs.List.{AllZip}
 
 module _ (build : Build) (root : ℕ) where
   -- a choice was walked
@@ -39,7 +39,7 @@ module _ (build : Build) (root : ℕ) where
   stops-clash c (DuplicateField d) h s = clash-is c s.0 (duplicate_view d) h s.1
   stops-clash c OutOfMemory h s = tt
 
-  resolves-push : (cs : List (List ℕ)) (rs : List Resolved) (c : List ℕ) (r : Resolved) → ResolvesEach build root cs rs → IsResolution build root c r → ResolvesEach build root (cs ++ c ∷ []) (rs ++ r ∷ [])
+  resolves-push : (cs : List (List ℕ)) (rs : List Resolved) (c : List ℕ) (r : Resolved) → AllZip (IsResolution build root) cs rs → IsResolution build root c r → AllZip (IsResolution build root) (cs ++ c ∷ []) (rs ++ r ∷ [])
   resolves-push [] [] c r h i = (i, tt)
   resolves-push [] (s ∷ rs) c r h i = absurd h
   resolves-push (b ∷ cs) [] c r h i = absurd h
@@ -50,9 +50,9 @@ module _ (build : Build) (root : ℕ) where
   lists-push (u ∷ vs) v = ap (λ (cs : List (List ℕ)). u.items ∷ cs) (lists-push vs v)
 
   -- one more choice
-  pub resolves-more : (vs : List (Vec ℕ Global)) (i : ℕ) (v : Vec ℕ Global) (rs : List Resolved) (r : Resolved) → i < length vs → v ≡ get_or vs i v → ResolvesEach build root (lists (take i vs)) rs → IsResolution build root v.items r → ResolvesEach build root (lists (take (i + 1) vs)) (rs ++ r ∷ [])
+  pub resolves-more : (vs : List (Vec ℕ Global)) (i : ℕ) (v : Vec ℕ Global) (rs : List Resolved) (r : Resolved) → i < length vs → v ≡ get_or vs i v → AllZip (IsResolution build root) (lists (take i vs)) rs → IsResolution build root v.items r → AllZip (IsResolution build root) (lists (take (i + 1) vs)) (rs ++ r ∷ [])
   resolves-more vs i v rs r h is each this =
-      subst (λ (cs : List (List ℕ)). ResolvesEach build root cs (rs ++ r ∷ []))
+      subst (λ (cs : List (List ℕ)). AllZip (IsResolution build root) cs (rs ++ r ∷ []))
       (sym (lists-push (take i vs) v) ∙ ap (λ (u : Vec ℕ Global). lists (take i vs ++ u ∷ [])) is ∙ ap lists (sym (take_more vs i v h)))
       (resolves-push (lists (take i vs)) rs v.items r each this)
 
@@ -65,7 +65,7 @@ module _ (build : Build) (root : ℕ) where
   pub listed-choice : (vs : List (Vec ℕ Global)) (i : ℕ) (v : Vec ℕ Global) → i < length vs → v ≡ get_or vs i v → ListsChoices build root (lists vs) → IsChoice build root v.items
   listed-choice vs i v h is l = let c = contains-list vs i v h is in l.each_is v.items (i, c.0, c.1)
 
-  pub resolves-length : (cs : List (List ℕ)) (rs : List Resolved) → ResolvesEach build root cs rs → length rs ≡ length cs
+  pub resolves-length : (cs : List (List ℕ)) (rs : List Resolved) → AllZip (IsResolution build root) cs rs → length rs ≡ length cs
   resolves-length [] [] h = refl
   resolves-length [] (r ∷ rs) h = absurd h
   resolves-length (c ∷ cs) [] h = absurd h

@@ -1,7 +1,7 @@
 -- In the flat format the fields of a resolution go by their names alone.
 use Rattle.facet_solver.specs.Build.{Build, repr_for}
 use Rattle.std.proofs.Common.{◌≡◌, ℕ, zero, suc, List, [], ◌∷◌, ◌++◌, Option, Some, None, Bool, true, false, cond, sym, refl, ap, ◌∙◌, subst, slice_get, length}
-use Rattle.std.specs.Prelude.{if◌then◌else◌, string_bytes}
+use Rattle.std.specs.Prelude.{if◌then◌else◌}
 use Rattle.std.specs.List.{fold}
 use Rattle.std.specs.FinMap as finite
 use Rattle.std.specs.Ordering.{eq_by_cmp}
@@ -12,20 +12,17 @@ use Rattle.facet_solver_shape.specs.declared.shape.ShapeKind.{ShapeKind}
 use Rattle.facet_solver_shape.specs.declared.shape.ShapeKind.TheVariants.{Struct, Enum}
 use Rattle.facet_solver_shape.specs.declared.resolution.key.FieldCategory.{FieldCategory}
 use Rattle.facet_solver_shape.specs.declared.resolution.key.FieldCategory.TheVariants.{Flat as FlatCategory}
-use Rattle.facet_solver_shape.specs.Names.{Name, effective_name}
-use Rattle.facet_solver_shape.specs.Paths.{by_variant}
 use Rattle.facet_solver_shape.specs.Keys.{key_cmp, stored_key}
 use Rattle.facet_solver_shape.specs.Resolved.{FieldView, Resolved, nothing, key_of_field}
 use Rattle.facet_solver_shape.proofs.Finite.{equal}
 use Rattle.facet_solver_shape.proofs.KeyOrder.{key_cmp_total, key_cmp_same}
 use Rattle.facet_solver.specs.declared.build.representation.Format.{Format}
 use Rattle.facet_solver.specs.declared.build.representation.Format.TheVariants.{Flat}
-use Rattle.facet_solver.specs.Targets.{Catalogue}
 use Rattle.facet_solver.specs.Representation.{Repr, flattened, externally_tagged, internally_tagged, adjacently_tagged, is_walked, field_category, selector_category}
 use Rattle.facet_solver.specs.Content.{content_of}
 use Rattle.facet_solver.specs.Roles.{Role, regular, block, alternatives, catch_all, leaf, role_of}
 use Rattle.facet_solver.specs.Emissions.{Emission, field_and_paths, a_field, some_key_paths, a_pick, a_catch_all, pick_of, regular_field, leaf_field, selector_field, emit_regular, emit_catch_all, emit_leaf, emit_selector_by, emit_variant, emit_plain}
-use Rattle.facet_solver.specs.Place.{Path, variant_path, unwrapped_at, field_path, Chosen, at_root, at_root_variant, choosing, further, inside_field, inside_variant}
+use Rattle.facet_solver.specs.Place.{Chosen, at_root, at_root_variant, choosing, further, inside_field, inside_variant}
 use Rattle.facet_solver.specs.Walk.{Walked, Walk, put_before, and_then, emit, choose, at_chosen, walk_variant_step, walk_content_step, walk_role, walk_fields_step, walk_within, walk_fields, walk_root, walk_root_shape, walk_root_kind, walk_root_variant, walk_content}
 use Rattle.facet_solver.specs.KeyPaths.{with_key_paths}
 use Rattle.facet_solver.specs.Choice.{with_emission, resolution_of, IsResolution, GoesByName}

@@ -74,9 +74,6 @@ effect-and_then-stopped r d (Some w) ns go h k =
 
 -- what calls that take in emissions give
 module _ {T : Type 0} (result : Result T schema.SchemaError) (new : Resolved) where
-  pub gives-one : (r : Resolved) (e f : Emission) → e ≡ f → Gives (take_in r e) result new → Gives (take_all r (f ∷ [])) result new
-  gives-one r e f h g = subst (λ (o : Outcome). Gives o result new) (ap (take_in r) h ∙ sym (take_all-one r f)) g
-
   pub gives-next : (r s : Resolved) (e : Emission) (es : List Emission) → take_in r e ≡ resolved s → Gives (take_all s es) result new → Gives (take_all r (e ∷ es)) result new
   gives-next r s e es h g = subst (λ (o : Outcome). Gives o result new) (sym (take_all-next r s e es h)) g
 
@@ -98,10 +95,6 @@ gives-stopped result new r es fs err h k =
 
 pub take_all-both : (r s t : Resolved) (es fs : List Emission) → take_all r es ≡ resolved s → take_all s fs ≡ resolved t → take_all r (es ++ fs) ≡ resolved t
 take_all-both r s t es fs h k = take_all-append r es fs ∙ ap (λ (o : Outcome). next o (λ s. take_all s fs)) h ∙ k
-
-pub gives-append : {T : Type 0} (result : Result T schema.SchemaError) (new : Resolved) (r s : Resolved) (es fs : List Emission) → take_all r es ≡ resolved s → Gives (take_all s fs) result new → Gives (take_all r (es ++ fs)) result new
-gives-append result new r s es fs h g =
-    subst (λ (o : Outcome). Gives o result new) (sym (take_all-append r es fs ∙ ap (λ (o : Outcome). next o (λ s. take_all s fs)) h)) g
 
 -- the exit of a `?`
 pub gives-exit : {T : Type 0} (result : Result T schema.SchemaError) (new : Resolved) (o : Outcome) (err : schema.SchemaError) → IsErrAnd result (λ e. e ≡ err) → ErrorOf o err → Gives o result new

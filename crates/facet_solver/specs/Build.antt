@@ -7,7 +7,8 @@ use Rattle.facet_solver.specs.declared.build.representation.Format.{Format}
 use Rattle.facet_solver.specs.Representation.{Repr, asked_view, repr_of_shape}
 use Rattle.facet_solver.specs.Targets.{Catalogue}
 
--- a catalogue, one representation for all flattened enums or else each enum's own, and the kind of document
+-- a catalogue, one representation for all flattened enums or else each enum's own, and the kind of
+-- document
 pub record Build : Type 0 where
   pub catalogue : Catalogue
   pub representation : Option Repr

@@ -1,10 +1,8 @@
 -- The choices of variants of a root, their order, and what each resolves to.
 use Rattle.facet_solver.specs.Build.{Build}
-use Rattle.std.specs.Prelude.{◌≡◌, ℕ, ◌<◌, ◌⊎◌, List, [], ◌∷◌, Some, Contains, AllPairs, slice_get, fold, ⊤, None}
+use Rattle.std.specs.Prelude.{◌≡◌, ℕ, ◌<◌, List, [], Some, Contains, slice_get, fold, ⊤, None}
 use Rattle.facet_solver_shape.specs.Names.{Name}
-use Rattle.facet_solver_shape.specs.Paths.{Step}
 use Rattle.facet_solver_shape.specs.Resolved.{FieldView, Resolved, nothing, key_of_field, with_field, with_pick, with_catch_all}
-use Rattle.facet_solver.specs.Targets.{Catalogue}
 use Rattle.facet_solver.specs.KeyPaths.{with_key_paths}
 use Rattle.facet_solver.specs.Emissions.{Emission, a_field, some_key_paths, a_pick, a_catch_all}
 use Rattle.facet_solver.specs.Walk.{walk_root}
@@ -12,35 +10,33 @@ use Rattle.facet_solver_shape.specs.declared.resolution.error.SchemaError.{Schem
 use Rattle.facet_solver_shape.specs.declared.resolution.error.SchemaError.TheVariants.{DuplicateField, OutOfMemory}
 use Rattle.std.specs.FinMap as map
 use Rattle.facet_solver_shape.specs.Keys.{Key}
+use Rattle.std.specs.Cmp.Lexicographic.{slice_cmp}
+use Rattle.std.specs.Ordering.{nat_cmp}
+use Rattle.std.specs.List.{AllZip}
+use Rattle.std.specs.List.Sorted.{IsStrictlySortedBy}
+use Rattle.facet_solver.specs.Place.{Path}
 
--- the walk of the root uses the numbers up exactly, and emits these
+-- the walk of the root uses the indices up exactly, and emits these
 abbrev pub Emits : Build → ℕ → List ℕ → List Emission → Type 0
 Emits build root choice es = walk_root build root choice ≡ Some (es, [])
 
--- a choice: numbers that the walk of the root uses up exactly
+-- a choice: indices of variants that the walk of the root uses up exactly
 abbrev pub IsChoice : Build → ℕ → List ℕ → Type 0
 IsChoice build root choice = (es : List Emission) × Emits build root choice es
 
--- the lexicographic order
-abbrev pub IsBefore : List ℕ → List ℕ → Type 0
-IsBefore [] [] = ⊥
-IsBefore [] (n ∷ ns) = Unit {0}
-IsBefore (m ∷ ms) [] = ⊥
-IsBefore (m ∷ ms) (n ∷ ns) = (m < n) ⊎ ((m ≡ n) × IsBefore ms ns)
-
--- all choices, each once and in order
+-- all choices, each once and in lexicographic order
 pub record ListsChoices (build : Build) (root : ℕ) (choices : List (List ℕ)) : Type 0 where
   pub each_is : (c : List ℕ) → Contains choices c → IsChoice build root c
   pub complete : (c : List ℕ) → IsChoice build root c → Contains choices c
-  pub in_order : AllPairs IsBefore choices
+  pub in_order : IsStrictlySortedBy (slice_cmp nat_cmp) choices
 
--- two fields emitted at different places of one walk, the first before the second, with one stored key
+-- two fields that one walk emits, the first before the second, with one stored key
 pub record Clashes (es : List Emission) (first second : FieldView) : Type 0 where
-  pub first_place : ℕ
-  pub second_place : ℕ
-  pub in_order : first_place < second_place
-  pub first_is : slice_get es first_place ≡ Some (a_field first)
-  pub second_is : slice_get es second_place ≡ Some (a_field second)
+  pub first_at : ℕ
+  pub second_at : ℕ
+  pub in_order : first_at < second_at
+  pub first_is : slice_get es first_at ≡ Some (a_field first)
+  pub second_is : slice_get es second_at ≡ Some (a_field second)
   pub same_key : key_of_field first ≡ key_of_field second
 
 -- no two fields have one stored key
@@ -66,7 +62,8 @@ pub record IsResolution (build : Build) (root : ℕ) (choice : List ℕ) (r : Re
   pub no_clash : HasNoClash emissions
 
 -- a name and two paths that are those of a clash of a choice, the field emitted first first
-pub record IsClash (build : Build) (root : ℕ) (name : Name) (first_path second_path : List Step) : Type 0 where
+pub record IsClash (build : Build) (root : ℕ) (name : Name)
+    (first_path second_path : Path) : Type 0 where
   pub choice : List ℕ
   pub emissions : List Emission
   pub emitted : Emits build root choice emissions
@@ -77,24 +74,20 @@ pub record IsClash (build : Build) (root : ℕ) (name : Name) (first_path second
   pub first_is : first_path ≡ first.path
   pub second_is : second_path ≡ second.path
 
--- one resolution for each of the choices
-abbrev pub ResolvesEach : Build → ℕ → List (List ℕ) → List Resolved → Type 0
-ResolvesEach build root [] [] = Unit {0}
-ResolvesEach build root [] (r ∷ rs) = ⊥
-ResolvesEach build root (c ∷ cs) [] = ⊥
-ResolvesEach build root (c ∷ cs) (r ∷ rs) = IsResolution build root c r × ResolvesEach build root cs rs
-
 -- exactly one resolution for each choice, in order
 pub record Enumerates (build : Build) (root : ℕ) (resolutions : List Resolved) : Type 0 where
   pub choices : List (List ℕ)
   pub listed : ListsChoices build root choices
-  pub resolved : ResolvesEach build root choices resolutions
+  pub resolved : AllZip (IsResolution build root) choices resolutions
 
 -- a duplicate names a clash of some choice, and want of memory comes at any time
 abbrev pub IsRefusal : Build → ℕ → SchemaError → Type 0
-IsRefusal build root (DuplicateField d) = IsClash build root d.field_name.now d.first_path d.second_path
+IsRefusal build root (DuplicateField d) =
+    IsClash build root d.field_name.now d.first_path d.second_path
 IsRefusal build root OutOfMemory = ⊤
 
 -- each field stands under its name without category, so that no two have one name
 abbrev pub GoesByName : Resolved → Type 0
-GoesByName r = (k : Key) (f : FieldView) → map.get r.fields k ≡ Some f → k ≡ record { dom = None; name = f.name }
+GoesByName r =
+    (k : Key) (f : FieldView) → map.get r.fields k ≡ Some f → k
+    ≡ record { dom = None; name = f.name }

@@ -23,7 +23,8 @@ count_variant below cat walked v = if walked then below (content_of cat v).field
 -- one field, by its role: an enum is the sum over its variants, and what takes no number counts one
 abbrev pub count_role : Count → Build → Role → ℕ
 count_role below build (block target fs) = below fs
-count_role below build (alternatives target s vs) = sum_by (count_variant below build.catalogue (is_walked (repr_for build s))) vs
+count_role below build (alternatives target s vs) =
+    sum_by (count_variant below build.catalogue (is_walked (repr_for build s))) vs
 count_role below build regular = 1
 count_role below build (catch_all target) = 1
 count_role below build (leaf target) = 1
@@ -31,7 +32,8 @@ count_role below build (leaf target) = 1
 -- fields: the product
 unfoldable pub count_fields_step : Count → Build → Count
 count_fields_step below build [] = 1
-count_fields_step below build (f ∷ fs) = count_role below build (role_of build.catalogue f) * count_fields_step below build fs
+count_fields_step below build (f ∷ fs) =
+    count_role below build (role_of build.catalogue f) * count_fields_step below build fs
 
 -- fields, down to n levels of what is flattened
 unfoldable pub count_within : ℕ → Build → Count
@@ -52,7 +54,8 @@ count_content build v = count_fields build (content_of build.catalogue v).fields
 
 -- variants whose contents are walked or not: the sum
 abbrev pub count_variants : Build → Bool → List Variant → ℕ
-count_variants build walked vs = sum_by (count_variant (count_fields build) build.catalogue walked) vs
+count_variants build walked vs =
+    sum_by (count_variant (count_fields build) build.catalogue walked) vs
 
 -- a shape by its kind, the contents of whose variants are walked or not
 abbrev pub count_kind : Build → Bool → ShapeKind → ℕ
@@ -64,7 +67,8 @@ count_kind build walked _ = 1
 abbrev pub count_shape : Build → Shape → ℕ
 count_shape build s = count_kind build (is_walked (repr_for build s)) s.kind
 
--- a root that may be absent: the contents of an enum's variants are walked, whatever its representation
+-- a root that may be absent: the contents of an enum's variants are walked, whatever its
+-- representation
 abbrev pub count_of_shape : Build → Option Shape → ℕ
 count_of_shape build None = 0
 count_of_shape build (Some s) = count_kind build true s.kind
@@ -80,4 +84,7 @@ below_2_64 n = if nat_lt n (2 ^ 64) then Some n else None
 -- the number of choices of a root where it is below 2^64, whatever the kind of document
 abbrev pub IsCountOf : Catalogue → ℕ → Option Repr → Option ℕ → Type 0
 IsCountOf cat root representation answer =
-    (format : Format) → answer ≡ below_2_64 (count_of_root record { catalogue = cat; representation = representation; format = format } root)
+    (format : Format)
+    → let build : Build =
+    record { catalogue = cat; representation = representation; format = format } in
+    answer ≡ below_2_64 (count_of_root build root)

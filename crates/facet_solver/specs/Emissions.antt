@@ -22,7 +22,8 @@ pub data Emission : Type 0 where
   a_pick : Pick → Emission
   a_catch_all : FieldView → Emission
 
--- a regular field, with its own shape: required without default, unless it is an option or under one
+-- a regular field, with its own shape: required without default, unless it is an option or under
+-- one
 unfoldable pub regular_field : Build → Field → Place → FieldView
 regular_field build f place = record {
   name = effective_name f;
@@ -49,7 +50,10 @@ unfoldable pub leaf_field : Build → Field → Target → Place → FieldView
 leaf_field build f target place = record {
   name = effective_name f;
   path = field_path place f;
-  is_required = not (unwrapped_at place target) && not f.has_default && not (is_option build.catalogue target.shape);
+  is_required =
+      not (unwrapped_at place target)
+      && not f.has_default
+      && not (is_option build.catalogue target.shape);
   shape = target.shape;
   field = f;
   category = field_category build.format f.dom;
@@ -109,9 +113,14 @@ emit_selector build chosen place = emit_selector_by (repr_for build chosen.shape
 
 -- the pick of a variant
 abbrev pub pick_of : Shape → Variant → Path → Emission
-pick_of s v p = a_pick record { path = p; enum_name = string_bytes s.type_identifier; variant_name = string_bytes v.name }
+pick_of s v p = a_pick record {
+  path = p;
+  enum_name = string_bytes s.type_identifier;
+  variant_name = string_bytes v.name;
+}
 
 -- what a flattened enum emits before the content of the chosen variant: the pick and the selector
 unfoldable pub emit_variant : Build → Chosen → Place → List Emission
 emit_variant build chosen place =
-    pick_of chosen.shape chosen.variant (field_path place chosen.field) ∷ emit_selector build chosen place
+    pick_of chosen.shape chosen.variant (field_path place chosen.field)
+    ∷ emit_selector build chosen place

@@ -1,4 +1,5 @@
--- The choices as a list, by parts: a product over fields, a sum over variants. No public clause speaks of it: those say
+-- The choices as a list, by parts: a product over fields, a sum over variants. No public clause
+-- speaks of it: those say
 -- what a list of all choices is.
 use Rattle.facet_solver.specs.Build.{Build, repr_for}
 use Rattle.std.specs.Prelude.{ℕ, zero, suc, List, [], ◌∷◌, ◌++◌, map, flat_map, Bool, true, if◌then◌else◌, Option, Some, None, slice_get, length, Vec}
@@ -32,20 +33,24 @@ indexed k choices (v ∷ vs) = map (λ c. k ∷ c) (choices v) ++ indexed (suc k
 
 -- those of a variant, whose content is walked or not
 abbrev pub choices_of_variant : (List Field → Choices) → Catalogue → Bool → Variant → Choices
-choices_of_variant below cat walked v = if walked then below (content_of cat v).fields else no_choice
+choices_of_variant below cat walked v =
+    if walked then below (content_of cat v).fields else no_choice
 
 -- those of a field by its role
 abbrev pub choices_of_role : (List Field → Choices) → Build → Role → Choices
 choices_of_role below build regular = no_choice
 choices_of_role below build (block target fs) = below fs
-choices_of_role below build (alternatives target s vs) = indexed 0 (choices_of_variant below build.catalogue (is_walked (repr_for build s))) vs
+choices_of_role below build (alternatives target s vs) =
+    indexed 0 (choices_of_variant below build.catalogue (is_walked (repr_for build s))) vs
 choices_of_role below build (catch_all target) = no_choice
 choices_of_role below build (leaf target) = no_choice
 
 -- those of fields
 unfoldable pub choices_of_fields_step : (List Field → Choices) → Build → List Field → Choices
 choices_of_fields_step below build [] = no_choice
-choices_of_fields_step below build (f ∷ fs) = product (choices_of_role below build (role_of build.catalogue f)) (choices_of_fields_step below build fs)
+choices_of_fields_step below build (f ∷ fs) =
+    product (choices_of_role below build (role_of build.catalogue f))
+    (choices_of_fields_step below build fs)
 
 -- those of fields down to n levels
 unfoldable pub choices_within : ℕ → Build → List Field → Choices
@@ -59,7 +64,8 @@ choices_of_fields build = choices_within (suc (length build.catalogue)) build
 -- those of a root by its kind
 abbrev pub choices_of_root_kind : Build → ShapeKind → Choices
 choices_of_root_kind build (Struct kind fields) = choices_of_fields build fields.items
-choices_of_root_kind build (Enum variants) = indexed 0 (choices_of_variant (choices_of_fields build) build.catalogue true) variants.items
+choices_of_root_kind build (Enum variants) =
+    indexed 0 (choices_of_variant (choices_of_fields build) build.catalogue true) variants.items
 choices_of_root_kind build _ = no_choice
 
 -- those of a root that may be absent
@@ -73,11 +79,13 @@ choices_of_root build root = choices_of_root_shape build (slice_get build.catalo
 
 -- those at one field
 unfoldable pub choices_of_field : Build → Field → Choices
-choices_of_field build f = choices_of_role (choices_of_fields build) build (role_of build.catalogue f)
+choices_of_field build f =
+    choices_of_role (choices_of_fields build) build (role_of build.catalogue f)
 
 -- those among variants whose contents are walked or not
 unfoldable pub choices_of_variants : Build → Bool → List Variant → Choices
-choices_of_variants build walked vs = indexed 0 (choices_of_variant (choices_of_fields build) build.catalogue walked) vs
+choices_of_variants build walked vs =
+    indexed 0 (choices_of_variant (choices_of_fields build) build.catalogue walked) vs
 
 -- lists of numbers, wherever they lie
 abbrev pub lists : List (Vec ℕ Global) → List (List ℕ)

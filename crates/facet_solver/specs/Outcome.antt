@@ -1,4 +1,5 @@
--- What emissions, taken in one by one, make of a resolution: more of it, or a clash. No public clause speaks of it.
+-- What emissions, taken in one by one, make of a resolution: more of it, or a clash. No public
+-- clause speaks of it.
 use Rattle.std.specs.Prelude.{ℕ, List, [], ◌∷◌, Option, Some, None, ◌≡◌, Result, MatchResult}
 use Rattle.std.specs.FinMap as map
 use Rattle.facet_solver_shape.specs.Names.{Name}
@@ -31,7 +32,8 @@ next (duplicate d) go = duplicate d
 -- one more field, where its key is free
 abbrev pub with_known : Option FieldView → Resolved → FieldView → Outcome
 with_known None r f = resolved (with_field r f)
-with_known (Some g) r f = duplicate record { name = f.name; first_path = g.path; second_path = f.path }
+with_known (Some g) r f =
+    duplicate record { name = f.name; first_path = g.path; second_path = f.path }
 
 -- one emission
 unfoldable pub take_in : Resolved → Emission → Outcome
@@ -52,9 +54,11 @@ effect r (Some w) = Some (take_all r w.0, w.1)
 
 -- what a refusal as duplicate says
 abbrev pub duplicate_view : DuplicateFieldError → Duplicate
-duplicate_view d = record { name = d.field_name.now; first_path = d.first_path; second_path = d.second_path }
+duplicate_view d =
+    record { name = d.field_name.now; first_path = d.first_path; second_path = d.second_path }
 
--- what an error says of an outcome: a duplicate is that of the outcome, and want of memory says nothing
+-- what an error says of an outcome: a duplicate is that of the outcome, and want of memory says
+-- nothing
 abbrev pub ErrorOf : Outcome → SchemaError → Type 0
 ErrorOf o (DuplicateField d) = o ≡ duplicate (duplicate_view d)
 ErrorOf o OutOfMemory = Unit {0}
@@ -70,4 +74,5 @@ StopsBy e OutOfMemory = Unit {0}
 
 -- the result of a walk that hands on the numbers that it leaves
 abbrev pub Walks : Option (Outcome × List ℕ) → Result (Bor (List ℕ)) SchemaError → Resolved → Type 0
-Walks e result r = MatchResult result (λ rest. e ≡ Some (resolved r, rest.now)) (λ err. StopsBy e err)
+Walks e result r =
+    MatchResult result (λ rest. e ≡ Some (resolved r, rest.now)) (λ err. StopsBy e err)

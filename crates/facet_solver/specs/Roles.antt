@@ -1,5 +1,5 @@
 -- What a field is to the fields that it stands among.
-use Rattle.std.specs.Prelude.{⊤, Bool, true, false, if◌then◌else◌, ℕ, List, Option, Some, None, slice_get}
+use Rattle.std.specs.Prelude.{⊤, true, false, if◌then◌else◌, ℕ, List, Option, Some, None, slice_get}
 use Rattle.facet_solver_shape.specs.declared.shape.Shape.{Shape}
 use Rattle.facet_solver_shape.specs.declared.shape.Field.{Field}
 use Rattle.facet_solver_shape.specs.declared.shape.Variant.{Variant}
@@ -19,7 +19,8 @@ target_by_kind id _ = record { shape = id; optional = false }
 abbrev pub target_of : Catalogue → Field → Target
 target_of cat f = target_by_kind f.shape (kind_at cat f.shape)
 
--- regular; or flattened: a block of fields, alternatives of an enum, a catch-all for what no field takes, or a leaf
+-- regular; or flattened: a block of fields, alternatives of an enum, a catch-all for what no field
+-- takes, or a leaf
 pub data Role : Type 0 where
   regular : Role
   block : Target → List Field → Role
@@ -43,7 +44,8 @@ role_of_target target (Some s) = role_by_kind target s s.kind
 -- a field's role
 abbrev pub role_of : Catalogue → Field → Role
 role_of cat f =
-    if f.flattened then role_of_target (target_of cat f) (slice_get cat (target_of cat f).shape) else regular
+    if f.flattened then role_of_target (target_of cat f) (slice_get cat (target_of cat f).shape)
+    else regular
 
 -- a role, wherever its fields and variants lie
 abbrev pub role_view : code.Role → Role

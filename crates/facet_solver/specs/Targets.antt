@@ -2,7 +2,6 @@
 use Rattle.std.specs.Prelude.{ℕ, zero, suc, Bool, true, false, List, Option, Some, None, slice_get, length}
 use Rattle.std.specs.Option.{option_or}
 use Rattle.facet_solver_shape.specs.declared.shape.Shape.{Shape}
-use Rattle.facet_solver_shape.specs.declared.shape.Field.{Field}
 use Rattle.facet_solver_shape.specs.declared.shape.ShapeKind.{ShapeKind}
 use Rattle.facet_solver_shape.specs.declared.shape.ShapeKind.TheVariants.{Option as OptionOf, Other}
 
@@ -43,7 +42,8 @@ abbrev pub effective_within : ℕ → Catalogue → ℕ → ℕ
 effective_within zero cat id = id
 effective_within (suc n) cat id = go_on (effective_within n cat) id (next_inside (slice_get cat id))
 
--- the effective shape: `inner` is followed to its end, then `proxy`, and again from there. Both name earlier
+-- the effective shape: `inner` is followed to its end, then `proxy`, and again from there. Both
+-- name earlier
 -- shapes, so no chain is longer than the catalogue
 abbrev pub effective : Catalogue → ℕ → ℕ
 effective cat id = effective_within (length cat) cat id

@@ -1,4 +1,5 @@
--- The walk of a list of fields: what one choice of variants emits. It takes the indices of variants, one for each enum
+-- The walk of a list of fields: what one choice of variants emits. It takes the indices of
+-- variants, one for each enum
 -- that it meets, and hands on those that it leaves.
 use Rattle.std.specs.Prelude.{◌<◌, ℕ, zero, suc, List, [], ◌∷◌, ◌++◌, if◌then◌else◌, Option, Some, None, slice_get, length}
 use Rattle.facet_solver_shape.specs.declared.shape.Shape.{Shape}
@@ -53,9 +54,11 @@ choose vs (k ∷ ns) go = at_chosen (slice_get vs k) (λ v. go v ns)
 
 -- the content of a variant, by the walk of what is below it
 abbrev pub walk_content_step : Walk → Catalogue → Variant → Place → Walking
-walk_content_step below cat v place ns = below (content_of cat v).fields (further place (content_of cat v).path) ns
+walk_content_step below cat v place ns =
+    below (content_of cat v).fields (further place (content_of cat v).path) ns
 
--- a flattened enum at a chosen variant: the pick, the selector, and the content where it stands at this level
+-- a flattened enum at a chosen variant: the pick, the selector, and the content where it stands at
+-- this level
 abbrev pub walk_variant_step : Walk → Build → Chosen → Place → Walking
 walk_variant_step below build chosen place ns =
     put_before (emit_variant build chosen place)
@@ -69,10 +72,12 @@ walk_role below build f place (block target fs) ns = below fs (inside_field plac
 walk_role below build f place (alternatives target s vs) ns =
     choose vs ns (λ v rest. walk_variant_step below build (choosing f target s v) place rest)
 walk_role below build f place regular ns = emit (emit_plain build f place regular) ns
-walk_role below build f place (catch_all target) ns = emit (emit_plain build f place (catch_all target)) ns
+walk_role below build f place (catch_all target) ns =
+    emit (emit_plain build f place (catch_all target)) ns
 walk_role below build f place (leaf target) ns = emit (emit_plain build f place (leaf target)) ns
 
--- fields in order, each with the indices that the one before it left; `below` walks the fields of what is flattened
+-- fields in order, each with the indices that the one before it left; `below` walks the fields of
+-- what is flattened
 -- into them
 unfoldable pub walk_fields_step : Walk → Build → Walk
 walk_fields_step below build [] place ns = Some ([], ns)
@@ -91,7 +96,8 @@ walk_fields build = walk_within (suc (length build.catalogue)) build
 
 -- the walk of one field
 unfoldable pub walk_field : Build → Field → Place → Walking
-walk_field build f place ns = walk_role (walk_fields build) build f place (role_of build.catalogue f) ns
+walk_field build f place ns =
+    walk_role (walk_fields build) build f place (role_of build.catalogue f) ns
 
 -- the walk of a flattened enum at a chosen variant
 unfoldable pub walk_variant : Build → Chosen → Place → Walking
@@ -103,12 +109,15 @@ walk_content build v place ns = walk_content_step (walk_fields build) build.cata
 
 -- a root enum at a chosen variant, whatever its representation
 unfoldable pub walk_root_variant : Build → Shape → Variant → Walking
-walk_root_variant build s v ns = put_before (pick_of s v [] ∷ []) (walk_content build v (at_root_variant v) ns)
+walk_root_variant build s v ns =
+    put_before (pick_of s v [] ∷ []) (walk_content build v (at_root_variant v) ns)
 
--- the walk of a root by its kind: a struct's fields, a choice among an enum's variants, else nothing is emitted
+-- the walk of a root by its kind: a struct's fields, a choice among an enum's variants, else
+-- nothing is emitted
 abbrev pub walk_root_kind : Build → Shape → ShapeKind → Walking
 walk_root_kind build s (Struct kind fields) ns = walk_fields build fields.items at_root ns
-walk_root_kind build s (Enum variants) ns = choose variants.items ns (λ v rest. walk_root_variant build s v rest)
+walk_root_kind build s (Enum variants) ns =
+    choose variants.items ns (λ v rest. walk_root_variant build s v rest)
 walk_root_kind build s _ ns = emit [] ns
 
 -- the walk of a root that may be absent

@@ -55,7 +55,8 @@ pub fn walks_follow_their_fields()
 /// The number of choices at fields is made of the numbers at what is flattened into them.
 pub fn counts_follow_their_fields()
     ensures { (build : Build) → IsChecked build.catalogue
-        → (fields : List Field) → count_fields build fields ≡ count_fields_step (count_fields build) build fields }
+        → (fields : List Field)
+        → count_fields build fields ≡ count_fields_step (count_fields build) build fields }
 {}
 
 /// The effective shape is that of `inner`, or else of `proxy`, or else the shape itself.

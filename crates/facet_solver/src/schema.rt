@@ -7,8 +7,8 @@ ghost use Rattle.facet_solver.specs.Choice.{IsRefusal};
 ghost use Rattle.facet_solver.specs.Representation.{asked_view, externally_tagged, flattened, repr_view};
 ghost use Rattle.facet_solver.specs.SchemaView.{IsBuilt, flat_build};
 
-use crate::build::count::count_of_root;
 use crate::build::Build;
+use crate::build::count::count_of_root;
 use crate::build::representation::{EnumRepr, Format};
 use crate::build::resolve::resolutions;
 use facet_solver_shape::{Resolution, SchemaError, ShapeId, Shapes};
@@ -70,8 +70,10 @@ impl<'c> Schema<'c> {
         root: ShapeId,
     ) -> Result<Schema<'c>, SchemaError<'c>>
         requires { root < length shapes.now }
-        ensures built { IfOk result (IsBuilt (flat_build shapes.now (Some externally_tagged)) root) }
-        ensures refused { IfErr result (IsRefusal (flat_build shapes.now (Some externally_tagged)) root) }
+        ensures built { IfOk result
+            (IsBuilt (flat_build shapes.now (Some externally_tagged)) root) }
+        ensures refused { IfErr result
+            (IsRefusal (flat_build shapes.now (Some externally_tagged)) root) }
     {
         Schema::build_with_repr(alloc, shapes, root, EnumRepr::ExternallyTagged)
     }
@@ -86,8 +88,10 @@ impl<'c> Schema<'c> {
         representation: EnumRepr<'c>,
     ) -> Result<Schema<'c>, SchemaError<'c>>
         requires { root < length shapes.now }
-        ensures built { IfOk result (IsBuilt (flat_build shapes.now (Some (repr_view representation.entry))) root) }
-        ensures refused { IfErr result (IsRefusal (flat_build shapes.now (Some (repr_view representation.entry))) root) }
+        ensures built { IfOk result
+            (IsBuilt (flat_build shapes.now (Some (repr_view representation.entry))) root) }
+        ensures refused { IfErr result
+            (IsRefusal (flat_build shapes.now (Some (repr_view representation.entry))) root) }
     {
         let build = Build {
             alloc,

@@ -8,9 +8,9 @@ ghost use Rattle.facet_solver.specs.Count.{count_of_root};
 ghost use Rattle.facet_solver.specs.Counts.{AreCounts};
 ghost use Rattle.facet_solver.specs.Build.{build_of};
 
+use crate::build::Build;
 use crate::build::content::content_fields;
 use crate::build::count::Counts;
-use crate::build::Build;
 use crate::build::role::{Role, role_of};
 use facet_solver_shape::{Field, ShapeId, ShapeKind, Variant};
 use std::alloc::{AllocError, Global};
@@ -25,7 +25,8 @@ fn append_each(
     first: &[usize],
     seconds: &[Choice],
 ) -> Result<(), AllocError>
-    ensures { OnOk result (lists found.new.items ≡ lists found.old.items ++ map (λ d. first.now ++ d) (lists seconds.now)) }
+    ensures { let added = map (λ d. first.now ++ d) (lists seconds.now) in
+        OnOk result (lists found.new.items ≡ lists found.old.items ++ added) }
 {
     for second in seconds {
         let mut choice = Vec::from_slice(alloc, first)?;
@@ -38,7 +39,8 @@ fn append_each(
 /// Each of `firsts` before each of `seconds`.
 #[tactic(auto, unfolding(crate::specs::Listing::product))]
 fn product(alloc: Global, firsts: &[Choice], seconds: &[Choice]) -> Result<Vec<Choice>, AllocError>
-    ensures { IfOk result (λ v. lists v.items ≡ listing.product (lists firsts.now) (lists seconds.now)) }
+    ensures { IfOk result
+        (λ v. lists v.items ≡ listing.product (lists firsts.now) (lists seconds.now)) }
 {
     let mut found = Vec::new(alloc);
     for first in firsts {
@@ -67,7 +69,8 @@ fn choices_of_fields<'c>(
     requires checked { NamesEarlier build.shapes.now }
     requires counted { AreCounts (build_of build) counts.now }
     requires below { FieldsBelow (length build.shapes.now) fields.now }
-    ensures { IfOk result (λ v. lists v.items ≡ listing.choices_of_fields (build_of build.entry) fields.now) }
+    ensures { IfOk result
+        (λ v. lists v.items ≡ listing.choices_of_fields (build_of build.entry) fields.now) }
 {
     if counts.of_fields(build, fields).is_zero() {
         return Ok(Vec::new(build.alloc));
@@ -90,7 +93,8 @@ fn choices_of_field<'c>(
     requires checked { NamesEarlier build.shapes.now }
     requires counted { AreCounts (build_of build) counts.now }
     requires below { field.now.shape < length build.shapes.now }
-    ensures { IfOk result (λ v. lists v.items ≡ listing.choices_of_field (build_of build.entry) field.now) }
+    ensures { IfOk result
+        (λ v. lists v.items ≡ listing.choices_of_field (build_of build.entry) field.now) }
 {
     match role_of(build.shapes, field) {
         Role::Block(_, fields) => choices_of_fields(build, counts, fields),
@@ -112,7 +116,9 @@ fn choices_of_variants<'c>(
     requires checked { NamesEarlier build.shapes.now }
     requires counted { AreCounts (build_of build) counts.now }
     requires below { VariantsBelow (length build.shapes.now) variants.now }
-    ensures { IfOk result (λ v. lists v.items ≡ listing.choices_of_variants (build_of build.entry) walked variants.now) }
+    ensures { IfOk result
+        (λ v. lists v.items
+        ≡ listing.choices_of_variants (build_of build.entry) walked variants.now) }
 {
     let mut found = Vec::new(build.alloc);
     for (index, variant) in variants.iter().enumerate() {
@@ -127,10 +133,14 @@ fn choices_of_variants<'c>(
 }
 
 /// All choices of variants of a root, each once and in lexicographic order.
-pub(crate) fn choices_of_root<'c>(build: Build<'c>, root: ShapeId) -> Result<Vec<Choice>, AllocError>
+pub(crate) fn choices_of_root<'c>(
+    build: Build<'c>,
+    root: ShapeId,
+) -> Result<Vec<Choice>, AllocError>
     requires { root < length build.shapes.now }
     ensures listed { IfOk result (λ v. ListsChoices (build_of build.entry) root (lists v.items)) }
-    ensures counted { IfOk result (λ v. length (lists v.items) ≡ count_of_root (build_of build.entry) root) }
+    ensures counted { IfOk result
+        (λ v. length (lists v.items) ≡ count_of_root (build_of build.entry) root) }
 {
     let shape = build.shape(root);
     let counts = Counts::new(build)?;

@@ -10,10 +10,10 @@ ghost use Rattle.facet_solver.specs.Outcome.{take_in, take_all, Gives};
 ghost use Rattle.facet_solver.specs.Build.{build_of};
 ghost use Rattle.facet_solver.specs.Roles.{role_view, IsPlain};
 
-use crate::build::field::{leaf_field, regular_field, catch_all_field, selector_field};
+use crate::build::Build;
+use crate::build::field::{catch_all_field, leaf_field, regular_field, selector_field};
 use crate::build::nested::{add_content_paths, add_nested_paths};
 use crate::build::place::{Chosen, Place};
-use crate::build::Build;
 use crate::build::representation::EnumRepr;
 use crate::build::role::{Role, Target};
 use facet_solver_shape::{
@@ -70,7 +70,8 @@ fn emit_catch_all<'c>(
     place: &Place<'c>,
     resolution: &mut Resolution<'c>,
 ) -> Result<(), SchemaError<'c>>
-    ensures { let emitted = emissions.emit_catch_all (build_of build.entry) field.now target place.now in
+    ensures { let emitted =
+        emissions.emit_catch_all (build_of build.entry) field.now target place.now in
         Gives (take_all resolution.old emitted) result resolution.new }
 {
     let info = catch_all_field(build, field, target, place)?;
@@ -105,7 +106,8 @@ pub(crate) fn emit_plain<'c>(
 ) -> Result<(), SchemaError<'c>>
     requires checked { NamesEarlier build.shapes.now }
     requires plain { IsPlain (role_view role.now) }
-    ensures { let emitted = emissions.emit_plain (build_of build.entry) field.now place.now (role_view role.now) in
+    ensures { let emitted =
+        emissions.emit_plain (build_of build.entry) field.now place.now (role_view role.now) in
         Gives (take_all resolution.old emitted) result resolution.new }
 {
     match role {
@@ -123,7 +125,8 @@ pub(crate) fn add_pick<'c>(
     variant: &'c Variant,
     resolution: &mut Resolution<'c>,
 ) -> Result<(), SchemaError<'c>>
-    ensures { Gives (take_in resolution.old (emissions.pick_of shape.now variant.now path.entry)) result resolution.new }
+    ensures { let pick = emissions.pick_of shape.now variant.now path.entry in
+        Gives (take_in resolution.old pick) result resolution.new }
 {
     resolution.add_variant_selection(path, &shape.type_identifier, &variant.name)?;
     Ok(())
@@ -137,7 +140,8 @@ fn add_selector<'c>(
     place: &Place<'c>,
     resolution: &mut Resolution<'c>,
 ) -> Result<(), SchemaError<'c>>
-    ensures { let field = emissions.selector_field (build_of build.entry) name.now (chosen_of chosen.now) place.now in
+    ensures { let field =
+        emissions.selector_field (build_of build.entry) name.now (chosen_of chosen.now) place.now in
         Gives (take_all resolution.old (emissions.field_and_paths field no_paths)) result resolution.new }
 {
     let info = selector_field(build, name, chosen, place)?;
@@ -168,7 +172,8 @@ fn emit_selector<'c>(
     resolution: &mut Resolution<'c>,
 ) -> Result<(), SchemaError<'c>>
     requires checked { NamesEarlier build.shapes.now }
-    ensures { let emitted = emissions.emit_selector (build_of build.entry) (chosen_of chosen.now) place.now in
+    ensures { let emitted =
+        emissions.emit_selector (build_of build.entry) (chosen_of chosen.now) place.now in
         Gives (take_all resolution.old emitted) result resolution.new }
 {
     let variant = chosen.variant;
@@ -196,7 +201,8 @@ pub(crate) fn emit_variant<'c>(
     resolution: &mut Resolution<'c>,
 ) -> Result<(), SchemaError<'c>>
     requires checked { NamesEarlier build.shapes.now }
-    ensures { let emitted = emissions.emit_variant (build_of build.entry) (chosen_of chosen.now) place.now in
+    ensures { let emitted =
+        emissions.emit_variant (build_of build.entry) (chosen_of chosen.now) place.now in
         Gives (take_all resolution.old emitted) result resolution.new }
 {
     let path = place.field_path(build.alloc, chosen.field)?;

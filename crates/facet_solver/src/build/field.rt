@@ -5,8 +5,8 @@ ghost use Rattle.facet_solver.specs.Emissions as emissions;
 ghost use Rattle.facet_solver.specs.Place.{chosen_of};
 ghost use Rattle.facet_solver.specs.Build.{build_of};
 
-use crate::build::place::{Chosen, Place};
 use crate::build::Build;
+use crate::build::place::{Chosen, Place};
 use crate::build::role::{Target, is_option};
 use facet_solver_shape::{Field, FieldInfo};
 use std::alloc::AllocError;
@@ -18,7 +18,9 @@ pub(crate) fn regular_field<'c>(
     field: &'c Field,
     place: &Place<'c>,
 ) -> Result<FieldInfo<'c>, AllocError>
-    ensures { IfOk result (λ info. field_view info ≡ emissions.regular_field (build_of build.entry) field.now place.now) }
+    ensures { IfOk result
+        (λ info. field_view info
+        ≡ emissions.regular_field (build_of build.entry) field.now place.now) }
 {
     Ok(FieldInfo {
         serialized_name: field.effective_name(),
@@ -38,7 +40,9 @@ pub(crate) fn catch_all_field<'c>(
     target: Target,
     place: &Place<'c>,
 ) -> Result<FieldInfo<'c>, AllocError>
-    ensures { IfOk result (λ info. field_view info ≡ emissions.catch_all_field (build_of build.entry) field.now target place.now) }
+    ensures { IfOk result
+        (λ info. field_view info
+        ≡ emissions.catch_all_field (build_of build.entry) field.now target place.now) }
 {
     Ok(FieldInfo {
         serialized_name: field.effective_name(),
@@ -58,7 +62,9 @@ pub(crate) fn leaf_field<'c>(
     target: Target,
     place: &Place<'c>,
 ) -> Result<FieldInfo<'c>, AllocError>
-    ensures { IfOk result (λ info. field_view info ≡ emissions.leaf_field (build_of build.entry) field.now target place.now) }
+    ensures { IfOk result
+        (λ info. field_view info
+        ≡ emissions.leaf_field (build_of build.entry) field.now target place.now) }
 {
     Ok(FieldInfo {
         serialized_name: field.effective_name(),
@@ -81,7 +87,8 @@ pub(crate) fn selector_field<'c>(
     place: &Place<'c>,
 ) -> Result<FieldInfo<'c>, AllocError>
     ensures { let chosen = chosen_of chosen.now in
-        IfOk result (λ info. field_view info ≡ emissions.selector_field (build_of build.entry) name.now chosen place.now) }
+        IfOk result (λ info. field_view info
+        ≡ emissions.selector_field (build_of build.entry) name.now chosen place.now) }
 {
     Ok(FieldInfo {
         serialized_name: name,

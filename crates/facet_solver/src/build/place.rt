@@ -38,10 +38,7 @@ impl<'c> Place<'c> {
     }
 
     /// Where the fields of a root enum's variant stand.
-    pub(crate) fn root_variant(
-        alloc: Global,
-        variant: &'c Variant,
-    ) -> Result<Place<'c>, AllocError>
+    pub(crate) fn root_variant(alloc: Global, variant: &'c Variant) -> Result<Place<'c>, AllocError>
         ensures { IfOk result (λ inside. inside ≡ places.at_root_variant variant.now) }
     {
         let path = FieldPath::empty(alloc);
@@ -103,7 +100,8 @@ impl<'c> Place<'c> {
         alloc: Global,
         chosen: &Chosen<'c>,
     ) -> Result<Place<'c>, AllocError>
-        ensures { IfOk result (λ inside. inside ≡ places.inside_variant self.now (chosen_of chosen.now)) }
+        ensures { IfOk result
+            (λ inside. inside ≡ places.inside_variant self.now (chosen_of chosen.now)) }
     {
         Ok(Place {
             path: self.variant_path(alloc, chosen)?,
@@ -113,7 +111,8 @@ impl<'c> Place<'c> {
 
     /// Where the fields of the struct stand that is the only field, `0`, of a variant here.
     pub(crate) fn inside_newtype(&self, alloc: Global) -> Result<Place<'c>, AllocError>
-        ensures { IfOk result (λ inside. inside ≡ places.further self.now (by_field (codes "0") ∷ [])) }
+        ensures { IfOk result
+            (λ inside. inside ≡ places.further self.now (by_field (codes "0") ∷ [])) }
     {
         Ok(Place {
             path: self.path.push_field(alloc, "0")?,

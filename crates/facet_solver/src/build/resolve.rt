@@ -7,10 +7,10 @@ ghost use Rattle.facet_solver.specs.Outcome.{Walks, effect};
 ghost use Rattle.facet_solver.specs.Build.{build_of};
 ghost use Rattle.facet_solver.specs.Walk as walk;
 
+use crate::build::Build;
 use crate::build::choices::choices_of_root;
 use crate::build::emit::add_pick;
 use crate::build::place::Place;
-use crate::build::Build;
 use crate::build::walk::{next_variant, walk_content, walk_fields};
 use facet_solver_shape::{FieldPath, Resolution, SchemaError, Shape, ShapeId, ShapeKind, Variant};
 
@@ -22,7 +22,8 @@ pub(crate) fn resolutions<'c>(
 ) -> Result<Vec<Resolution<'c>>, SchemaError<'c>>
     requires { root < length build.shapes.now }
     ensures built { IfOk result (λ v. Enumerates (build_of build.entry) root v.items) }
-    ensures counted { IfOk result (λ v. length v.items ≡ count_of_root (build_of build.entry) root) }
+    ensures counted { IfOk result
+        (λ v. length v.items ≡ count_of_root (build_of build.entry) root) }
     ensures refused { IfErr result (IsRefusal (build_of build.entry) root) }
 {
     let choices = choices_of_root(build, root)?;
@@ -86,8 +87,10 @@ fn walk_root_variant<'c, 'n>(
 ) -> Result<&'n [usize], SchemaError<'c>>
     requires checked { NamesEarlier build.shapes.now }
     requires below { FieldsBelow (length build.shapes.now) variant.now.fields.items }
-    requires walked { IsSome (walk.walk_root_variant (build_of build) shape.now variant.now indices.now) }
-    ensures { let walked = walk.walk_root_variant (build_of build.entry) shape.now variant.now indices.now in
+    requires walked { IsSome
+        (walk.walk_root_variant (build_of build) shape.now variant.now indices.now) }
+    ensures { let walked =
+        walk.walk_root_variant (build_of build.entry) shape.now variant.now indices.now in
         Walks (effect resolution.old walked) result resolution.new }
 {
     let inside = Place::root_variant(build.alloc, variant)?;

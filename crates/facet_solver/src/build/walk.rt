@@ -6,10 +6,10 @@ ghost use Rattle.facet_solver.specs.Build.{build_of};
 ghost use Rattle.facet_solver.specs.Place.{chosen_of};
 ghost use Rattle.facet_solver.specs.Walk as walk;
 
+use crate::build::Build;
 use crate::build::content::newtype_fields;
 use crate::build::emit::{emit_plain, emit_variant};
 use crate::build::place::{Chosen, Place};
-use crate::build::Build;
 use crate::build::role::{Role, role_of};
 use facet_solver_shape::{Field, Resolution, SchemaError, Variant};
 
@@ -37,7 +37,8 @@ pub(crate) fn walk_fields<'c, 'n>(
     requires checked { NamesEarlier build.shapes.now }
     requires below { FieldsBelow (length build.shapes.now) fields.now }
     requires walked { IsSome (walk.walk_fields (build_of build) fields.now place.now indices.now) }
-    ensures { let walked = walk.walk_fields (build_of build.entry) fields.now place.now indices.now in
+    ensures { let walked =
+        walk.walk_fields (build_of build.entry) fields.now place.now indices.now in
         Walks (effect resolution.old walked) result resolution.new }
 {
     let mut rest = indices;
@@ -96,8 +97,10 @@ fn walk_variant<'c, 'n>(
 ) -> Result<&'n [usize], SchemaError<'c>>
     requires checked { NamesEarlier build.shapes.now }
     requires below { FieldsBelow (length build.shapes.now) chosen.now.variant.now.fields.items }
-    requires walked { IsSome (walk.walk_variant (build_of build) (chosen_of chosen.now) place.now indices.now) }
-    ensures { let walked = walk.walk_variant (build_of build.entry) (chosen_of chosen.now) place.now indices.now in
+    requires walked { IsSome
+        (walk.walk_variant (build_of build) (chosen_of chosen.now) place.now indices.now) }
+    ensures { let walked =
+        walk.walk_variant (build_of build.entry) (chosen_of chosen.now) place.now indices.now in
         Walks (effect resolution.old walked) result resolution.new }
 {
     emit_variant(build, chosen, place, resolution)?;
@@ -120,8 +123,10 @@ pub(crate) fn walk_content<'c, 'n>(
 ) -> Result<&'n [usize], SchemaError<'c>>
     requires checked { NamesEarlier build.shapes.now }
     requires below { FieldsBelow (length build.shapes.now) variant.now.fields.items }
-    requires walked { IsSome (walk.walk_content (build_of build) variant.now place.now indices.now) }
-    ensures { let walked = walk.walk_content (build_of build.entry) variant.now place.now indices.now in
+    requires walked { IsSome
+        (walk.walk_content (build_of build) variant.now place.now indices.now) }
+    ensures { let walked =
+        walk.walk_content (build_of build.entry) variant.now place.now indices.now in
         Walks (effect resolution.old walked) result resolution.new }
 {
     match newtype_fields(build.shapes, &variant.fields) {

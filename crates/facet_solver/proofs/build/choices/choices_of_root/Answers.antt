@@ -3,7 +3,6 @@ use Rattle.std.proofs.lemmas.Result.{IfOk-weaker}
 use Rattle.std.specs.Prelude.{Vec}
 use Rattle.std.specs.declared.alloc.Global.{Global}
 use Rattle.std.specs.declared.alloc.AllocError.{AllocError}
-use Rattle.facet_solver.specs.Targets.{Catalogue}
 use Rattle.facet_solver.specs.Choice.{ListsChoices}
 use Rattle.facet_solver.specs.Count.{count_of_root}
 use Rattle.facet_solver.specs.Listing.{Choices, choices_of_root, lists}

@@ -1,4 +1,4 @@
-use Rattle.std.proofs.Common.{ap, ◌∙◌, sym, subst, [], List, length, Bool, false, Some, IsSome}
+use Rattle.std.proofs.Common.{ap, ◌∙◌, sym, subst, List, length, Some, IsSome}
 use Rattle.facet_solver_shape.specs.declared.shape.Field.{Field}
 use Rattle.facet_solver_shape.specs.declared.shape.Variant.{Variant}
 use Rattle.facet_solver.specs.declared.build.place.Place.{Place}
