@@ -67,7 +67,7 @@ first_of_each_shape (f ∷ fs) =
 -- of the fields that a key means, the first of each shape, with the score of the shape
 abbrev pub distinct_fields : Key → SchemaView → List ℕ → List (FieldView × ℕ)
 distinct_fields key schema indices =
-    map (with_score schema.catalogue)
+    map (with_score schema.build.catalogue)
     (first_of_each_shape (fields_by_key key schema.resolutions indices))
 
 -- fields of different shapes: one says what the value is, more do not

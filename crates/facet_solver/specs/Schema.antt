@@ -9,40 +9,38 @@ use Rattle.facet_solver.specs.contracts.build.representation.Format as format
 use Rattle.facet_solver.specs.declared.build.representation.EnumRepr.{EnumRepr}
 use Rattle.facet_solver.specs.declared.build.representation.Format.{Format}
 use Rattle.facet_solver.specs.declared.build.representation.Format.TheVariants.{Flat}
+use Rattle.facet_solver.specs.Build.{Build}
 use Rattle.facet_solver.specs.Choice.{Enumerates}
 use Rattle.facet_solver.specs.Count.{count_of_root}
-use Rattle.facet_solver.specs.Representation.{Repr, Settings, asked_view, flattened, externally_tagged, internally_tagged, adjacently_tagged}
+use Rattle.facet_solver.specs.Representation.{Repr, asked_view, flattened, externally_tagged, internally_tagged, adjacently_tagged}
 use Rattle.facet_solver.specs.Targets.{Catalogue}
 
--- a catalogue, the root in it, how the resolutions were made, and the resolutions
+-- what the build went by, the root, and the resolutions
 pub record SchemaView : Type 0 where
-  pub catalogue : Catalogue
+  pub build : Build
   pub root : ℕ
-  pub settings : Settings
   pub resolutions : List Resolved
 
--- the settings of a format whose keys are names
-abbrev pub flat_settings : Option Repr → Settings
-flat_settings repr = record { representation = repr; format = Flat }
+-- a build for documents whose keys are names
+abbrev pub flat_build : Catalogue → Option Repr → Build
+flat_build cat repr = record { catalogue = cat; representation = repr; format = Flat }
 
--- a schema of the root, made by the settings: exactly one resolution for each choice, in order
-pub record IsBuilt (settings : Settings) (cat : Catalogue) (root : ℕ) (schema : SchemaView) : Type 0 where
-  pub catalogue : schema.catalogue ≡ cat
-  pub root_place : schema.root ≡ root
-  pub made_by : schema.settings ≡ settings
-  pub enumerates : Enumerates settings cat root schema.resolutions
-  pub counted : length schema.resolutions ≡ count_of_root settings cat root
+-- a schema of the root, made by the build: exactly one resolution for each choice, in order
+pub record IsBuilt (build : Build) (root : ℕ) (schema : SchemaView) : Type 0 where
+  pub made_by : schema.build ≡ build
+  pub has_root : schema.root ≡ root
+  pub enumerates : Enumerates build root schema.resolutions
+  pub counted : length schema.resolutions ≡ count_of_root build root
 
--- a schema of its own root, made by its own settings
+-- a schema of its own root, made by its own build
 abbrev pub IsOwnBuild : SchemaView → Type 0
-IsOwnBuild schema = IsBuilt schema.settings schema.catalogue schema.root schema
+IsOwnBuild schema = IsBuilt schema.build schema.root schema
 
 -- what the parts of a schema say
 abbrev pub schema_view : Catalogue → ℕ → Option EnumRepr → Format → List Resolved → SchemaView
 schema_view cat root repr format resolutions = record {
-  catalogue = cat;
+  build = record { catalogue = cat; representation = asked_view repr; format = format };
   root = root;
-  settings = record { representation = asked_view repr; format = format };
   resolutions = resolutions;
 }
 
@@ -76,19 +74,19 @@ repr_code =
     (λ p. repr_numbered p.1.0 p.1.1 p.0)
     repr_back
 
--- settings
-abbrev pub settings_code : Coded Settings
-settings_code =
-    code_by (Option Repr × Format) (coded× (coded_option repr_code) format.the_row.coded)
-    (λ s. (s.representation, s.format))
-    (λ p. record { representation = p.0; format = p.1 })
+-- what a build goes by
+abbrev pub build_code : Coded Build
+build_code =
+    code_by (Catalogue × (Option Repr × Format))
+    (coded× (coded_list shape.the_row.coded) (coded× (coded_option repr_code) format.the_row.coded))
+    (λ b. (b.catalogue, (b.representation, b.format)))
+    (λ p. record { catalogue = p.0; representation = p.1.0; format = p.1.1 })
     (λ _. refl)
 
 -- a schema as the tuple of its parts
 abbrev pub schema_code : Coded SchemaView
 schema_code =
-    code_by ((Catalogue × ℕ) × (Settings × List Resolved))
-    (coded× (coded× (coded_list shape.the_row.coded) coded_ℕ) (coded× settings_code (coded_list resolved_code)))
-    (λ s. ((s.catalogue, s.root), (s.settings, s.resolutions)))
-    (λ p. record { catalogue = p.0.0; root = p.0.1; settings = p.1.0; resolutions = p.1.1 })
+    code_by (Build × (ℕ × List Resolved)) (coded× build_code (coded× coded_ℕ (coded_list resolved_code)))
+    (λ s. (s.build, (s.root, s.resolutions)))
+    (λ p. record { build = p.0; root = p.1.0; resolutions = p.1.1 })
     (λ _. refl)

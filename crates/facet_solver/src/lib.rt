@@ -1,11 +1,11 @@
 //! A solver that tells from the keys of a document which variants of flattened and untagged enums it means.
 #![tactic(auto)]
 
-pub mod build;
+mod build;
 mod error;
 pub mod laws;
 mod schema;
-pub mod set;
+mod set;
 mod solver;
 
 pub use build::representation::{EnumRepr, Format};

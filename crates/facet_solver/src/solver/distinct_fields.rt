@@ -58,7 +58,7 @@ const NO_SCORE: u64 = 1000;
 
 // The score of the shape at a place.
 fn score_at(schema: &Schema<'_>, id: ShapeId) -> u64
-    ensures { result ≡ key_result.score_at schema.now.catalogue id }
+    ensures { result ≡ key_result.score_at schema.now.build.catalogue id }
 {
     match schema.shapes().get(id) {
         Some(shape) => specificity_score(shape),

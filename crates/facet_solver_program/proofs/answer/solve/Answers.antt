@@ -6,7 +6,7 @@ use Rattle.facet_solver.specs.Names.{Name}
 use Rattle.facet_solver.specs.declared.error.SolverError.{SolverError}
 use Rattle.facet_solver.specs.declared.error.SolverError.TheVariants.{NoMatch, Ambiguous, OutOfMemory}
 use Rattle.facet_solver.specs.Representation.{flattened}
-use Rattle.facet_solver.specs.Schema.{SchemaView, IsBuilt, flat_settings}
+use Rattle.facet_solver.specs.Schema.{SchemaView, IsBuilt, flat_build}
 use Rattle.facet_solver.specs.State.{State, new_solver, see_key}
 use Rattle.facet_solver.specs.Targets.{Catalogue}
 use Rattle.facet_solver.specs.Verdict.{IsReportOn, viable}
@@ -31,7 +31,7 @@ module _ (schema : SchemaView) (names : List Name) (first last : State) (first_i
   kept = ap (λ s. s.schema) at_last ∙ see_keys-schema (new_solver schema) names
 
   -- what an error of the solver says of the root
-  ended : (shapes : Catalogue) (root : ℕ) → IsBuilt (flat_settings (Some flattened)) shapes root schema
+  ended : (shapes : Catalogue) (root : ℕ) → IsBuilt (flat_build shapes (Some flattened)) root schema
       → (error : SolverError) (o : Ending) → IsReportOn last error → IsErrorAs error o → IsEnding shapes root names o
   ended shapes root built (NoMatch _ _ _ _ _ _) o report is = subst (IsEnding shapes root names) (sym is) (schema, built, sym left ∙ report)
   ended shapes root built (Ambiguous _ _) o report is = subst (IsEnding shapes root names) (sym is) (schema, built, subst (λ is. 1 < length is) left report.0)

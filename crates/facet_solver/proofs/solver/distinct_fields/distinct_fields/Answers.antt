@@ -18,7 +18,7 @@ loop-index-preserved-in_default c =
     let at = field_at (key_of c.args.key) c.args.schema.now.resolutions in
     record {
       parts = rest_more c.loop-index.yielded _ _ _ c.in-Some.index before.parts c.in-Some.ensures.steps;
-      fields = firsts_none c.args.schema.now.catalogue at c.loop-index.yielded c.in-Some.index c.loop-index.fields.items before.fields (sym c.in_default.ensures);
+      fields = firsts_none c.args.schema.now.build.catalogue at c.loop-index.yielded c.in-Some.index c.loop-index.fields.items before.fields (sym c.in_default.ensures);
     }
 
 pub loop-index-preserved-in-Continue-1 : goal.loop-index-preserved-in-Continue-1
@@ -28,7 +28,7 @@ loop-index-preserved-in-Continue-1 c =
     record {
       parts = rest_more c.loop-index.yielded _ _ _ c.in-Some.index before.parts c.in-Some.ensures.steps;
       fields = ap (map scored_view) c.in_ok-push.ensures.items
-          ∙ firsts_new c.args.schema.now.catalogue at c.loop-index.yielded c.in-Some.index c.loop-index.fields.items before.fields (c.in-Some-field_at.field, c.score_at.result) (sym c.in-Some-field_at.ensures) (has_shape_told c.in-Some-field_at.field.now.value_shape c.deref.ensures.value c.has_shape.ensures c.if-not-has_shape.true) c.score_at.ensures;
+          ∙ firsts_new c.args.schema.now.build.catalogue at c.loop-index.yielded c.in-Some.index c.loop-index.fields.items before.fields (c.in-Some-field_at.field, c.score_at.result) (sym c.in-Some-field_at.ensures) (has_shape_told c.in-Some-field_at.field.now.value_shape c.deref.ensures.value c.has_shape.ensures c.if-not-has_shape.true) c.score_at.ensures;
     }
 
 pub loop-index-preserved : goal.loop-index-preserved
@@ -37,5 +37,5 @@ loop-index-preserved c =
     let at = field_at (key_of c.args.key) c.args.schema.now.resolutions in
     record {
       parts = rest_more c.loop-index.yielded _ _ _ c.in-Some.index before.parts c.in-Some.ensures.steps;
-      fields = firsts_old c.args.schema.now.catalogue at c.loop-index.yielded c.in-Some.index c.loop-index.fields.items before.fields (field_view c.in-Some-field_at.field.now) (sym c.in-Some-field_at.ensures) (has_shape_told c.in-Some-field_at.field.now.value_shape c.deref.ensures.value c.has_shape.ensures c.if-not-has_shape.false);
+      fields = firsts_old c.args.schema.now.build.catalogue at c.loop-index.yielded c.in-Some.index c.loop-index.fields.items before.fields (field_view c.in-Some-field_at.field.now) (sym c.in-Some-field_at.ensures) (has_shape_told c.in-Some-field_at.field.now.value_shape c.deref.ensures.value c.has_shape.ensures c.if-not-has_shape.false);
     }

@@ -8,5 +8,5 @@ abbrev pub invariant-loop-index : goal.invariant-loop-index
 invariant-loop-index l = record {
   parts : l.yielded ++ l.index-iterator ≡ l.candidates.members;
   fields : map scored_view l.fields.items
-      ≡ map (with_score l.schema.catalogue) (first_of_each_shape (filter_map (field_at (key_of l.key) l.schema.resolutions) l.yielded));
+      ≡ map (with_score l.schema.build.catalogue) (first_of_each_shape (filter_map (field_at (key_of l.key) l.schema.resolutions) l.yielded));
 }
