@@ -20,6 +20,7 @@ pub mod Schema
 pub mod Handle
 pub mod State
 pub mod KeyResult
+pub mod SatisfyResult
 pub mod Verdict
 pub mod ChoiceLists
 pub mod Filling
