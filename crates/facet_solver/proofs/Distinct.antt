@@ -1,6 +1,6 @@
 -- The first field of each shape.
 use Rattle.std.proofs.Common.{◌≡◌, ℕ, Bool, true, false, cond, ◌||◌, not, List, [], ◌∷◌, ◌++◌, filter, map, nat_eq, ◌&&◌, refl, ap, sym, ◌∙◌, Bor, Option, Some, None, append-nil}
-use Rattle.std.specs.List.{list_any, filter_map, slice_get}
+use Rattle.std.specs.List.{list_any, filter_map}
 use Rattle.std.proofs.lemmas.Bool.{eqb-true}
 use Rattle.std.proofs.lemmas.Cmp.{nat_eq_equiv}
 use Rattle.std.proofs.lemmas.List.{map-append}
@@ -10,8 +10,7 @@ use Rattle.facet_solver_shape.specs.Resolved.{FieldView}
 use Rattle.facet_solver_shape.specs.declared.resolution.field.FieldInfo.{FieldInfo}
 use Rattle.facet_solver_shape.proofs.Named.{list_any-map}
 use Rattle.facet_solver_shape.specs.Views.{field_view}
-use Rattle.facet_solver.specs.KeyAnswer.{first_of_each_shape, score_of_shape, with_score}
-use Rattle.facet_solver.specs.KeyResultView.{scored_view}
+use Rattle.facet_solver.specs.KeyResult.{first_of_each_shape, score_at, scored_view, with_score}
 use Rattle.facet_solver.specs.Targets.{Catalogue}
 
 -- whether one of some fields has a shape
@@ -59,7 +58,7 @@ module _ (cat : Catalogue) (h : ℕ → Option FieldView) (ys : List ℕ) (i : �
   firsts = first_of_each_shape (filter_map h ys)
 
   -- a number with a field of a new shape
-  pub firsts_new : (e : Bor FieldInfo × ℕ) → h i ≡ Some (field_view e.0.now) → list_any (λ (d : Bor FieldInfo × ℕ). nat_eq d.0.now.value_shape e.0.now.value_shape) items ≡ false → e.1 ≡ score_of_shape (slice_get cat e.0.now.value_shape)
+  pub firsts_new : (e : Bor FieldInfo × ℕ) → h i ≡ Some (field_view e.0.now) → list_any (λ (d : Bor FieldInfo × ℕ). nat_eq d.0.now.value_shape e.0.now.value_shape) items ≡ false → e.1 ≡ score_at cat e.0.now.value_shape
       → map scored_view (items ++ e ∷ []) ≡ map (with_score cat) (first_of_each_shape (filter_map h (ys ++ i ∷ [])))
   firsts_new e found is_new score =
       let g = field_view e.0.now in

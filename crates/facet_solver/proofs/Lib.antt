@@ -20,7 +20,7 @@ pub mod Members
 pub mod Viability
 pub mod Distinct
 pub mod Verdicts
-pub mod Told
+pub mod States
 pub mod RoleViews
 pub mod Resolutions
 pub mod Outcomes

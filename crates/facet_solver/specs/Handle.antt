@@ -3,22 +3,23 @@ use Rattle.std.specs.Prelude.{◌≡◌, ℕ, Bool, Some, nat_eq, slice_get}
 use Rattle.std.specs.Cmp.{IsEquivalence}
 use Rattle.std.proofs.lemmas.Cmp.{nat_eq_equiv}
 use Rattle.facet_solver_shape.specs.Resolved.{Resolved}
-use Rattle.facet_solver.specs.declared.schema.ResolutionHandle.{ResolutionHandle}
-use Rattle.facet_solver.specs.SchemaView.{SchemaView}
+use Rattle.facet_solver.specs.declared.schema.handle.ResolutionHandle.{ResolutionHandle}
+use Rattle.facet_solver.specs.Schema.{SchemaView}
 
--- the number of its resolution
+-- the index of its resolution among those of its schema
 abbrev pub index_of : ResolutionHandle → ℕ
 index_of handle = handle.index
 
 -- its resolution
-abbrev pub resolution_behind : ResolutionHandle → Resolved
-resolution_behind handle = handle.resolution.now
+abbrev pub resolution_of : ResolutionHandle → Resolved
+resolution_of handle = handle.resolution.now
 
--- a handle of a schema: it holds the resolution of its number
+-- a handle of a schema: it holds the resolution at its index
 abbrev pub IsHandleOf : SchemaView → ResolutionHandle → Type 0
-IsHandleOf schema handle = slice_get schema.resolutions (index_of handle) ≡ Some (resolution_behind handle)
+IsHandleOf schema handle =
+    slice_get schema.resolutions (index_of handle) ≡ Some (resolution_of handle)
 
--- whether two handles have one number
+-- whether two handles have one index
 abbrev pub same_index : ResolutionHandle → ResolutionHandle → Bool
 same_index g h = nat_eq (index_of g) (index_of h)
 

@@ -16,14 +16,12 @@ pub mod PlanView
 pub mod IndexSet
 pub mod HowMany
 pub mod Words
-pub mod SchemaView
+pub mod Schema
 pub mod Handle
 pub mod State
-pub mod KeyAnswer
-pub mod KeyResultView
+pub mod KeyResult
+pub mod SatisfyResult
 pub mod Verdict
-pub mod Report
-pub mod SchemaCode
 pub mod ChoiceLists
 pub mod Filling
 pub mod Refusal

@@ -1,49 +1,95 @@
--- States of a solver, and what a key leaves of one.
-use Rattle.std.specs.Prelude.{ℕ, Bool, List, [], ◌∷◌, Option, filter, find, is_some, length, slice_get, false}
+-- States of a solver, and what calls leave of them.
+use Rattle.std.specs.Prelude.{ℕ, Bool, List, [], ◌∷◌, Option, Some, None, filter, find, if◌then◌else◌, is_some, length, nat_eq, refl, slice_get, true, false}
 use Rattle.std.specs.BTreeSet.{insert_key}
+use Rattle.std.specs.Coded.{Coded, code_by, coded×, coded_ℕ, coded_list}
 use Rattle.std.specs.FinMap as finite
-use Rattle.std.specs.Option.{option_map_or}
+use Rattle.std.specs.List.{list_any}
+use Rattle.std.specs.Option.{option_and_then, option_map_or}
 use Rattle.facet_solver_shape.specs.Keys.{Key, key_cmp}
 use Rattle.facet_solver_shape.specs.Matching.{matches}
+use Rattle.facet_solver_shape.specs.Names.{Name}
+use Rattle.facet_solver_shape.specs.PathEq.{name_eq}
 use Rattle.facet_solver_shape.specs.Resolved.{FieldView, Resolved}
+use Rattle.facet_solver_shape.specs.ResolvedCode.{key_code}
 use Rattle.facet_solver.specs.IndexSet.{upto}
-use Rattle.facet_solver.specs.SchemaView.{SchemaView}
+use Rattle.facet_solver.specs.Schema.{SchemaView, schema_code}
 
--- a schema, the resolutions of it that are left, by their numbers, and the keys that were seen, in their order
+-- a schema, the candidates, which are the resolutions of it that are left, by their indices, and the keys that were seen,
+-- in their order
 pub record State : Type 0 where
   pub schema : SchemaView
   pub candidates : List ℕ
   pub seen : List Key
 
--- all resolutions are left, and no key was seen
-abbrev pub at_first : SchemaView → State
-at_first schema = record { schema = schema; candidates = upto (length schema.resolutions); seen = [] }
+-- all resolutions are candidates, and no key was seen
+abbrev pub new_solver : SchemaView → State
+new_solver schema = record { schema = schema; candidates = upto (length schema.resolutions); seen = [] }
 
--- of the fields of a resolution that a key means, the one of least stored key
-abbrev pub field_for : Key → Resolved → Option FieldView
-field_for key r = find (matches key) (finite.values r.fields)
-
--- whether a resolution has a field that the key means
-abbrev pub has_key : Key → Resolved → Bool
-has_key key r = is_some (field_for key r)
-
--- whether the resolution of a number passes a test
+-- whether the resolution at an index passes a test
 abbrev pub passes : (Resolved → Bool) → List Resolved → ℕ → Bool
-passes test resolutions i = option_map_or test (slice_get resolutions i) false
+passes test resolutions index = option_map_or test (slice_get resolutions index) false
+
+-- the resolution at an index, where it passes a test
+abbrev pub passing_at : (Resolved → Bool) → List Resolved → ℕ → Option Resolved
+passing_at test resolutions index =
+    option_and_then (λ r. if test r then Some r else None) (slice_get resolutions index)
 
 -- the candidates that pass a test
 abbrev pub passing : (Resolved → Bool) → State → List ℕ
 passing test s = filter (passes test s.schema.resolutions) s.candidates
 
--- some numbers, or all where there are none
+-- some indices, or all where there are none
 abbrev pub or_all : List ℕ → List ℕ → List ℕ
 or_all [] all = all
-or_all (i ∷ rest) all = i ∷ rest
+or_all (index ∷ rest) all = index ∷ rest
 
--- a key is told: it is seen, and of the candidates those that have it are left, or all where none has it
-abbrev pub told : Key → State → State
-told key s = record {
-  schema = s.schema;
-  candidates = or_all (passing (has_key key) s) s.candidates;
-  seen = insert_key key_cmp s.seen key;
+-- only the candidates stay that pass a test. Where none does, none is left, or all stay if one has to be
+abbrev pub narrowed : Bool → (Resolved → Bool) → State → State
+narrowed may_be_none test s = record s {
+  candidates = if may_be_none then passing test s else or_all (passing test s) s.candidates;
 }
+
+-- a key is seen
+abbrev pub mark_seen : Key → State → State
+mark_seen key s = record s { seen = insert_key key_cmp s.seen key }
+
+-- of the fields of a resolution that a key means, the one of least stored key
+abbrev pub field_by_key : Key → Resolved → Option FieldView
+field_by_key key r = find (matches key) (finite.values r.fields)
+
+-- whether a resolution has a field that the key means
+abbrev pub has_key : Key → Resolved → Bool
+has_key key r = is_some (field_by_key key r)
+
+-- a key is seen, and only the candidates stay that have it, or all where none has
+abbrev pub see_key : Key → State → State
+see_key key s = narrowed false (has_key key) (mark_seen key s)
+
+-- whether a variant of the name was picked, for whichever enum
+abbrev pub picks_variant : Name → Resolved → Bool
+picks_variant name r = list_any (λ pick. name_eq pick.variant_name name) r.picks
+
+-- only the candidates stay that picked a variant of the name, or all where none did
+abbrev pub hint_variant : Name → State → State
+hint_variant name s = narrowed false (picks_variant name) s
+
+-- whether one of a resolution's fields has one of the shapes
+abbrev pub has_shape_among : List ℕ → Resolved → Bool
+has_shape_among shapes r =
+    list_any (λ f. list_any (λ id. nat_eq id f.shape) shapes) (finite.values r.fields)
+
+-- only the candidates stay that have a field of one of the shapes
+abbrev pub satisfy_shapes : List ℕ → State → State
+satisfy_shapes shapes s = narrowed true (has_shape_among shapes) s
+
+-- whether a key of the name was seen
+abbrev pub was_field_seen : Name → State → Bool
+was_field_seen name s = list_any (λ key. name_eq key.name name) s.seen
+
+-- How a state is stored, by which proofs tell values apart. No clause speaks of it: the tuple of its parts
+abbrev pub state_code : Coded State
+state_code =
+    code_by (SchemaView × (List ℕ × List Key)) (coded× schema_code (coded× (coded_list coded_ℕ) (coded_list key_code)))
+    (λ s. (s.schema, (s.candidates, s.seen)))
+    (λ p. record { schema = p.0; candidates = p.1.0; seen = p.1.1 })
+    (λ _. refl)

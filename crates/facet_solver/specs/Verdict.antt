@@ -1,14 +1,15 @@
 -- What a solver says at the end.
-use Rattle.std.specs.Prelude.{ℕ, Bool, if◌then◌else◌, List, Option, Some, None, map, slice_get}
+use Rattle.std.specs.Prelude.{◌≡◌, ◌≢◌, ◌<◌, ℕ, Bool, List, [], length, map, slice_get, string_bytes, ⊤}
 use Rattle.std.specs.Cmp.Lexicographic.{slice_cmp}
 use Rattle.std.specs.FinSet as set
 use Rattle.std.specs.List.{filter_map}
-use Rattle.std.specs.Option.{option_and_then}
 use Rattle.std.specs.Ordering.{nat_cmp}
 use Rattle.facet_solver_shape.specs.Descriptions.{description}
 use Rattle.facet_solver_shape.specs.Keys.{Key}
 use Rattle.facet_solver_shape.specs.Names.{Name}
 use Rattle.facet_solver_shape.specs.Resolved.{Resolved}
+use Rattle.facet_solver.specs.declared.error.SolverError.{SolverError}
+use Rattle.facet_solver.specs.declared.error.SolverError.TheVariants.{NoMatch, Ambiguous, OutOfMemory}
 use Rattle.facet_solver.specs.State.{State, passing}
 
 -- the names of keys
@@ -23,10 +24,28 @@ is_viable seen r = set.is_subset r.required_names (names_among seen)
 abbrev pub viable : State → List ℕ
 viable s = passing (is_viable s.seen) s
 
--- the resolution of a number, where it is viable
-abbrev pub viable_at : List Key → List Resolved → ℕ → Option Resolved
-viable_at seen resolutions i = option_and_then (λ r. if is_viable seen r then Some r else None) (slice_get resolutions i)
-
--- the descriptions of resolutions, in order
+-- the descriptions of the resolutions at some indices, in order
 abbrev pub descriptions : List Resolved → List ℕ → List Name
-descriptions resolutions is = map (λ r. description r.picks) (filter_map (slice_get resolutions) is)
+descriptions resolutions indices =
+    map (λ r. description r.picks) (filter_map (slice_get resolutions) indices)
+
+-- a report that no candidate is viable
+abbrev pub IsNoMatch : SolverError → Type 0
+IsNoMatch (NoMatch _ _ _ _ _ _) = ⊤
+IsNoMatch (Ambiguous _ _) = ⊥
+IsNoMatch OutOfMemory = ⊥
+
+-- a report that several are, with their descriptions
+abbrev pub IsAmbiguityOf : List Name → SolverError → Type 0
+IsAmbiguityOf texts (NoMatch _ _ _ _ _ _) = ⊥
+IsAmbiguityOf texts (Ambiguous candidates _) = map string_bytes candidates.items ≡ texts
+IsAmbiguityOf texts OutOfMemory = ⊥
+
+-- no candidate is viable; several are, and all are described in order; or memory was refused, which it is not where one
+-- candidate alone is viable
+abbrev pub IsReportOn : State → SolverError → Type 0
+IsReportOn s (NoMatch _ _ _ _ _ _) = viable s ≡ []
+IsReportOn s (Ambiguous candidates _) =
+    (1 < length (viable s))
+    × (map string_bytes candidates.items ≡ descriptions s.schema.resolutions (viable s))
+IsReportOn s OutOfMemory = length (viable s) ≢ 1

@@ -2,7 +2,7 @@
 ghost use Rattle.std.specs.Prelude.{◌≡◌};
 ghost use Rattle.facet_solver.specs.declared.error.SolverError.TheVariants.{OutOfMemory};
 
-use std::alloc::{AllocError, AllocFailed};
+use std::alloc::AllocError;
 
 /// A required field that was not seen.
 #[derive(Debug, Drop)]
@@ -61,14 +61,6 @@ impl<'c> From<AllocError> for SolverError<'c> {
     ghost from_gives = { λ _ e. e ≡ OutOfMemory };
 
     fn from(_refused: AllocError) -> SolverError<'c> {
-        SolverError::OutOfMemory
-    }
-}
-
-impl<'c, T: Drop> From<AllocFailed<T>> for SolverError<'c> {
-    ghost from_gives = { λ _ e. e ≡ OutOfMemory };
-
-    fn from(_refused: AllocFailed<T>) -> SolverError<'c> {
         SolverError::OutOfMemory
     }
 }

@@ -2,11 +2,11 @@
 #![tactic(auto)]
 
 pub mod build;
-pub mod error;
+mod error;
 pub mod laws;
-pub mod schema;
+mod schema;
 pub mod set;
-pub mod solver;
+mod solver;
 
 pub use build::representation::{EnumRepr, Format};
 pub use error::{CandidateFailure, MissingFieldInfo, SolverError};
@@ -16,7 +16,9 @@ pub use facet_solver_shape::{
     ShapeKind, Shapes, StructKind, Variant, VariantFormat, VariantSelection, VariantsByFormat,
     specificity_score,
 };
-pub use schema::{ResolutionHandle, Schema};
+pub use schema::Schema;
+pub use schema::handle::ResolutionHandle;
 pub use set::{ResolutionSet, ResolutionSetIter};
 pub use solver::Solver;
 pub use solver::key_result::KeyResult;
+pub use solver::satisfy_result::SatisfyResult;

@@ -1,11 +1,12 @@
 //! All resolutions of a type.
 ghost use Rattle.std.specs.Prelude.{◌≡◌, ◌<◌, IfErr, IfOk, None, Some, length};
-ghost use Rattle.std.specs.Cmp.{partial_equiv_from_equiv};
 ghost use Rattle.facet_solver.specs.CountAnswer.{IsCountOf};
 ghost use Rattle.facet_solver.specs.PlanView.{settings_of};
 ghost use Rattle.facet_solver.specs.Refusal.{IsRefusal};
 ghost use Rattle.facet_solver.specs.Representation.{asked_view, externally_tagged, flattened, repr_view};
-ghost use Rattle.facet_solver.specs.SchemaView.{IsBuilt, flat_settings};
+ghost use Rattle.facet_solver.specs.Schema.{IsBuilt, IsOwnBuild, flat_settings};
+
+pub(crate) mod handle;
 
 use crate::build::count::count_of_root;
 use crate::build::plan::Plan;
@@ -26,20 +27,16 @@ pub struct Schema<'c> {
 }
 
 impl<'c> Model for Schema<'c> {
-    ghost use Rattle.facet_solver.specs.Representation.{asked_view};
-    ghost use Rattle.facet_solver.specs.SchemaCode.{schema_code};
-    ghost use Rattle.facet_solver.specs.SchemaView.{SchemaView};
+    ghost use Rattle.facet_solver.specs.Schema.{IsOwnBuild, SchemaView, schema_code, schema_view};
 
     ghost Value = { SchemaView };
 
     ghost coded = { schema_code };
 
-    ghost view = { λ s. record {
-      catalogue = s.shapes.now;
-      root = s.root;
-      settings = record { representation = asked_view s.representation; format = s.format };
-      resolutions = s.resolutions.items;
-    } };
+    ghost view = { λ s. schema_view s.shapes.now s.root s.representation s.format s.resolutions.items };
+
+    ghost invariant = { λ s.
+        IsOwnBuild (schema_view s.shapes.now s.root s.representation s.format s.resolutions.items) };
 }
 
 impl<'c> Schema<'c> {
@@ -153,9 +150,10 @@ impl<'c> Schema<'c> {
         })
     }
 
-    /// The resolutions, in order.
+    /// The resolutions, one for each choice of variants, in order.
     pub fn resolutions(&self) -> &[Resolution<'c>]
-        ensures { result.now ≡ self.now.resolutions }
+        ensures resolutions { result.now ≡ self.now.resolutions }
+        ensures built { IsOwnBuild self.now }
     {
         &self.resolutions
     }
@@ -172,66 +170,5 @@ impl<'c> Schema<'c> {
         ensures { result.now ≡ self.now.catalogue }
     {
         self.shapes
-    }
-}
-
-/// A resolution of a schema, with its number.
-///
-/// Two handles are equal where their numbers are, also those of two schemas.
-#[derive(Clone, Copy, Debug)]
-pub struct ResolutionHandle<'s, 'c> {
-    index: usize,
-    resolution: &'s Resolution<'c>,
-}
-
-impl PartialEq for ResolutionHandle<'_, '_> {
-    ghost use Rattle.facet_solver.specs.Handle.{same_index, same_index_equiv};
-
-    ghost eq = { same_index };
-
-    ghost laws = { partial_equiv_from_equiv same_index_equiv };
-
-    fn eq(&self, other: &Self) -> bool {
-        other.index == self.index
-    }
-}
-
-impl Eq for ResolutionHandle<'_, '_> {
-    ghost use Rattle.facet_solver.specs.Handle.{same_index_equiv};
-
-    ghost laws = { same_index_equiv };
-}
-
-impl<'s, 'c> ResolutionHandle<'s, 'c> {
-    ghost use Rattle.facet_solver.specs.Handle.{index_of, resolution_behind};
-
-    /// The number of the resolution among those of its schema.
-    pub fn index(&self) -> usize
-        ensures { result ≡ index_of self.now }
-    {
-        self.index
-    }
-
-    /// The resolution.
-    pub fn resolution(&self) -> &'s Resolution<'c>
-        ensures { result.now ≡ resolution_behind self.now }
-    {
-        self.resolution
-    }
-}
-
-impl<'c> Schema<'c> {
-    ghost use Rattle.facet_solver.specs.Handle.{index_of, IsHandleOf};
-
-    // The resolution of a number, with the number.
-    pub(crate) fn handle(&self, index: usize) -> ResolutionHandle<'_, 'c>
-        requires { index < length self.now.resolutions }
-        ensures index { index_of result ≡ index }
-        ensures of_schema { IsHandleOf self.now result }
-    {
-        ResolutionHandle {
-            index,
-            resolution: &self.resolutions[index],
-        }
     }
 }

@@ -1,32 +1,38 @@
 //! The solver: it narrows the resolutions of a schema by the keys of a document.
-ghost use Rattle.std.specs.Prelude.{◌≡◌, ◌↔◌, ◌∷◌, [], ◌<◌, All, IfErr, IfOk, IsOk, OnErr, OnOk, length, map};
+ghost use Rattle.std.specs.Prelude.{◌≡◌, ◌≢◌, ◌↔◌, ◌∷◌, [], ◌≤◌, All, IfErr, IfOk, IsOk, IsTrue, OnErr, OnOk, false, length, map, true};
+ghost use Rattle.std.specs.Bool.{OnFalse};
 ghost use Rattle.std.specs.List.Sorted.{IsStrictlyIncreasing};
 ghost use Rattle.facet_solver_shape.specs.Keys.{key_of};
 ghost use Rattle.facet_solver.specs.Handle.{IsHandleOf, index_of};
-ghost use Rattle.facet_solver.specs.KeyAnswer.{answer_of};
-ghost use Rattle.facet_solver.specs.KeyResultView.{HoldsHandleOf, answer_view};
-ghost use Rattle.facet_solver.specs.Report.{IsReportOn};
-ghost use Rattle.facet_solver.specs.State.{at_first, told};
-ghost use Rattle.facet_solver.specs.Verdict.{viable};
+ghost use Rattle.facet_solver.specs.HowMany.{IsWithin, how_many, matches_view};
+ghost use Rattle.facet_solver.specs.KeyResult.{HoldsHandleOf, key_result, key_result_view};
+ghost use Rattle.facet_solver.specs.SatisfyResult as satisfy;
+ghost use Rattle.facet_solver.specs.SatisfyResult.{satisfy_result, satisfy_result_view};
+ghost use Rattle.facet_solver.specs.State as state;
+ghost use Rattle.facet_solver.specs.State.{narrowed, new_solver, passing, picks_variant};
+ghost use Rattle.facet_solver.specs.Verdict.{IsAmbiguityOf, IsReportOn, descriptions, viable};
 
-pub(crate) mod answer;
 pub(crate) mod conditions;
-pub mod key_result;
-pub(crate) mod verdict;
+pub(crate) mod distinct_fields;
+pub(crate) mod key_result;
+pub(crate) mod report;
+pub(crate) mod satisfy_result;
 
 use crate::error::SolverError;
-use crate::schema::{ResolutionHandle, Schema};
+use crate::schema::Schema;
+use crate::schema::handle::ResolutionHandle;
 use crate::set::{Matches, ResolutionSet};
-use answer::answer_to;
-use conditions::{HasKey, IsViable};
-use facet_solver_shape::FieldKey;
+use conditions::{AtIndex, HasKey, HasShapeAmong, IsViable, PicksVariant, Test, was_name_seen};
+use distinct_fields::distinct_fields;
+use facet_solver_shape::{FieldKey, ShapeId};
 use key_result::KeyResult;
+use report::{ambiguity, no_match};
+use satisfy_result::SatisfyResult;
 use std::alloc::{AllocError, Global};
 use std::collections::BTreeSet;
 use std::marker::Model;
-use verdict::{ambiguity, no_match};
 
-/// Narrows the resolutions of a schema by the keys that it is told.
+/// Narrows the resolutions of a schema by the keys of a document.
 #[derive(Debug, Drop)]
 pub struct Solver<'s, 'c, 'a> {
     schema: &'s Schema<'c>,
@@ -37,8 +43,7 @@ pub struct Solver<'s, 'c, 'a> {
 impl<'s, 'c, 'a> Model for Solver<'s, 'c, 'a> {
     ghost use Rattle.std.specs.Prelude.{◌≡◌, length, map};
     ghost use Rattle.facet_solver_shape.specs.Keys.{key_of};
-    ghost use Rattle.facet_solver.specs.SchemaCode.{state_code};
-    ghost use Rattle.facet_solver.specs.State.{State};
+    ghost use Rattle.facet_solver.specs.State.{State, state_code};
 
     ghost Value = { State };
 
@@ -54,9 +59,10 @@ impl<'s, 'c, 'a> Model for Solver<'s, 'c, 'a> {
 }
 
 impl<'s, 'c, 'a> Solver<'s, 'c, 'a> {
-    /// A solver to which no key was told: all resolutions are candidates.
+    /// A solver that has seen no key: all resolutions are candidates.
     pub fn new(alloc: Global, schema: &'s Schema<'c>) -> Result<Self, AllocError>
-        ensures { IfOk result (λ s. s ≡ at_first schema.now) }
+        ensures start { IfOk result (λ solver. solver ≡ new_solver schema.now) }
+        ensures inline { length schema.now.resolutions ≤ 64 → IsOk result }
     {
         Ok(Solver {
             schema,
@@ -65,7 +71,7 @@ impl<'s, 'c, 'a> Solver<'s, 'c, 'a> {
         })
     }
 
-    /// The candidates: the resolutions that are left.
+    /// The candidates, which are the resolutions that are left, by their indices.
     pub fn candidate_set(&self) -> &ResolutionSet
         ensures members { result.now.members ≡ self.now.candidates }
         ensures bound { result.now.bound ≡ length self.now.schema.resolutions }
@@ -80,61 +86,182 @@ impl<'s, 'c, 'a> Solver<'s, 'c, 'a> {
         &self.seen
     }
 
-    /// The candidates with their numbers, rising.
+    /// The candidates with their indices, rising.
     pub fn candidates(&self, alloc: Global) -> Result<Vec<ResolutionHandle<'s, 'c>>, AllocError>
-        ensures numbers { IfOk result (λ handles. map index_of handles.items ≡ self.now.candidates) }
+        ensures indices { IfOk result (λ handles.
+            map index_of handles.items ≡ self.now.candidates) }
         ensures handles { IfOk result (λ handles. All (IsHandleOf self.now.schema) handles.items) }
         ensures rising { IsStrictlyIncreasing self.now.candidates }
     {
         let mut handles = Vec::new(alloc);
         for index in self.candidates.iter() {
-            handles.push(self.schema.handle(index))?;
+            handles.push(ResolutionHandle::new(self.schema, index))?;
         }
         Ok(handles)
     }
 
-    /// Tells a key of the document. The key is seen, and of the candidates those stay that have a field that it means; where
+    /// Sees a key of the document. Of the candidates those stay that have a field that it means; where
     /// none has one, all stay.
     ///
-    /// Where memory is refused, the candidates and the seen keys are as before.
+    /// The answer is `Unknown` where no candidate has the key, and `Solved` where one has it. Else it goes
+    /// by the shapes of the fields that the key means: one shape is `Unambiguous`, more are `Ambiguous`.
+    /// The only error is refused memory; then the candidates and the seen keys are as before.
     pub fn see_key(
         &mut self,
         alloc: Global,
         key: FieldKey<'a>,
     ) -> Result<KeyResult<'s, 'c>, AllocError>
-        ensures answer { IfOk result (λ answer. answer_view answer ≡ answer_of (key_of key.entry) self.old) }
+        ensures answer { IfOk result (λ answer.
+            key_result_view answer ≡ key_result (key_of key.entry) self.old) }
         ensures handle { IfOk result (HoldsHandleOf self.old.schema) }
-        ensures ok { OnOk result (self.new ≡ told (key_of key.entry) self.old) }
+        ensures ok { OnOk result (self.new ≡ state.see_key (key_of key.entry) self.old) }
         ensures err { OnErr result (self.new ≡ self.old) }
     {
-        let answer = answer_to(alloc, self.schema, &self.candidates, key)?;
-        self.seen.insert(key)?;
-        if !answer.is_unknown() {
-            self.candidates.retain(&HasKey {
-                resolutions: self.schema.resolutions(),
-                key,
-            });
-        }
+        let answer = self.key_result(alloc, key)?;
+        self.mark_seen(key)?;
+        self.narrow(HasKey { key });
         Ok(answer)
+    }
+
+    /// Sees a key without narrowing the candidates.
+    ///
+    /// The only error is refused memory; then the seen keys are as before.
+    #[tactic(auto, using(crate::proofs::States::seen_with))]
+    pub fn mark_seen(&mut self, key: FieldKey<'a>) -> Result<(), AllocError>
+        ensures ok { OnOk result (self.new ≡ state.mark_seen (key_of key.entry) self.old) }
+        ensures err { OnErr result (self.new ≡ self.old) }
+    {
+        self.seen.insert(key)?;
+        Ok(())
+    }
+
+    /// Whether a key of the name was seen, of whatever category.
+    pub fn was_field_seen(&self, name: &str) -> bool
+        ensures { result ≡ state.was_field_seen name.now self.now }
+    {
+        was_name_seen(&self.seen, name)
+    }
+
+    /// Takes the hint that the document means a variant of the name, of whichever enum: of the
+    /// candidates those stay that picked such a variant. Where none did, all stay and the answer is false.
+    pub fn hint_variant(&mut self, name: &str) -> bool
+        ensures picked { IsTrue result ↔ (passing (picks_variant name.now) self.old ≢ []) }
+        ensures narrowed { self.new ≡ state.hint_variant name.now self.old }
+        ensures unchanged { OnFalse result (self.new ≡ self.old) }
+    {
+        self.narrow(PicksVariant { name })
+    }
+
+    /// Says that a value fits any of the shapes: of the candidates those stay that have a field of one of
+    /// them. Where there is none, none stays.
+    ///
+    /// The answer goes by the number of candidates that are left.
+    pub fn satisfy_shapes(&mut self, shapes: &[ShapeId]) -> SatisfyResult<'s, 'c>
+        ensures answer { satisfy_result_view result ≡ satisfy_result self.new }
+        ensures handle { satisfy.HoldsHandleOf self.old.schema result }
+        ensures narrowed { self.new ≡ state.satisfy_shapes shapes.now self.old }
+    {
+        self.retain(HasShapeAmong { shapes });
+        self.satisfy_result()
     }
 
     /// The one candidate all of whose required names are names of seen keys.
     ///
-    /// Where there is none, or there are several, or memory for the report is refused, the error says so.
+    /// The error is `NoMatch` where there is none, and `Ambiguous` where there are several, or
+    /// `OutOfMemory` where memory for saying so is refused.
     pub fn finish(self, alloc: Global) -> Result<ResolutionHandle<'s, 'c>, SolverError<'c>>
         ensures one { IsOk result ↔ (length (viable self.entry) ≡ 1) }
-        ensures number { IfOk result (λ handle. viable self.entry ≡ index_of handle ∷ []) }
+        ensures index { IfOk result (λ handle. viable self.entry ≡ index_of handle ∷ []) }
         ensures handle { IfOk result (IsHandleOf self.entry.schema) }
         ensures refused { IfErr result (IsReportOn self.entry) }
     {
-        let viable = IsViable {
-            resolutions: self.schema.resolutions(),
-            seen: &self.seen,
-        };
-        match self.candidates.matching(&viable) {
+        match self.viable() {
             Matches::None => Err(no_match(alloc)),
-            Matches::One(index) => Ok(self.schema.handle(index)),
-            Matches::Several => Err(ambiguity(alloc, &self.candidates, viable)?),
+            Matches::One(index) => Ok(ResolutionHandle::new(self.schema, index)),
+            Matches::Several => Err(self.ambiguity(alloc)?),
+        }
+    }
+
+    // The candidates all of whose required names are names of seen keys, as far as their number matters.
+    fn viable(&self) -> Matches
+        ensures number { matches_view result ≡ how_many (viable self.now) }
+        ensures within { IsWithin (length self.now.schema.resolutions) result }
+    {
+        self.matching(IsViable { seen: &self.seen })
+    }
+
+    // The report that several candidates are viable.
+    fn ambiguity(&self, alloc: Global) -> Result<SolverError<'c>, AllocError>
+        ensures { IfOk result (IsAmbiguityOf
+            (descriptions self.now.schema.resolutions (viable self.now))) }
+    {
+        let viable = AtIndex {
+            resolutions: self.schema.resolutions(),
+            test: IsViable { seen: &self.seen },
+        };
+        ambiguity(alloc, &self.candidates, viable)
+    }
+
+    // The answer to a key, by the candidates that have it.
+    fn key_result(&self, alloc: Global, key: FieldKey<'_>) -> Result<KeyResult<'s, 'c>, AllocError>
+        ensures answer { IfOk result (λ answer.
+            key_result_view answer ≡ key_result (key_of key.entry) self.now) }
+        ensures handle { IfOk result (HoldsHandleOf self.now.schema) }
+    {
+        match self.matching(HasKey { key }) {
+            Matches::None => Ok(KeyResult::Unknown),
+            Matches::One(index) => Ok(KeyResult::Solved(ResolutionHandle::new(self.schema, index))),
+            Matches::Several => {
+                let fields = distinct_fields(alloc, self.schema, &self.candidates, key)?;
+                Ok(KeyResult::of_fields(fields))
+            }
+        }
+    }
+
+    // The candidates that pass a test, as far as their number matters.
+    fn matching<T: Test>(&self, test: T) -> Matches
+        ensures number { matches_view result ≡ how_many (passing (T.is_passed test) self.now) }
+        ensures within { IsWithin (length self.now.schema.resolutions) result }
+    {
+        let resolutions = self.schema.resolutions();
+        self.candidates.matching(&AtIndex { resolutions, test })
+    }
+
+    // The answer by the number of candidates that are left.
+    fn satisfy_result(&self) -> SatisfyResult<'s, 'c>
+        ensures answer { satisfy_result_view result ≡ satisfy_result self.now }
+        ensures handle { satisfy.HoldsHandleOf self.now.schema result }
+    {
+        let mut indices = self.candidates.iter();
+        match (indices.next(), indices.next()) {
+            (None, _) => SatisfyResult::NoMatch,
+            (Some(index), None) => SatisfyResult::Solved(ResolutionHandle::new(self.schema, index)),
+            _ => SatisfyResult::Continue,
+        }
+    }
+
+    // Only the candidates stay that pass a test.
+    fn retain<T: Test>(&mut self, test: T)
+        ensures { self.new ≡ narrowed true (T.is_passed test) self.old }
+    {
+        let resolutions = self.schema.resolutions();
+        self.candidates.retain(&AtIndex { resolutions, test });
+    }
+
+    // Only the candidates stay that pass a test. Where none does, all stay and the answer is false.
+    fn narrow<T: Test>(&mut self, test: T) -> bool
+        ensures passed { IsTrue result ↔ (passing (T.is_passed test) self.old ≢ []) }
+        ensures narrowed { self.new ≡ narrowed false (T.is_passed test) self.old }
+        ensures unchanged { OnFalse result (self.new ≡ self.old) }
+    {
+        let resolutions = self.schema.resolutions();
+        let passes = AtIndex { resolutions, test };
+        match self.candidates.matching(&passes) {
+            Matches::None => false,
+            _ => {
+                self.candidates.retain(&passes);
+                true
+            }
         }
     }
 }

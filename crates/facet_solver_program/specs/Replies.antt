@@ -12,18 +12,18 @@ use Rattle.facet_solver.specs.Resolved.{Resolved}
 use Rattle.facet_solver.specs.Choice.{IsClash}
 use Rattle.facet_solver.specs.Emissions.{Path}
 use Rattle.facet_solver.specs.Representation.{flattened}
-use Rattle.facet_solver.specs.SchemaView.{SchemaView, IsBuilt, flat_settings}
-use Rattle.facet_solver.specs.State.{State, at_first, told}
+use Rattle.facet_solver.specs.Schema.{SchemaView, IsBuilt, flat_settings}
+use Rattle.facet_solver.specs.State.{State, new_solver, see_key}
 use Rattle.facet_solver.specs.Targets.{Catalogue}
 use Rattle.facet_solver.specs.Verdict.{viable}
 
 -- a solver that was told keys, by their names
 abbrev pub told_names : State → List Name → State
-told_names s names = fold (λ s name. told (flat_key name) s) s names
+told_names s names = fold (λ s name. see_key (flat_key name) s) s names
 
 -- the resolutions of a schema that are viable once a new solver was told the names
 abbrev pub left_by : SchemaView → List Name → List ℕ
-left_by schema names = viable (told_names (at_first schema) names)
+left_by schema names = viable (told_names (new_solver schema) names)
 
 -- how a run ends: with a fault of the shapes, a clash of a choice, or what the solver says at the end
 pub data Ending : Type 0 where

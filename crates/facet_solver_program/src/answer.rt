@@ -1,6 +1,6 @@
 //! What the program answers.
 ghost use Rattle.std.specs.Prelude.{◌≡◌, ◌<◌, ◌∷◌, [], List, codes, length, IfOk, OnOk, string_bytes};
-ghost use Rattle.facet_solver.specs.Handle.{index_of, resolution_behind};
+ghost use Rattle.facet_solver.specs.Handle.{index_of, resolution_of};
 ghost use Rattle.facet_solver.specs.Targets.{Catalogue};
 ghost use Rattle.facet_solver.specs.Views.{names_of};
 ghost use Rattle.facet_solver_program.specs.Message.{IsMessage};
@@ -93,7 +93,7 @@ fn unsolved(alloc: Global, error: SolverError<'_>) -> Result<Reply, AllocError>
 
 // The reply that names a resolution.
 fn resolved(alloc: Global, handle: ResolutionHandle<'_, '_>) -> Result<Reply, AllocError>
-    ensures { IfOk result (λ reply. AreOf (replies.resolved (index_of handle.entry) (resolution_behind handle.entry)) reply.status (string_bytes reply.text)) }
+    ensures { IfOk result (λ reply. AreOf (replies.resolved (index_of handle.entry) (resolution_of handle.entry)) reply.status (string_bytes reply.text)) }
 {
     let index = handle.index();
     let description = handle.resolution().describe(alloc)?;

@@ -1,64 +1,142 @@
-//! What a solver asks of a resolution, by its number.
-ghost use Rattle.std.specs.Prelude.{◌≡◌, map};
+//! What a solver asks of a resolution.
+ghost use Rattle.std.specs.Prelude.{◌≡◌, map, nat_eq};
 ghost use Rattle.std.specs.List.{list_all, list_any};
-ghost use Rattle.std.specs.Option.{option_copied, option_map};
+ghost use Rattle.std.specs.Option.{option_copied};
 ghost use Rattle.facet_solver_shape.specs.Keys.{key_of};
 ghost use Rattle.facet_solver_shape.specs.PathEq.{name_eq};
-ghost use Rattle.facet_solver_shape.specs.Views.{field_view};
-ghost use Rattle.facet_solver.specs.KeyAnswer.{field_at};
-ghost use Rattle.facet_solver.specs.State.{has_key, passes};
+ghost use Rattle.facet_solver.specs.State.{has_key, has_shape_among, passes, passing_at, picks_variant};
 ghost use Rattle.facet_solver.specs.Verdict as verdict;
 
 use crate::set::Condition;
-use facet_solver_shape::{FieldInfo, FieldKey, Resolution};
-use std::collections::BTreeSet;
+use facet_solver_shape::{FieldInfo, FieldKey, Resolution, ShapeId, VariantSelection};
+use std::collections::{BTreeMap, BTreeSet};
+
+/// A test of a resolution.
+pub(crate) trait Test: Copy {
+    ghost use Rattle.std.specs.Prelude.{Bool};
+    ghost use Rattle.facet_solver_shape.specs.Resolved.{Resolved};
+
+    ghost is_passed: { Self → Resolved → Bool };
+
+    fn is_passed(&self, resolution: &Resolution<'_>) -> bool
+        ensures { result ≡ is_passed self.now resolution.now };
+}
+
+/// Whether the resolution at an index passes a test.
+#[derive(Clone, Copy)]
+pub(crate) struct AtIndex<'s, 'c, T> {
+    pub(crate) resolutions: &'s [Resolution<'c>],
+    pub(crate) test: T,
+}
+
+impl<'s, 'c, T: Test> AtIndex<'s, 'c, T> {
+    /// The resolution at an index, where it passes.
+    pub(crate) fn resolution_at(&self, index: usize) -> Option<&'s Resolution<'c>>
+        ensures { option_copied result
+            ≡ passing_at (T.is_passed self.now.test) self.now.resolutions.now index }
+    {
+        let resolution = self.resolutions.get(index)?;
+        self.test.is_passed(resolution).then_some(resolution)
+    }
+}
+
+impl<T: Test> Condition for AtIndex<'_, '_, T> {
+    ghost holds = { λ c. passes (T.is_passed c.test) c.resolutions.now };
+
+    fn holds(&self, index: usize) -> bool {
+        self.resolution_at(index).is_some()
+    }
+}
 
 /// Whether a resolution has a field that a key means.
 #[derive(Clone, Copy)]
-pub(crate) struct HasKey<'s, 'c, 'a> {
-    pub(crate) resolutions: &'s [Resolution<'c>],
-    pub(crate) key: FieldKey<'a>,
+pub(crate) struct HasKey<'k> {
+    pub(crate) key: FieldKey<'k>,
 }
 
-impl<'s, 'c> HasKey<'s, 'c, '_> {
-    /// Of the fields that the key means in the resolution of a number, the one of least stored key.
-    pub(crate) fn field_at(self, index: usize) -> Option<&'s FieldInfo<'c>>
-        ensures { option_map (λ f. field_view f.now) result ≡ field_at (key_of self.entry.key) self.entry.resolutions.now index }
-    {
-        self.resolutions.get(index)?.field_by_key(&self.key)
+impl Test for HasKey<'_> {
+    ghost is_passed = { λ t. has_key (key_of t.key) };
+
+    fn is_passed(&self, resolution: &Resolution<'_>) -> bool {
+        resolution.field_by_key(&self.key).is_some()
     }
 }
 
-impl Condition for HasKey<'_, '_, '_> {
-    ghost holds = { λ c. passes (has_key (key_of c.key)) c.resolutions.now };
+/// Whether a resolution picked a variant of a name, for whichever enum.
+#[derive(Clone, Copy)]
+pub(crate) struct PicksVariant<'n> {
+    pub(crate) name: &'n str,
+}
 
-    fn holds(&self, index: usize) -> bool {
-        self.field_at(index).is_some()
+impl Test for PicksVariant<'_> {
+    ghost is_passed = { λ t. picks_variant t.name.now };
+
+    fn is_passed(&self, resolution: &Resolution<'_>) -> bool {
+        picks_variant(resolution, self.name)
     }
+}
+
+fn picks_variant(resolution: &Resolution<'_>, name: &str) -> bool
+    ensures { result ≡ picks_variant name.now resolution.now }
+{
+    is_among(resolution.variant_selections(), name)
+}
+
+fn is_among(picks: &[VariantSelection<'_>], name: &str) -> bool
+    ensures { result ≡ list_any (λ pick. name_eq pick.variant_name.now name.now) picks.now }
+{
+    picks.iter().any(|pick| pick.variant_name == name)
+}
+
+/// Whether a field of a resolution has one of some shapes.
+#[derive(Clone, Copy)]
+pub(crate) struct HasShapeAmong<'l> {
+    pub(crate) shapes: &'l [ShapeId],
+}
+
+impl Test for HasShapeAmong<'_> {
+    ghost is_passed = { λ t. has_shape_among t.shapes.now };
+
+    fn is_passed(&self, resolution: &Resolution<'_>) -> bool {
+        has_shape_among(resolution, self.shapes)
+    }
+}
+
+fn has_shape_among(resolution: &Resolution<'_>, shapes: &[ShapeId]) -> bool
+    ensures { result ≡ has_shape_among shapes.now resolution.now }
+{
+    have_shape_among(resolution.fields(), shapes)
+}
+
+fn have_shape_among(fields: &BTreeMap<FieldKey<'_>, FieldInfo<'_>>, shapes: &[ShapeId]) -> bool
+    ensures { result
+        ≡ list_any (λ e. list_any (λ id. nat_eq id e.1.value_shape) shapes.now) fields.now.entries }
+{
+    for (_, field) in fields {
+        if has_shape(shapes, field.value_shape) {
+            return true;
+        }
+    }
+    false
+}
+
+fn has_shape(shapes: &[ShapeId], shape: ShapeId) -> bool
+    ensures { result ≡ list_any (λ id. nat_eq id shape) shapes.now }
+{
+    shapes.iter().any(|id| *id == shape)
 }
 
 /// Whether each required name of a resolution is the name of a seen key.
 #[derive(Clone, Copy)]
-pub(crate) struct IsViable<'s, 'c, 'a> {
-    pub(crate) resolutions: &'s [Resolution<'c>],
-    pub(crate) seen: &'s BTreeSet<FieldKey<'a>>,
+pub(crate) struct IsViable<'k, 'a> {
+    pub(crate) seen: &'k BTreeSet<FieldKey<'a>>,
 }
 
-impl<'s, 'c> IsViable<'s, 'c, '_> {
-    /// The resolution of a number, where it is viable.
-    pub(crate) fn resolution_at(self, index: usize) -> Option<&'s Resolution<'c>>
-        ensures { option_copied result ≡ verdict.viable_at (map key_of self.entry.seen.now.keys) self.entry.resolutions.now index }
-    {
-        let resolution = self.resolutions.get(index)?;
-        is_viable(self.seen, resolution).then_some(resolution)
-    }
-}
+impl Test for IsViable<'_, '_> {
+    ghost is_passed = { λ t. verdict.is_viable (map key_of t.seen.now.keys) };
 
-impl Condition for IsViable<'_, '_, '_> {
-    ghost holds = { λ c. passes (verdict.is_viable (map key_of c.seen.now.keys)) c.resolutions.now };
-
-    fn holds(&self, index: usize) -> bool {
-        self.resolution_at(index).is_some()
+    fn is_passed(&self, resolution: &Resolution<'_>) -> bool {
+        is_viable(self.seen, resolution)
     }
 }
 
@@ -69,9 +147,17 @@ fn is_viable(seen: &BTreeSet<FieldKey<'_>>, resolution: &Resolution<'_>) -> bool
 }
 
 fn are_seen(seen: &BTreeSet<FieldKey<'_>>, names: &BTreeSet<&str>) -> bool
-    ensures { result ≡ list_all (λ name. list_any (λ k. name_eq (key_of k).name name.now) seen.now.keys) names.now.keys }
+    ensures { result ≡ list_all
+        (λ name. list_any (λ k. name_eq (key_of k).name name.now) seen.now.keys) names.now.keys }
 {
     names.iter().all(|name| is_seen(seen, name))
+}
+
+/// Whether a name is that of a seen key.
+pub(crate) fn was_name_seen(seen: &BTreeSet<FieldKey<'_>>, name: &str) -> bool
+    ensures { result ≡ list_any (λ key. name_eq key.name name.now) (map key_of seen.now.keys) }
+{
+    is_seen(seen, name)
 }
 
 fn is_seen(seen: &BTreeSet<FieldKey<'_>>, name: &str) -> bool

@@ -1,9 +1,9 @@
 //! What a solver answers to a key.
-ghost use Rattle.std.specs.Prelude.{◌≡◌, ◌↔◌, IsTrue};
-ghost use Rattle.facet_solver.specs.KeyAnswer.{unknown};
-ghost use Rattle.facet_solver.specs.KeyResultView.{answer_view};
+ghost use Rattle.std.specs.Prelude.{◌≡◌, map};
+ghost use Rattle.facet_solver.specs.KeyResult.{HoldsHandleOf, key_result_view, of_fields, scored_view};
+ghost use Rattle.facet_solver.specs.Schema.{SchemaView};
 
-use crate::schema::ResolutionHandle;
+use crate::schema::handle::ResolutionHandle;
 use facet_solver_shape::{FieldInfo, ShapeId};
 use std::fmt;
 
@@ -26,12 +26,18 @@ pub enum KeyResult<'s, 'c> {
     Unknown,
 }
 
-impl KeyResult<'_, '_> {
-    // Whether no candidate has a field that the key means.
-    pub(crate) fn is_unknown(&self) -> bool
-        ensures { IsTrue result ↔ (answer_view self.now ≡ unknown) }
+impl<'s, 'c> KeyResult<'s, 'c> {
+    // The answer by fields of different shapes, with the scores of the shapes.
+    pub(crate) fn of_fields(fields: Vec<(&'s FieldInfo<'c>, u64)>) -> Self
+        ensures answer { key_result_view result ≡ of_fields (map scored_view fields.entry.items) }
+        ensures no_handle { (schema : SchemaView) → HoldsHandleOf schema result }
     {
-        matches!(self, KeyResult::Unknown)
+        match fields.as_slice() {
+            [(field, _)] => KeyResult::Unambiguous {
+                shape: field.value_shape,
+            },
+            _ => KeyResult::Ambiguous { fields },
+        }
     }
 }
 

@@ -1,16 +1,15 @@
 use Rattle.std.proofs.Common.{◌≡◌, ◌<◌, ℕ, Some, List, [], ◌∷◌, length, refl, sym, ap, subst, ◌∙◌, slice_get}
 use Rattle.std.proofs.lemmas.Result.{IfOk-weaker}
-use Rattle.facet_solver.specs.Handle.{index_of, resolution_behind}
+use Rattle.facet_solver.specs.Handle.{index_of, resolution_of}
 use Rattle.facet_solver.specs.Keys.{flat_key}
 use Rattle.facet_solver.specs.Names.{Name}
 use Rattle.facet_solver.specs.declared.error.SolverError.{SolverError}
 use Rattle.facet_solver.specs.declared.error.SolverError.TheVariants.{NoMatch, Ambiguous, OutOfMemory}
-use Rattle.facet_solver.specs.Report.{IsReportOn}
 use Rattle.facet_solver.specs.Representation.{flattened}
-use Rattle.facet_solver.specs.SchemaView.{SchemaView, IsBuilt, flat_settings}
-use Rattle.facet_solver.specs.State.{State, at_first, told}
+use Rattle.facet_solver.specs.Schema.{SchemaView, IsBuilt, flat_settings}
+use Rattle.facet_solver.specs.State.{State, new_solver, see_key}
 use Rattle.facet_solver.specs.Targets.{Catalogue}
-use Rattle.facet_solver.specs.Verdict.{viable}
+use Rattle.facet_solver.specs.Verdict.{IsReportOn, viable}
 use Rattle.facet_solver.specs.Views.{names_of}
 use Rattle.facet_solver_program.specs.Replies.{Ending, resolved, IsErrorAs, IsEnding, left_by, told_names}
 use Rattle.facet_solver_program.proofs.answer.solve.Goals as goal
@@ -18,18 +17,18 @@ use Rattle.facet_solver_program.proofs.answer.solve.Goals as goal
 -- a solver keeps its schema
 told_names-schema : (s : State) (names : List Name) → (told_names s names).schema ≡ s.schema
 told_names-schema s [] = refl
-told_names-schema s (name ∷ names) = told_names-schema (told (flat_key name) s) names
+told_names-schema s (name ∷ names) = told_names-schema (see_key (flat_key name) s) names
 
 -- what a solver of a schema is that was told all names
-module _ (schema : SchemaView) (names : List Name) (first last : State) (first_is : first ≡ at_first schema) (last_is : last ≡ told_names first names) where
-  at_last : last ≡ told_names (at_first schema) names
+module _ (schema : SchemaView) (names : List Name) (first last : State) (first_is : first ≡ new_solver schema) (last_is : last ≡ told_names first names) where
+  at_last : last ≡ told_names (new_solver schema) names
   at_last = last_is ∙ ap (λ s. told_names s names) first_is
 
   left : viable last ≡ left_by schema names
   left = ap viable at_last
 
   kept : last.schema ≡ schema
-  kept = ap (λ s. s.schema) at_last ∙ told_names-schema (at_first schema) names
+  kept = ap (λ s. s.schema) at_last ∙ told_names-schema (new_solver schema) names
 
   -- what an error of the solver says of the root
   ended : (shapes : Catalogue) (root : ℕ) → IsBuilt (flat_settings (Some flattened)) shapes root schema
@@ -45,11 +44,11 @@ returns-in-Ok-finish c =
     let first = c.in_ok-solver.solver in
     let last = c.tell.new.solver in
     let index = index_of c.in-Ok-finish.handle in
-    let alone = sym (left schema names first last c.in_ok-solver.ensures c.in_ok-tell.ensures) ∙ c.in-Ok-finish.ensures.number in
-    let same = kept schema names first last c.in_ok-solver.ensures c.in_ok-tell.ensures in
+    let alone = sym (left schema names first last c.in_ok-solver.ensures.start c.in_ok-tell.ensures) ∙ c.in-Ok-finish.ensures.index in
+    let same = kept schema names first last c.in_ok-solver.ensures.start c.in_ok-tell.ensures in
     let here = ap (λ (s : SchemaView). slice_get s.resolutions index) (sym same) ∙ c.in-Ok-finish.ensures.handle in
     IfOk-weaker c.resolved.result _ _ (λ reply said. record {
-      ending = resolved index (resolution_behind c.in-Ok-finish.handle);
+      ending = resolved index (resolution_of c.in-Ok-finish.handle);
       is = (schema, c.in-Ok.ensures.built, (alone, here));
       said = said;
     }) c.resolved.ensures
@@ -57,7 +56,7 @@ returns-in-Ok-finish c =
 pub returns : goal.returns
 returns c =
     let names = names_of c.args.keys.now in
-    let say = ended c.in-Ok.schema names c.in_ok-solver.solver c.tell.new.solver c.in_ok-solver.ensures c.in_ok-tell.ensures c.args.shapes.now c.args.root c.in-Ok.ensures.built c.in-Err.error in
+    let say = ended c.in-Ok.schema names c.in_ok-solver.solver c.tell.new.solver c.in_ok-solver.ensures.start c.in_ok-tell.ensures c.args.shapes.now c.args.root c.in-Ok.ensures.built c.in-Err.error in
     IfOk-weaker c.unsolved.result _ _ (λ reply said. record {
       ending = said.0;
       is = say said.0 c.in-Err.ensures.refused said.1;

@@ -11,8 +11,8 @@ loop-index-preserved c =
     let handles = c.loop-index.handles.items in
     record {
       parts = rest_more c.loop-index.yielded _ _ _ c.in-Some.index before.parts c.in-Some.ensures.steps;
-      numbers = ap (map index_of) c.in_ok-push.ensures.items
-          ∙ map-append index_of handles (c.handle.result ∷ [])
-          ∙ (λ j. before.numbers j ++ c.handle.ensures.index j ∷ []);
-      handles = rw c.in_ok-push.ensures.items (All-push (IsHandleOf c.self.inside.schema.now) handles c.handle.result before.handles c.handle.ensures.of_schema);
+      indices = ap (map index_of) c.in_ok-push.ensures.items
+          ∙ map-append index_of handles (c.new.result ∷ [])
+          ∙ (λ j. before.indices j ++ c.new.ensures.index j ∷ []);
+      handles = rw c.in_ok-push.ensures.items (All-push (IsHandleOf c.self.inside.schema.now) handles c.new.result before.handles c.new.ensures.of_schema);
     }

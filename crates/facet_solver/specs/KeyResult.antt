@@ -1,0 +1,87 @@
+-- What a solver answers to a key.
+use Rattle.std.specs.Prelude.{ℕ, List, [], ◌∷◌, Option, filter, map, nat_eq, not, slice_get, string_bytes, ⊤}
+use Rattle.std.specs.List.{filter_map}
+use Rattle.std.specs.Option.{option_and_then, option_map_or}
+use denote.Bor.{Bor}
+use Rattle.facet_solver_shape.specs.Keys.{Key}
+use Rattle.facet_solver_shape.specs.Resolved.{FieldView, Resolved}
+use Rattle.facet_solver_shape.specs.Scores.{score_of}
+use Rattle.facet_solver_shape.specs.Views.{field_view}
+use Rattle.facet_solver_shape.specs.declared.resolution.field.FieldInfo.{FieldInfo}
+use Rattle.facet_solver.specs.declared.solver.key_result.KeyResult.{KeyResult}
+use Rattle.facet_solver.specs.declared.solver.key_result.KeyResult.TheVariants.{Unambiguous, Ambiguous, Solved, Unknown}
+use Rattle.facet_solver.specs.Handle.{index_of, IsHandleOf}
+use Rattle.facet_solver.specs.HowMany.{HowMany, no_index, one_index, several_indices, how_many}
+use Rattle.facet_solver.specs.Schema.{SchemaView}
+use Rattle.facet_solver.specs.State.{State, field_by_key, has_key, passing}
+use Rattle.facet_solver.specs.Targets.{Catalogue}
+
+-- no candidate has the key; one is left; the value has one shape; or it has one of several, each shown by a field with the
+-- score of the shape
+pub data KeyResultView : Type 0 where
+  unknown : KeyResultView
+  solved : ℕ → KeyResultView
+  unambiguous : ℕ → KeyResultView
+  ambiguous : List (FieldView × ℕ) → KeyResultView
+
+-- a field with a score, wherever the field lies
+abbrev pub scored_view : Bor FieldInfo × ℕ → FieldView × ℕ
+scored_view e = (field_view e.0.now, e.1)
+
+-- what the answer says
+abbrev pub key_result_view : KeyResult → KeyResultView
+key_result_view (Unambiguous shape) = unambiguous shape
+key_result_view (Ambiguous fields) = ambiguous (map scored_view fields.items)
+key_result_view (Solved handle) = solved (index_of handle)
+key_result_view Unknown = unknown
+
+-- the handle of an answer is one of the schema
+abbrev pub HoldsHandleOf : SchemaView → KeyResult → Type 0
+HoldsHandleOf schema (Unambiguous shape) = ⊤
+HoldsHandleOf schema (Ambiguous fields) = ⊤
+HoldsHandleOf schema (Solved handle) = IsHandleOf schema handle
+HoldsHandleOf schema Unknown = ⊤
+
+-- the score of a shape. One that is not there scores as a shape of any name without a score of its own
+abbrev pub score_at : Catalogue → ℕ → ℕ
+score_at cat id = option_map_or (λ s. score_of (string_bytes s.type_identifier)) (slice_get cat id) (score_of [])
+
+-- a field with the score of its shape
+abbrev pub with_score : Catalogue → FieldView → FieldView × ℕ
+with_score cat f = (f, score_at cat f.shape)
+
+-- the field that a key means in the resolution at an index
+abbrev pub field_at : Key → List Resolved → ℕ → Option FieldView
+field_at key resolutions index = option_and_then (field_by_key key) (slice_get resolutions index)
+
+-- the fields that a key means in the resolutions at some indices, one for each that has one, in order
+abbrev pub fields_by_key : Key → List Resolved → List ℕ → List FieldView
+fields_by_key key resolutions indices = filter_map (field_at key resolutions) indices
+
+-- the first field of each shape
+abbrev pub first_of_each_shape : List FieldView → List FieldView
+first_of_each_shape [] = []
+first_of_each_shape (f ∷ fs) =
+    f ∷ filter (λ g. not (nat_eq g.shape f.shape)) (first_of_each_shape fs)
+
+-- of the fields that a key means, the first of each shape, with the score of the shape
+abbrev pub distinct_fields : Key → SchemaView → List ℕ → List (FieldView × ℕ)
+distinct_fields key schema indices =
+    map (with_score schema.catalogue)
+    (first_of_each_shape (fields_by_key key schema.resolutions indices))
+
+-- fields of different shapes: one says what the value is, more do not
+abbrev pub of_fields : List (FieldView × ℕ) → KeyResultView
+of_fields (e ∷ []) = unambiguous e.0.shape
+of_fields es = ambiguous es
+
+-- by how many candidates have the key
+abbrev pub by_number : List (FieldView × ℕ) → HowMany → KeyResultView
+by_number fields no_index = unknown
+by_number fields (one_index index) = solved index
+by_number fields several_indices = of_fields fields
+
+-- the answer to a key
+abbrev pub key_result : Key → State → KeyResultView
+key_result key s =
+    by_number (distinct_fields key s.schema s.candidates) (how_many (passing (has_key key) s))
