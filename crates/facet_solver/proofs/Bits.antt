@@ -17,16 +17,16 @@ pub bit_is_set : (words : List ℕ) (i : ℕ) → nat_eq (bit_at (get_or words (
 unfolding bit_of
 bit_is_set words i = refl
 
--- past the last word
+-- past the last word no bit is set
 pub not_set : (words : List ℕ) (i : ℕ) → length words ≤ i / 64 → false ≡ has_bit words i
 unfolding bit_of
 not_set words i past = rw (get_or_past words (i / 64) 0 past, bit_at-zero (i % 64)) refl
 
--- past the words there is none
+-- so the members end with the words
 pub clear_past : (words : List ℕ) (i : ℕ) → length words * 64 ≤ i → has_bit words i ≡ false
 clear_past words i past = sym (not_set words i (omega arith))
 
--- no word has a bit
+-- no bit is set where each word is 0
 pub clear_of_zeros : (words : List ℕ) → ((k : ℕ) → get_or words k 0 ≡ 0) → (i : ℕ) → has_bit words i ≡ false
 unfolding bit_of
 clear_of_zeros words zeros i = rw (zeros (i / 64), bit_at-zero (i % 64)) refl
@@ -74,12 +74,12 @@ one_full word bound within is =
       | inr later ↦ full_past (word ∷ []) bound k (omega arith) (omega arith)
     ])
 
--- ---- the least number from one on, by words
+-- ---- the least index from one on whose bit is set, by words
 -- the bits of a shifted word
 bit_at-shr : (word r j : ℕ) → bit_at (word / 2 ^ r) j ≡ bit_at word (r + j)
 bit_at-shr word r j = ap (λ x. x % 2) (shr-shr word r j)
 
--- the word that has the number: its lowest bit from there on
+-- the word that holds the bit of that index: its lowest bit from there on
 pub next_in_word : (f : ℕ → ℕ) (from : ℕ) → f (from / 64) < 2 ^ 64 → 0 < f (from / 64) / 2 ^ (from % 64)
     → IsNext (bit_of f) from (from + trailing_zeros w64 (f (from / 64) / 2 ^ (from % 64)))
 unfolding bit_of
@@ -166,7 +166,7 @@ first_counts a zero xs b e h = rw e (omega arith)
 first_counts a (suc zero) xs b e h = rw e (omega arith)
 first_counts a (suc (suc r)) xs b e h = absurd (omega arith)
 
--- the numbers of a stretch that pass, where the test reads the bits of a word
+-- the indices of a range that pass, where the test reads the bits of a word
 pub count_word : (n w a : ℕ) (p : ℕ → Bool) → w < 2 ^ n → ((j : ℕ) → j < n → p (a + j) ≡ nat_eq (bit_at w j) 1)
     → length (filter p (range_with_len a n)) ≡ ones w
 count_word zero w a p small each = let none : w ≡ 0 = omega arith in rw none (sym (ones_small 0 (omega arith)))

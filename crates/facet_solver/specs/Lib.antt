@@ -19,6 +19,7 @@ pub mod Schema
 pub mod Handle
 pub mod State
 pub mod KeyResult
+pub mod SatisfyResult
 pub mod Verdict
 pub mod Counts
 pub use Rattle.facet_solver_shape.specs.Names

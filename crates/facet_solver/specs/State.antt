@@ -1,11 +1,14 @@
 -- States of a solver, and what calls leave of them.
-use Rattle.std.specs.Prelude.{ℕ, Bool, List, [], ◌∷◌, Option, Some, None, filter, find, if◌then◌else◌, is_some, length, refl, slice_get, false}
+use Rattle.std.specs.Prelude.{ℕ, Bool, List, [], ◌∷◌, Option, Some, None, filter, find, if◌then◌else◌, is_some, length, nat_eq, refl, slice_get, true, false}
 use Rattle.std.specs.BTreeSet.{insert_key}
 use Rattle.std.specs.Coded.{Coded, code_by, coded×, coded_ℕ, coded_list}
 use Rattle.std.specs.FinMap as finite
+use Rattle.std.specs.List.{list_any}
 use Rattle.std.specs.Option.{option_and_then, option_map_or}
 use Rattle.facet_solver_shape.specs.Keys.{Key, key_cmp}
 use Rattle.facet_solver_shape.specs.Matching.{matches}
+use Rattle.facet_solver_shape.specs.Names.{Name}
+use Rattle.facet_solver_shape.specs.PathEq.{name_eq}
 use Rattle.facet_solver_shape.specs.Resolved.{FieldView, Resolved}
 use Rattle.facet_solver_shape.specs.ResolvedCode.{key_code}
 use Rattle.facet_solver.specs.IndexSet.{upto}
@@ -61,6 +64,27 @@ has_key key r = is_some (field_by_key key r)
 -- a key is seen, and only the candidates stay that have it, or all where none has
 abbrev pub see_key : Key → State → State
 see_key key s = narrowed false (has_key key) (mark_seen key s)
+
+-- whether a variant of the name was picked, for whichever enum
+abbrev pub picks_variant : Name → Resolved → Bool
+picks_variant name r = list_any (λ pick. name_eq pick.variant_name name) r.picks
+
+-- only the candidates stay that picked a variant of the name, or all where none did
+abbrev pub hint_variant : Name → State → State
+hint_variant name s = narrowed false (picks_variant name) s
+
+-- whether one of a resolution's fields has one of the shapes
+abbrev pub has_shape_among : List ℕ → Resolved → Bool
+has_shape_among shapes r =
+    list_any (λ f. list_any (λ id. nat_eq id f.shape) shapes) (finite.values r.fields)
+
+-- only the candidates stay that have a field of one of the shapes
+abbrev pub satisfy_shapes : List ℕ → State → State
+satisfy_shapes shapes s = narrowed true (has_shape_among shapes) s
+
+-- whether a key of the name was seen
+abbrev pub was_field_seen : Name → State → Bool
+was_field_seen name s = list_any (λ key. name_eq key.name name) s.seen
 
 -- How a state is stored, by which proofs tell values apart. No clause speaks of it: the tuple of its parts
 abbrev pub state_code : Coded State

@@ -1,28 +1,33 @@
 //! The solver: it narrows the resolutions of a schema by the keys of a document.
-ghost use Rattle.std.specs.Prelude.{◌≡◌, ◌↔◌, ◌∷◌, [], All, IfErr, IfOk, IsOk, OnErr, OnOk, false, length, map};
+ghost use Rattle.std.specs.Prelude.{◌≡◌, ◌≢◌, ◌↔◌, ◌∷◌, [], ◌≤◌, All, IfErr, IfOk, IsOk, IsTrue, OnErr, OnOk, false, length, map, true};
+ghost use Rattle.std.specs.Bool.{OnFalse};
 ghost use Rattle.std.specs.List.Sorted.{IsStrictlyIncreasing};
 ghost use Rattle.facet_solver_shape.specs.Keys.{key_of};
 ghost use Rattle.facet_solver.specs.Handle.{IsHandleOf, index_of};
 ghost use Rattle.facet_solver.specs.HowMany.{IsWithin, how_many, matches_view};
 ghost use Rattle.facet_solver.specs.KeyResult.{HoldsHandleOf, key_result, key_result_view};
+ghost use Rattle.facet_solver.specs.SatisfyResult as satisfy;
+ghost use Rattle.facet_solver.specs.SatisfyResult.{satisfy_result, satisfy_result_view};
 ghost use Rattle.facet_solver.specs.State as state;
-ghost use Rattle.facet_solver.specs.State.{narrowed, new_solver, passing};
+ghost use Rattle.facet_solver.specs.State.{narrowed, new_solver, passing, picks_variant};
 ghost use Rattle.facet_solver.specs.Verdict.{IsAmbiguityOf, IsReportOn, descriptions, viable};
 
 pub(crate) mod conditions;
 pub(crate) mod distinct_fields;
 pub(crate) mod key_result;
 pub(crate) mod report;
+pub(crate) mod satisfy_result;
 
 use crate::error::SolverError;
 use crate::schema::Schema;
 use crate::schema::handle::ResolutionHandle;
 use crate::set::{Matches, ResolutionSet};
-use conditions::{AtIndex, HasKey, IsViable, Test};
+use conditions::{AtIndex, HasKey, HasShapeAmong, IsViable, PicksVariant, Test, was_name_seen};
 use distinct_fields::distinct_fields;
-use facet_solver_shape::FieldKey;
+use facet_solver_shape::{FieldKey, ShapeId};
 use key_result::KeyResult;
 use report::{ambiguity, no_match};
+use satisfy_result::SatisfyResult;
 use std::alloc::{AllocError, Global};
 use std::collections::BTreeSet;
 use std::marker::Model;
@@ -56,7 +61,8 @@ impl<'s, 'c, 'a> Model for Solver<'s, 'c, 'a> {
 impl<'s, 'c, 'a> Solver<'s, 'c, 'a> {
     /// A solver that has seen no key: all resolutions are candidates.
     pub fn new(alloc: Global, schema: &'s Schema<'c>) -> Result<Self, AllocError>
-        ensures { IfOk result (λ solver. solver ≡ new_solver schema.now) }
+        ensures start { IfOk result (λ solver. solver ≡ new_solver schema.now) }
+        ensures inline { length schema.now.resolutions ≤ 64 → IsOk result }
     {
         Ok(Solver {
             schema,
@@ -129,6 +135,36 @@ impl<'s, 'c, 'a> Solver<'s, 'c, 'a> {
         Ok(())
     }
 
+    /// Whether a key of the name was seen, of whatever category.
+    pub fn was_field_seen(&self, name: &str) -> bool
+        ensures { result ≡ state.was_field_seen name.now self.now }
+    {
+        was_name_seen(&self.seen, name)
+    }
+
+    /// Takes the hint that the document means a variant of the name, of whichever enum: of the
+    /// candidates those stay that picked such a variant. Where none did, all stay and the answer is false.
+    pub fn hint_variant(&mut self, name: &str) -> bool
+        ensures picked { IsTrue result ↔ (passing (picks_variant name.now) self.old ≢ []) }
+        ensures narrowed { self.new ≡ state.hint_variant name.now self.old }
+        ensures unchanged { OnFalse result (self.new ≡ self.old) }
+    {
+        self.narrow(PicksVariant { name })
+    }
+
+    /// Says that a value fits any of the shapes: of the candidates those stay that have a field of one of
+    /// them. Where there is none, none stays.
+    ///
+    /// The answer goes by the number of candidates that are left.
+    pub fn satisfy_shapes(&mut self, shapes: &[ShapeId]) -> SatisfyResult<'s, 'c>
+        ensures answer { satisfy_result_view result ≡ satisfy_result self.new }
+        ensures handle { satisfy.HoldsHandleOf self.old.schema result }
+        ensures narrowed { self.new ≡ state.satisfy_shapes shapes.now self.old }
+    {
+        self.retain(HasShapeAmong { shapes });
+        self.satisfy_result()
+    }
+
     /// The one candidate all of whose required names are names of seen keys.
     ///
     /// The error is `NoMatch` where there is none, and `Ambiguous` where there are several, or
@@ -191,15 +227,41 @@ impl<'s, 'c, 'a> Solver<'s, 'c, 'a> {
         self.candidates.matching(&AtIndex { resolutions, test })
     }
 
-    // Only the candidates stay that pass a test, or all where none does.
-    fn narrow<T: Test>(&mut self, test: T)
-        ensures { self.new ≡ narrowed false (T.is_passed test) self.old }
+    // The answer by the number of candidates that are left.
+    fn satisfy_result(&self) -> SatisfyResult<'s, 'c>
+        ensures answer { satisfy_result_view result ≡ satisfy_result self.now }
+        ensures handle { satisfy.HoldsHandleOf self.now.schema result }
+    {
+        let mut indices = self.candidates.iter();
+        match (indices.next(), indices.next()) {
+            (None, _) => SatisfyResult::NoMatch,
+            (Some(index), None) => SatisfyResult::Solved(ResolutionHandle::new(self.schema, index)),
+            _ => SatisfyResult::Continue,
+        }
+    }
+
+    // Only the candidates stay that pass a test.
+    fn retain<T: Test>(&mut self, test: T)
+        ensures { self.new ≡ narrowed true (T.is_passed test) self.old }
+    {
+        let resolutions = self.schema.resolutions();
+        self.candidates.retain(&AtIndex { resolutions, test });
+    }
+
+    // Only the candidates stay that pass a test. Where none does, all stay and the answer is false.
+    fn narrow<T: Test>(&mut self, test: T) -> bool
+        ensures passed { IsTrue result ↔ (passing (T.is_passed test) self.old ≢ []) }
+        ensures narrowed { self.new ≡ narrowed false (T.is_passed test) self.old }
+        ensures unchanged { OnFalse result (self.new ≡ self.old) }
     {
         let resolutions = self.schema.resolutions();
         let passes = AtIndex { resolutions, test };
         match self.candidates.matching(&passes) {
-            Matches::None => {}
-            _ => self.candidates.retain(&passes),
+            Matches::None => false,
+            _ => {
+                self.candidates.retain(&passes);
+                true
+            }
         }
     }
 }

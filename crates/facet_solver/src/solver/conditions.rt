@@ -1,15 +1,15 @@
 //! What a solver asks of a resolution.
-ghost use Rattle.std.specs.Prelude.{◌≡◌, map};
+ghost use Rattle.std.specs.Prelude.{◌≡◌, map, nat_eq};
 ghost use Rattle.std.specs.List.{list_all, list_any};
 ghost use Rattle.std.specs.Option.{option_copied};
 ghost use Rattle.facet_solver_shape.specs.Keys.{key_of};
 ghost use Rattle.facet_solver_shape.specs.PathEq.{name_eq};
-ghost use Rattle.facet_solver.specs.State.{has_key, passes, passing_at};
+ghost use Rattle.facet_solver.specs.State.{has_key, has_shape_among, passes, passing_at, picks_variant};
 ghost use Rattle.facet_solver.specs.Verdict as verdict;
 
 use crate::set::Condition;
-use facet_solver_shape::{FieldKey, Resolution};
-use std::collections::BTreeSet;
+use facet_solver_shape::{FieldInfo, FieldKey, Resolution, ShapeId, VariantSelection};
+use std::collections::{BTreeMap, BTreeSet};
 
 /// A test of a resolution.
 pub(crate) trait Test: Copy {
@@ -62,6 +62,70 @@ impl Test for HasKey<'_> {
     }
 }
 
+/// Whether a resolution picked a variant of a name, for whichever enum.
+#[derive(Clone, Copy)]
+pub(crate) struct PicksVariant<'n> {
+    pub(crate) name: &'n str,
+}
+
+impl Test for PicksVariant<'_> {
+    ghost is_passed = { λ t. picks_variant t.name.now };
+
+    fn is_passed(&self, resolution: &Resolution<'_>) -> bool {
+        picks_variant(resolution, self.name)
+    }
+}
+
+fn picks_variant(resolution: &Resolution<'_>, name: &str) -> bool
+    ensures { result ≡ picks_variant name.now resolution.now }
+{
+    is_among(resolution.variant_selections(), name)
+}
+
+fn is_among(picks: &[VariantSelection<'_>], name: &str) -> bool
+    ensures { result ≡ list_any (λ pick. name_eq pick.variant_name.now name.now) picks.now }
+{
+    picks.iter().any(|pick| pick.variant_name == name)
+}
+
+/// Whether a field of a resolution has one of some shapes.
+#[derive(Clone, Copy)]
+pub(crate) struct HasShapeAmong<'l> {
+    pub(crate) shapes: &'l [ShapeId],
+}
+
+impl Test for HasShapeAmong<'_> {
+    ghost is_passed = { λ t. has_shape_among t.shapes.now };
+
+    fn is_passed(&self, resolution: &Resolution<'_>) -> bool {
+        has_shape_among(resolution, self.shapes)
+    }
+}
+
+fn has_shape_among(resolution: &Resolution<'_>, shapes: &[ShapeId]) -> bool
+    ensures { result ≡ has_shape_among shapes.now resolution.now }
+{
+    have_shape_among(resolution.fields(), shapes)
+}
+
+fn have_shape_among(fields: &BTreeMap<FieldKey<'_>, FieldInfo<'_>>, shapes: &[ShapeId]) -> bool
+    ensures { result
+        ≡ list_any (λ e. list_any (λ id. nat_eq id e.1.value_shape) shapes.now) fields.now.entries }
+{
+    for (_, field) in fields {
+        if has_shape(shapes, field.value_shape) {
+            return true;
+        }
+    }
+    false
+}
+
+fn has_shape(shapes: &[ShapeId], shape: ShapeId) -> bool
+    ensures { result ≡ list_any (λ id. nat_eq id shape) shapes.now }
+{
+    shapes.iter().any(|id| *id == shape)
+}
+
 /// Whether each required name of a resolution is the name of a seen key.
 #[derive(Clone, Copy)]
 pub(crate) struct IsViable<'k, 'a> {
@@ -87,6 +151,13 @@ fn are_seen(seen: &BTreeSet<FieldKey<'_>>, names: &BTreeSet<&str>) -> bool
         (λ name. list_any (λ k. name_eq (key_of k).name name.now) seen.now.keys) names.now.keys }
 {
     names.iter().all(|name| is_seen(seen, name))
+}
+
+/// Whether a name is that of a seen key.
+pub(crate) fn was_name_seen(seen: &BTreeSet<FieldKey<'_>>, name: &str) -> bool
+    ensures { result ≡ list_any (λ key. name_eq key.name name.now) (map key_of seen.now.keys) }
+{
+    is_seen(seen, name)
 }
 
 fn is_seen(seen: &BTreeSet<FieldKey<'_>>, name: &str) -> bool

@@ -44,8 +44,8 @@ returns-in-Ok-finish c =
     let first = c.in_ok-solver.solver in
     let last = c.see_keys.new.solver in
     let index = index_of c.in-Ok-finish.handle in
-    let alone = sym (left schema names first last c.in_ok-solver.ensures c.in_ok-see_keys.ensures) ∙ c.in-Ok-finish.ensures.index in
-    let same = kept schema names first last c.in_ok-solver.ensures c.in_ok-see_keys.ensures in
+    let alone = sym (left schema names first last c.in_ok-solver.ensures.start c.in_ok-see_keys.ensures) ∙ c.in-Ok-finish.ensures.index in
+    let same = kept schema names first last c.in_ok-solver.ensures.start c.in_ok-see_keys.ensures in
     let here = ap (λ (s : SchemaView). slice_get s.resolutions index) (sym same) ∙ c.in-Ok-finish.ensures.handle in
     IfOk-weaker c.resolved.result _ _ (λ reply said. record {
       ending = resolved index (resolution_of c.in-Ok-finish.handle);
@@ -56,7 +56,7 @@ returns-in-Ok-finish c =
 pub returns : goal.returns
 returns c =
     let names = names_of c.args.keys.now in
-    let say = ended c.in-Ok.schema names c.in_ok-solver.solver c.see_keys.new.solver c.in_ok-solver.ensures c.in_ok-see_keys.ensures c.args.shapes.now c.args.root c.in-Ok.ensures.built c.in-Err.error in
+    let say = ended c.in-Ok.schema names c.in_ok-solver.solver c.see_keys.new.solver c.in_ok-solver.ensures.start c.in_ok-see_keys.ensures c.args.shapes.now c.args.root c.in-Ok.ensures.built c.in-Err.error in
     IfOk-weaker c.unsolved.result _ _ (λ reply said. record {
       ending = said.0;
       is = say said.0 c.in-Err.ensures.refused said.1;
