@@ -140,7 +140,7 @@ Rising-before k (d ∷ ds) h = (
   Rising-before k ds h.1,
 )
 
--- what is numbered from place k begins with k or more
+-- what is indexed from k on begins with k or more
 indexed_heads : (choices : Variant → Choices) (k : ℕ) (c : List ℕ) (vs : List Variant) → In c (indexed k choices vs) → (i : ℕ) × (d : List ℕ) × ((k + i) ∷ d ≡ c)
 unfolding indexed
 indexed_heads choices k c [] h = absurd h

@@ -1,4 +1,4 @@
--- What the code's numbers of choices tell. Only private contracts and proofs speak of it.
+-- What saturating counts say, and a table of them. Only private contracts and proofs speak of it.
 use Rattle.facet_solver.specs.Build.{Build}
 use Rattle.std.specs.Prelude.{◌≡◌, ℕ, ◌^◌, ◌≤◌, List, Option, Some, None, slice_get, length}
 use Rattle.facet_solver.specs.declared.build.count.saturating.SaturatingCount.{SaturatingCount}

@@ -22,6 +22,7 @@ pub mod KeyResult
 pub mod SatisfyResult
 pub mod Verdict
 pub mod Counts
+pub mod Walker
 pub use Rattle.facet_solver_shape.specs.Names
 pub use Rattle.facet_solver_shape.specs.Scalars
 pub use Rattle.facet_solver_shape.specs.Places

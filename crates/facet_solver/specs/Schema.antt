@@ -9,7 +9,7 @@ use Rattle.facet_solver.specs.contracts.build.representation.Format as format
 use Rattle.facet_solver.specs.declared.build.representation.EnumRepr.{EnumRepr}
 use Rattle.facet_solver.specs.declared.build.representation.Format.{Format}
 use Rattle.facet_solver.specs.declared.build.representation.Format.TheVariants.{Flat}
-use Rattle.facet_solver.specs.Build.{Build}
+use Rattle.facet_solver.specs.Build.{Build, build_with}
 use Rattle.facet_solver.specs.Choice.{Enumerates}
 use Rattle.facet_solver.specs.Count.{count_of_root}
 use Rattle.facet_solver.specs.Representation.{Repr, asked_view, flattened, externally_tagged, internally_tagged, adjacently_tagged}
@@ -23,7 +23,7 @@ pub record SchemaView : Type 0 where
 
 -- a build for documents whose keys are names
 abbrev pub flat_build : Catalogue → Option Repr → Build
-flat_build cat repr = record { catalogue = cat; representation = repr; format = Flat }
+flat_build cat repr = build_with cat repr Flat
 
 -- a schema of the root, made by the build: exactly one resolution for each choice, in order
 pub record IsBuilt (build : Build) (root : ℕ) (schema : SchemaView) : Type 0 where
