@@ -10,8 +10,8 @@ use Rattle.facet_solver.specs.KeyPaths.{KeyPaths, no_paths, behind_prefix, named
 use Rattle.facet_solver.proofs.KeyPaths.{with-named}
 use Rattle.facet_solver.specs.Emissions.{Emission, a_field, some_key_paths, a_pick, a_catch_all, field_and_paths}
 use Rattle.facet_solver.specs.Walk.{Walked, put_before, and_then}
-use Rattle.facet_solver_shape.specs.Resolved.{FieldView, Pick, Resolved, IsAdded, key_of_field, with_pick, with_catch_all}
-use Rattle.facet_solver_shape.specs.Views.{IsRefusalOf}
+use Rattle.facet_solver_shape.specs.Fields.{FieldView, key_of_field}
+use Rattle.facet_solver_shape.specs.Resolved.{Pick, Resolved, IsAdded, with_pick, with_catch_all, IsRefusalOf}
 
 pub take_all-one : (r : Resolved) (e : Emission) → take_all r (e ∷ []) ≡ take_in r e
 unfolding take_all

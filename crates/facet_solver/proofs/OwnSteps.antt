@@ -4,7 +4,7 @@ use Rattle.std.specs.Prelude.{if◌then◌else◌}
 use Rattle.std.proofs.lemmas.Option.{slice_get_within}
 use Rattle.facet_solver_shape.specs.declared.shape.Shape.{Shape}
 use Rattle.facet_solver_shape.specs.declared.shape.Field.{Field}
-use Rattle.facet_solver_shape.specs.Places.{FieldsBelow, NamesEarlier}
+use Rattle.facet_solver_shape.specs.Catalogues.{FieldsBelow, NamesEarlier}
 use Rattle.facet_solver.specs.Build.{Build}
 use Rattle.facet_solver.specs.Roles.{target_of, Role, regular, block, alternatives, catch_all, leaf, role_of, role_of_target, IsPlain}
 use Rattle.facet_solver.specs.Walk.{Walked, Walk, and_then, walk_role, walk_fields_step, walk_within, walk_fields}

@@ -6,18 +6,16 @@ use Rattle.std.specs.List.{list_any}
 use Rattle.std.specs.Ordering.{match_ordering}
 use Rattle.std.specs.declared.cmp.Ordering.{Ordering}
 use Rattle.std.specs.declared.cmp.Ordering.TheVariants.{Less, Equal, Greater}
-use Rattle.facet_solver_shape.specs.FieldTable.{entry_view}
+use Rattle.facet_solver_shape.specs.Fields.{entry_view, FieldView}
 use Rattle.facet_solver_shape.specs.Keys.{Key, key_cmp, key_of}
 use Rattle.facet_solver_shape.specs.contracts.resolution.key.FieldKeyOrd.TheImpl as key_order
 use Rattle.facet_solver_shape.specs.declared.resolution.key.FieldKey.{FieldKey}
-use Rattle.facet_solver_shape.specs.Names.{Name}
-use Rattle.facet_solver_shape.specs.PathEq.{name_eq}
-use Rattle.facet_solver_shape.specs.Resolved.{FieldView, Pick}
-use Rattle.facet_solver_shape.specs.Views.{pick_view}
+use Rattle.facet_solver_shape.specs.Names.{Name, name_eq}
+use Rattle.facet_solver_shape.specs.Resolved.{Pick, pick_view}
 use Rattle.facet_solver_shape.specs.declared.resolution.field.FieldInfo.{FieldInfo}
 use Rattle.facet_solver_shape.specs.declared.resolution.field.VariantSelection.{VariantSelection}
-use Rattle.facet_solver_shape.proofs.KeyOrder.{key_agrees}
-use Rattle.facet_solver_shape.proofs.Named.{list_any-map}
+use Rattle.facet_solver_shape.proofs.Keys.{key_agrees}
+use Rattle.facet_solver_shape.proofs.Lists.{list_any-map}
 
 match_viewed : (o : Ordering) (k x : FieldKey) (xs ys : List FieldKey) (zs : List Key) → map key_of ys ≡ zs → map key_of (match_ordering o (k ∷ x ∷ xs) (x ∷ xs) (x ∷ ys)) ≡ match_ordering o (key_of k ∷ key_of x ∷ map key_of xs) (key_of x ∷ map key_of xs) (key_of x ∷ zs)
 match_viewed Less k x xs ys zs h = refl

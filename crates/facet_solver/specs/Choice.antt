@@ -2,7 +2,8 @@
 use Rattle.facet_solver.specs.Build.{Build}
 use Rattle.std.specs.Prelude.{◌≡◌, ℕ, ◌<◌, List, [], Some, Contains, slice_get, fold, ⊤, None}
 use Rattle.facet_solver_shape.specs.Names.{Name}
-use Rattle.facet_solver_shape.specs.Resolved.{FieldView, Resolved, nothing, key_of_field, with_field, with_pick, with_catch_all}
+use Rattle.facet_solver_shape.specs.Fields.{FieldView, key_of_field}
+use Rattle.facet_solver_shape.specs.Resolved.{Resolved, nothing, with_field, with_pick, with_catch_all}
 use Rattle.facet_solver.specs.KeyPaths.{with_key_paths}
 use Rattle.facet_solver.specs.Emissions.{Emission, a_field, some_key_paths, a_pick, a_catch_all}
 use Rattle.facet_solver.specs.Walk.{walk_root}

@@ -7,7 +7,7 @@ use Rattle.facet_solver_shape.specs.declared.shape.ShapeKind.TheVariants.{Struct
 use Rattle.facet_solver_shape.specs.Names.{Name}
 use Rattle.facet_solver_shape.specs.Paths.{Step, by_field}
 use Rattle.facet_solver.specs.Targets.{Catalogue, kind_at, effective}
-use Rattle.facet_solver_shape.specs.Places.{FieldsBelow}
+use Rattle.facet_solver_shape.specs.Catalogues.{FieldsBelow}
 use Rattle.std.specs.Str.{bytes_eq}
 
 -- the fields of a struct

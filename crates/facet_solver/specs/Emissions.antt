@@ -4,7 +4,8 @@ use Rattle.facet_solver_shape.specs.declared.shape.Shape.{Shape}
 use Rattle.facet_solver_shape.specs.declared.shape.Field.{Field}
 use Rattle.facet_solver_shape.specs.declared.shape.Variant.{Variant}
 use Rattle.facet_solver_shape.specs.Names.{Name, effective_name}
-use Rattle.facet_solver_shape.specs.Resolved.{FieldView, Pick}
+use Rattle.facet_solver_shape.specs.Fields.{FieldView}
+use Rattle.facet_solver_shape.specs.Resolved.{Pick}
 use Rattle.facet_solver.specs.declared.build.place.Place.{Place}
 use Rattle.facet_solver.specs.declared.build.role.Target.{Target}
 use Rattle.facet_solver.specs.Build.{Build, repr_for}

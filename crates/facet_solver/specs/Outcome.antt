@@ -3,7 +3,8 @@
 use Rattle.std.specs.Prelude.{ℕ, List, [], ◌∷◌, Option, Some, None, ◌≡◌, Result, MatchResult}
 use Rattle.std.specs.FinMap as map
 use Rattle.facet_solver_shape.specs.Names.{Name}
-use Rattle.facet_solver_shape.specs.Resolved.{FieldView, Resolved, key_of_field, with_field, with_pick, with_catch_all}
+use Rattle.facet_solver_shape.specs.Fields.{FieldView, key_of_field}
+use Rattle.facet_solver_shape.specs.Resolved.{Resolved, with_field, with_pick, with_catch_all}
 use Rattle.facet_solver.specs.Place.{Path}
 use Rattle.facet_solver.specs.KeyPaths.{with_key_paths}
 use Rattle.facet_solver.specs.Emissions.{Emission, a_field, some_key_paths, a_pick, a_catch_all}

@@ -6,10 +6,9 @@ use Rattle.std.specs.FinMap as finite
 use Rattle.std.specs.List.{list_any}
 use Rattle.std.specs.Option.{option_and_then, option_map_or}
 use Rattle.facet_solver_shape.specs.Keys.{Key, key_cmp}
-use Rattle.facet_solver_shape.specs.Matching.{matches}
-use Rattle.facet_solver_shape.specs.Names.{Name}
-use Rattle.facet_solver_shape.specs.PathEq.{name_eq}
-use Rattle.facet_solver_shape.specs.Resolved.{FieldView, Resolved}
+use Rattle.facet_solver_shape.specs.Fields.{matches, FieldView}
+use Rattle.facet_solver_shape.specs.Names.{Name, name_eq}
+use Rattle.facet_solver_shape.specs.Resolved.{Resolved}
 use Rattle.facet_solver_shape.specs.ResolvedCode.{key_code}
 use Rattle.facet_solver.specs.IndexSet.{upto}
 use Rattle.facet_solver.specs.Schema.{SchemaView, schema_code}

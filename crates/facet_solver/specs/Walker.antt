@@ -1,5 +1,5 @@
 -- What a walker must satisfy. No public clause speaks of it.
-use Rattle.facet_solver_shape.specs.Places.{NamesEarlier}
+use Rattle.facet_solver_shape.specs.Catalogues.{NamesEarlier}
 use Rattle.facet_solver.specs.declared.build.walker.Walker.{Walker}
 use Rattle.facet_solver.specs.Build.{build_of}
 use Rattle.facet_solver.specs.Counts.{AreCounts}

@@ -1,6 +1,6 @@
 //! The resolutions of a root: one for each choice of variants, in order.
 ghost use Rattle.std.specs.Prelude.{◌≡◌, ◌<◌, length, slice_get};
-ghost use Rattle.facet_solver_shape.specs.Places.{NamesEarlier};
+ghost use Rattle.facet_solver_shape.specs.Catalogues.{NamesEarlier};
 ghost use Rattle.facet_solver.specs.Build.{build_of, repr_for};
 ghost use Rattle.facet_solver.specs.Representation as representation;
 ghost use Rattle.facet_solver.specs.Representation.{repr_view};

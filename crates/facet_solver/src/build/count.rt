@@ -1,6 +1,6 @@
 //! The number of choices of variants, from a table by index.
 ghost use Rattle.std.specs.Prelude.{◌≡◌, ◌<◌, length, IfOk};
-ghost use Rattle.facet_solver_shape.specs.Places.{NamesEarlier, FieldsBelow};
+ghost use Rattle.facet_solver_shape.specs.Catalogues.{NamesEarlier, FieldsBelow};
 ghost use Rattle.facet_solver.specs.Count as count;
 ghost use Rattle.facet_solver.specs.Count.{below_2_64};
 ghost use Rattle.facet_solver.specs.Counts.{CountsTo, AreCounts};

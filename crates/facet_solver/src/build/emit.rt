@@ -1,6 +1,6 @@
 //! What a walk emits, taken into a resolution.
 ghost use Rattle.std.specs.Prelude.{◌≡◌, ◌∷◌, [], map, IfOk, OnOk};
-ghost use Rattle.facet_solver_shape.specs.Views.{field_view};
+ghost use Rattle.facet_solver_shape.specs.Fields.{field_view};
 ghost use Rattle.facet_solver.specs.Emissions as emissions;
 ghost use Rattle.facet_solver.specs.KeyPaths.{no_paths, named, with_key_paths};
 ghost use Rattle.facet_solver.specs.Nested.{content_paths};

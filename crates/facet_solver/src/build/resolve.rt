@@ -1,6 +1,6 @@
 //! The resolutions of a root.
 ghost use Rattle.std.specs.Prelude.{◌≡◌, ◌<◌, ◌∷◌, [], IsSome, IfOk, IfErr, length};
-ghost use Rattle.facet_solver_shape.specs.Places.{FieldsBelow};
+ghost use Rattle.facet_solver_shape.specs.Catalogues.{FieldsBelow};
 ghost use Rattle.facet_solver.specs.Choice.{IsChoice, IsResolution, Enumerates, IsRefusal};
 ghost use Rattle.facet_solver.specs.Count.{count_of_root};
 ghost use Rattle.facet_solver.specs.Outcome.{Walks, effect};

@@ -1,6 +1,6 @@
 //! The walk of one choice, which fills one resolution.
 ghost use Rattle.std.specs.Prelude.{◌≡◌, ◌<◌, ◌∷◌, IsSome, length, slice_get, slice_index};
-ghost use Rattle.facet_solver_shape.specs.Places.{FieldsBelow};
+ghost use Rattle.facet_solver_shape.specs.Catalogues.{FieldsBelow};
 ghost use Rattle.facet_solver.specs.Outcome.{Walks, effect};
 ghost use Rattle.facet_solver.specs.Build.{build_of};
 ghost use Rattle.facet_solver.specs.Place.{chosen_of};

@@ -3,7 +3,7 @@ ghost use Rattle.std.specs.Prelude.{◌≡◌, map, nat_eq};
 ghost use Rattle.std.specs.List.{list_all, list_any};
 ghost use Rattle.std.specs.Option.{option_copied};
 ghost use Rattle.facet_solver_shape.specs.Keys.{key_of};
-ghost use Rattle.facet_solver_shape.specs.PathEq.{name_eq};
+ghost use Rattle.facet_solver_shape.specs.Names.{name_eq};
 ghost use Rattle.facet_solver.specs.State.{has_key, has_shape_among, passes, passing_at, picks_variant};
 ghost use Rattle.facet_solver.specs.Verdict as verdict;
 

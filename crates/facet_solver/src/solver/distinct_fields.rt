@@ -3,7 +3,7 @@ ghost use Rattle.std.specs.Prelude.{◌≡◌, IfOk, map, nat_eq};
 ghost use Rattle.std.specs.List.{list_any};
 ghost use Rattle.std.specs.Option.{option_map};
 ghost use Rattle.facet_solver_shape.specs.Keys.{key_of};
-ghost use Rattle.facet_solver_shape.specs.Views.{field_view};
+ghost use Rattle.facet_solver_shape.specs.Fields.{field_view};
 ghost use Rattle.facet_solver.specs.KeyResult as key_result;
 ghost use Rattle.facet_solver.specs.KeyResult.{scored_view};
 

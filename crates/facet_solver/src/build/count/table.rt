@@ -1,6 +1,6 @@
 //! The number of choices at an index of the catalogue, from those at the indices before it.
 ghost use Rattle.std.specs.Prelude.{◌≡◌, ◌<◌, length};
-ghost use Rattle.facet_solver_shape.specs.Places.{NamesEarlier, FieldsBelow, VariantsBelow, KindBelow};
+ghost use Rattle.facet_solver_shape.specs.Catalogues.{NamesEarlier, FieldsBelow, VariantsBelow, KindBelow};
 ghost use Rattle.facet_solver.specs.Count as count;
 ghost use Rattle.facet_solver.specs.Counts.{CountsTo, AreFirstCounts};
 ghost use Rattle.facet_solver.specs.Build.{build_of};

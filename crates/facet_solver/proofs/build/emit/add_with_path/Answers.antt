@@ -1,5 +1,5 @@
 use Rattle.std.proofs.Common.{◌∷◌, [], ◌∙◌, ap, sym}
-use Rattle.facet_solver_shape.specs.Views.{field_view}
+use Rattle.facet_solver_shape.specs.Fields.{field_view}
 use Rattle.facet_solver_shape.specs.Resolved.{with_key_path}
 use Rattle.facet_solver.specs.KeyPaths.{KeyPath, no_paths, named}
 use Rattle.facet_solver.specs.Emissions.{a_field, some_key_paths, field_and_paths}

@@ -1,5 +1,5 @@
 use Rattle.std.proofs.Common.{◌∙◌}
-use Rattle.facet_solver_shape.specs.Views.{field_view}
+use Rattle.facet_solver_shape.specs.Fields.{field_view}
 use Rattle.facet_solver.specs.Build.{build_of}
 use Rattle.facet_solver.proofs.Outcomes.{taken-catch_all, take_all-one}
 use Rattle.facet_solver.proofs.Selectors.{catch_all-part}

@@ -1,5 +1,5 @@
 use Rattle.std.proofs.Common.{◌≡◌, ◌+◌, ◌*◌, drop}
-use Rattle.facet_solver_shape.specs.Views.{names_of}
+use Rattle.facet_solver_shape.specs.Names.{names_of}
 use Rattle.facet_solver.specs.Nested.{entered_view, through_fields, under_variants}
 use Rattle.facet_solver.specs.KeyPaths.{with_paths_behind}
 use Rattle.facet_solver.proofs.Limits.{limit_of, limit_of_variants}

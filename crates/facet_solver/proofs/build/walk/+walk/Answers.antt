@@ -1,6 +1,6 @@
 use Rattle.std.proofs.Common.{◌≡◌, List, length, ap, sym, ◌∙◌, subst, arith, IsSome, Some, None}
 use Rattle.facet_solver_shape.specs.declared.shape.Field.{Field}
-use Rattle.facet_solver_shape.specs.Places.{FieldsBelow}
+use Rattle.facet_solver_shape.specs.Catalogues.{FieldsBelow}
 use Rattle.facet_solver.specs.Walk.{Walked, walk_fields}
 use Rattle.facet_solver.specs.Place.{chosen_of}
 use Rattle.facet_solver.specs.declared.build.place.Place.{Place}

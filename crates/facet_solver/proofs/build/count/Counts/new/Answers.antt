@@ -1,6 +1,6 @@
 use Rattle.std.proofs.Common.{◌≡◌, [], ◌∷◌, length, length-append, slice_get, sym, ap, ◌∙◌, arith}
 use Rattle.std.proofs.lemmas.Option.{slice_get_within}
-use Rattle.facet_solver_shape.proofs.EarlierPlaces.{names_earlier}
+use Rattle.facet_solver_shape.proofs.Catalogues.{names_earlier}
 use Rattle.facet_solver.specs.Build.{build_of}
 use Rattle.facet_solver.proofs.CountTables.{one_more_entry, all_entries}
 use Rattle.facet_solver.proofs.build.count.Counts.new.Goals as goal
