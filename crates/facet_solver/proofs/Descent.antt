@@ -10,7 +10,7 @@ use Rattle.facet_solver_shape.specs.declared.shape.ShapeKind.{ShapeKind}
 use Rattle.facet_solver_shape.specs.declared.shape.ShapeKind.TheVariants.{Struct, Enum, Option as OptionOf}
 use Rattle.facet_solver_shape.specs.declared.shape.Field.{Field}
 use Rattle.facet_solver_shape.specs.declared.shape.Variant.{Variant}
-use Rattle.facet_solver_shape.specs.Places.{FieldsBelow, VariantsBelow, KindBelow, NamesEarlier}
+use Rattle.facet_solver_shape.specs.Catalogues.{FieldsBelow, VariantsBelow, KindBelow, NamesEarlier}
 use Rattle.facet_solver.specs.Targets.{Catalogue, kind_of, kind_at, target_of, or_else, option_inside, effective, effective_within, go_on, next_inside}
 use Rattle.facet_solver.specs.Roles.{Role, a_regular, a_block, some_alternatives, a_rest, a_leaf, role_of, role_of_target, role_by_kind}
 use Rattle.facet_solver.specs.Content.{struct_fields, newtype_fields, content_of, content_or, is_zero}

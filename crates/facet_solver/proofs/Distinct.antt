@@ -6,10 +6,9 @@ use Rattle.std.proofs.lemmas.Cmp.{nat_eq_equiv}
 use Rattle.std.proofs.lemmas.List.{map-append}
 use Rattle.std.proofs.lemmas.List.Elements.{filter-append, filter_map-append}
 use Rattle.std.proofs.lemmas.Map.Views.{any-filter_same}
-use Rattle.facet_solver_shape.specs.Resolved.{FieldView}
+use Rattle.facet_solver_shape.specs.Fields.{FieldView, field_view}
 use Rattle.facet_solver_shape.specs.declared.resolution.field.FieldInfo.{FieldInfo}
-use Rattle.facet_solver_shape.proofs.Named.{list_any-map}
-use Rattle.facet_solver_shape.specs.Views.{field_view}
+use Rattle.facet_solver_shape.proofs.Lists.{list_any-map}
 use Rattle.facet_solver.specs.KeyAnswer.{first_of_each_shape, score_of_shape, with_score}
 use Rattle.facet_solver.specs.KeyResultView.{scored_view}
 use Rattle.facet_solver.specs.Targets.{Catalogue}

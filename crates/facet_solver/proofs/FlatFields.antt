@@ -14,9 +14,10 @@ use Rattle.facet_solver_shape.specs.declared.resolution.key.FieldCategory.TheVar
 use Rattle.facet_solver_shape.specs.Names.{Name, effective_name}
 use Rattle.facet_solver_shape.specs.Paths.{by_variant}
 use Rattle.facet_solver_shape.specs.Keys.{key_cmp, stored_key}
-use Rattle.facet_solver_shape.specs.Resolved.{FieldView, Resolved, nothing, key_of_field}
+use Rattle.facet_solver_shape.specs.Fields.{FieldView, key_of_field}
+use Rattle.facet_solver_shape.specs.Resolved.{Resolved, nothing}
 use Rattle.facet_solver_shape.proofs.Finite.{equal}
-use Rattle.facet_solver_shape.proofs.KeyOrder.{key_cmp_total, key_cmp_same}
+use Rattle.facet_solver_shape.proofs.Keys.{key_cmp_total, key_cmp_same}
 use Rattle.facet_solver.specs.declared.build.representation.Format.{Format}
 use Rattle.facet_solver.specs.declared.build.representation.Format.TheVariants.{Flat}
 use Rattle.facet_solver.specs.Targets.{Catalogue}

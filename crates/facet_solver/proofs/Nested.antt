@@ -11,7 +11,7 @@ use Rattle.facet_solver_shape.specs.declared.shape.ShapeKind.{ShapeKind}
 use Rattle.facet_solver_shape.specs.declared.shape.ShapeKind.TheVariants.{Struct, Enum}
 use Rattle.facet_solver_shape.specs.declared.shape.Field.{Field}
 use Rattle.facet_solver_shape.specs.declared.shape.Variant.{Variant}
-use Rattle.facet_solver_shape.specs.Places.{FieldsBelow, VariantsBelow, KindBelow, NamesEarlier}
+use Rattle.facet_solver_shape.specs.Catalogues.{FieldsBelow, VariantsBelow, KindBelow, NamesEarlier}
 use Rattle.facet_solver.specs.Targets.{Catalogue, kind_of, kind_at}
 use Rattle.facet_solver.specs.Content.{is_zero}
 use Rattle.facet_solver.specs.Nested.{KeyPath, Under, Entered, if_entered, named, through_field, through_fields, under_variant_fields, under_variant, under_variants, under_kind, under_within, under_shape}

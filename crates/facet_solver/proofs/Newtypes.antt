@@ -5,7 +5,7 @@ use Rattle.std.specs.Cmp.Lexicographic.{pointwise, same_text}
 use Rattle.facet_solver_shape.specs.declared.shape.Field.{Field}
 use Rattle.facet_solver_shape.specs.declared.shape.Shape.{Shape}
 use Rattle.facet_solver_shape.specs.declared.shape.ShapeKind.{ShapeKind}
-use Rattle.facet_solver_shape.specs.Places.{NamesEarlier}
+use Rattle.facet_solver_shape.specs.Catalogues.{NamesEarlier}
 use Rattle.facet_solver.specs.Targets.{Catalogue, kind_of, kind_at, effective}
 use Rattle.facet_solver.specs.Content.{struct_fields, is_zero}
 use Rattle.facet_solver.specs.Newtype.{IsNewtypeOf}

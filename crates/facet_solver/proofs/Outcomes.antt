@@ -12,8 +12,8 @@ use Rattle.facet_solver.specs.Nested.{KeyPath}
 use Rattle.facet_solver.specs.KeyPaths.{with_key_paths}
 use Rattle.facet_solver.specs.Emissions.{Emission, a_field, a_key_path, a_pick, a_catch_all, paths_behind}
 use Rattle.facet_solver.specs.Walk.{Walked, put_before, and_then}
-use Rattle.facet_solver_shape.specs.Resolved.{FieldView, Pick, Resolved, IsAdded, key_of_field, with_key_path, with_pick, with_catch_all}
-use Rattle.facet_solver_shape.specs.Views.{IsRefusalOf}
+use Rattle.facet_solver_shape.specs.Fields.{FieldView, key_of_field}
+use Rattle.facet_solver_shape.specs.Resolved.{Pick, Resolved, IsAdded, with_key_path, with_pick, with_catch_all, IsRefusalOf}
 use Rattle.facet_solver.specs.Outcome.{Outcome, Duplicate, resolved, duplicate, next, with_known, take_in, take_all, effect}
 
 pub take_all-one : (r : Resolved) (e : Emission) → take_all r (e ∷ []) ≡ take_in r e

@@ -4,7 +4,7 @@ use Rattle.std.specs.Prelude.{if◌then◌else◌}
 use Rattle.std.proofs.lemmas.Option.{slice_get_within}
 use Rattle.facet_solver_shape.specs.declared.shape.Shape.{Shape}
 use Rattle.facet_solver_shape.specs.declared.shape.Field.{Field}
-use Rattle.facet_solver_shape.specs.Places.{FieldsBelow, NamesEarlier}
+use Rattle.facet_solver_shape.specs.Catalogues.{FieldsBelow, NamesEarlier}
 use Rattle.facet_solver.specs.Targets.{Catalogue, target_of}
 use Rattle.facet_solver.specs.Representation.{Settings}
 use Rattle.facet_solver.specs.Roles.{Role, a_regular, a_block, some_alternatives, a_rest, a_leaf, role_of, role_of_target}

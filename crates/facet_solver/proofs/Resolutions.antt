@@ -8,9 +8,10 @@ use Rattle.std.proofs.lemmas.Option.{slice_get_within}
 use Rattle.std.proofs.lemmas.Cmp.{eq_by_cmp_equiv}
 use Rattle.std.proofs.lemmas.Bool.{false≢true}
 use Rattle.facet_solver_shape.specs.Keys.{Key, key_cmp}
-use Rattle.facet_solver_shape.specs.Resolved.{FieldView, Resolved, nothing, key_of_field, with_field}
+use Rattle.facet_solver_shape.specs.Fields.{FieldView, key_of_field}
+use Rattle.facet_solver_shape.specs.Resolved.{Resolved, nothing, with_field}
 use Rattle.facet_solver_shape.proofs.Finite.{equal}
-use Rattle.facet_solver_shape.proofs.KeyOrder.{key_cmp_total, key_cmp_same}
+use Rattle.facet_solver_shape.proofs.Keys.{key_cmp_total, key_cmp_same}
 use Rattle.facet_solver.specs.Emissions.{Emission, a_field, a_key_path, a_pick, a_catch_all}
 use Rattle.facet_solver.specs.Outcome.{Duplicate, Outcome, resolved, duplicate, next, with_known, take_in, take_all}
 use Rattle.facet_solver.specs.Choice.{Clashes, HasNoClash, with_emission, resolution_of}

@@ -5,7 +5,7 @@ use Rattle.std.specs.Option.{IfSome}
 use Rattle.facet_solver_shape.specs.declared.shape.Shape.{Shape}
 use Rattle.facet_solver_shape.specs.declared.shape.Field.{Field}
 use Rattle.facet_solver_shape.specs.declared.shape.Variant.{Variant}
-use Rattle.facet_solver_shape.specs.Places.{FieldsBelow, VariantsBelow, NamesEarlier}
+use Rattle.facet_solver_shape.specs.Catalogues.{FieldsBelow, VariantsBelow, NamesEarlier}
 use Rattle.facet_solver.specs.Targets.{Catalogue, effective, effective_within, go_on, next_inside}
 use Rattle.facet_solver.specs.Emissions.{Path, variant_emissions, variant_path, unwrapped_at, field_path}
 use Rattle.facet_solver.specs.Walk.{Walked, Walk, put_before, and_then, emit, choose, at_chosen, walk_variant, walk_content, walk_role, walk_fields, walk_within, walk}

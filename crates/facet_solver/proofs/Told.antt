@@ -5,10 +5,10 @@ use Rattle.std.specs.Ordering.{match_ordering}
 use Rattle.std.specs.declared.cmp.Ordering.{Ordering}
 use Rattle.std.specs.declared.cmp.Ordering.TheVariants.{Less, Equal, Greater}
 use Rattle.facet_solver_shape.specs.Keys.{Key, key_cmp, key_of}
-use Rattle.facet_solver_shape.specs.Resolved.{FieldView}
+use Rattle.facet_solver_shape.specs.Fields.{FieldView}
 use Rattle.facet_solver_shape.specs.contracts.resolution.key.FieldKeyOrd.TheImpl as key_order
 use Rattle.facet_solver_shape.specs.declared.resolution.key.FieldKey.{FieldKey}
-use Rattle.facet_solver_shape.proofs.KeyOrder.{key_agrees}
+use Rattle.facet_solver_shape.proofs.Keys.{key_agrees}
 use Rattle.facet_solver.specs.HowMany.{HowMany, no_number, one_number, several_numbers, how_many}
 use Rattle.facet_solver.specs.KeyAnswer.{unknown, answer_of, by_number, by_shapes, fields_for, first_of_each_shape}
 use Rattle.facet_solver.specs.State.{State, has_key, or_all, passing, told}

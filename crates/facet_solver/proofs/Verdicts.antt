@@ -5,9 +5,8 @@ use Rattle.std.specs.Option.{option_and_then, option_map_or}
 use Rattle.std.specs.declared.alloc.Global.{Global}
 use Rattle.std.specs.declared.string.String.{String}
 use Rattle.std.proofs.lemmas.List.{map-append}
-use Rattle.facet_solver_shape.specs.Descriptions.{description}
+use Rattle.facet_solver_shape.specs.Resolved.{description, Resolved}
 use Rattle.facet_solver_shape.specs.Keys.{Key}
-use Rattle.facet_solver_shape.specs.Resolved.{Resolved}
 use Rattle.facet_solver.specs.State.{passes}
 use Rattle.facet_solver.specs.Verdict.{descriptions, is_viable, viable_at}
 use Rattle.facet_solver.proofs.Distinct.{filter_map_found, filter_map_none}

@@ -8,10 +8,9 @@ use Rattle.std.specs.List.{list_any, list_all}
 use Rattle.std.specs.Ordering.{nat_cmp, eq_by_cmp}
 use Rattle.std.proofs.lemmas.Bool.{false≢true, or_cases, or_left, or_right, and_from, and_parts}
 use Rattle.std.proofs.lemmas.Cmp.{nat_list_cmp_total, eq_by_cmp_equiv}
-use Rattle.facet_solver_shape.specs.Names.{Name}
-use Rattle.facet_solver_shape.specs.PathEq.{name_eq}
+use Rattle.facet_solver_shape.specs.Names.{Name, name_eq}
 use Rattle.facet_solver_shape.specs.Keys.{Key, key_of}
-use Rattle.facet_solver_shape.specs.Views.{names_view}
+use Rattle.facet_solver_shape.specs.Resolved.{names_view}
 use Rattle.facet_solver_shape.specs.declared.resolution.key.FieldKey.{FieldKey}
 use Rattle.facet_solver_shape.proofs.Finite.{equal}
 use Rattle.facet_solver.specs.Verdict.{names_among}

@@ -2,7 +2,8 @@
 use Rattle.std.specs.Prelude.{◌≡◌, ℕ, ◌<◌, ◌⊎◌, List, [], ◌∷◌, Some, Contains, AllPairs, slice_get, fold}
 use Rattle.facet_solver_shape.specs.Names.{Name}
 use Rattle.facet_solver_shape.specs.Paths.{Step}
-use Rattle.facet_solver_shape.specs.Resolved.{FieldView, Resolved, nothing, key_of_field, with_field, with_key_path, with_pick, with_catch_all}
+use Rattle.facet_solver_shape.specs.Fields.{FieldView, key_of_field}
+use Rattle.facet_solver_shape.specs.Resolved.{Resolved, nothing, with_field, with_key_path, with_pick, with_catch_all}
 use Rattle.facet_solver.specs.Targets.{Catalogue}
 use Rattle.facet_solver.specs.Representation.{Settings}
 use Rattle.facet_solver.specs.Emissions.{Emission, a_field, a_key_path, a_pick, a_catch_all}

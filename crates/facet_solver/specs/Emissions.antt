@@ -5,7 +5,8 @@ use Rattle.facet_solver_shape.specs.declared.shape.Field.{Field}
 use Rattle.facet_solver_shape.specs.declared.shape.Variant.{Variant}
 use Rattle.facet_solver_shape.specs.Names.{Name, effective_name}
 use Rattle.facet_solver_shape.specs.Paths.{Step, by_field, by_variant}
-use Rattle.facet_solver_shape.specs.Resolved.{FieldView, Pick}
+use Rattle.facet_solver_shape.specs.Fields.{FieldView}
+use Rattle.facet_solver_shape.specs.Resolved.{Pick}
 use Rattle.facet_solver.specs.Targets.{Catalogue, target_of, is_option}
 use Rattle.facet_solver.specs.Representation.{Repr, flattened, externally_tagged, internally_tagged, adjacently_tagged, Settings, repr_for}
 use Rattle.facet_solver.specs.Categories.{field_category, selector_category, rest_category}

@@ -2,7 +2,8 @@
 use Rattle.std.specs.Prelude.{◌≡◌, Some, None}
 use Rattle.std.specs.FinMap as map
 use Rattle.facet_solver_shape.specs.Keys.{Key}
-use Rattle.facet_solver_shape.specs.Resolved.{FieldView, Resolved}
+use Rattle.facet_solver_shape.specs.Fields.{FieldView}
+use Rattle.facet_solver_shape.specs.Resolved.{Resolved}
 
 -- each field stands under its name without category, so that no two have one name
 abbrev pub GoesByName : Resolved → Type 0

@@ -3,7 +3,8 @@ use Rattle.std.specs.Prelude.{ℕ, List, [], ◌∷◌, Option, Some, None, filt
 use Rattle.std.specs.List.{filter_map}
 use Rattle.std.specs.Option.{option_and_then}
 use Rattle.facet_solver_shape.specs.Keys.{Key}
-use Rattle.facet_solver_shape.specs.Resolved.{FieldView, Resolved}
+use Rattle.facet_solver_shape.specs.Fields.{FieldView}
+use Rattle.facet_solver_shape.specs.Resolved.{Resolved}
 use Rattle.facet_solver_shape.specs.Scores.{score_of}
 use Rattle.facet_solver_shape.specs.declared.shape.Shape.{Shape}
 use Rattle.facet_solver.specs.HowMany.{HowMany, no_number, one_number, several_numbers, how_many}

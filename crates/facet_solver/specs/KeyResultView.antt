@@ -1,7 +1,6 @@
 -- What the code's answers to a key say.
 use Rattle.std.specs.Prelude.{ℕ, map}
-use Rattle.facet_solver_shape.specs.Resolved.{FieldView}
-use Rattle.facet_solver_shape.specs.Views.{field_view}
+use Rattle.facet_solver_shape.specs.Fields.{FieldView, field_view}
 use Rattle.facet_solver_shape.specs.declared.resolution.field.FieldInfo.{FieldInfo}
 use Rattle.facet_solver.specs.declared.solver.key_result.KeyResult.{KeyResult}
 use Rattle.facet_solver.specs.declared.solver.key_result.KeyResult.TheVariants.{Unambiguous, Ambiguous, Solved, Unknown}

@@ -1,7 +1,7 @@
 -- Where the fields of a newtype's struct stand.
 use Rattle.std.specs.Prelude.{◌≡◌, ℕ, ◌<◌, List, IsSome}
 use Rattle.facet_solver_shape.specs.declared.shape.Field.{Field}
-use Rattle.facet_solver_shape.specs.Places.{FieldsBelow}
+use Rattle.facet_solver_shape.specs.Catalogues.{FieldsBelow}
 use Rattle.facet_solver.specs.Content.{struct_fields, newtype_fields}
 use Rattle.facet_solver.specs.Targets.{Catalogue, kind_at}
 

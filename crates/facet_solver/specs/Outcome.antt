@@ -2,7 +2,8 @@
 use Rattle.std.specs.Prelude.{ℕ, List, [], ◌∷◌, Option, Some, None}
 use Rattle.std.specs.FinMap as map
 use Rattle.facet_solver_shape.specs.Names.{Name}
-use Rattle.facet_solver_shape.specs.Resolved.{FieldView, Resolved, key_of_field, with_field, with_key_path, with_pick, with_catch_all}
+use Rattle.facet_solver_shape.specs.Fields.{FieldView, key_of_field}
+use Rattle.facet_solver_shape.specs.Resolved.{Resolved, with_field, with_key_path, with_pick, with_catch_all}
 use Rattle.facet_solver.specs.Emissions.{Path, Emission, a_field, a_key_path, a_pick, a_catch_all}
 use Rattle.facet_solver.specs.Walk.{Walked}
 

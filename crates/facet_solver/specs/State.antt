@@ -4,8 +4,8 @@ use Rattle.std.specs.BTreeSet.{insert_key}
 use Rattle.std.specs.FinMap as finite
 use Rattle.std.specs.Option.{option_map_or}
 use Rattle.facet_solver_shape.specs.Keys.{Key, key_cmp}
-use Rattle.facet_solver_shape.specs.Matching.{matches}
-use Rattle.facet_solver_shape.specs.Resolved.{FieldView, Resolved}
+use Rattle.facet_solver_shape.specs.Fields.{matches, FieldView}
+use Rattle.facet_solver_shape.specs.Resolved.{Resolved}
 use Rattle.facet_solver.specs.IndexSet.{upto}
 use Rattle.facet_solver.specs.SchemaView.{SchemaView}
 

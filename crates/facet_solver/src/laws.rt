@@ -1,6 +1,6 @@
 //! Laws of choices, walks and counts: each is the contract of a function that does nothing.
 ghost use Rattle.std.specs.Prelude.{◌≡◌, ◌++◌, [], ℕ, Bool, List, length, slice_get};
-ghost use Rattle.facet_solver_shape.specs.Faults.{IsChecked};
+ghost use Rattle.facet_solver_shape.specs.Catalogues.{IsChecked};
 ghost use Rattle.facet_solver_shape.specs.Names.{Name};
 ghost use Rattle.facet_solver_shape.specs.Resolved.{Resolved};
 ghost use Rattle.facet_solver_shape.specs.declared.shape.Field.{Field};

@@ -7,30 +7,29 @@ use Rattle.std.specs.Ordering.{eq_by_cmp, is_eq, match_ordering, ordering_then}
 use Rattle.std.specs.Cmp.Lexicographic.{slice_cmp}
 use Rattle.std.specs.Option.{option_map, option_copied}
 use Rattle.std.specs.Map.{lookup}
-use Rattle.std.specs.List.{list_any}
+use Rattle.std.specs.List.{list_any, AllByRecursion, IsDistinct}
 use Rattle.std.specs.BTreeMap.{insert_entry, is_at}
 use Rattle.std.specs.BTreeSet.{insert_key}
-use Rattle.std.specs.FinMap as tree
+use Rattle.std.specs.FinMap as finite
 use Rattle.std.specs.FinSet as set
 use Rattle.std.specs.Set.{remove_key}
-use Rattle.std.specs.List.{AllByRecursion, IsDistinct}
 use Rattle.std.specs.List.Sorted.{IsStrictlySortedBy}
 use Rattle.std.proofs.lemmas.Map.Keys.{IsDistinct-from_sorted, IsDistinct-head, IsDistinct-tail}
 use Rattle.std.proofs.lemmas.Cmp.{alike_right, eq_by_cmp_equiv}
 use Rattle.std.proofs.lemmas.Bool.{false≢true}
 use Rattle.facet_solver_shape.proofs.Finite.{insert-insert_same, insert-insert_other, insert_twice, insert_either_order, taken_back, kept, equal, and_false, cases_bool}
 
-module _ {K J : Type 0} {R : K → K → Ordering} {S : J → J → Ordering} (o : IsTotalOrder S) (same : tree.IsAntisymmetric S) (key : K → J) (agree : (x y : K) → R x y ≡ S (key x) (key y)) where
+module _ {K J : Type 0} {R : K → K → Ordering} {S : J → J → Ordering} (o : IsTotalOrder S) (same : finite.IsAntisymmetric S) (key : K → J) (agree : (x y : K) → R x y ≡ S (key x) (key y)) where
   module _ {X Y : Type 0} (val : X → Y) where
-    abbrev pub viewed : List (K × X) → tree.FinMap S Y
-    viewed es = tree.from_entries (map (λ e. (key e.0, val e.1)) es)
+    abbrev pub viewed : List (K × X) → finite.FinMap S Y
+    viewed es = finite.from_entries (map (λ e. (key e.0, val e.1)) es)
 
     -- what is found
-    pub get_viewed : (k : K) (es : List (K × X)) → tree.get (viewed es) (key k) ≡ option_map val (lookup (is_at (R k)) es)
-    get_viewed k [] = tree.get-empty S (key k)
+    pub get_viewed : (k : K) (es : List (K × X)) → finite.get (viewed es) (key k) ≡ option_map val (lookup (is_at (R k)) es)
+    get_viewed k [] = finite.get-empty S (key k)
     get_viewed k (e ∷ es) =
-        tree.get-insert o (viewed es) (key e.0) (val e.1) (key k)
-        ∙ ap (λ r. cond (is_eq r) (Some (val e.1)) (tree.get (viewed es) (key k))) (sym (agree k e.0))
+        finite.get-insert o (viewed es) (key e.0) (val e.1) (key k)
+        ∙ ap (λ r. cond (is_eq r) (Some (val e.1)) (finite.get (viewed es) (key k))) (sym (agree k e.0))
         ∙ ap (cond (is_eq (R k e.0)) (Some (val e.1))) (get_viewed k es)
         ∙ chosen (is_eq (R k e.0)) (lookup (is_at (R k)) es) e.1
       where
@@ -39,17 +38,17 @@ module _ {K J : Type 0} {R : K → K → Ordering} {S : J → J → Ordering} (o
         chosen false r x = refl
 
     -- what an insertion makes
-    pub viewed-insert_entry : (k : K) (v : X) (es : List (K × X)) → viewed (insert_entry R es k v) ≡ tree.insert (viewed es) (key k) (val v)
+    pub viewed-insert_entry : (k : K) (v : X) (es : List (K × X)) → viewed (insert_entry R es k v) ≡ finite.insert (viewed es) (key k) (val v)
     viewed-insert_entry k v [] = refl
     viewed-insert_entry k v (e ∷ es) = go (R k e.0) (sym (agree k e.0)) (viewed-insert_entry k v es)
       where
-        go : (r : Ordering) → S (key k) (key e.0) ≡ r → viewed (insert_entry R es k v) ≡ tree.insert (viewed es) (key k) (val v)
-            → viewed (match_ordering r ((k, v) ∷ e ∷ es) ((e.0, v) ∷ es) (e ∷ insert_entry R es k v)) ≡ tree.insert (viewed (e ∷ es)) (key k) (val v)
+        go : (r : Ordering) → S (key k) (key e.0) ≡ r → viewed (insert_entry R es k v) ≡ finite.insert (viewed es) (key k) (val v)
+            → viewed (match_ordering r ((k, v) ∷ e ∷ es) ((e.0, v) ∷ es) (e ∷ insert_entry R es k v)) ≡ finite.insert (viewed (e ∷ es)) (key k) (val v)
         go Less is rest = refl
         go Equal is rest =
             rw (same _ _ is) (sym (insert-insert_same o same (viewed es) (key e.0) (val e.1) (val v)))
         go Greater is rest =
-            ap (λ m. tree.insert m (key e.0) (val e.1)) rest
+            ap (λ m. finite.insert m (key e.0) (val e.1)) rest
             ∙ sym (insert-insert_other o same (viewed es) (key e.0) (key k) (val e.1) (val v) (ap is_eq is))
 
   abbrev pub viewed_set : List K → set.FinSet S

@@ -1,22 +1,30 @@
 -- The format of a variant: what kind of value stands for it.
-use Rattle.std.specs.Prelude.{ℕ, List, [], ◌∷◌, length, Bool, true, false, Option, slice_get, if◌then◌else◌, ◌==◌}
-use Rattle.std.specs.Option.{option_map, option_map_or}
-use Rattle.std.specs.List.{list_all}
+use Rattle.std.specs.Prelude.{if◌then◌else◌, ℕ, List, not, Option, None, slice_get, unwrap_or, find, [], ◌∷◌, length, Bool, true, false, ◌==◌}
+use Rattle.std.specs.Option.{option_map, option_and_then, option_map_or}
 use Rattle.facet_solver_shape.specs.declared.shape.Shape.{Shape}
 use Rattle.facet_solver_shape.specs.declared.shape.Field.{Field}
+use Rattle.facet_solver_shape.specs.declared.shape.ShapeKind.{ShapeKind}
+use Rattle.facet_solver_shape.specs.declared.shape.ShapeKind.TheVariants.{Struct as StructOf, Scalar, Enum, List as ListOf, Array, Slice, Set, Map}
+use Rattle.std.specs.List.{list_all}
 use Rattle.facet_solver_shape.specs.declared.shape.Variant.{Variant}
 use Rattle.facet_solver_shape.specs.declared.shape.StructKind.{StructKind}
 use Rattle.facet_solver_shape.specs.declared.shape.StructKind.TheVariants.{Unit as UnitStruct, Struct as NamedStruct, TupleStruct, Tuple as TupleKind}
-use Rattle.facet_solver_shape.specs.declared.shape.ShapeKind.{ShapeKind}
-use Rattle.facet_solver_shape.specs.declared.shape.ShapeKind.TheVariants.{Scalar, Struct as StructOf, Enum, List as ListOf, Array, Slice, Set, Map}
 use Rattle.facet_solver_shape.specs.declared.variants.format.VariantFormat.{VariantFormat}
 use Rattle.facet_solver_shape.specs.declared.variants.format.VariantFormat.TheVariants.{Unit as UnitFormat, NewtypeScalar, NewtypeStruct, NewtypeTuple, NewtypeSequence, NewtypeOther, Tuple as TupleFormat, Struct as StructFormat}
-use Rattle.facet_solver_shape.specs.Containers.{value_place}
-use Rattle.facet_solver_shape.specs.Ends.{end_of}
+use Rattle.facet_solver_shape.specs.Pointers.{end_of, end_kind}
 
--- the kind of the shape at the end of a place's pointers
-abbrev pub end_kind : List Shape → ℕ → Option ShapeKind
-end_kind shapes place = option_map (λ s. s.kind) (slice_get shapes (end_of shapes place))
+-- the first field of a struct that is not marked as metadata
+abbrev pub first_plain_field : ShapeKind → Option Field
+first_plain_field (StructOf kind fields) = find (λ f. not f.metadata) fields.items
+first_plain_field _ = None
+
+-- the shape of that field, if the struct is marked as a container: a metadata container is a shape that has such a value
+abbrev pub contained_shape : Shape → Option ℕ
+contained_shape s = if s.metadata_container then option_map (λ f. f.shape) (first_plain_field s.kind) else None
+
+-- the shape that a metadata container stands for; any other shape stands for itself
+abbrev pub value_shape : List Shape → ℕ → ℕ
+value_shape shapes index = unwrap_or (option_and_then contained_shape (slice_get shapes index)) index
 
 -- the format of a newtype, by the kind at the end of its value: a scalar keeps the shape of the value, any other the end of the field
 abbrev pub format_of_kind : ShapeKind → ℕ → ℕ → VariantFormat
@@ -35,7 +43,7 @@ format_of_kind _ value end = NewtypeOther end
 -- the format of a newtype, by the shape of its field
 abbrev pub newtype_format : List Shape → ℕ → VariantFormat
 newtype_format shapes field =
-    let value = value_place shapes field in
+    let value = value_shape shapes field in
     let end = end_of shapes field in
     option_map_or (λ k. format_of_kind k value end) (end_kind shapes value) (NewtypeOther end)
 

@@ -1,5 +1,5 @@
--- The variants of an enum, grouped by format.
-use Rattle.std.specs.Prelude.{ℕ, List, map, filter, ◌++◌, ◌==◌, Bool, true, false, Option, Some, None, slice_get}
+-- The variants of an enum, grouped by format, and what a grouping keeps.
+use Rattle.std.specs.Prelude.{ℕ, List, map, filter, ◌++◌, ◌==◌, Bool, true, false, Option, Some, None, slice_get, ◌≡◌, ◌⊎◌, [], ◌∷◌, ⊤}
 use denote.Bor.{Bor}
 use Rattle.std.specs.Option.{option_map, option_map_or, option_and_then}
 use Rattle.std.specs.List.{filter_map}
@@ -10,11 +10,12 @@ use Rattle.facet_solver_shape.specs.declared.shape.ShapeKind.TheVariants.{Enum}
 use Rattle.facet_solver_shape.specs.declared.shape.ScalarType.{ScalarType}
 use Rattle.facet_solver_shape.specs.declared.variants.format.VariantFormat.{VariantFormat}
 use Rattle.facet_solver_shape.specs.declared.variants.format.VariantFormat.TheVariants.{NewtypeScalar, NewtypeTuple, NewtypeSequence, NewtypeOther, Tuple}
-use Rattle.facet_solver_shape.specs.declared.variants.grouping.VariantsByFormat.{VariantsByFormat}
-use Rattle.facet_solver_shape.specs.ScalarTypes.{end_scalar, is_bool, is_int, is_float, is_string}
+use Rattle.facet_solver_shape.specs.declared.variants.by_format.VariantsByFormat.{VariantsByFormat}
+use Rattle.facet_solver_shape.specs.Scalars.{end_scalar, is_bool, is_int, is_float, is_string}
 use Rattle.facet_solver_shape.specs.Formats.{format_of, expects_mapping, is_unit}
+use Rattle.std.specs.List.Sorted.{IsPermutation}
 
--- a variant, and a number that is listed with it: a shape's place, or a tuple's length
+-- a variant, and a number that is listed with it: a shape's index, or a tuple's length
 abbrev pub Entry : Type 0
 Entry = Variant × ℕ
 
@@ -90,13 +91,13 @@ abbrev pub variants_of_kind : ShapeKind → Option (List Variant)
 variants_of_kind (Enum variants) = Some variants.items
 variants_of_kind _ = None
 
--- the variants of the shape at a place, if it is an enum
+-- the variants of the shape at an index, if it is an enum
 abbrev pub variants_at : List Shape → ℕ → Option (List Variant)
-variants_at shapes place = option_and_then (λ s. variants_of_kind s.kind) (slice_get shapes place)
+variants_at shapes index = option_and_then (λ s. variants_of_kind s.kind) (slice_get shapes index)
 
 -- those variants, grouped
 abbrev pub groups_at : List Shape → ℕ → Option Groups
-groups_at shapes place = option_map (groups_of shapes) (variants_at shapes place)
+groups_at shapes index = option_map (groups_of shapes) (variants_at shapes index)
 
 -- what a list of variants says, wherever they lie
 abbrev pub variants_view : List (Bor Variant) → List Variant
@@ -127,3 +128,24 @@ entry_variants entries = map (λ e. e.0) entries
 -- the variants that are listed with this number
 abbrev pub variants_with : ℕ → List Entry → List Variant
 variants_with number entries = entry_variants (filter (λ e. e.1 == number) entries)
+
+-- ys is xs with some elements left out
+abbrev pub KeepsOrder : {X : Type 0} → List X → List X → Type 0
+KeepsOrder xs [] = ⊤
+KeepsOrder [] (y ∷ ys) = ⊥
+KeepsOrder (x ∷ xs) (y ∷ ys) = ((x ≡ y) × KeepsOrder xs ys) ⊎ KeepsOrder xs (y ∷ ys)
+
+-- each element stands once in one of five lists, and there in its order
+pub record IsInOneOf {X : Type 0} (all a b c d e : List X) : Type 0 where
+  pub once : IsPermutation all (a ++ (b ++ (c ++ (d ++ e))))
+  pub first : KeepsOrder all a
+  pub second : KeepsOrder all b
+  pub third : KeepsOrder all c
+  pub fourth : KeepsOrder all d
+  pub fifth : KeepsOrder all e
+
+-- each variant stands in one of five lists, and each scalar in one of four or among the rest
+pub record IsPartition (variants : List Variant) (g : Groups) : Type 0 where
+  pub variants_in_one : IsInOneOf variants g.unit_variants (entry_variants g.scalar_variants) (entry_variants g.tuple_variants) g.struct_variants g.other_variants
+  pub rest : List Entry
+  pub scalars_in_one : IsInOneOf g.scalar_variants g.bool_variants g.int_variants g.float_variants g.string_variants rest

@@ -14,7 +14,7 @@ pub record Key : Type 0 where
   pub dom : Option FieldCategory
   pub name : Name
 
--- the place of a category among the six
+-- the index of a category among the six
 abbrev pub category_index : FieldCategory → ℕ
 category_index Flat = 0
 category_index Attribute = 1

@@ -1,25 +1,23 @@
 -- What one choice of variants resolves to, with no word of where its names lie.
-use Rattle.std.specs.Prelude.{◌≡◌, ◌↔◌, ℕ, List, [], ◌∷◌, ◌++◌, Bool, true, false, if◌then◌else◌, Some, None, IsSome, IsSomeAnd}
+use Rattle.std.specs.Prelude.{if◌then◌else◌, ◌≡◌, ◌↔◌, ℕ, List, [], ◌∷◌, ◌++◌, true, Some, None, IsSome, IsSomeAnd, codes, map, ⊤, Vec}
 use Rattle.std.specs.Option.{option_or, option_map}
 use Rattle.std.specs.Ordering.{nat_cmp}
 use Rattle.std.specs.declared.cmp.Ordering.{Ordering}
 use Rattle.std.specs.Cmp.Lexicographic.{slice_cmp}
-use Rattle.std.specs.FinMap as map
+use Rattle.std.specs.FinMap as finite
 use Rattle.std.specs.FinSet as set
-use Rattle.facet_solver_shape.specs.declared.shape.Field.{Field}
 use Rattle.facet_solver_shape.specs.declared.resolution.key.FieldCategory.{FieldCategory}
-use Rattle.facet_solver_shape.specs.Names.{Name}
+use Rattle.facet_solver_shape.specs.Names.{Name, names_of}
 use Rattle.facet_solver_shape.specs.Paths.{Step}
-use Rattle.facet_solver_shape.specs.Keys.{Key, key_cmp, category_cmp, stored_key}
-
--- a field of a resolution
-pub record FieldView : Type 0 where
-  pub name : Name
-  pub path : List Step
-  pub is_required : Bool
-  pub shape : ℕ
-  pub field : Field
-  pub category : FieldCategory
+use Rattle.facet_solver_shape.specs.Keys.{Key, key_cmp, category_cmp}
+use Rattle.std.specs.List.{flat_map}
+use denote.Bor.{Bor}
+use Rattle.std.specs.declared.alloc.Global.{Global}
+use Rattle.facet_solver_shape.specs.declared.resolution.field.FieldInfo.{FieldInfo}
+use Rattle.facet_solver_shape.specs.declared.resolution.field.VariantSelection.{VariantSelection}
+use Rattle.facet_solver_shape.specs.declared.resolution.error.SchemaError.{SchemaError}
+use Rattle.facet_solver_shape.specs.declared.resolution.error.SchemaError.TheVariants.{DuplicateField, OutOfMemory}
+use Rattle.facet_solver_shape.specs.Fields.{FieldView, as_optional, field_view, key_of_field}
 
 -- a variant that was picked for an enum
 pub record Pick : Type 0 where
@@ -27,55 +25,77 @@ pub record Pick : Type 0 where
   pub enum_name : Name
   pub variant_name : Name
 
+-- what a picked variant says
+abbrev pub pick_view : VariantSelection → Pick
+pick_view v = record { path = v.path; enum_name = v.enum_name.now; variant_name = v.variant_name.now }
+
+-- the text of a pick: its enum and its variant
+abbrev pub pick_text : Pick → List ℕ
+pick_text pick = pick.enum_name ++ (codes "::" ++ pick.variant_name)
+
+-- the text of all picks, in order
+abbrev pub description : List Pick → List ℕ
+description [] = codes "(no variants)"
+description (pick ∷ rest) = pick_text pick ++ flat_map (λ p. codes " + " ++ pick_text p) rest
+
 -- a resolution
 pub record Resolved : Type 0 where
-  pub fields : map.FinMap key_cmp FieldView
+  pub fields : finite.FinMap key_cmp FieldView
   pub required_names : set.FinSet (slice_cmp nat_cmp)
   pub key_paths : set.FinSet (slice_cmp (slice_cmp nat_cmp))
   pub picks : List Pick
-  pub catch_alls : map.FinMap category_cmp FieldView
+  pub catch_alls : finite.FinMap category_cmp FieldView
+
+-- names behind references, each once
+abbrev pub names_view : List (Bor Name) → set.FinSet (slice_cmp nat_cmp)
+names_view ns = set.from_list (names_of ns)
+
+-- paths of such names, each once
+abbrev pub key_paths_view : List (Vec (Bor Name) Global) → set.FinSet (slice_cmp (slice_cmp nat_cmp))
+key_paths_view ps = set.from_list (map (λ p. names_of p.items) ps)
+
+-- entries of a map of catch-alls
+abbrev pub catch_alls_view : List (FieldCategory × FieldInfo) → finite.FinMap category_cmp FieldView
+catch_alls_view es = finite.from_entries (map (λ e. (e.0, field_view e.1)) es)
 
 -- some field of the name is required
-pub record IsRequiredName (fields : map.FinMap key_cmp FieldView) (name : Name) : Type 0 where
+pub record IsRequiredName (fields : finite.FinMap key_cmp FieldView) (name : Name) : Type 0 where
   pub key : Key
   pub field : FieldView
-  pub present : map.get fields key ≡ Some field
+  pub present : finite.get fields key ≡ Some field
   pub is_required : field.is_required ≡ true
   pub same_name : field.name ≡ name
 
 -- the names are those of the required fields
-abbrev pub AreRequiredNames : map.FinMap key_cmp FieldView → set.FinSet (slice_cmp nat_cmp) → Type 0
+abbrev pub AreRequiredNames : finite.FinMap key_cmp FieldView → set.FinSet (slice_cmp nat_cmp) → Type 0
 AreRequiredNames fields names = (name : Name) → (set.contains names name ≡ true) ↔ IsRequiredName fields name
 
 -- nothing in it
 abbrev pub nothing : Resolved
-nothing = record { fields = map.empty; required_names = set.empty; key_paths = set.empty; picks = []; catch_alls = map.empty }
-
--- the key of a field
-abbrev pub key_of_field : FieldView → Key
-key_of_field f = stored_key f.category f.name
-
--- a field stands under its own key
-abbrev pub IsStored : Key × FieldView → Type 0
-IsStored e = e.0 ≡ key_of_field e.1
+nothing = record { fields = finite.empty; required_names = set.empty; key_paths = set.empty; picks = []; catch_alls = finite.empty }
 
 -- with one more field
 abbrev pub with_field : Resolved → FieldView → Resolved
 with_field r f = record r {
-  fields = map.insert r.fields (key_of_field f) f;
+  fields = finite.insert r.fields (key_of_field f) f;
   required_names = if f.is_required then set.insert r.required_names f.name else r.required_names;
 }
 
 -- new is old with the field f, whose key old had not
 pub record IsAdded (old : Resolved) (f : FieldView) (new : Resolved) : Type 0 where
-  pub fresh : map.get old.fields (key_of_field f) ≡ None
+  pub fresh : finite.get old.fields (key_of_field f) ≡ None
   pub after : new ≡ with_field old f
 
 -- a refusal of one more field: its key is taken, and these are the name and the two paths
 pub record IsFieldClash (old : Resolved) (f : FieldView) (name : Name) (first second : List Step) : Type 0 where
-  pub taken : IsSomeAnd (map.get old.fields (key_of_field f)) (λ present. present.path ≡ first)
+  pub taken : IsSomeAnd (finite.get old.fields (key_of_field f)) (λ present. present.path ≡ first)
   pub same_name : name ≡ f.name
   pub same_path : second ≡ f.path
+
+-- what a refusal of the field f says
+abbrev pub IsRefusalOf : Resolved → FieldView → SchemaError → Type 0
+IsRefusalOf old f (DuplicateField d) = IsFieldClash old f d.field_name.now d.first_path d.second_path
+IsRefusalOf old f OutOfMemory = ⊤
 
 -- with one more key path
 abbrev pub with_key_path : Resolved → List Name → Resolved
@@ -87,20 +107,20 @@ with_pick r pick = record r { picks = r.picks ++ pick ∷ [] }
 
 -- with a field that takes the members of a category that no other field takes, in place of an earlier one
 abbrev pub with_catch_all : Resolved → FieldCategory → FieldView → Resolved
-with_catch_all r category f = record r { catch_alls = map.insert r.catch_alls category f }
+with_catch_all r category f = record r { catch_alls = finite.insert r.catch_alls category f }
 
 -- no key is in both
-abbrev pub AreApart : map.FinMap key_cmp FieldView → map.FinMap key_cmp FieldView → Type 0
-AreApart first second = (k : Key) → IsSome (map.get first k) → map.get second k ≡ None
+abbrev pub AreApart : finite.FinMap key_cmp FieldView → finite.FinMap key_cmp FieldView → Type 0
+AreApart first second = (k : Key) → IsSome (finite.get first k) → finite.get second k ≡ None
 
 -- made has what first or second has, and no key is in both
-pub record IsUnionOf (first second made : map.FinMap key_cmp FieldView) : Type 0 where
+pub record IsUnionOf (first second made : finite.FinMap key_cmp FieldView) : Type 0 where
   pub apart : AreApart first second
-  pub joined : (k : Key) → map.get made k ≡ option_or (map.get first k) (map.get second k)
+  pub joined : (k : Key) → finite.get made k ≡ option_or (finite.get first k) (finite.get second k)
 
 -- made has what upper has, and elsewhere what lower has
-abbrev pub IsOverlaid : {K : Type 0} {R : K → K → Ordering} (lower upper made : map.FinMap R FieldView) → Type 0
-IsOverlaid {K} lower upper made = (k : K) → map.get made k ≡ option_or (map.get upper k) (map.get lower k)
+abbrev pub IsOverlaid : {K : Type 0} {R : K → K → Ordering} (lower upper made : finite.FinMap R FieldView) → Type 0
+IsOverlaid {K} lower upper made = (k : K) → finite.get made k ≡ option_or (finite.get upper k) (finite.get lower k)
 
 -- made has what old has and then what other has. No field of other has a key of old, and its catch-alls take the place of old ones
 pub record IsMerged (old other made : Resolved) : Type 0 where
@@ -113,14 +133,15 @@ pub record IsMerged (old other made : Resolved) : Type 0 where
 -- the key of some field of other is taken in old, and these are its name and the two paths
 pub record IsMergeClash (old other : Resolved) (name : Name) (first second : List Step) : Type 0 where
   pub field : FieldView
-  pub among : map.get other.fields (key_of_field field) ≡ Some field
+  pub among : finite.get other.fields (key_of_field field) ≡ Some field
   pub clash : IsFieldClash old field name first second
 
--- the same field, but not required
-abbrev pub as_optional : FieldView → FieldView
-as_optional f = record f { is_required = false }
+-- what a refusal of all that other has says
+abbrev pub IsMergeRefusalOf : Resolved → Resolved → SchemaError → Type 0
+IsMergeRefusalOf old other (DuplicateField d) = IsMergeClash old other d.field_name.now d.first_path d.second_path
+IsMergeRefusalOf old other OutOfMemory = ⊤
 
 -- new is old with no field and no name required
 pub record IsMadeOptional (old new : Resolved) : Type 0 where
-  pub fields : (k : Key) → map.get new.fields k ≡ option_map as_optional (map.get old.fields k)
+  pub fields : (k : Key) → finite.get new.fields k ≡ option_map as_optional (finite.get old.fields k)
   pub others : new ≡ record old { fields = new.fields; required_names = set.empty }

@@ -4,7 +4,7 @@ use Rattle.std.specs.Coded.{Coded, code_by, coded×, coded⊎, coded_ℕ, coded_
 use Rattle.std.proofs.Common.{inl, inr}
 use Rattle.std.specs.Ordering.{nat_cmp}
 use Rattle.std.specs.Cmp.Lexicographic.{slice_cmp}
-use Rattle.std.specs.FinMap as map
+use Rattle.std.specs.FinMap as finite
 use Rattle.std.specs.FinSet as set
 use Rattle.facet_solver_shape.specs.declared.shape.Field.{Field}
 use Rattle.facet_solver_shape.specs.contracts.shape.Field as field
@@ -13,7 +13,8 @@ use Rattle.facet_solver_shape.specs.contracts.resolution.key.FieldCategory as ca
 use Rattle.facet_solver_shape.specs.Names.{Name}
 use Rattle.facet_solver_shape.specs.Paths.{Step, by_field, by_variant}
 use Rattle.facet_solver_shape.specs.Keys.{Key, key_cmp, category_cmp}
-use Rattle.facet_solver_shape.specs.Resolved.{FieldView, Pick, Resolved}
+use Rattle.facet_solver_shape.specs.Fields.{FieldView}
+use Rattle.facet_solver_shape.specs.Resolved.{Pick, Resolved}
 
 -- a name
 abbrev name_code : Coded Name
@@ -64,8 +65,8 @@ key_code =
     (λ _. refl)
 
 -- fields by key
-abbrev pub field_map_code : Coded (map.FinMap key_cmp FieldView)
-field_map_code = map.code key_code field_view_code
+abbrev pub field_map_code : Coded (finite.FinMap key_cmp FieldView)
+field_map_code = finite.code key_code field_view_code
 
 -- names
 abbrev pub name_set_code : Coded (set.FinSet (slice_cmp nat_cmp))
@@ -76,13 +77,13 @@ abbrev pub key_path_set_code : Coded (set.FinSet (slice_cmp (slice_cmp nat_cmp))
 key_path_set_code = set.code (coded_list name_code)
 
 -- catch-alls by category
-abbrev pub catch_alls_code : Coded (map.FinMap category_cmp FieldView)
-catch_alls_code = map.code category.the_row.coded field_view_code
+abbrev pub catch_alls_code : Coded (finite.FinMap category_cmp FieldView)
+catch_alls_code = finite.code category.the_row.coded field_view_code
 
 -- a resolution as the tuple of its parts
 abbrev pub resolved_code : Coded Resolved
 resolved_code =
-    code_by ((map.FinMap key_cmp FieldView × set.FinSet (slice_cmp nat_cmp)) × (set.FinSet (slice_cmp (slice_cmp nat_cmp)) × (List Pick × map.FinMap category_cmp FieldView)))
+    code_by ((finite.FinMap key_cmp FieldView × set.FinSet (slice_cmp nat_cmp)) × (set.FinSet (slice_cmp (slice_cmp nat_cmp)) × (List Pick × finite.FinMap category_cmp FieldView)))
     (coded× (coded× field_map_code name_set_code) (coded× key_path_set_code (coded× (coded_list pick_code) catch_alls_code)))
     (λ r. ((r.fields, r.required_names), (r.key_paths, (r.picks, r.catch_alls))))
     (λ p. record { fields = p.0.0; required_names = p.0.1; key_paths = p.1.0; picks = p.1.1.0; catch_alls = p.1.1.1 })

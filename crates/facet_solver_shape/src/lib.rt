@@ -1,9 +1,10 @@
 //! Shapes of types, and what one choice of variants resolves to.
 #![tactic(auto)]
 
-pub mod resolution;
-pub mod shape;
-pub mod variants;
+pub mod laws;
+mod resolution;
+mod shape;
+mod variants;
 
 pub use resolution::{
     DuplicateFieldError, FieldCategory, FieldInfo, FieldKey, FieldPath, KeyPath, PathSegment,

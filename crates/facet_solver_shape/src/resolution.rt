@@ -4,20 +4,17 @@ ghost use Rattle.std.specs.Option.{option_map};
 ghost use Rattle.std.specs.String.{string_bytes};
 ghost use Rattle.std.specs.FinMap as finite;
 ghost use Rattle.std.specs.FinSet as set;
-ghost use Rattle.facet_solver_shape.specs.Descriptions.{description};
-ghost use Rattle.facet_solver_shape.specs.FieldTable.{entry_view};
+ghost use Rattle.facet_solver_shape.specs.Resolved.{description, nothing, IsAdded, with_key_path, with_pick, with_catch_all, with_field, AreRequiredNames, AreApart, IsMerged, IsMadeOptional, pick_view, IsRefusalOf, IsMergeRefusalOf, names_view, key_paths_view};
+ghost use Rattle.facet_solver_shape.specs.Fields.{entry_view, matches, has_name, key_of_field, IsStored, field_view, field_entries_view};
 ghost use Rattle.facet_solver_shape.specs.Keys.{key_of};
-ghost use Rattle.facet_solver_shape.specs.Matching.{matches, has_name};
-ghost use Rattle.facet_solver_shape.specs.Resolved.{nothing, IsAdded, with_key_path, with_pick, with_catch_all, with_field, key_of_field, IsStored, AreRequiredNames, AreApart, IsMerged, IsMadeOptional};
-ghost use Rattle.facet_solver_shape.specs.Views.{field_view, pick_view, IsRefusalOf, IsMergeRefusalOf, field_entries_view, names_of, names_view, key_paths_view};
+ghost use Rattle.facet_solver_shape.specs.Names.{names_of};
 ghost use Rattle.facet_solver_shape.specs.declared.resolution.error.SchemaError.TheVariants.{OutOfMemory};
 
 mod describe;
-pub mod error;
-pub mod field;
-pub mod key;
-pub mod laws;
-pub mod path;
+mod error;
+mod field;
+mod key;
+mod path;
 mod tables;
 
 use describe::describe_picks;
@@ -44,9 +41,8 @@ pub struct Resolution<'c> {
 
 impl<'c> Model for Resolution<'c> {
     ghost use Rattle.std.specs.Prelude.{map};
-    ghost use Rattle.facet_solver_shape.specs.Resolved.{Resolved, AreRequiredNames};
+    ghost use Rattle.facet_solver_shape.specs.Resolved.{Resolved, AreRequiredNames, pick_view};
     ghost use Rattle.facet_solver_shape.specs.ResolvedCode.{resolved_code};
-    ghost use Rattle.facet_solver_shape.specs.Views.{pick_view};
 
     ghost Value = { Resolved };
 

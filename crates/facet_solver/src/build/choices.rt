@@ -1,6 +1,6 @@
 //! The choices of variants of a root, as lists of the places of variants.
 ghost use Rattle.std.specs.Prelude.{◌≡◌, ◌++◌, ◌<◌, map, length, IfOk, OnOk};
-ghost use Rattle.facet_solver_shape.specs.Places.{NamesEarlier, FieldsBelow, VariantsBelow};
+ghost use Rattle.facet_solver_shape.specs.Catalogues.{NamesEarlier, FieldsBelow, VariantsBelow};
 ghost use Rattle.facet_solver.specs.Listing as listing;
 ghost use Rattle.facet_solver.specs.Choice.{ListsChoices};
 ghost use Rattle.facet_solver.specs.ChoiceLists.{lists};

@@ -1,6 +1,6 @@
 //! The number of choices of variants, from a table by place.
 ghost use Rattle.std.specs.Prelude.{◌≡◌, ◌<◌, length, IfOk};
-ghost use Rattle.facet_solver_shape.specs.Places.{NamesEarlier, FieldsBelow};
+ghost use Rattle.facet_solver_shape.specs.Catalogues.{NamesEarlier, FieldsBelow};
 ghost use Rattle.facet_solver.specs.Count as count;
 ghost use Rattle.facet_solver.specs.Count.{count_below};
 ghost use Rattle.facet_solver.specs.CountAnswer.{below_2_64};

@@ -1,7 +1,7 @@
 //! What a walk emits, taken into a resolution.
 ghost use Rattle.std.specs.Prelude.{◌≡◌, ◌∷◌, [], map, IfOk, OnOk};
-ghost use Rattle.facet_solver_shape.specs.Views.{field_view};
-ghost use Rattle.facet_solver_shape.specs.Places.{NamesEarlier};
+ghost use Rattle.facet_solver_shape.specs.Fields.{field_view};
+ghost use Rattle.facet_solver_shape.specs.Catalogues.{NamesEarlier};
 ghost use Rattle.facet_solver.specs.Emissions as emissions;
 ghost use Rattle.facet_solver.specs.Emissions.{a_key_path};
 ghost use Rattle.facet_solver.specs.Nested.{content_paths};

@@ -1,7 +1,7 @@
 //! Nested key paths: those under a field's shape, and those under the content of a variant.
 ghost use Rattle.std.specs.Prelude.{◌≡◌, ◌++◌, ◌∷◌, [], map, OnOk, IfOk};
-ghost use Rattle.facet_solver_shape.specs.Places.{NamesEarlier};
-ghost use Rattle.facet_solver_shape.specs.Views.{names_of};
+ghost use Rattle.facet_solver_shape.specs.Catalogues.{NamesEarlier};
+ghost use Rattle.facet_solver_shape.specs.Names.{names_of};
 ghost use Rattle.facet_solver.specs.Targets.{kind_at};
 ghost use Rattle.facet_solver.specs.Nested as nested;
 ghost use Rattle.facet_solver.specs.KeyPaths.{with_key_paths, with_paths_behind};

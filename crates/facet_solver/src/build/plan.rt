@@ -1,6 +1,6 @@
 //! What a build goes by.
 ghost use Rattle.std.specs.Prelude.{◌≡◌, ◌<◌, length, slice_get};
-ghost use Rattle.facet_solver_shape.specs.Places.{NamesEarlier};
+ghost use Rattle.facet_solver_shape.specs.Catalogues.{NamesEarlier};
 ghost use Rattle.facet_solver.specs.Representation as representation;
 ghost use Rattle.facet_solver.specs.Representation.{repr_view};
 ghost use Rattle.facet_solver.specs.PlanView.{settings_of};

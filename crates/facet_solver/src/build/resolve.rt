@@ -1,6 +1,6 @@
 //! The resolutions of a root.
 ghost use Rattle.std.specs.Prelude.{◌≡◌, ◌<◌, ◌∷◌, [], IsSome, IfOk, IfErr, length};
-ghost use Rattle.facet_solver_shape.specs.Places.{NamesEarlier, FieldsBelow};
+ghost use Rattle.facet_solver_shape.specs.Catalogues.{NamesEarlier, FieldsBelow};
 ghost use Rattle.facet_solver.specs.Choice.{IsChoice, IsResolution, Enumerates};
 ghost use Rattle.facet_solver.specs.Count.{count_of_root};
 ghost use Rattle.facet_solver.specs.Filling.{Walks};

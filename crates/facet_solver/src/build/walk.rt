@@ -1,6 +1,6 @@
 //! The walk of one choice, which fills one resolution.
 ghost use Rattle.std.specs.Prelude.{◌≡◌, ◌<◌, ◌∷◌, IsSome, length, slice_get, slice_index};
-ghost use Rattle.facet_solver_shape.specs.Places.{NamesEarlier, FieldsBelow};
+ghost use Rattle.facet_solver_shape.specs.Catalogues.{NamesEarlier, FieldsBelow};
 ghost use Rattle.facet_solver.specs.Filling.{Walks};
 ghost use Rattle.facet_solver.specs.Outcome.{effect};
 ghost use Rattle.facet_solver.specs.PlanView.{settings_of};

@@ -2,7 +2,7 @@
 ghost use Rattle.std.specs.Prelude.{◌≡◌, [], IfOk, length, map, nat_eq, slice_get};
 ghost use Rattle.std.specs.List.{filter_map, list_any};
 ghost use Rattle.facet_solver_shape.specs.Keys.{key_of};
-ghost use Rattle.facet_solver_shape.specs.Views.{field_view};
+ghost use Rattle.facet_solver_shape.specs.Fields.{field_view};
 ghost use Rattle.facet_solver.specs.KeyAnswer.{answer_of, by_shapes, field_at, first_of_each_shape, score_of_shape, with_score};
 ghost use Rattle.facet_solver.specs.KeyResultView.{HoldsHandleOf, HoldsNoHandle, answer_view, scored_view};
 

@@ -1,8 +1,7 @@
 // The text of picked variants.
 ghost use Rattle.std.specs.Prelude.{◌≡◌, ◌++◌, map, IfOk, OnOk};
 ghost use Rattle.std.specs.String.{string_bytes};
-ghost use Rattle.facet_solver_shape.specs.Descriptions.{pick_text, description};
-ghost use Rattle.facet_solver_shape.specs.Views.{pick_view};
+ghost use Rattle.facet_solver_shape.specs.Resolved.{pick_text, description, pick_view};
 
 use crate::resolution::VariantSelection;
 use std::alloc::{AllocError, Global};

@@ -1,9 +1,8 @@
 //! Fields of a resolution, nested keys and picked variants.
 ghost use Rattle.std.specs.Prelude.{◌≡◌, ◌++◌, map, IfOk, OnOk};
 ghost use Rattle.facet_solver_shape.specs.Keys.{key_of};
-ghost use Rattle.facet_solver_shape.specs.Matching.{matches};
-ghost use Rattle.facet_solver_shape.specs.Resolved.{key_of_field};
-ghost use Rattle.facet_solver_shape.specs.Views.{field_view, pick_view};
+ghost use Rattle.facet_solver_shape.specs.Fields.{matches, key_of_field, field_view};
+ghost use Rattle.facet_solver_shape.specs.Resolved.{pick_view};
 
 use crate::resolution::key::{FieldCategory, FieldKey};
 use crate::resolution::path::FieldPath;
@@ -42,9 +41,9 @@ pub struct VariantSelection<'c> {
 }
 
 impl<'c> FieldInfo<'c> {
-    /// The stored key, under which a resolution keeps the field: that of its name alone for a field of
-    /// category Flat, else that of its name in its category.
-    pub fn key(&self) -> FieldKey<'c>
+    // The stored key, under which a resolution keeps the field: that of its name alone for a field of
+    // category Flat, else that of its name in its category.
+    pub(crate) fn key(&self) -> FieldKey<'c>
         ensures { key_of result ≡ key_of_field (field_view self.now) }
     {
         match self.category {

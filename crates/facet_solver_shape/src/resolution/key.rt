@@ -1,7 +1,7 @@
 //! Keys of fields, and the categories that they are of.
 ghost use Rattle.std.specs.Prelude.{◌≡◌, []};
 ghost use Rattle.facet_solver_shape.specs.Keys.{key_of, flat_key, dom_key};
-ghost use Rattle.facet_solver_shape.specs.Matching.{takes_any_name};
+ghost use Rattle.facet_solver_shape.specs.Fields.{takes_any_name};
 
 /// What kind of thing in a document gives a field its value.
 #[derive(Clone, Copy, PartialEq, Eq, PartialOrd, Ord, Debug)]

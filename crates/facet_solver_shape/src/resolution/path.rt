@@ -3,8 +3,7 @@ ghost use Rattle.std.specs.Prelude.{◌≡◌, map, [], ◌∷◌, ◌++◌, ◌
 ghost use Rattle.std.specs.Option.{option_map};
 ghost use Rattle.std.specs.List.{flat_map};
 ghost use Rattle.std.specs.Cmp.{partial_equiv_from_equiv};
-ghost use Rattle.facet_solver_shape.specs.Paths.{step_of, by_field, by_variant, step_text, path_text};
-ghost use Rattle.facet_solver_shape.specs.PathEq.{path_eq, path_eq_equiv};
+ghost use Rattle.facet_solver_shape.specs.Paths.{step_of, by_field, by_variant, step_text, path_text, path_eq, path_eq_equiv};
 
 use std::alloc::{AllocError, Global};
 use std::fmt;
@@ -130,18 +129,22 @@ impl<'c> FieldPath<'c> {
     }
 }
 
-impl fmt::Display for PathSegment<'_> {
-    ghost output = { λ s. Some (step_text (step_of s)) };
+// A segment, to be printed.
+#[derive(Drop)]
+struct SegmentText<'s, 'c>(&'s PathSegment<'c>);
+
+impl fmt::Display for SegmentText<'_, '_> {
+    ghost output = { λ s. Some (step_text (step_of s.0.now)) };
 
     fn fmt<W: fmt::Write>(&self, f: &mut fmt::Formatter<W>) -> fmt::Result {
-        match self {
+        match *self.0 {
             PathSegment::Field(name) => write!(f, "{name}"),
             PathSegment::Variant(field, variant) => write!(f, "{field}::{variant}"),
         }
     }
 }
 
-// Segments with a dot before each.
+// Segments, to be printed with a dot before each.
 #[derive(Drop)]
 struct Dotted<'s, 'c>(&'s [PathSegment<'c>]);
 
@@ -150,7 +153,8 @@ impl fmt::Display for Dotted<'_, '_> {
 
     fn fmt<W: fmt::Write>(&self, f: &mut fmt::Formatter<W>) -> fmt::Result {
         for segment in self.0 {
-            write!(f, ".{segment}")?;
+            let text = SegmentText(segment);
+            write!(f, ".{text}")?;
         }
         Ok(())
     }
@@ -163,6 +167,7 @@ impl fmt::Display for FieldPath<'_> {
         match self.segments.split_first() {
             None => write!(f, "<root>"),
             Some((first, rest)) => {
+                let first = SegmentText(first);
                 let rest = Dotted(rest);
                 write!(f, "{first}{rest}")
             }

@@ -1,51 +1,51 @@
 //! Catalogues, and what makes a list of shapes none.
-ghost use Rattle.std.specs.Prelude.{◌≡◌, ◌<◌, ◌↔◌, length, IsTrue, slice_get, IfSome, IsOk, IfOk, IfErr, OnOk};
+ghost use Rattle.std.specs.Prelude.{◌≡◌, ◌<◌, ◌↔◌, length, IsTrue, slice_get, IfSome, IsOk, IfOk, IfErr, OnOk, Some};
 ghost use Rattle.std.specs.Option.{option_copied};
-ghost use Rattle.facet_solver_shape.specs.Places.{IsEarlierThan};
-ghost use Rattle.facet_solver_shape.specs.Pointers.{pointee_at};
-ghost use Rattle.facet_solver_shape.specs.Ends.{end_of, IsEndOf, EveryShapeEnds};
-ghost use Rattle.facet_solver_shape.specs.Faults.{place_of, number_of, IsChecked, IsFirstFault};
+ghost use Rattle.facet_solver_shape.specs.Catalogues.{IsEarlierThan, shape_of, number_of, fault_text, refusal_text, IsChecked, IsFirstFault};
+ghost use Rattle.facet_solver_shape.specs.Pointers.{pointee_at, end_of, IsEndOf, EveryShapeEnds};
 
 use super::check::check_shape;
 use super::{Shape, ShapeId};
+use std::error::Error;
+use std::fmt;
 use std::marker::Model;
 
-/// Why a list of shapes is no catalogue. Each refusal holds the place of its shape.
+/// Why a list of shapes is no catalogue. Each refusal holds the index of its shape.
 #[derive(Clone, Copy, PartialEq, Eq, Debug)]
 pub enum CatalogueError {
-    /// The shape names a place that isn't below the number of shapes.
+    /// The shape names an index that isn't below the number of shapes.
     OutOfRange {
-        /// The place of the shape.
+        /// The index of the shape.
         shape: usize,
     },
     /// The shape names by a field, a variant's field, an option's inside, `inner` or `proxy` a
-    /// place of the catalogue that isn't below its own.
+    /// index of the catalogue that isn't below its own.
     NotEarlier {
-        /// The place of the shape.
+        /// The index of the shape.
         shape: usize,
     },
     /// The shape is a pointer, and following pointees from it never comes to a shape that is no
-    /// pointer, to an opaque pointer or to a place out of range.
+    /// pointer, to an opaque pointer or to an index out of range.
     PointerCycle {
-        /// The place of the shape.
+        /// The index of the shape.
         shape: usize,
     },
     /// The shape has two fields of one declared name in its struct or in one variant.
     DuplicateFieldName {
-        /// The place of the shape.
+        /// The index of the shape.
         shape: usize,
     },
     /// The shape has two variants of one name.
     DuplicateVariantName {
-        /// The place of the shape.
+        /// The index of the shape.
         shape: usize,
     },
 }
 
 impl CatalogueError {
-    /// The place of the shape that has the fault.
+    /// The index of the shape that has the fault.
     pub fn shape(&self) -> usize
-        ensures { result ≡ place_of self.now }
+        ensures { result ≡ shape_of self.now }
     {
         match self {
             CatalogueError::OutOfRange { shape }
@@ -68,7 +68,35 @@ impl CatalogueError {
             CatalogueError::DuplicateVariantName { .. } => 5,
         }
     }
+
+    // What the shape does that no shape of a catalogue does.
+    fn fault(&self) -> &'static str
+        ensures { result.now ≡ fault_text self.now }
+    {
+        match self {
+            CatalogueError::OutOfRange { .. } => "names an index past the last shape",
+            CatalogueError::NotEarlier { .. } => "names a shape that does not come before it",
+            CatalogueError::PointerCycle { .. } => "is a pointer that comes to no end",
+            CatalogueError::DuplicateFieldName { .. } => "has two fields of one name",
+            CatalogueError::DuplicateVariantName { .. } => "has two variants of one name",
+        }
+    }
 }
+
+/// A refusal prints its shape's index, what is wrong and its number, as in
+/// `the shape at index 3 has two variants of one name (refusal 5)`.
+impl fmt::Display for CatalogueError {
+    ghost output = { λ e. Some (refusal_text e) };
+
+    fn fmt<W: fmt::Write>(&self, f: &mut fmt::Formatter<W>) -> fmt::Result {
+        let index = self.shape();
+        let fault = self.fault();
+        let number = self.number();
+        write!(f, "the shape at index {index} {fault} (refusal {number})")
+    }
+}
+
+impl Error for CatalogueError {}
 
 /// A catalogue: a list of shapes that was checked.
 #[derive(Debug, Drop)]
@@ -79,7 +107,7 @@ pub struct Shapes {
 impl Model for Shapes {
     ghost use Rattle.std.specs.Prelude.{List};
     ghost use Rattle.facet_solver_shape.specs.declared.shape.Shape.{Shape};
-    ghost use Rattle.facet_solver_shape.specs.Faults.{IsChecked};
+    ghost use Rattle.facet_solver_shape.specs.Catalogues.{IsChecked};
 
     ghost Value = { List Shape };
 
@@ -91,7 +119,7 @@ impl Model for Shapes {
 impl Shapes {
     /// The catalogue of a list of shapes, if no shape has a fault.
     ///
-    /// Otherwise the first place with a fault is given, with its fault of lowest number, and the
+    /// Otherwise the first index with a fault is given, with its fault of lowest number, and the
     /// list is dropped. No memory is taken.
     pub fn new(shapes: Vec<Shape>) -> Result<Shapes, CatalogueError>
         ensures accepted { IsOk result ↔ IsChecked shapes.items }
@@ -99,8 +127,8 @@ impl Shapes {
         ensures ends { OnOk result (EveryShapeEnds shapes.items) }
         ensures refused { IfErr result (IsFirstFault shapes.items) }
     {
-        for place in 0..shapes.len() {
-            check_shape(&shapes, place)?;
+        for index in 0..shapes.len() {
+            check_shape(&shapes, index)?;
         }
         Ok(Shapes { shapes })
     }
@@ -113,7 +141,7 @@ impl Shapes {
         self.shapes.len()
     }
 
-    /// The shape at a place, if the catalogue has the place.
+    /// The shape at an index, if the catalogue has the index.
     pub fn get(&self, id: ShapeId) -> Option<&Shape>
         ensures entry { option_copied result ≡ slice_get self.now id }
         ensures earlier { IfSome result (λ s. IsEarlierThan id s.now) }
@@ -122,7 +150,7 @@ impl Shapes {
         self.shapes.get(id.index())
     }
 
-    /// Whether the catalogue has a place.
+    /// Whether the catalogue has an index.
     pub fn has(&self, id: ShapeId) -> bool
         ensures value { IsTrue result ↔ (id < length self.now) }
         ensures checked { IsChecked self.now }
@@ -143,7 +171,7 @@ impl Shapes {
         end
     }
 
-    // Where the shape at a place leads to.
+    // Where the shape at an index leads to.
     fn pointee(&self, id: ShapeId) -> Option<ShapeId>
         ensures value { result ≡ pointee_at self.now id }
         ensures checked { IsChecked self.now }

@@ -1,37 +1,37 @@
 //! The test of one shape of a list.
 ghost use Rattle.std.specs.Prelude.{◌<◌, length, OnOk, IfErr};
-ghost use Rattle.facet_solver_shape.specs.Faults.{IsFaultlessAt, IsLowestFaultAt};
+ghost use Rattle.facet_solver_shape.specs.Catalogues.{IsFaultlessAt, IsLowestFaultAt};
 
+mod indices;
 mod names;
-mod places;
 mod pointers;
 
 use super::{CatalogueError, Shape};
+use indices::{names_early_from, names_past};
 use names::{repeats_field_name, repeats_variant_name};
-use places::{names_early_from, names_past};
 use pointers::never_ends;
 
-// Gives the fault of lowest number that the shape at one place of a list has.
-pub(super) fn check_shape(shapes: &[Shape], place: usize) -> Result<(), CatalogueError>
-    requires { place < length shapes.now }
-    ensures faultless { OnOk result (IsFaultlessAt shapes.now place) }
-    ensures faulty { IfErr result (IsLowestFaultAt shapes.now place) }
+// Gives the fault of lowest number that the shape at one index of a list has.
+pub(super) fn check_shape(shapes: &[Shape], index: usize) -> Result<(), CatalogueError>
+    requires { index < length shapes.now }
+    ensures faultless { OnOk result (IsFaultlessAt shapes.now index) }
+    ensures faulty { IfErr result (IsLowestFaultAt shapes.now index) }
 {
-    let shape = &shapes[place];
+    let shape = &shapes[index];
     if names_past(shape, shapes.len()) {
-        return Err(CatalogueError::OutOfRange { shape: place });
+        return Err(CatalogueError::OutOfRange { shape: index });
     }
-    if names_early_from(shape, place) {
-        return Err(CatalogueError::NotEarlier { shape: place });
+    if names_early_from(shape, index) {
+        return Err(CatalogueError::NotEarlier { shape: index });
     }
-    if never_ends(shapes, place) {
-        return Err(CatalogueError::PointerCycle { shape: place });
+    if never_ends(shapes, index) {
+        return Err(CatalogueError::PointerCycle { shape: index });
     }
     if repeats_field_name(&shape.kind) {
-        return Err(CatalogueError::DuplicateFieldName { shape: place });
+        return Err(CatalogueError::DuplicateFieldName { shape: index });
     }
     if repeats_variant_name(&shape.kind) {
-        return Err(CatalogueError::DuplicateVariantName { shape: place });
+        return Err(CatalogueError::DuplicateVariantName { shape: index });
     }
     Ok(())
 }

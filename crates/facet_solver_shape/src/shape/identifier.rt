@@ -1,12 +1,12 @@
-//! The places of shapes.
+//! The indices of shapes.
 ghost use Rattle.std.specs.Prelude.{◌≡◌};
 
 use std::marker::Model;
 
-/// The place of a shape in its catalogue.
+/// The index of a shape in its catalogue.
 #[derive(Clone, Copy, PartialEq, Eq, PartialOrd, Ord, Hash, Debug)]
 pub struct ShapeId {
-    place: usize,
+    index: usize,
 }
 
 impl Model for ShapeId {
@@ -14,23 +14,23 @@ impl Model for ShapeId {
 
     ghost Value = { ℕ };
 
-    ghost view = { λ a. a.place };
+    ghost view = { λ a. a.index };
 
-    ghost inverse = { λ n. record { place = n } };
+    ghost inverse = { λ n. record { index = n } };
 }
 
 impl ShapeId {
-    /// The identifier of the shape at a place.
+    /// The identifier of the shape at an index.
     pub fn new(index: usize) -> Self
         ensures { result ≡ index }
     {
-        ShapeId { place: index }
+        ShapeId { index }
     }
 
-    /// The place of the shape.
+    /// The index of the shape.
     pub fn index(self) -> usize
         ensures { result ≡ self }
     {
-        self.place
+        self.index
     }
 }

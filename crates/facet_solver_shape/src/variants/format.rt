@@ -2,8 +2,7 @@
 ghost use Rattle.std.specs.Prelude.{◌≡◌, ◌==◌, not, find, length};
 ghost use Rattle.std.specs.Option.{option_map};
 ghost use Rattle.std.specs.List.{list_all};
-ghost use Rattle.facet_solver_shape.specs.Containers.{value_place, contained_place};
-ghost use Rattle.facet_solver_shape.specs.Formats.{format_of, unnamed_format, newtype_format, format_of_kind, expects_scalar, expects_sequence, expects_mapping, is_unit};
+ghost use Rattle.facet_solver_shape.specs.Formats.{value_shape, contained_shape, format_of, unnamed_format, newtype_format, format_of_kind, expects_scalar, expects_sequence, expects_mapping, is_unit};
 
 use crate::shape::{Field, Shape, ShapeId, ShapeKind, Shapes, StructKind, Variant};
 
@@ -157,14 +156,14 @@ fn format_of_kind(kind: &ShapeKind, value: ShapeId, inner_shape: ShapeId) -> Var
 
 // The shape that a shape stands for: what a metadata container contains, else itself.
 fn value_shape(shapes: &Shapes, id: ShapeId) -> ShapeId
-    ensures { result ≡ value_place shapes.now id }
+    ensures { result ≡ value_shape shapes.now id }
 {
     shapes.get(id).and_then(contained_shape).unwrap_or(id)
 }
 
 // What a metadata container contains: the shape of its first field that is not metadata.
 fn contained_shape(shape: &Shape) -> Option<ShapeId>
-    ensures { result ≡ contained_place shape.now }
+    ensures { result ≡ contained_shape shape.now }
 {
     match &shape.kind {
         ShapeKind::Struct { fields, .. } if shape.metadata_container => first_plain_shape(fields),

@@ -1,110 +1,16 @@
-//! The variants of an enum, grouped by format.
-ghost use Rattle.std.specs.Prelude.{◌≡◌, ◌↔◌, ◌<◌, [], ◌∷◌, ◌++◌, IsTrue, IfOk, IfSome, OnOk, vec_len};
-ghost use Rattle.std.specs.Option.{option_map};
+//! How the variants of an enum are put into their lists.
+ghost use Rattle.std.specs.Prelude.{◌≡◌, [], ◌∷◌, ◌++◌, IfOk, OnOk};
 ghost use Rattle.facet_solver_shape.specs.Formats.{format_of};
-ghost use Rattle.facet_solver_shape.specs.Groups.{groups_of, groups_at, groups_view, variants_at, joined, variants_with, entries_view, variants_view};
-ghost use Rattle.facet_solver_shape.specs.ScalarTypes.{end_scalar};
-ghost use Rattle.facet_solver_shape.specs.Partition.{IsPartition};
+ghost use Rattle.facet_solver_shape.specs.Groups.{groups_of, groups_view, joined, entries_view, IsPartition};
+ghost use Rattle.facet_solver_shape.specs.Scalars.{end_scalar};
 
+use super::by_format::VariantsByFormat;
 use super::format::VariantFormat;
-use crate::shape::{ScalarType, Shape, ShapeId, ShapeKind, Shapes, Variant};
+use crate::shape::{ScalarType, ShapeId, Shapes, Variant};
 use std::alloc::{AllocError, Global};
 
-/// The variants of an enum, grouped by format.
-///
-/// Each variant stands in exactly one of the lists of unit, tuple, struct, scalar and other
-/// variants; the lists of bool, int, float and string variants are parts of that of scalar
-/// variants. In each list the variants stand in the order in which the enum declares them.
-#[derive(Debug, Drop)]
-pub struct VariantsByFormat<'c> {
-    /// Scalars, each with the shape of its value.
-    pub scalar_variants: Vec<(&'c Variant, ShapeId)>,
-    /// The scalars that end at a bool.
-    pub bool_variants: Vec<(&'c Variant, ShapeId)>,
-    /// The scalars that end at a whole number.
-    pub int_variants: Vec<(&'c Variant, ShapeId)>,
-    /// The scalars that end at a float.
-    pub float_variants: Vec<(&'c Variant, ShapeId)>,
-    /// The scalars that end at a text or a char.
-    pub string_variants: Vec<(&'c Variant, ShapeId)>,
-    /// Sequences, each with its number of elements, or with 0 where any number will do.
-    pub tuple_variants: Vec<(&'c Variant, usize)>,
-    /// Mappings.
-    pub struct_variants: Vec<&'c Variant>,
-    /// Variants of kind unit.
-    pub unit_variants: Vec<&'c Variant>,
-    /// All others.
-    pub other_variants: Vec<&'c Variant>,
-}
-
-impl<'c> VariantsByFormat<'c> {
-    /// The variants of an enum, grouped; `None` where the shape is no enum of the catalogue.
-    ///
-    /// An error comes only where memory is refused.
-    pub fn from_shape(
-        alloc: Global,
-        shapes: &'c Shapes,
-        id: ShapeId,
-    ) -> Result<Option<Self>, AllocError>
-        ensures groups { IfOk result (λ found. option_map groups_view found ≡ groups_at shapes.now id) }
-        ensures partition { IfOk result (λ found. IfSome found (λ groups.
-            IfSome (variants_at shapes.now id) (λ variants. IsPartition variants (groups_view groups)))) }
-    {
-        match shapes.get(id) {
-            Some(
-                Shape {
-                    kind: ShapeKind::Enum { variants },
-                    ..
-                },
-            ) => Ok(Some(grouped(alloc, shapes, variants)?)),
-            _ => Ok(None),
-        }
-    }
-
-    /// The variants that stand in the tuple list with this number, in order.
-    ///
-    /// An error comes only where memory is refused.
-    pub fn tuple_variants_with_arity(
-        &self,
-        alloc: Global,
-        arity: usize,
-    ) -> Result<Vec<&'c Variant>, AllocError>
-        ensures { IfOk result (λ found.
-            variants_view found.items ≡ variants_with arity (groups_view self.now).tuple_variants) }
-    {
-        let mut found = Vec::new(alloc);
-        for (variant, length) in &self.tuple_variants {
-            if *length == arity {
-                found.push(*variant)?;
-            }
-        }
-        Ok(found)
-    }
-
-    /// Whether some variant is a scalar.
-    pub fn has_scalar_variants(&self) -> bool
-        ensures { IsTrue result ↔ (0 < vec_len self.now.scalar_variants) }
-    {
-        !self.scalar_variants.is_empty()
-    }
-
-    /// Whether some variant is a sequence.
-    pub fn has_tuple_variants(&self) -> bool
-        ensures { IsTrue result ↔ (0 < vec_len self.now.tuple_variants) }
-    {
-        !self.tuple_variants.is_empty()
-    }
-
-    /// Whether some variant is a mapping.
-    pub fn has_struct_variants(&self) -> bool
-        ensures { IsTrue result ↔ (0 < vec_len self.now.struct_variants) }
-    {
-        !self.struct_variants.is_empty()
-    }
-}
-
 // The lists of these variants.
-fn grouped<'c>(
+pub(super) fn grouped<'c>(
     alloc: Global,
     shapes: &'c Shapes,
     variants: &'c [Variant],
@@ -120,6 +26,7 @@ fn grouped<'c>(
 }
 
 impl<'c> VariantsByFormat<'c> {
+    // No variants yet.
     fn empty(alloc: Global) -> Self
         ensures { groups_view result ≡ groups_of [] [] }
     {
@@ -170,7 +77,7 @@ impl<'c> VariantsByFormat<'c> {
             (groups_view self.new ≡ joined (groups_view self.old) (groups_of shapes.now (variant.now ∷ []))) }
     {
         add_entry(&mut self.scalar_variants, variant, shape)?;
-        match scalar_at_end(shapes, shape) {
+        match end_scalar(shapes, shape) {
             Some(ScalarType::Bool) => add_entry(&mut self.bool_variants, variant, shape),
             Some(
                 ScalarType::U8
@@ -213,8 +120,8 @@ fn add_entry<'c>(
 }
 
 // The scalar type at the end of a shape, if it is a scalar.
-#[tactic(auto, unfolding(crate::specs::ScalarTypes::end_scalar))]
-fn scalar_at_end(shapes: &Shapes, id: ShapeId) -> Option<ScalarType>
+#[tactic(auto, unfolding(crate::specs::Scalars::end_scalar))]
+fn end_scalar(shapes: &Shapes, id: ShapeId) -> Option<ScalarType>
     ensures { result ≡ end_scalar shapes.now id }
 {
     shapes.get(shapes.end_of(id))?.scalar_type()

@@ -1,4 +1,4 @@
-use Rattle.facet_solver_shape.proofs.EarlierPlaces.{names_earlier}
+use Rattle.facet_solver_shape.proofs.Catalogues.{names_earlier}
 use Rattle.facet_solver.proofs.Steps.{effective-step}
 use Rattle.facet_solver.proofs.laws.effective_shapes_follow_inner_and_proxy.Goals as goal
 

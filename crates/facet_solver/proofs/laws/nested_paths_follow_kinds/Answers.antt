@@ -1,4 +1,4 @@
-use Rattle.facet_solver_shape.proofs.EarlierPlaces.{names_earlier}
+use Rattle.facet_solver_shape.proofs.Catalogues.{names_earlier}
 use Rattle.facet_solver.proofs.NestedLaws.{follows_kinds, ends_by_length}
 use Rattle.facet_solver.proofs.laws.nested_paths_follow_kinds.Goals as goal
 

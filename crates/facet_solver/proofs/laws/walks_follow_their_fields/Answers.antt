@@ -1,4 +1,4 @@
-use Rattle.facet_solver_shape.proofs.EarlierPlaces.{names_earlier}
+use Rattle.facet_solver_shape.proofs.Catalogues.{names_earlier}
 use Rattle.facet_solver.proofs.OwnSteps.{walk-is_step}
 use Rattle.facet_solver.proofs.laws.walks_follow_their_fields.Goals as goal
 

@@ -1,6 +1,6 @@
 //! The number of choices at a place of the catalogue, from those at the places before it.
 ghost use Rattle.std.specs.Prelude.{◌≡◌, ◌<◌, length};
-ghost use Rattle.facet_solver_shape.specs.Places.{NamesEarlier, FieldsBelow, VariantsBelow, KindBelow};
+ghost use Rattle.facet_solver_shape.specs.Catalogues.{NamesEarlier, FieldsBelow, VariantsBelow, KindBelow};
 ghost use Rattle.facet_solver.specs.Count.{count_role, count_below};
 ghost use Rattle.facet_solver.specs.CountView.{Tells, AreFirstCounts, count_of_field, count_of_content, count_among};
 ghost use Rattle.facet_solver.specs.PlanView.{settings_of};

@@ -1,9 +1,9 @@
 // Fields that take what no other field of their category takes, seen as a finite map.
 ghost use Rattle.std.specs.Prelude.{◌≡◌, OnOk, OnErr, IfOk};
 ghost use Rattle.std.specs.Option.{option_map};
-ghost use Rattle.std.specs.FinMap as tree;
+ghost use Rattle.std.specs.FinMap as finite;
 ghost use Rattle.facet_solver_shape.specs.Resolved.{IsOverlaid};
-ghost use Rattle.facet_solver_shape.specs.Views.{field_view};
+ghost use Rattle.facet_solver_shape.specs.Fields.{field_view};
 
 use crate::resolution::{FieldCategory, FieldInfo};
 use std::alloc::{AllocError, Global};
@@ -17,13 +17,13 @@ pub(crate) struct CatchAlls<'c> {
 }
 
 impl<'c> Model for CatchAlls<'c> {
-    ghost use Rattle.std.specs.FinMap as tree;
+    ghost use Rattle.std.specs.FinMap as finite;
     ghost use Rattle.facet_solver_shape.specs.Keys.{category_cmp};
-    ghost use Rattle.facet_solver_shape.specs.Resolved.{FieldView};
+    ghost use Rattle.facet_solver_shape.specs.Fields.{FieldView};
     ghost use Rattle.facet_solver_shape.specs.ResolvedCode.{catch_alls_code};
-    ghost use Rattle.facet_solver_shape.specs.Views.{catch_alls_view};
+    ghost use Rattle.facet_solver_shape.specs.Resolved.{catch_alls_view};
 
-    ghost Value = { tree.FinMap category_cmp FieldView };
+    ghost Value = { finite.FinMap category_cmp FieldView };
 
     ghost coded = { catch_alls_code };
 
@@ -32,7 +32,7 @@ impl<'c> Model for CatchAlls<'c> {
 
 impl<'c> CatchAlls<'c> {
     pub(crate) fn new(alloc: Global) -> Self
-        ensures { result ≡ tree.empty }
+        ensures { result ≡ finite.empty }
     {
         CatchAlls {
             entries: BTreeMap::new(alloc),
@@ -40,7 +40,7 @@ impl<'c> CatchAlls<'c> {
     }
 
     pub(crate) fn get(&self, category: FieldCategory) -> Option<&FieldInfo<'c>>
-        ensures { option_map (λ f. field_view f.now) result ≡ tree.get self.now category }
+        ensures { option_map (λ f. field_view f.now) result ≡ finite.get self.now category }
     {
         self.entries.get(&category)
     }
@@ -52,7 +52,7 @@ impl<'c> CatchAlls<'c> {
         info: FieldInfo<'c>,
     ) -> Result<(), AllocError>
         ensures ok { OnOk result
-            (self.new ≡ tree.insert self.old category (field_view info.entry)) }
+            (self.new ≡ finite.insert self.old category (field_view info.entry)) }
         ensures err { OnErr result (self.new ≡ self.old) }
     {
         self.entries.insert(category, info)?;

@@ -1,12 +1,10 @@
 // Fields by stored key, seen as a finite map.
 ghost use Rattle.std.specs.Prelude.{◌≡◌, OnOk, OnErr, IfOk, All, false, find, map};
 ghost use Rattle.std.specs.Option.{option_map};
-ghost use Rattle.std.specs.FinMap as tree;
-ghost use Rattle.facet_solver_shape.specs.FieldTable.{entry_view};
+ghost use Rattle.std.specs.FinMap as finite;
+ghost use Rattle.facet_solver_shape.specs.Fields.{entry_view, matches, has_name, IsStored, as_optional, key_of_field, field_view, field_entries_view};
 ghost use Rattle.facet_solver_shape.specs.Keys.{Key, key_of};
-ghost use Rattle.facet_solver_shape.specs.Matching.{matches, has_name};
-ghost use Rattle.facet_solver_shape.specs.Resolved.{IsOverlaid, IsStored, as_optional, key_of_field};
-ghost use Rattle.facet_solver_shape.specs.Views.{field_view, field_entries_view};
+ghost use Rattle.facet_solver_shape.specs.Resolved.{IsOverlaid};
 
 use crate::resolution::{FieldInfo, FieldKey};
 use std::alloc::{AllocError, Global};
@@ -20,14 +18,12 @@ pub(crate) struct FieldMap<'c> {
 }
 
 impl<'c> Model for FieldMap<'c> {
-    ghost use Rattle.std.specs.FinMap as tree;
+    ghost use Rattle.std.specs.FinMap as finite;
     ghost use Rattle.facet_solver_shape.specs.Keys.{key_cmp};
-    ghost use Rattle.facet_solver_shape.specs.Resolved.{FieldView};
+    ghost use Rattle.facet_solver_shape.specs.Fields.{FieldView, IsFieldTable, field_entries_view};
     ghost use Rattle.facet_solver_shape.specs.ResolvedCode.{field_map_code};
-    ghost use Rattle.facet_solver_shape.specs.FieldTable.{IsFieldTable};
-    ghost use Rattle.facet_solver_shape.specs.Views.{field_entries_view};
 
-    ghost Value = { tree.FinMap key_cmp FieldView };
+    ghost Value = { finite.FinMap key_cmp FieldView };
 
     ghost coded = { field_map_code };
 
@@ -38,7 +34,7 @@ impl<'c> Model for FieldMap<'c> {
 
 impl<'c> FieldMap<'c> {
     pub(crate) fn new(alloc: Global) -> Self
-        ensures { result ≡ tree.empty }
+        ensures { result ≡ finite.empty }
     {
         FieldMap {
             entries: BTreeMap::new(alloc),
@@ -47,15 +43,15 @@ impl<'c> FieldMap<'c> {
 
     pub(crate) fn as_map(&self) -> &BTreeMap<FieldKey<'c>, FieldInfo<'c>>
         ensures view { field_entries_view result.now.entries ≡ self.now }
-        ensures in_order { map entry_view result.now.entries ≡ tree.entries self.now }
-        ensures stored { All IsStored (tree.entries self.now) }
+        ensures in_order { map entry_view result.now.entries ≡ finite.entries self.now }
+        ensures stored { All IsStored (finite.entries self.now) }
     {
         &self.entries
     }
 
     pub(crate) fn get(&self, key: &FieldKey<'c>) -> Option<&FieldInfo<'c>>
         ensures { option_map (λ f. field_view f.now) result
-            ≡ tree.get self.now (key_of key.now) }
+            ≡ finite.get self.now (key_of key.now) }
     {
         self.entries.get(key)
     }
@@ -63,7 +59,7 @@ impl<'c> FieldMap<'c> {
     // The first field that a key means.
     pub(crate) fn first_matched(&self, key: &FieldKey) -> Option<&FieldInfo<'c>>
         ensures { option_map (λ f. field_view f.now) result
-            ≡ find (matches (key_of key.now)) (tree.values self.now) }
+            ≡ find (matches (key_of key.now)) (finite.values self.now) }
     {
         for (_, info) in &self.entries {
             if info.matched_by(key) {
@@ -76,7 +72,7 @@ impl<'c> FieldMap<'c> {
     // The first field of a name.
     pub(crate) fn first_named(&self, name: &str) -> Option<&FieldInfo<'c>>
         ensures { option_map (λ f. field_view f.now) result
-            ≡ find (has_name name.now) (tree.values self.now) }
+            ≡ find (has_name name.now) (finite.values self.now) }
     {
         for (_, info) in &self.entries {
             if info.serialized_name == name {
@@ -89,7 +85,7 @@ impl<'c> FieldMap<'c> {
     // Puts a field under its stored key.
     pub(crate) fn insert(&mut self, info: FieldInfo<'c>) -> Result<(), AllocError>
         ensures ok { let f = field_view info.entry in
-            OnOk result (self.new ≡ tree.insert self.old (key_of_field f) f) }
+            OnOk result (self.new ≡ finite.insert self.old (key_of_field f) f) }
         ensures err { OnErr result (self.new ≡ self.old) }
     {
         let key = info.key();
@@ -121,7 +117,7 @@ impl<'c> FieldMap<'c> {
     // No field is required any more.
     pub(crate) fn mark_all_optional(&mut self)
         ensures { (k : Key)
-            → tree.get self.new k ≡ option_map as_optional (tree.get self.old k) }
+            → finite.get self.new k ≡ option_map as_optional (finite.get self.old k) }
     {
         make_optional(&mut self.entries);
     }

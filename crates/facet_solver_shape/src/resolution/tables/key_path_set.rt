@@ -1,8 +1,9 @@
 // Key paths, each once, seen as a finite set.
 ghost use Rattle.std.specs.Prelude.{◌≡◌, OnOk, OnErr, IfOk};
 ghost use Rattle.std.specs.FinSet as set;
-ghost use Rattle.facet_solver_shape.specs.PathEq.{key_path_eq};
-ghost use Rattle.facet_solver_shape.specs.Views.{names_of, key_paths_view};
+ghost use Rattle.facet_solver_shape.specs.Paths.{key_path_eq};
+ghost use Rattle.facet_solver_shape.specs.Names.{names_of};
+ghost use Rattle.facet_solver_shape.specs.Resolved.{key_paths_view};
 
 use crate::resolution::KeyPath;
 use std::alloc::{AllocError, Global};
@@ -20,7 +21,7 @@ impl<'c> Model for KeyPathSet<'c> {
     ghost use Rattle.std.specs.Cmp.Lexicographic.{slice_cmp};
     ghost use Rattle.std.specs.FinSet as set;
     ghost use Rattle.facet_solver_shape.specs.ResolvedCode.{key_path_set_code};
-    ghost use Rattle.facet_solver_shape.specs.Views.{key_paths_view};
+    ghost use Rattle.facet_solver_shape.specs.Resolved.{key_paths_view};
 
     ghost Value = { set.FinSet (slice_cmp (slice_cmp nat_cmp)) };
 

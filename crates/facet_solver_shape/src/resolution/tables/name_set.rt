@@ -2,7 +2,7 @@
 ghost use Rattle.std.specs.Prelude.{◌≡◌, OnOk, OnErr, IfOk, not};
 ghost use Rattle.std.specs.Bool.{OnTrue, OnFalse};
 ghost use Rattle.std.specs.FinSet as set;
-ghost use Rattle.facet_solver_shape.specs.Views.{names_view};
+ghost use Rattle.facet_solver_shape.specs.Resolved.{names_view};
 
 use std::alloc::{AllocError, Global};
 use std::collections::BTreeSet;
@@ -20,7 +20,8 @@ impl<'c> Model for NameSet<'c> {
     ghost use Rattle.std.specs.FinSet as set;
     ghost use Rattle.facet_solver_shape.specs.ResolvedCode.{name_set_code};
     ghost use Rattle.std.specs.BTreeSet.{IsOrdered};
-    ghost use Rattle.facet_solver_shape.specs.Views.{names_view, name_ref_cmp};
+    ghost use Rattle.facet_solver_shape.specs.Resolved.{names_view};
+    ghost use Rattle.facet_solver_shape.specs.Names.{name_ref_cmp};
 
     ghost Value = { set.FinSet (slice_cmp nat_cmp) };
 

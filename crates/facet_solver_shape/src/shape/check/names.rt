@@ -4,7 +4,7 @@ ghost use Rattle.std.specs.List.{list_any};
 ghost use Rattle.std.specs.Str.{bytes_eq};
 ghost use Rattle.std.specs.String.{string_bytes};
 ghost use Rattle.facet_solver_shape.specs.Names.{Name};
-ghost use Rattle.facet_solver_shape.specs.Repeats.{RepeatsName, RepeatsFieldName, RepeatsVariantName};
+ghost use Rattle.facet_solver_shape.specs.Catalogues.{RepeatsName, RepeatsFieldName, RepeatsVariantName};
 
 use crate::shape::{Field, ShapeKind, Variant};
 
@@ -57,8 +57,8 @@ pub(super) fn repeats_variant_name(kind: &ShapeKind) -> bool
 fn repeats_name<T: Named>(items: &[T]) -> bool
     ensures { IsTrue result ↔ RepeatsName (map T.name_of items.now) }
 {
-    for (place, item) in items.iter().enumerate() {
-        if has_name(&items[..place], item.declared_name()) {
+    for (index, item) in items.iter().enumerate() {
+        if has_name(&items[..index], item.declared_name()) {
             return true;
         }
     }

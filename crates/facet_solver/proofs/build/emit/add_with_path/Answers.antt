@@ -1,5 +1,5 @@
 use Rattle.std.proofs.Common.{◌∷◌, [], ◌∙◌}
-use Rattle.facet_solver_shape.specs.Views.{field_view}
+use Rattle.facet_solver_shape.specs.Fields.{field_view}
 use Rattle.facet_solver.specs.Emissions.{a_field, a_key_path}
 use Rattle.facet_solver.proofs.Outcomes.{taken-field, taken-path, refused-field, gives-exit, error-next, take_all-both, take_all-one}
 use Rattle.facet_solver.proofs.build.emit.add_with_path.Goals as goal

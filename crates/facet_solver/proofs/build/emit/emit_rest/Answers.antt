@@ -1,5 +1,5 @@
 use Rattle.std.proofs.Common.{◌∙◌}
-use Rattle.facet_solver_shape.specs.Views.{field_view}
+use Rattle.facet_solver_shape.specs.Fields.{field_view}
 use Rattle.facet_solver.specs.PlanView.{settings_of}
 use Rattle.facet_solver.proofs.Outcomes.{taken-rest, take_all-one}
 use Rattle.facet_solver.proofs.Selectors.{rest-part}

@@ -1,13 +1,12 @@
 use Rattle.std.proofs.Common.{◌≡◌, ◌++◌, ◌∷◌, [], ◌∙◌, sym, ap, arith}
 use Rattle.std.specs.Prelude.{Vec}
 use Rattle.std.specs.declared.alloc.Global.{Global}
-use Rattle.facet_solver_shape.specs.Names.{Name, effective_name}
+use Rattle.facet_solver_shape.specs.Names.{Name, effective_name, names_of}
 use Rattle.facet_solver_shape.specs.Resolved.{with_key_path}
 use Rattle.facet_solver_shape.specs.declared.shape.StructKind.{StructKind}
 use Rattle.facet_solver_shape.specs.declared.shape.ShapeKind.TheVariants.{Struct, Enum, Other}
 use Rattle.facet_solver_shape.specs.declared.shape.Field.{Field}
 use Rattle.facet_solver_shape.specs.declared.shape.Variant.{Variant}
-use Rattle.facet_solver_shape.specs.Views.{names_of}
 use Rattle.facet_solver.specs.Targets.{kind_of}
 use Rattle.facet_solver.specs.Nested.{KeyPath, through_field, under_variant, under_shape}
 use Rattle.facet_solver.specs.EnteredView.{entered_view}

@@ -1,5 +1,5 @@
 use Rattle.std.proofs.Common.{◌≡◌, ◌+◌, ◌*◌, drop}
-use Rattle.facet_solver_shape.specs.Views.{names_of}
+use Rattle.facet_solver_shape.specs.Names.{names_of}
 use Rattle.facet_solver.specs.Nested as nested
 use Rattle.facet_solver.specs.KeyPaths.{with_paths_behind}
 use Rattle.facet_solver.specs.EnteredView.{entered_view}

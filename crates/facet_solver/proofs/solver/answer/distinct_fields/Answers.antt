@@ -2,7 +2,7 @@ use Rattle.std.proofs.Common.{◌≡◌, ℕ, Bool, Bor, List, nat_eq, sym, ◌�
 use Rattle.std.specs.List.{list_any}
 use Rattle.facet_solver_shape.specs.declared.resolution.field.FieldInfo.{FieldInfo}
 use Rattle.facet_solver_shape.specs.Keys.{key_of}
-use Rattle.facet_solver_shape.specs.Views.{field_view}
+use Rattle.facet_solver_shape.specs.Fields.{field_view}
 use Rattle.facet_solver.specs.KeyAnswer.{field_at}
 use Rattle.facet_solver.specs.KeyResultView.{scored_view}
 use Rattle.facet_solver.proofs.Distinct.{firsts_new, firsts_old, firsts_none}

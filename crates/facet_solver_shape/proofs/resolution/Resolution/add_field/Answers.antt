@@ -1,8 +1,8 @@
 use Rattle.std.proofs.Common.{◌∙◌, ap, sym}
 use Rattle.std.specs.FinMap.{get}
 use Rattle.std.specs.Option.{option_map}
-use Rattle.facet_solver_shape.specs.Views.{field_view}
-use Rattle.facet_solver_shape.proofs.RequiredNames.{names_kept}
+use Rattle.facet_solver_shape.specs.Fields.{field_view}
+use Rattle.facet_solver_shape.proofs.Resolved.{names_kept}
 use Rattle.facet_solver_shape.proofs.resolution.Resolution.add_field.Goals as goal
 
 pub invariant_of-self-else-info : goal.invariant_of-self-else-info

@@ -1,8 +1,7 @@
 use Rattle.std.proofs.Common.{◌∙◌, ap}
 use Rattle.std.specs.FinMap.{get}
-use Rattle.facet_solver_shape.specs.Resolved.{key_of_field}
-use Rattle.facet_solver_shape.specs.Views.{field_view}
-use Rattle.facet_solver_shape.proofs.RequiredNames.{names_put}
+use Rattle.facet_solver_shape.specs.Fields.{key_of_field, field_view}
+use Rattle.facet_solver_shape.proofs.Resolved.{names_put}
 use Rattle.facet_solver_shape.proofs.resolution.Resolution.add_required.Goals as goal
 
 pub invariant_of-self-in_default : goal.invariant_of-self-in_default

@@ -1,4 +1,4 @@
-use Rattle.facet_solver_shape.proofs.RequiredNames.{no_names}
+use Rattle.facet_solver_shape.proofs.Resolved.{no_names}
 use Rattle.facet_solver_shape.proofs.resolution.Resolution.mark_all_optional.Goals as goal
 
 pub invariant_of-self : goal.invariant_of-self

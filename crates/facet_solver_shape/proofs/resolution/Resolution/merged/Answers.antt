@@ -1,7 +1,6 @@
 use Rattle.std.proofs.Common.{◌++◌, ◌∙◌, map}
-use Rattle.facet_solver_shape.specs.Views.{pick_view}
-use Rattle.facet_solver_shape.proofs.Merging.{union_of_apart}
-use Rattle.facet_solver_shape.proofs.RequiredNames.{names_joined}
+use Rattle.facet_solver_shape.specs.Resolved.{pick_view}
+use Rattle.facet_solver_shape.proofs.Resolved.{union_of_apart, names_joined}
 use Rattle.facet_solver_shape.proofs.resolution.Resolution.merged.Goals as goal
 
 pub invariant_of-result : goal.invariant_of-result

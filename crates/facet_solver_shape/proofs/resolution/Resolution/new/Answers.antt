@@ -1,4 +1,4 @@
-use Rattle.facet_solver_shape.proofs.RequiredNames.{nothing_required}
+use Rattle.facet_solver_shape.proofs.Resolved.{nothing_required}
 use Rattle.facet_solver_shape.proofs.resolution.Resolution.new.Goals as goal
 
 pub invariant_of-result : goal.invariant_of-result

@@ -2,11 +2,9 @@ use Rattle.std.proofs.Common.{◌≡◌, ◌∙◌, ap, sym, subst, map, Some, N
 use Rattle.std.specs.FinMap.{get}
 use Rattle.std.specs.Option.{option_map}
 use Rattle.std.proofs.lemmas.List.Elements.{recursion_from_All}
-use Rattle.facet_solver_shape.specs.FieldTable.{entry_view}
+use Rattle.facet_solver_shape.specs.Fields.{entry_view, IsStored, field_view}
 use Rattle.facet_solver_shape.specs.Keys.{key_of}
-use Rattle.facet_solver_shape.specs.Resolved.{IsStored}
-use Rattle.facet_solver_shape.specs.Views.{field_view}
-use Rattle.facet_solver_shape.proofs.Merging.{IsSearched, search_start, one_searched, search_end, merge_clash}
+use Rattle.facet_solver_shape.proofs.Resolved.{IsSearched, search_start, one_searched, search_end, merge_clash}
 use Rattle.facet_solver_shape.proofs.resolution.Resolution.refuse_shared.Goals as goal
 
 pub loop-key-init : goal.loop-key-init

@@ -1,9 +1,8 @@
 use Rattle.std.proofs.Common.{◌++◌, map, codes, ap, sym, ◌∙◌}
 use Rattle.std.specs.List.{flat_map}
 use Rattle.std.proofs.lemmas.List.{take_all}
-use Rattle.facet_solver_shape.specs.Descriptions.{pick_text, description}
-use Rattle.facet_solver_shape.specs.Views.{pick_view}
-use Rattle.facet_solver_shape.proofs.DescriptionText.{text_of_picks}
+use Rattle.facet_solver_shape.specs.Resolved.{pick_text, description, pick_view}
+use Rattle.facet_solver_shape.proofs.Resolved.{text_of_picks}
 use Rattle.facet_solver_shape.proofs.resolution.describe.describe_picks.Goals as goal
 
 pub returns : goal.returns

@@ -1,8 +1,7 @@
 use Rattle.std.proofs.Common.{◌≡◌, ◌++◌, take, codes}
 use Rattle.std.specs.List.{flat_map}
 use Rattle.std.specs.String.{string_bytes}
-use Rattle.facet_solver_shape.specs.Descriptions.{pick_text}
-use Rattle.facet_solver_shape.specs.Views.{pick_view}
+use Rattle.facet_solver_shape.specs.Resolved.{pick_text, pick_view}
 use Rattle.facet_solver_shape.proofs.resolution.describe.describe_picks.Given as goal
 
 -- the picks so far are written

@@ -1,5 +1,5 @@
 use Rattle.std.proofs.Common.{◌≡◌, ◌++◌, map, take}
-use Rattle.facet_solver_shape.specs.Views.{pick_view}
+use Rattle.facet_solver_shape.specs.Resolved.{pick_view}
 use Rattle.facet_solver_shape.proofs.resolution.field.push_copies.Given as goal
 
 -- the picks so far are added

@@ -1,8 +1,7 @@
 use Rattle.std.proofs.Common.{◌≡◌, ◌∷◌, [], take, ap, ◌∙◌}
 use Rattle.std.proofs.lemmas.List.{take_all}
 use Rattle.facet_solver_shape.specs.Groups.{groups_of, joined}
-use Rattle.facet_solver_shape.proofs.Partitions.{groups_of-IsPartition}
-use Rattle.facet_solver_shape.proofs.GroupsJoined.{groups_of-more}
+use Rattle.facet_solver_shape.proofs.Groups.{groups_of-IsPartition, groups_of-more}
 use Rattle.facet_solver_shape.proofs.variants.grouping.grouped.Goals as goal
 
 pub loop-variant-preserved : goal.loop-variant-preserved

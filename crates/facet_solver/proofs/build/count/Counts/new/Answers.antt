@@ -1,6 +1,6 @@
 use Rattle.std.proofs.Common.{◌≡◌, [], ◌∷◌, length, length-append, slice_get, sym, ap, ◌∙◌, arith}
 use Rattle.std.proofs.lemmas.Option.{slice_get_within}
-use Rattle.facet_solver_shape.proofs.EarlierPlaces.{names_earlier}
+use Rattle.facet_solver_shape.proofs.Catalogues.{names_earlier}
 use Rattle.facet_solver.specs.PlanView.{settings_of}
 use Rattle.facet_solver.proofs.TallyTables.{one_more_place, all_places}
 use Rattle.facet_solver.proofs.build.count.Counts.new.Goals as goal

@@ -1,7 +1,7 @@
 use Rattle.std.proofs.Common.{◌<◌, ℕ, List, true, length, get_or, sym, subst, ap, ◌∙◌, arith}
 use Rattle.std.proofs.lemmas.Option.{slice_get_within}
 use Rattle.facet_solver_shape.specs.declared.shape.Variant.{Variant}
-use Rattle.facet_solver_shape.proofs.EarlierPlaces.{names_earlier}
+use Rattle.facet_solver_shape.proofs.Catalogues.{names_earlier}
 use Rattle.facet_solver.specs.declared.build.count.tally.Tally.{Tally}
 use Rattle.facet_solver.specs.declared.build.count.tally.Tally.TheVariants.{Exact}
 use Rattle.facet_solver.specs.PlanView.{settings_of}

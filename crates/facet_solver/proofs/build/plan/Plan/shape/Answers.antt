@@ -1,4 +1,4 @@
-use Rattle.facet_solver_shape.proofs.EarlierPlaces.{names_earlier}
+use Rattle.facet_solver_shape.proofs.Catalogues.{names_earlier}
 use Rattle.facet_solver.proofs.build.plan.Plan.shape.Goals as goal
 
 pub returns-clause-checked : goal.returns-clause-checked

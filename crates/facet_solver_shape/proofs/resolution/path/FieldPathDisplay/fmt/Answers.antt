@@ -1,7 +1,7 @@
 use Rattle.std.proofs.Common.{map, sym, ◌∙◌, ap}
 use Rattle.std.proofs.Output.{has_written_of_eq}
 use Rattle.facet_solver_shape.specs.Paths.{step_of, path_text}
-use Rattle.facet_solver_shape.proofs.PathText.{text_of_segments}
+use Rattle.facet_solver_shape.proofs.Paths.{text_of_segments}
 use Rattle.facet_solver_shape.proofs.resolution.path.FieldPathDisplay.fmt.Goals as goal
 
 -- the first segment, and the others with dots

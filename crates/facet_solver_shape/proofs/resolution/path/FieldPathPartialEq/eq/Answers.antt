@@ -1,6 +1,6 @@
 use Rattle.std.proofs.Common.{◌∙◌}
-use Rattle.facet_solver_shape.specs.PathEq.{path_eq}
-use Rattle.facet_solver_shape.proofs.PathEquality.{path_agrees}
+use Rattle.facet_solver_shape.specs.Paths.{path_eq}
+use Rattle.facet_solver_shape.proofs.Paths.{path_agrees}
 use Rattle.facet_solver_shape.proofs.resolution.path.FieldPathPartialEq.eq.Goals as goal
 
 pub returns : goal.returns

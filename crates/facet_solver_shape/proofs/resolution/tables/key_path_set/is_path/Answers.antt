@@ -1,7 +1,7 @@
 use Rattle.std.proofs.Common.{◌∙◌, ap}
-use Rattle.facet_solver_shape.specs.PathEq.{key_path_eq}
-use Rattle.facet_solver_shape.specs.Views.{names_of}
-use Rattle.facet_solver_shape.proofs.KeyPaths.{names_agree}
+use Rattle.facet_solver_shape.specs.Paths.{key_path_eq}
+use Rattle.facet_solver_shape.specs.Names.{names_of}
+use Rattle.facet_solver_shape.proofs.Resolved.{names_agree}
 use Rattle.facet_solver_shape.proofs.resolution.tables.key_path_set.is_path.Goals as goal
 
 pub returns : goal.returns

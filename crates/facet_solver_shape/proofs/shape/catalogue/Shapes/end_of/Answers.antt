@@ -1,6 +1,6 @@
 use Rattle.std.proofs.Common.{◌≡◌, sym, ◌∙◌}
-use Rattle.facet_solver_shape.specs.Ends.{end_of}
-use Rattle.facet_solver_shape.proofs.PointerEnds.{end_of_is_end, end_of-last, end_of-next, fewer_steps, pointee_within}
+use Rattle.facet_solver_shape.specs.Pointers.{end_of}
+use Rattle.facet_solver_shape.proofs.Pointers.{end_of_is_end, end_of-last, end_of-next, fewer_steps, pointee_within}
 use Rattle.facet_solver_shape.proofs.shape.catalogue.Shapes.end_of.Goals as goal
 
 pub loop-next-smaller : goal.loop-next-smaller

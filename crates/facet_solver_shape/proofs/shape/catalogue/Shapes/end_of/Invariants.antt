@@ -1,6 +1,6 @@
 use Rattle.std.proofs.Common.{◌≡◌, ◌<◌, length}
-use Rattle.facet_solver_shape.specs.Ends.{end_of}
-use Rattle.facet_solver_shape.proofs.PointerEnds.{steps_left}
+use Rattle.facet_solver_shape.specs.Pointers.{end_of}
+use Rattle.facet_solver_shape.proofs.Pointers.{steps_left}
 use Rattle.facet_solver_shape.proofs.shape.catalogue.Shapes.end_of.Given as goal
 
 -- the end stays the same on the way to it

@@ -2,7 +2,7 @@ use Rattle.std.proofs.Common.{◌≡◌, ℕ, List, length, Some, None, Option, 
 use Rattle.std.specs.Option.{option_copied, IfSome}
 use Rattle.std.specs.Slice.{IsItemAt}
 use Rattle.std.proofs.lemmas.Option.{slice_get_past, slice_get_read}
-use Rattle.facet_solver_shape.proofs.EarlierPlaces.{found_earlier}
+use Rattle.facet_solver_shape.proofs.Catalogues.{found_earlier}
 use Rattle.facet_solver_shape.proofs.shape.catalogue.Shapes.get.Goals as goal
 
 -- what is found through a reference
@@ -19,6 +19,6 @@ copied_item xs i (Some x) h = sym (slice_get_read xs (length xs) i x.now refl h.
 pub returns-clause-earlier : goal.returns-clause-earlier
 returns-clause-earlier c =
     let found = copied_item c.deref.result.now c.index.result c.get.result c.get.ensures.lookup in
-    let place = ap (slice_get c.deref.result.now) c.index.ensures in
+    let index = ap (slice_get c.deref.result.now) c.index.ensures in
     let items = ap (λ xs. slice_get xs c.args.id) c.deref.ensures.value in
-    IfSome-copied _ c.get.result (rw (found, place, items) (found_earlier c.self.inside.shapes.items c.self.invariant c.args.id))
+    IfSome-copied _ c.get.result (rw (found, index, items) (found_earlier c.self.inside.shapes.items c.self.invariant c.args.id))

@@ -1,15 +1,15 @@
 use Rattle.std.proofs.Common.{refl, arith}
 use Rattle.std.proofs.lemmas.Bool.{false≢true}
 use Rattle.std.proofs.lemmas.Result.{err_from_is_err_and}
-use Rattle.facet_solver_shape.proofs.PointerEnds.{end_of_is_end}
-use Rattle.facet_solver_shape.proofs.Checking.{checked, first_fault}
+use Rattle.facet_solver_shape.proofs.Pointers.{end_of_is_end}
+use Rattle.facet_solver_shape.proofs.Catalogues.{checked, first_fault}
 use Rattle.facet_solver_shape.proofs.shape.catalogue.Shapes.new.Goals as goal
 
 pub returns-in_err-check_shape-clause-refused : goal.returns-in_err-check_shape-clause-refused
 returns-in_err-check_shape-clause-refused c =
     let refusal = err_from_is_err_and c.from_residual.result c.from_residual.ensures.1 in
     let fault = rw c.deref.ensures.value at c.in_err-check_shape.ensures.faulty in
-    rw (refusal.1, refusal.2) (first_fault c.args.shapes.items c.loop-place.place c.in_err-check_shape.field-0.0 c.loop-place.invariant fault)
+    rw (refusal.1, refusal.2) (first_fault c.args.shapes.items c.loop-index.index c.in_err-check_shape.field-0.0 c.loop-index.invariant fault)
 
 -- a list with a fault is no catalogue
 pub returns-in_err-check_shape-clause-accepted : goal.returns-in_err-check_shape-clause-accepted
@@ -19,10 +19,10 @@ returns-in_err-check_shape-clause-accepted c =
     rw refusal.1 (λ ok. absurd (false≢true ok), λ checked. absurd (checked.faultless c.in_err-check_shape.field-0.0 fault.present))
 
 pub invariant_of-result : goal.invariant_of-result
-invariant_of-result c = checked _ c.loop-place.place (omega (arith, c.args.shapes.ok.0)) c.loop-place.invariant
+invariant_of-result c = checked _ c.loop-index.index (omega (arith, c.args.shapes.ok.0)) c.loop-index.invariant
 
 pub returns-clause-accepted : goal.returns-clause-accepted
-returns-clause-accepted c = (λ _. checked _ c.loop-place.place (omega (arith, c.args.shapes.ok.0)) c.loop-place.invariant, λ _. refl)
+returns-clause-accepted c = (λ _. checked _ c.loop-index.index (omega (arith, c.args.shapes.ok.0)) c.loop-index.invariant, λ _. refl)
 
 pub returns-clause-ends : goal.returns-clause-ends
-returns-clause-ends c = end_of_is_end _ (checked _ c.loop-place.place (omega (arith, c.args.shapes.ok.0)) c.loop-place.invariant)
+returns-clause-ends c = end_of_is_end _ (checked _ c.loop-index.index (omega (arith, c.args.shapes.ok.0)) c.loop-index.invariant)

@@ -4,7 +4,7 @@ use Rattle.std.proofs.lemmas.Bool.{false≢true}
 use Rattle.std.proofs.lemmas.Option.{slice_get_cases}
 use Rattle.std.proofs.lemmas.Iterator.{cases_from_any, YieldsList-from_slice}
 use Rattle.facet_solver_shape.specs.Names.{field_names}
-use Rattle.facet_solver_shape.specs.Repeats.{RepeatsName}
+use Rattle.facet_solver_shape.specs.Catalogues.{RepeatsName}
 use Rattle.facet_solver_shape.proofs.shape.check.names.repeats_field_name.Goals as goal
 
 -- an answer of `any` is whether some element is as asked

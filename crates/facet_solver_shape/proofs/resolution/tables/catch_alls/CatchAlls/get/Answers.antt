@@ -1,8 +1,8 @@
 use Rattle.std.proofs.Common.{sym, ◌∙◌, ap}
 use Rattle.std.specs.FinMap.{get}
 use Rattle.std.specs.Option.{option_map}
-use Rattle.facet_solver_shape.specs.Views.{field_view}
-use Rattle.facet_solver_shape.proofs.KeyOrder.{category_cmp_total, category_cmp_same, category_cmp_agrees}
+use Rattle.facet_solver_shape.specs.Fields.{field_view}
+use Rattle.facet_solver_shape.proofs.Keys.{category_cmp_total, category_cmp_same, category_cmp_agrees}
 use Rattle.facet_solver_shape.proofs.Viewed.{get_viewed, viewed_copied}
 use Rattle.facet_solver_shape.proofs.resolution.tables.catch_alls.CatchAlls.get.Goals as goal
 

@@ -1,7 +1,8 @@
 use Rattle.std.proofs.Common.{◌∙◌, ap}
 use Rattle.std.specs.FinMap.{insert}
-use Rattle.facet_solver_shape.specs.Views.{field_view, catch_alls_view}
-use Rattle.facet_solver_shape.proofs.KeyOrder.{category_cmp_total, category_cmp_same, category_cmp_agrees}
+use Rattle.facet_solver_shape.specs.Fields.{field_view}
+use Rattle.facet_solver_shape.specs.Resolved.{catch_alls_view}
+use Rattle.facet_solver_shape.proofs.Keys.{category_cmp_total, category_cmp_same, category_cmp_agrees}
 use Rattle.facet_solver_shape.proofs.Viewed.{viewed-insert_entry}
 use Rattle.facet_solver_shape.proofs.resolution.tables.catch_alls.CatchAlls.insert.Goals as goal
 

@@ -1,5 +1,5 @@
-use Rattle.facet_solver_shape.proofs.KeyOrder.{category_cmp_total}
-use Rattle.facet_solver_shape.proofs.Merging.{after_copy}
+use Rattle.facet_solver_shape.proofs.Keys.{category_cmp_total}
+use Rattle.facet_solver_shape.proofs.Resolved.{after_copy}
 use Rattle.facet_solver_shape.proofs.resolution.tables.catch_alls.CatchAlls.overlaid.Goals as goal
 
 pub returns : goal.returns

@@ -1,8 +1,8 @@
 use Rattle.std.proofs.Common.{◌∙◌, ap}
-use Rattle.facet_solver_shape.specs.Views.{catch_alls_view}
-use Rattle.facet_solver_shape.proofs.FieldTables.{catch_alls_rising}
-use Rattle.facet_solver_shape.proofs.KeyOrder.{category_cmp_total}
-use Rattle.facet_solver_shape.proofs.Merging.{at_start, one_put, at_end}
+use Rattle.facet_solver_shape.specs.Resolved.{catch_alls_view}
+use Rattle.facet_solver_shape.proofs.Fields.{catch_alls_rising}
+use Rattle.facet_solver_shape.proofs.Keys.{category_cmp_total}
+use Rattle.facet_solver_shape.proofs.Resolved.{at_start, one_put, at_end}
 use Rattle.facet_solver_shape.proofs.resolution.tables.catch_alls.CatchAlls.put_all.Goals as goal
 
 pub loop-category-init : goal.loop-category-init

@@ -1,7 +1,7 @@
 use Rattle.std.proofs.Common.{◌≡◌}
-use Rattle.facet_solver_shape.specs.Views.{catch_alls_view}
-use Rattle.facet_solver_shape.proofs.FieldTables.{catch_all_entries}
-use Rattle.facet_solver_shape.proofs.Merging.{IsUnderway}
+use Rattle.facet_solver_shape.specs.Resolved.{catch_alls_view}
+use Rattle.facet_solver_shape.proofs.Fields.{catch_all_entries}
+use Rattle.facet_solver_shape.proofs.Resolved.{IsUnderway}
 use Rattle.facet_solver_shape.proofs.resolution.tables.catch_alls.CatchAlls.put_all.Given as goal
 
 abbrev pub invariant-loop-category : goal.invariant-loop-category

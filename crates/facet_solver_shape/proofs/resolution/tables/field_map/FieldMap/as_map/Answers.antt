@@ -1,8 +1,8 @@
 use Rattle.std.proofs.Common.{◌∙◌, ap, subst, All}
 use Rattle.std.specs.FinMap.{entries}
 use Rattle.std.proofs.lemmas.List.Elements.{All-from_recursion}
-use Rattle.facet_solver_shape.specs.Resolved.{IsStored}
-use Rattle.facet_solver_shape.proofs.FieldTables.{entries_of_table}
+use Rattle.facet_solver_shape.specs.Fields.{IsStored}
+use Rattle.facet_solver_shape.proofs.Fields.{entries_of_table}
 use Rattle.facet_solver_shape.proofs.resolution.tables.field_map.FieldMap.as_map.Goals as goal
 
 pub returns-clause-in_order : goal.returns-clause-in_order

@@ -1,10 +1,9 @@
 use Rattle.std.proofs.Common.{◌≡◌, map}
 use Rattle.std.specs.List.{find}
 use Rattle.std.specs.FinMap.{entries}
-use Rattle.facet_solver_shape.specs.FieldTable.{entry_view}
+use Rattle.facet_solver_shape.specs.Fields.{entry_view, matches}
 use Rattle.facet_solver_shape.specs.Keys.{key_of}
-use Rattle.facet_solver_shape.specs.Matching.{matches}
-use Rattle.facet_solver_shape.proofs.FieldTables.{fields_of}
+use Rattle.facet_solver_shape.proofs.Fields.{fields_of}
 use Rattle.facet_solver_shape.proofs.resolution.tables.field_map.FieldMap.first_matched.Given as goal
 
 -- the first that is wanted is the first of those that are left

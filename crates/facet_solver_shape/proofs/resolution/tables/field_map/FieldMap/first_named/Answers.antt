@@ -1,7 +1,7 @@
 use Rattle.std.proofs.Common.{◌∙◌, ap, map, refl}
 use Rattle.std.specs.FinMap.{entries}
-use Rattle.facet_solver_shape.specs.FieldTable.{entry_view}
-use Rattle.facet_solver_shape.proofs.FieldTables.{entries_of_table}
+use Rattle.facet_solver_shape.specs.Fields.{entry_view}
+use Rattle.facet_solver_shape.proofs.Fields.{entries_of_table}
 use Rattle.facet_solver_shape.proofs.resolution.tables.field_map.FieldMap.first_named.Goals as goal
 
 pub loop-info-init : goal.loop-info-init

@@ -2,8 +2,8 @@ use Rattle.std.proofs.Common.{sym, ◌∙◌, ap}
 use Rattle.std.specs.FinMap.{get}
 use Rattle.std.specs.Option.{option_map}
 use Rattle.facet_solver_shape.specs.Keys.{key_of}
-use Rattle.facet_solver_shape.specs.Views.{field_view}
-use Rattle.facet_solver_shape.proofs.KeyOrder.{key_cmp_total, key_cmp_same, key_agrees}
+use Rattle.facet_solver_shape.specs.Fields.{field_view}
+use Rattle.facet_solver_shape.proofs.Keys.{key_cmp_total, key_cmp_same, key_agrees}
 use Rattle.facet_solver_shape.proofs.Viewed.{get_viewed, viewed_copied}
 use Rattle.facet_solver_shape.proofs.resolution.tables.field_map.FieldMap.get.Goals as goal
 

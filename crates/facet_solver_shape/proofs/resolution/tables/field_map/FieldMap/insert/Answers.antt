@@ -1,11 +1,10 @@
 use Rattle.std.proofs.Common.{◌∙◌, ap}
 use Rattle.std.specs.FinMap.{insert}
 use Rattle.facet_solver_shape.specs.Keys.{key_of}
-use Rattle.facet_solver_shape.specs.Resolved.{key_of_field}
-use Rattle.facet_solver_shape.specs.Views.{field_view, field_entries_view}
-use Rattle.facet_solver_shape.proofs.KeyOrder.{key_cmp_total, key_cmp_same, key_agrees}
+use Rattle.facet_solver_shape.specs.Fields.{key_of_field, field_view, field_entries_view}
+use Rattle.facet_solver_shape.proofs.Keys.{key_cmp_total, key_cmp_same, key_agrees}
 use Rattle.facet_solver_shape.proofs.Viewed.{viewed-insert_entry}
-use Rattle.facet_solver_shape.proofs.FieldTables.{rising_viewed, stored-insert_entry}
+use Rattle.facet_solver_shape.proofs.Fields.{rising_viewed, stored-insert_entry}
 use Rattle.facet_solver_shape.proofs.resolution.tables.field_map.FieldMap.insert.Goals as goal
 
 pub invariant_of-self-2 : goal.invariant_of-self-2

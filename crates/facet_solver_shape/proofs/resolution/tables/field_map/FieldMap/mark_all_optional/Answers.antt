@@ -1,10 +1,8 @@
 use Rattle.std.proofs.Common.{◌∙◌, ap, subst, sym}
 use Rattle.std.specs.FinMap.{get}
 use Rattle.std.specs.Option.{option_map}
-use Rattle.facet_solver_shape.specs.FieldTable.{IsFieldTable}
-use Rattle.facet_solver_shape.specs.Resolved.{as_optional}
-use Rattle.facet_solver_shape.specs.Views.{field_entries_view}
-use Rattle.facet_solver_shape.proofs.FieldTables.{optional_table, get_optional}
+use Rattle.facet_solver_shape.specs.Fields.{IsFieldTable, as_optional, field_entries_view}
+use Rattle.facet_solver_shape.proofs.Fields.{optional_table, get_optional}
 use Rattle.facet_solver_shape.proofs.resolution.tables.field_map.FieldMap.mark_all_optional.Goals as goal
 
 pub invariant_of-self : goal.invariant_of-self

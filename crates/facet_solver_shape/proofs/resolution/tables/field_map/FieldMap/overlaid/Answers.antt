@@ -1,5 +1,5 @@
-use Rattle.facet_solver_shape.proofs.KeyOrder.{key_cmp_total}
-use Rattle.facet_solver_shape.proofs.Merging.{after_copy}
+use Rattle.facet_solver_shape.proofs.Keys.{key_cmp_total}
+use Rattle.facet_solver_shape.proofs.Resolved.{after_copy}
 use Rattle.facet_solver_shape.proofs.resolution.tables.field_map.FieldMap.overlaid.Goals as goal
 
 pub returns : goal.returns

@@ -2,12 +2,10 @@ use Rattle.std.proofs.Common.{◌∙◌, ap, sym, map, subst, T}
 use Rattle.std.specs.FinMap.{is_sorted}
 use Rattle.std.specs.List.{AllByRecursion}
 use Rattle.facet_solver_shape.specs.Keys.{key_cmp}
-use Rattle.facet_solver_shape.specs.FieldTable.{entry_view}
-use Rattle.facet_solver_shape.specs.Resolved.{IsStored, key_of_field}
-use Rattle.facet_solver_shape.specs.Views.{field_entries_view}
-use Rattle.facet_solver_shape.proofs.FieldTables.{rising_test}
-use Rattle.facet_solver_shape.proofs.KeyOrder.{key_cmp_total}
-use Rattle.facet_solver_shape.proofs.Merging.{at_start, one_put, at_end}
+use Rattle.facet_solver_shape.specs.Fields.{entry_view, IsStored, key_of_field, field_entries_view}
+use Rattle.facet_solver_shape.proofs.Fields.{rising_test}
+use Rattle.facet_solver_shape.proofs.Keys.{key_cmp_total}
+use Rattle.facet_solver_shape.proofs.Resolved.{at_start, one_put, at_end}
 use Rattle.facet_solver_shape.proofs.resolution.tables.field_map.FieldMap.put_all.Goals as goal
 
 pub loop-info-init : goal.loop-info-init

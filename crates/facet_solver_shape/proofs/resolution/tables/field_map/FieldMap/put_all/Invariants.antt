@@ -1,9 +1,7 @@
 use Rattle.std.proofs.Common.{◌≡◌, map}
 use Rattle.std.specs.List.{AllByRecursion}
-use Rattle.facet_solver_shape.specs.FieldTable.{entry_view}
-use Rattle.facet_solver_shape.specs.Resolved.{IsStored}
-use Rattle.facet_solver_shape.specs.Views.{field_entries_view}
-use Rattle.facet_solver_shape.proofs.Merging.{IsUnderway}
+use Rattle.facet_solver_shape.specs.Fields.{entry_view, IsStored, field_entries_view}
+use Rattle.facet_solver_shape.proofs.Resolved.{IsUnderway}
 use Rattle.facet_solver_shape.proofs.resolution.tables.field_map.FieldMap.put_all.Given as goal
 
 abbrev pub invariant-loop-info : goal.invariant-loop-info

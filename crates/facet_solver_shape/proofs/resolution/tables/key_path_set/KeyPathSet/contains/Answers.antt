@@ -1,9 +1,10 @@
 use Rattle.std.proofs.Common.{◌||◌, refl, ap, sym, ◌∙◌}
 use Rattle.std.specs.FinSet.{contains}
 use Rattle.std.specs.List.{list_any}
-use Rattle.facet_solver_shape.specs.PathEq.{key_path_eq}
-use Rattle.facet_solver_shape.specs.Views.{names_of, key_paths_view}
-use Rattle.facet_solver_shape.proofs.KeyPaths.{paths_of, contains_path}
+use Rattle.facet_solver_shape.specs.Paths.{key_path_eq}
+use Rattle.facet_solver_shape.specs.Names.{names_of}
+use Rattle.facet_solver_shape.specs.Resolved.{key_paths_view}
+use Rattle.facet_solver_shape.proofs.Resolved.{paths_of, contains_path}
 use Rattle.facet_solver_shape.proofs.resolution.tables.key_path_set.KeyPathSet.contains.Goals as goal
 
 pub loop-known-init : goal.loop-known-init

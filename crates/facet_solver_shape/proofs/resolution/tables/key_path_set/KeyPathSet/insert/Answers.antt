@@ -2,8 +2,8 @@ use Rattle.std.proofs.Common.{◌∙◌, ap, map}
 use Rattle.std.specs.FinSet.{insert}
 use Rattle.std.specs.Ordering.{nat_cmp}
 use Rattle.std.specs.Cmp.Lexicographic.{slice_cmp}
-use Rattle.facet_solver_shape.specs.Views.{key_paths_view}
-use Rattle.facet_solver_shape.proofs.KeyOrder.{path_cmp_total, path_cmp_same}
+use Rattle.facet_solver_shape.specs.Resolved.{key_paths_view}
+use Rattle.facet_solver_shape.proofs.Keys.{path_cmp_total, path_cmp_same}
 use Rattle.facet_solver_shape.proofs.Viewed.{viewed_set-insert_key, slice_cmp-map}
 use Rattle.facet_solver_shape.proofs.resolution.tables.key_path_set.KeyPathSet.insert.Goals as goal
 

@@ -1,7 +1,7 @@
 use Rattle.std.proofs.Common.{◌∙◌, ap}
 use Rattle.std.specs.FinSet.{union}
-use Rattle.facet_solver_shape.proofs.KeyOrder.{path_cmp_total, path_cmp_same}
-use Rattle.facet_solver_shape.proofs.Merging.{union-empty}
+use Rattle.facet_solver_shape.proofs.Keys.{path_cmp_total, path_cmp_same}
+use Rattle.facet_solver_shape.proofs.Resolved.{union-empty}
 use Rattle.facet_solver_shape.proofs.resolution.tables.key_path_set.KeyPathSet.joined.Goals as goal
 
 pub returns : goal.returns

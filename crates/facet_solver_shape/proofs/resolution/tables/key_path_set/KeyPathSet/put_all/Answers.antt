@@ -1,7 +1,8 @@
 use Rattle.std.proofs.Common.{◌∙◌, ap}
-use Rattle.facet_solver_shape.specs.Views.{names_of, key_paths_view}
-use Rattle.facet_solver_shape.proofs.KeyOrder.{path_cmp_total, path_cmp_same}
-use Rattle.facet_solver_shape.proofs.Merging.{fill_start, one_filled, fill_end}
+use Rattle.facet_solver_shape.specs.Names.{names_of}
+use Rattle.facet_solver_shape.specs.Resolved.{key_paths_view}
+use Rattle.facet_solver_shape.proofs.Keys.{path_cmp_total, path_cmp_same}
+use Rattle.facet_solver_shape.proofs.Resolved.{fill_start, one_filled, fill_end}
 use Rattle.facet_solver_shape.proofs.resolution.tables.key_path_set.KeyPathSet.put_all.Goals as goal
 
 pub loop-path-init : goal.loop-path-init

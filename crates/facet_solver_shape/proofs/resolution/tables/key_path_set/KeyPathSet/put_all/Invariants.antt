@@ -1,7 +1,6 @@
 use Rattle.std.proofs.Common.{◌≡◌}
-use Rattle.facet_solver_shape.specs.Views.{key_paths_view}
-use Rattle.facet_solver_shape.proofs.KeyPaths.{paths_of}
-use Rattle.facet_solver_shape.proofs.Merging.{IsFilling}
+use Rattle.facet_solver_shape.specs.Resolved.{key_paths_view}
+use Rattle.facet_solver_shape.proofs.Resolved.{paths_of, IsFilling}
 use Rattle.facet_solver_shape.proofs.resolution.tables.key_path_set.KeyPathSet.put_all.Given as goal
 
 abbrev pub invariant-loop-path : goal.invariant-loop-path

@@ -1,8 +1,8 @@
 use Rattle.std.proofs.Common.{sym, ◌∙◌, ap, refl, not, ◌≡◌, false}
 use Rattle.std.specs.FinSet.{insert, contains, remove}
 use Rattle.std.proofs.lemmas.Cmp.{nat_list_cmp_total}
-use Rattle.facet_solver_shape.specs.Views.{names_view}
-use Rattle.facet_solver_shape.proofs.KeyOrder.{name_cmp_same}
+use Rattle.facet_solver_shape.specs.Resolved.{names_view}
+use Rattle.facet_solver_shape.proofs.Keys.{name_cmp_same}
 use Rattle.facet_solver_shape.proofs.Finite.{remove-insert, is_false, on_true}
 use Rattle.facet_solver_shape.proofs.Viewed.{viewed_set-insert_key, contains_viewed}
 use Rattle.facet_solver_shape.proofs.resolution.tables.name_set.NameSet.insert.Goals as goal

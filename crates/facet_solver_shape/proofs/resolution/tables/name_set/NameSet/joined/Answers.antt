@@ -1,8 +1,8 @@
 use Rattle.std.proofs.Common.{◌∙◌, ap}
 use Rattle.std.specs.FinSet.{union}
 use Rattle.std.proofs.lemmas.Cmp.{nat_list_cmp_total}
-use Rattle.facet_solver_shape.proofs.KeyOrder.{name_cmp_same}
-use Rattle.facet_solver_shape.proofs.Merging.{union-empty}
+use Rattle.facet_solver_shape.proofs.Keys.{name_cmp_same}
+use Rattle.facet_solver_shape.proofs.Resolved.{union-empty}
 use Rattle.facet_solver_shape.proofs.resolution.tables.name_set.NameSet.joined.Goals as goal
 
 pub returns : goal.returns

@@ -1,8 +1,8 @@
 use Rattle.std.proofs.Common.{◌∙◌, ap}
 use Rattle.std.proofs.lemmas.Cmp.{nat_list_cmp_total}
-use Rattle.facet_solver_shape.specs.Views.{names_view}
-use Rattle.facet_solver_shape.proofs.KeyOrder.{name_cmp_same}
-use Rattle.facet_solver_shape.proofs.Merging.{fill_start, one_filled, fill_end}
+use Rattle.facet_solver_shape.specs.Resolved.{names_view}
+use Rattle.facet_solver_shape.proofs.Keys.{name_cmp_same}
+use Rattle.facet_solver_shape.proofs.Resolved.{fill_start, one_filled, fill_end}
 use Rattle.facet_solver_shape.proofs.resolution.tables.name_set.NameSet.put_all.Goals as goal
 
 pub loop-name-init : goal.loop-name-init

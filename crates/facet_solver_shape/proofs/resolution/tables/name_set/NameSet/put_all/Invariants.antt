@@ -1,6 +1,7 @@
 use Rattle.std.proofs.Common.{◌≡◌}
-use Rattle.facet_solver_shape.specs.Views.{names_of, names_view}
-use Rattle.facet_solver_shape.proofs.Merging.{IsFilling}
+use Rattle.facet_solver_shape.specs.Names.{names_of}
+use Rattle.facet_solver_shape.specs.Resolved.{names_view}
+use Rattle.facet_solver_shape.proofs.Resolved.{IsFilling}
 use Rattle.facet_solver_shape.proofs.resolution.tables.name_set.NameSet.put_all.Given as goal
 
 abbrev pub invariant-loop-name : goal.invariant-loop-name

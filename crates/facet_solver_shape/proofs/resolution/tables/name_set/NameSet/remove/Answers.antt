@@ -1,8 +1,8 @@
 use Rattle.std.proofs.Common.{◌∙◌, ap, refl}
 use Rattle.std.specs.FinSet.{remove}
 use Rattle.std.proofs.lemmas.Cmp.{nat_list_cmp_total}
-use Rattle.facet_solver_shape.specs.Views.{names_view}
-use Rattle.facet_solver_shape.proofs.KeyOrder.{name_cmp_same}
+use Rattle.facet_solver_shape.specs.Resolved.{names_view}
+use Rattle.facet_solver_shape.proofs.Keys.{name_cmp_same}
 use Rattle.facet_solver_shape.proofs.Viewed.{viewed_set-remove_key}
 use Rattle.facet_solver_shape.proofs.resolution.tables.name_set.NameSet.remove.Goals as goal
 

@@ -1,8 +1,0 @@
-use Rattle.facet_solver_shape.proofs.KeyOrder.{key_cmp_total, key_cmp_same}
-use Rattle.facet_solver_shape.proofs.resolution.laws.keys_are_in_order.Goals as goal
-
-pub returns-clause-total : goal.returns-clause-total
-returns-clause-total c = key_cmp_total
-
-pub returns-clause-ties_are_equal : goal.returns-clause-ties_are_equal
-returns-clause-ties_are_equal c = key_cmp_same

@@ -1,5 +1,0 @@
-use Rattle.facet_solver_shape.proofs.PathEquality.{path_decides}
-use Rattle.facet_solver_shape.proofs.resolution.laws.paths_equal_by_segments.Goals as goal
-
-pub returns : goal.returns
-returns c = path_decides
