@@ -1,6 +1,6 @@
 -- The groups of more variants, and that each variant stands in one of them.
 use Rattle.std.proofs.Common.{◌≡◌, ℕ, ◌+◌, ◌<◌, Bool, Option, List, [], ◌∷◌, ◌++◌, filter, take, length, get_or, sym, ap, ◌∙◌, true, false, cond, Some, None, refl, inl, inr}
-use Rattle.std.proofs.lemmas.List.{take_more}
+use Rattle.std.proofs.lemmas.List.{take_more, append-nil}
 use Rattle.std.proofs.lemmas.List.Elements.{filter-append, filter_map-append}
 use Rattle.facet_solver_shape.specs.declared.shape.Shape.{Shape}
 use Rattle.facet_solver_shape.specs.declared.shape.Variant.{Variant}
@@ -159,20 +159,12 @@ module _ (shapes : List Shape) where
       let scalars = (groups_of shapes vs).scalar_variants in
       record {
         variants_in_one = record {
-          once = each_variant_once vs;
-          first = KeepsOrder-filter _ vs;
-          second = KeepsOrder-listed_by scalar_shape vs;
-          third = KeepsOrder-listed_by sequence_length vs;
-          fourth = KeepsOrder-filter _ vs;
-          fifth = KeepsOrder-filter _ vs;
+          once = rw append-nil (each_variant_once vs);
+          in_order = (KeepsOrder-filter _ vs, (KeepsOrder-listed_by scalar_shape vs, (KeepsOrder-listed_by sequence_length vs, (KeepsOrder-filter _ vs, (KeepsOrder-filter _ vs, tt)))));
         };
         rest = rest_of scalars;
         scalars_in_one = record {
-          once = each_scalar_once scalars;
-          first = KeepsOrder-filter _ scalars;
-          second = KeepsOrder-filter _ scalars;
-          third = KeepsOrder-filter _ scalars;
-          fourth = KeepsOrder-filter _ scalars;
-          fifth = KeepsOrder-filter _ scalars;
+          once = rw append-nil (each_scalar_once scalars);
+          in_order = (KeepsOrder-filter _ scalars, (KeepsOrder-filter _ scalars, (KeepsOrder-filter _ scalars, (KeepsOrder-filter _ scalars, (KeepsOrder-filter _ scalars, tt)))));
         };
       }

@@ -2,7 +2,7 @@
 use Rattle.std.specs.Prelude.{ℕ, List, map, filter, ◌++◌, ◌==◌, Bool, true, false, Option, Some, None, slice_get, ◌≡◌, ◌⊎◌, [], ◌∷◌, ⊤}
 use denote.Bor.{Bor}
 use Rattle.std.specs.Option.{option_map, option_map_or, option_and_then}
-use Rattle.std.specs.List.{filter_map}
+use Rattle.std.specs.List.{filter_map, flat_map, AllByRecursion}
 use Rattle.facet_solver_shape.specs.declared.shape.Shape.{Shape}
 use Rattle.facet_solver_shape.specs.declared.shape.Variant.{Variant}
 use Rattle.facet_solver_shape.specs.declared.shape.ShapeKind.{ShapeKind}
@@ -135,17 +135,15 @@ KeepsOrder xs [] = ⊤
 KeepsOrder [] (y ∷ ys) = ⊥
 KeepsOrder (x ∷ xs) (y ∷ ys) = ((x ≡ y) × KeepsOrder xs ys) ⊎ KeepsOrder xs (y ∷ ys)
 
--- each element stands once in one of five lists, and there in its order
-pub record IsInOneOf {X : Type 0} (all a b c d e : List X) : Type 0 where
-  pub once : IsPermutation all (a ++ (b ++ (c ++ (d ++ e))))
-  pub first : KeepsOrder all a
-  pub second : KeepsOrder all b
-  pub third : KeepsOrder all c
-  pub fourth : KeepsOrder all d
-  pub fifth : KeepsOrder all e
+-- each element stands once in one of the lists, and there in its order
+pub record IsInOneOf {X : Type 0} (all : List X) (lists : List (List X)) : Type 0 where
+  pub once : IsPermutation all (flat_map (λ xs. xs) lists)
+  pub in_order : AllByRecursion (KeepsOrder all) lists
 
 -- each variant stands in one of five lists, and each scalar in one of four or among the rest
 pub record IsPartition (variants : List Variant) (g : Groups) : Type 0 where
-  pub variants_in_one : IsInOneOf variants g.unit_variants (entry_variants g.scalar_variants) (entry_variants g.tuple_variants) g.struct_variants g.other_variants
+  pub variants_in_one : IsInOneOf variants
+      (g.unit_variants ∷ entry_variants g.scalar_variants ∷ entry_variants g.tuple_variants ∷ g.struct_variants ∷ g.other_variants ∷ [])
   pub rest : List Entry
-  pub scalars_in_one : IsInOneOf g.scalar_variants g.bool_variants g.int_variants g.float_variants g.string_variants rest
+  pub scalars_in_one : IsInOneOf g.scalar_variants
+      (g.bool_variants ∷ g.int_variants ∷ g.float_variants ∷ g.string_variants ∷ rest ∷ [])

@@ -43,9 +43,11 @@ impl<'c> VariantsByFormat<'c> {
         shapes: &'c Shapes,
         id: ShapeId,
     ) -> Result<Option<Self>, AllocError>
-        ensures groups { IfOk result (λ found. option_map groups_view found ≡ groups_at shapes.now id) }
+        ensures groups { IfOk result (λ found.
+            option_map groups_view found ≡ groups_at shapes.now id) }
         ensures partition { IfOk result (λ found. IfSome found (λ groups.
-            IfSome (variants_at shapes.now id) (λ variants. IsPartition variants (groups_view groups)))) }
+            IfSome (variants_at shapes.now id) (λ variants.
+                IsPartition variants (groups_view groups)))) }
     {
         match shapes.get(id) {
             Some(

@@ -45,8 +45,8 @@ impl<'c> VariantsByFormat<'c> {
 
     // Adds one more variant at the end of its lists.
     fn add(&mut self, shapes: &Shapes, variant: &'c Variant) -> Result<(), AllocError>
-        ensures { OnOk result
-            (groups_view self.new ≡ joined (groups_view self.old) (groups_of shapes.now (variant.now ∷ []))) }
+        ensures { OnOk result (groups_view self.new
+            ≡ joined (groups_view self.old) (groups_of shapes.now (variant.now ∷ []))) }
     {
         match VariantFormat::from_variant(shapes, variant) {
             VariantFormat::Unit => self.unit_variants.push(variant)?,
@@ -73,8 +73,8 @@ impl<'c> VariantsByFormat<'c> {
         shape: ShapeId,
     ) -> Result<(), AllocError>
         requires { format_of shapes.now variant.now ≡ VariantFormat.NewtypeScalar shape }
-        ensures { OnOk result
-            (groups_view self.new ≡ joined (groups_view self.old) (groups_of shapes.now (variant.now ∷ []))) }
+        ensures { OnOk result (groups_view self.new
+            ≡ joined (groups_view self.old) (groups_of shapes.now (variant.now ∷ []))) }
     {
         add_entry(&mut self.scalar_variants, variant, shape)?;
         match end_scalar(shapes, shape) {

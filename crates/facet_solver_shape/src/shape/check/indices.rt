@@ -54,7 +54,8 @@ fn fields_name_from(fields: &[Field], low: usize) -> bool
 }
 
 fn variants_name_from(variants: &[Variant], low: usize) -> bool
-    ensures { result ≡ list_any (λ v. list_any (λ f. nat_le low f.shape) v.fields.items) variants.now }
+    ensures { result
+        ≡ list_any (λ v. list_any (λ f. nat_le low f.shape) v.fields.items) variants.now }
 {
     variants.iter().any(|v| fields_name_from(&v.fields, low))
 }
