@@ -18,7 +18,7 @@ pub enum CatalogueError {
         /// The index of the shape.
         shape: usize,
     },
-    /// The shape names by a field, a variant's field, an option's inside, `inner` or `proxy` a
+    /// The shape names by a field, a variant's field, an option's inside, `inner` or `proxy` an
     /// index of the catalogue that isn't below its own.
     NotEarlier {
         /// The index of the shape.
