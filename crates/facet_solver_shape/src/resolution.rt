@@ -202,8 +202,11 @@ impl<'c> Resolution<'c> {
         variant_name: &'c str,
     ) -> Result<(), AllocError>
         ensures ok { OnOk result (self.new ≡ with_pick self.old
-            (record { path = path.entry; enum_name = enum_name.now;
-                variant_name = variant_name.now })) }
+            (record {
+              path = path.entry;
+              enum_name = enum_name.now;
+              variant_name = variant_name.now;
+            })) }
         ensures err { OnErr result (self.new ≡ self.old) }
     {
         self.picks.push(VariantSelection {

@@ -47,7 +47,7 @@ impl<'c> VariantsByFormat<'c> {
             option_map groups_view found ≡ groups_at shapes.now id) }
         ensures partition { IfOk result (λ found. IfSome found (λ groups.
             IfSome (variants_at shapes.now id) (λ variants.
-                IsPartition variants (groups_view groups)))) }
+            IsPartition variants (groups_view groups)))) }
     {
         match shapes.get(id) {
             Some(
