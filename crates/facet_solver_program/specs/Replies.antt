@@ -4,11 +4,10 @@ use Rattle.std.specs.Fmt.{decimal}
 use Rattle.facet_solver.specs.declared.CatalogueError.{CatalogueError}
 use Rattle.facet_solver.specs.declared.error.SolverError.{SolverError}
 use Rattle.facet_solver.specs.declared.error.SolverError.TheVariants.{NoMatch, Ambiguous, OutOfMemory}
-use Rattle.facet_solver.specs.Descriptions.{description}
-use Rattle.facet_solver.specs.Faults.{IsFirstFault, number_of}
+use Rattle.facet_solver.specs.Resolved.{description, Resolved}
+use Rattle.facet_solver.specs.Catalogues.{IsFirstFault, number_of}
 use Rattle.facet_solver.specs.Keys.{flat_key}
 use Rattle.facet_solver.specs.Names.{Name}
-use Rattle.facet_solver.specs.Resolved.{Resolved}
 use Rattle.facet_solver.specs.Choice.{IsClash}
 use Rattle.facet_solver.specs.Emissions.{Path}
 use Rattle.facet_solver.specs.Representation.{flattened}

@@ -2,7 +2,7 @@
 ghost use Rattle.std.specs.Prelude.{◌≡◌, ◌<◌, ◌∷◌, [], List, codes, length, IfOk, OnOk, string_bytes};
 ghost use Rattle.facet_solver.specs.Handle.{index_of, resolution_behind};
 ghost use Rattle.facet_solver.specs.Targets.{Catalogue};
-ghost use Rattle.facet_solver.specs.Views.{names_of};
+ghost use Rattle.facet_solver.specs.Names.{names_of};
 ghost use Rattle.facet_solver_program.specs.Message.{IsMessage};
 ghost use Rattle.facet_solver_program.specs.Replies as replies;
 ghost use Rattle.facet_solver_program.specs.Replies.{AreOf, IsErrorAs, IsReply, Ending, told_names};

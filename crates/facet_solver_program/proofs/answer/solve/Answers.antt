@@ -2,7 +2,7 @@ use Rattle.std.proofs.Common.{◌≡◌, ◌<◌, ℕ, Some, List, [], ◌∷◌
 use Rattle.std.proofs.lemmas.Result.{IfOk-weaker}
 use Rattle.facet_solver.specs.Handle.{index_of, resolution_behind}
 use Rattle.facet_solver.specs.Keys.{flat_key}
-use Rattle.facet_solver.specs.Names.{Name}
+use Rattle.facet_solver.specs.Names.{Name, names_of}
 use Rattle.facet_solver.specs.declared.error.SolverError.{SolverError}
 use Rattle.facet_solver.specs.declared.error.SolverError.TheVariants.{NoMatch, Ambiguous, OutOfMemory}
 use Rattle.facet_solver.specs.Report.{IsReportOn}
@@ -11,7 +11,6 @@ use Rattle.facet_solver.specs.SchemaView.{SchemaView, IsBuilt, flat_settings}
 use Rattle.facet_solver.specs.State.{State, at_first, told}
 use Rattle.facet_solver.specs.Targets.{Catalogue}
 use Rattle.facet_solver.specs.Verdict.{viable}
-use Rattle.facet_solver.specs.Views.{names_of}
 use Rattle.facet_solver_program.specs.Replies.{Ending, resolved, IsErrorAs, IsEnding, left_by, told_names}
 use Rattle.facet_solver_program.proofs.answer.solve.Goals as goal
 

@@ -1,7 +1,7 @@
 use Rattle.std.proofs.Common.{◌+◌, ap, sym, ◌∙◌, drop}
 use Rattle.std.proofs.lemmas.List.{drop_more}
 use Rattle.std.proofs.Math.ListN.{drop_of_length-le}
-use Rattle.facet_solver.specs.Views.{names_of}
+use Rattle.facet_solver.specs.Names.{names_of}
 use Rattle.facet_solver.specs.Keys.{Key}
 use Rattle.facet_solver.specs.State.{State, told}
 use Rattle.facet_solver_program.specs.Replies.{told_names}

@@ -1,5 +1,5 @@
 use Rattle.std.proofs.Common.{◌≡◌, drop}
-use Rattle.facet_solver.specs.Views.{names_of}
+use Rattle.facet_solver.specs.Names.{names_of}
 use Rattle.facet_solver_program.specs.Replies.{told_names}
 use Rattle.facet_solver_program.proofs.answer.tell.Given as goal
 
