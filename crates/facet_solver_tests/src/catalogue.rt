@@ -1,198 +1,254 @@
-//! Which lists of shapes are catalogues, and what the reads of a shape answer.
+//! Calls that are about types alone.
 
-use crate::fixtures::{field, shape, unit, variant, variant_of};
-use facet_solver::{Field, ScalarType, Shape, ShapeId, ShapeKind, Shapes, StructKind};
+use crate::line::{Stop, add, number, word};
+use crate::types::place_of;
+use facet_solver::{
+    EnumRepr, Field, Schema, SchemaError, Shape, ShapeId, ShapeKind, Shapes, Variant,
+    VariantFormat, VariantsByFormat, specificity_score,
+};
 use std::alloc::{AllocError, Global};
-use std::test::Fail;
+use std::str::SplitWhitespace;
 
-fn shape_of(alloc: Global, kind: ShapeKind) -> Result<Shape, AllocError> {
-    shape(alloc, "T", kind)
+/// A catalogue and the names of its types.
+#[derive(Clone, Copy)]
+pub struct Catalogue<'c, 't> {
+    pub alloc: Global,
+    pub shapes: &'c Shapes,
+    pub names: &'c [&'t str],
 }
 
-fn field_of(alloc: Global, name: &str, place: usize) -> Result<Field, AllocError> {
-    field(alloc, name, ShapeId::new(place))
-}
+impl<'c, 't> Catalogue<'c, 't> {
+    /// What a call answers.
+    pub fn answer(&self, words: &mut SplitWhitespace<'t>) -> Result<String, Stop> {
+        match word(words)? {
+            "check" => Ok(String::from_str(self.alloc, "accepted")?),
+            "count" => self.count(words),
+            "representation" => self.representation(words),
+            "score" => {
+                let score = specificity_score(self.shape(words)?);
+                Ok(format!(in self.alloc; "{score}")?)
+            }
+            "variant" => self.variant(words),
+            "variants" => self.variants(words),
+            _ => Err(Stop::Unread),
+        }
+    }
 
-fn struct_of(fields: Vec<Field>) -> ShapeKind {
-    ShapeKind::Struct {
-        kind: StructKind::Struct,
-        fields,
+    /// The place of the type that is named next.
+    pub fn id(&self, words: &mut SplitWhitespace<'t>) -> Result<ShapeId, Stop> {
+        let id = place_of(self.names, word(words)?).ok_or(Stop::Unread)?;
+        if self.shapes.has(id) {
+            Ok(id)
+        } else {
+            Err(Stop::Unread)
+        }
+    }
+
+    fn shape(&self, words: &mut SplitWhitespace<'t>) -> Result<&'c Shape, Stop> {
+        self.shapes.get(self.id(words)?).ok_or(Stop::Unread)
+    }
+
+    /// The first field of the struct that is named next.
+    pub fn first_field(&self, words: &mut SplitWhitespace<'t>) -> Result<&'c Field, Stop> {
+        match &self.shape(words)?.kind {
+            ShapeKind::Struct { fields, .. } => fields.first().ok_or(Stop::Unread),
+            _ => Err(Stop::Unread),
+        }
+    }
+
+    /// What a type is called.
+    pub fn name(&self, id: ShapeId) -> &'c str {
+        match self.shapes.get(id) {
+            Some(shape) => shape.type_identifier.as_str(),
+            None => "?",
+        }
+    }
+
+    /// The schema of a root, as the words behind it say.
+    pub fn build(
+        &self,
+        words: &mut SplitWhitespace<'t>,
+    ) -> Result<Result<Schema<'c>, SchemaError<'c>>, Stop>
+    where
+        't: 'c,
+    {
+        let root = self.id(words)?;
+        if !self.shapes.has(root) {
+            return Err(Stop::Unread);
+        }
+        match words.next() {
+            None => Ok(Schema::build(self.alloc, self.shapes, root)),
+            Some("external") => Ok(Schema::build_externally_tagged(self.alloc, self.shapes, root)),
+            Some("auto") => Ok(Schema::build_auto(self.alloc, self.shapes, root)),
+            Some("with") => {
+                let repr = repr(words)?;
+                Ok(Schema::build_with_repr(self.alloc, self.shapes, root, repr))
+            }
+            Some(_) => Err(Stop::Unread),
+        }
+    }
+
+    fn count(&self, words: &mut SplitWhitespace<'t>) -> Result<String, Stop> {
+        let root = self.id(words)?;
+        if !self.shapes.has(root) {
+            return Err(Stop::Unread);
+        }
+        let asked = match words.next() {
+            None => Some(EnumRepr::Flattened),
+            Some("auto") => None,
+            Some("with") => Some(repr(words)?),
+            Some(_) => return Err(Stop::Unread),
+        };
+        match Schema::resolution_count(self.alloc, self.shapes, root, asked)? {
+            Some(count) => Ok(format!(in self.alloc; "{count}")?),
+            None => Ok(String::from_str(self.alloc, "none")?),
+        }
+    }
+
+    fn representation(&self, words: &mut SplitWhitespace<'t>) -> Result<String, Stop> {
+        let alloc = self.alloc;
+        Ok(match EnumRepr::from_shape(self.shape(words)?) {
+            EnumRepr::Flattened => String::from_str(alloc, "flattened")?,
+            EnumRepr::ExternallyTagged => String::from_str(alloc, "external")?,
+            EnumRepr::InternallyTagged { tag } => format!(in alloc; "internal {tag}")?,
+            EnumRepr::AdjacentlyTagged { tag, content } => {
+                format!(in alloc; "adjacent {tag} {content}")?
+            }
+        })
+    }
+
+    // The format of a variant of an enum, and what it expects.
+    fn variant(&self, words: &mut SplitWhitespace<'t>) -> Result<String, Stop> {
+        let ShapeKind::Enum { variants } = &self.shape(words)?.kind else {
+            return Err(Stop::Unread);
+        };
+        let name = word(words)?;
+        for variant in variants {
+            if variant.name.as_str() == name {
+                return Ok(self.format_of(variant)?);
+            }
+        }
+        Err(Stop::Unread)
+    }
+
+    fn format_of(&self, variant: &Variant) -> Result<String, AllocError> {
+        let alloc = self.alloc;
+        let format = VariantFormat::from_variant(self.shapes, variant);
+        let class = self.class(&format)?;
+        format!(in alloc; "{class}, {}", expected(&format))
+    }
+
+    fn class(&self, format: &VariantFormat) -> Result<String, AllocError> {
+        let alloc = self.alloc;
+        match format {
+            VariantFormat::Unit => String::from_str(alloc, "unit"),
+            VariantFormat::Struct => String::from_str(alloc, "struct"),
+            VariantFormat::Tuple { arity } => format!(in alloc; "tuple {arity}"),
+            VariantFormat::NewtypeScalar { inner_shape: of } => self.newtype("scalar", *of),
+            VariantFormat::NewtypeStruct { inner_shape: of } => self.newtype("struct", *of),
+            VariantFormat::NewtypeSequence { inner_shape: of } => self.newtype("sequence", *of),
+            VariantFormat::NewtypeOther { inner_shape: of } => self.newtype("other", *of),
+            VariantFormat::NewtypeTuple {
+                inner_shape: of,
+                arity,
+            } => format!(in alloc; "newtype tuple {} {arity}", self.name(*of)),
+        }
+    }
+
+    fn newtype(&self, class: &str, of: ShapeId) -> Result<String, AllocError> {
+        format!(in self.alloc; "newtype {class} {}", self.name(of))
+    }
+
+    // One of the lists of an enum's variants.
+    fn variants(&self, words: &mut SplitWhitespace<'t>) -> Result<String, Stop> {
+        let id = self.id(words)?;
+        let Some(groups) = VariantsByFormat::from_shape(self.alloc, self.shapes, id)? else {
+            return Ok(String::from_str(self.alloc, "no enum")?);
+        };
+        match word(words)? {
+            "unit" => Ok(self.plain(&groups.unit_variants)?),
+            "struct" => Ok(self.plain(&groups.struct_variants)?),
+            "other" => Ok(self.plain(&groups.other_variants)?),
+            "scalar" => Ok(self.typed(&groups.scalar_variants)?),
+            "bool" => Ok(self.typed(&groups.bool_variants)?),
+            "int" => Ok(self.typed(&groups.int_variants)?),
+            "float" => Ok(self.typed(&groups.float_variants)?),
+            "string" => Ok(self.typed(&groups.string_variants)?),
+            "tuple" => Ok(self.sized(&groups.tuple_variants)?),
+            "arity" => {
+                let found = groups.tuple_variants_with_arity(self.alloc, number(words)?)?;
+                Ok(self.plain(&found)?)
+            }
+            "any" => Ok(self.kinds(&groups)?),
+            _ => Err(Stop::Unread),
+        }
+    }
+
+    fn plain(&self, variants: &[&Variant]) -> Result<String, AllocError> {
+        let mut answer = String::new(self.alloc);
+        for variant in variants {
+            add(&mut answer, variant.name.as_str())?;
+        }
+        Ok(answer)
+    }
+
+    fn typed(&self, variants: &[(&Variant, ShapeId)]) -> Result<String, AllocError> {
+        let mut answer = String::new(self.alloc);
+        for (variant, shape) in variants {
+            add(&mut answer, variant.name.as_str())?;
+            add(&mut answer, self.name(*shape))?;
+        }
+        Ok(answer)
+    }
+
+    fn sized(&self, variants: &[(&Variant, usize)]) -> Result<String, AllocError> {
+        let mut answer = String::new(self.alloc);
+        for (variant, arity) in variants {
+            add(&mut answer, variant.name.as_str())?;
+            add(&mut answer, format!(in self.alloc; "{arity}")?.as_str())?;
+        }
+        Ok(answer)
+    }
+
+    fn kinds(&self, groups: &VariantsByFormat<'_>) -> Result<String, AllocError> {
+        let mut answer = String::new(self.alloc);
+        if groups.has_scalar_variants() {
+            add(&mut answer, "scalar")?;
+        }
+        if groups.has_tuple_variants() {
+            add(&mut answer, "tuple")?;
+        }
+        if groups.has_struct_variants() {
+            add(&mut answer, "struct")?;
+        }
+        Ok(answer)
     }
 }
 
-fn pointer_to(place: usize) -> ShapeKind {
-    ShapeKind::Pointer(Some(ShapeId::new(place)))
-}
-
-/// The list of the shapes of some kinds.
-fn shapes_of(alloc: Global, kinds: Vec<ShapeKind>) -> Result<Vec<Shape>, AllocError> {
-    let mut shapes = Vec::new(alloc);
-    for kind in kinds {
-        shapes.push(shape_of(alloc, kind)?)?;
-    }
-    Ok(shapes)
-}
-
-/// The number and the place of the refusal; none where the list is accepted.
-fn refusal_of(shapes: Vec<Shape>) -> Option<(u8, usize)> {
-    match Shapes::new(shapes) {
-        Ok(_) => None,
-        Err(refusal) => Some((refusal.number(), refusal.shape())),
+fn expected(format: &VariantFormat) -> &'static str {
+    if format.expects_scalar() {
+        "a scalar"
+    } else if format.expects_sequence() {
+        "a sequence"
+    } else if format.expects_mapping() {
+        "a mapping"
+    } else if format.is_unit() {
+        "no value"
+    } else {
+        "any value"
     }
 }
 
-#[test]
-fn options_name_earlier_places(rt: HostRuntime) -> Result<(), Fail> {
-    let alloc = rt.alloc();
-    let own = shapes_of(alloc, vec![in alloc; ShapeKind::Option(ShapeId::new(0))]?)?;
-    assert_eq!(rt; refusal_of(own), Some((2, 0)));
-    let past = shapes_of(alloc, vec![in alloc; ShapeKind::Option(ShapeId::new(5))]?)?;
-    assert_eq!(rt; refusal_of(past), Some((1, 0)));
-    Ok(())
-}
-
-#[test]
-fn pointers_end(rt: HostRuntime) -> Result<(), Fail> {
-    let alloc = rt.alloc();
-    let own = shapes_of(alloc, vec![in alloc; pointer_to(0)]?)?;
-    assert_eq!(rt; refusal_of(own), Some((3, 0)));
-    let two = shapes_of(alloc, vec![in alloc; pointer_to(1), pointer_to(0)]?)?;
-    assert_eq!(rt; refusal_of(two), Some((3, 0)));
-    let past = shapes_of(alloc, vec![in alloc; pointer_to(1), pointer_to(9)]?)?;
-    assert_eq!(rt; refusal_of(past), Some((1, 1)));
-    let ended = shapes_of(
-        alloc,
-        vec![in alloc; pointer_to(1), ShapeKind::Option(ShapeId::new(0))]?,
-    )?;
-    assert_eq!(rt; refusal_of(ended), None);
-    let longer = shapes_of(
-        alloc,
-        vec![in alloc;
-            pointer_to(1),
-            pointer_to(2),
-            ShapeKind::Option(ShapeId::new(0)),
-        ]?,
-    )?;
-    assert_eq!(rt; refusal_of(longer), None);
-    let into_a_cycle = shapes_of(
-        alloc,
-        vec![in alloc;
-            ShapeKind::Other,
-            pointer_to(2),
-            pointer_to(3),
-            pointer_to(2),
-        ]?,
-    )?;
-    assert_eq!(rt; refusal_of(into_a_cycle), Some((3, 1)));
-    let opaque = shapes_of(
-        alloc,
-        vec![in alloc; pointer_to(1), ShapeKind::Pointer(None)]?,
-    )?;
-    assert_eq!(rt; refusal_of(opaque), None);
-    Ok(())
-}
-
-#[test]
-fn items_may_be_of_any_place(rt: HostRuntime) -> Result<(), Fail> {
-    let alloc = rt.alloc();
-    let empty = shapes_of(alloc, Vec::new(alloc))?;
-    assert_eq!(rt; refusal_of(empty), None);
-    let own = ShapeId::new(0);
-    let list = shapes_of(alloc, vec![in alloc; ShapeKind::List(own)]?)?;
-    assert_eq!(rt; refusal_of(list), None);
-    let map = shapes_of(alloc, vec![in alloc; ShapeKind::Map(own, own)]?)?;
-    assert_eq!(rt; refusal_of(map), None);
-    Ok(())
-}
-
-#[test]
-fn fields_and_proxies_name_earlier_places(rt: HostRuntime) -> Result<(), Fail> {
-    let alloc = rt.alloc();
-    let own = struct_of(vec![in alloc; field_of(alloc, "a", 0)?]?);
-    assert_eq!(rt;
-        refusal_of(shapes_of(alloc, vec![in alloc; own]?)?),
-        Some((2, 0))
-    );
-    let mut proxied = shape_of(alloc, ShapeKind::Other)?;
-    proxied.proxy = Some(ShapeId::new(0));
-    assert_eq!(rt; refusal_of(vec![in alloc; proxied]?), Some((2, 0)));
-    let mut wrapped = shape_of(alloc, ShapeKind::Other)?;
-    wrapped.inner = Some(ShapeId::new(1));
-    assert_eq!(rt; refusal_of(vec![in alloc; wrapped]?), Some((1, 0)));
-    Ok(())
-}
-
-// Of several faults of a place the one of lowest number is given.
-#[test]
-fn lowest_number_comes_first(rt: HostRuntime) -> Result<(), Fail> {
-    let alloc = rt.alloc();
-    let scalar = ShapeKind::Scalar(ScalarType::U8);
-    let twice = struct_of(vec![in alloc; field_of(alloc, "a", 7)?, field_of(alloc, "a", 0)?]?);
-    let past = shapes_of(alloc, vec![in alloc; scalar, twice]?)?;
-    assert_eq!(rt; refusal_of(past), Some((1, 1)));
-
-    let fields = vec![in alloc; field_of(alloc, "f", 0)?, field_of(alloc, "f", 0)?]?;
-    let first = variant_of(alloc, &unit("A"))?;
-    let second = variant(alloc, "A", StructKind::Struct, fields)?;
-    let variants = vec![in alloc; first, second]?;
-    let scalar = ShapeKind::Scalar(ScalarType::U8);
-    let both = shapes_of(alloc, vec![in alloc; scalar, ShapeKind::Enum { variants }]?)?;
-    assert_eq!(rt; refusal_of(both), Some((4, 1)));
-
-    let first = variant_of(alloc, &unit("A"))?;
-    let second = variant_of(alloc, &unit("A"))?;
-    let variants = vec![in alloc; first, second]?;
-    let one = shapes_of(alloc, vec![in alloc; ShapeKind::Enum { variants }]?)?;
-    assert_eq!(rt; refusal_of(one), Some((5, 0)));
-    Ok(())
-}
-
-// Names are compared as declared: a new name is no fault.
-#[test]
-fn new_names_may_repeat(rt: HostRuntime) -> Result<(), Fail> {
-    let alloc = rt.alloc();
-    let mut renamed = field_of(alloc, "b", 0)?;
-    renamed.rename = Some(String::from_str(alloc, "a")?);
-    let fields = vec![in alloc; field_of(alloc, "a", 0)?, renamed]?;
-    let scalar = ShapeKind::Scalar(ScalarType::U8);
-    let shapes = shapes_of(alloc, vec![in alloc; scalar, struct_of(fields)]?)?;
-    assert_eq!(rt; refusal_of(shapes), None);
-    Ok(())
-}
-
-#[test]
-fn a_catalogue_gives_its_shapes(rt: HostRuntime) -> Result<(), Fail> {
-    let alloc = rt.alloc();
-    let scalar = shape_of(alloc, ShapeKind::Scalar(ScalarType::Bool))?;
-    let mut pointer = shape_of(alloc, pointer_to(0))?;
-    pointer.tag = Some(String::from_str(alloc, "t")?);
-    pointer.untagged = true;
-    let Ok(shapes) = Shapes::new(vec![in alloc; scalar, pointer]?) else {
-        return Err(Fail::from("refused"));
-    };
-    assert_eq!(rt; shapes.len(), 2);
-    assert!(rt; shapes.has(ShapeId::new(1)));
-    assert!(rt; !shapes.has(ShapeId::new(2)));
-    assert!(rt; shapes.get(ShapeId::new(2)).is_none());
-    let scalar = shapes.get(ShapeId::new(0)).ok_or("no shape")?;
-    assert_eq!(rt; scalar.scalar_type(), Some(ScalarType::Bool));
-    assert!(rt; scalar.get_tag_attr().is_none());
-    let pointer = shapes.get(ShapeId::new(1)).ok_or("no shape")?;
-    assert_eq!(rt; pointer.scalar_type(), None);
-    assert_eq!(rt; pointer.get_tag_attr().ok_or("no tag")?, "t");
-    assert!(rt; pointer.get_content_attr().is_none());
-    assert!(rt; pointer.is_untagged());
-    Ok(())
-}
-
-#[test]
-fn names_and_places(rt: HostRuntime) -> Result<(), Fail> {
-    let alloc = rt.alloc();
-    let mut field = field_of(alloc, "declared", 3)?;
-    assert_eq!(rt; field.effective_name(), "declared");
-    field.rename = Some(String::from_str(alloc, "new")?);
-    assert_eq!(rt; field.effective_name(), "new");
-    assert_eq!(rt; ShapeId::new(3).index(), 3);
-    assert!(rt; ShapeId::new(3) == ShapeId::new(3) && ShapeId::new(3) < ShapeId::new(4));
-    Ok(())
+// A representation in words.
+fn repr<'t>(words: &mut SplitWhitespace<'t>) -> Result<EnumRepr<'t>, Stop> {
+    match word(words)? {
+        "flattened" => Ok(EnumRepr::Flattened),
+        "external" => Ok(EnumRepr::ExternallyTagged),
+        "internal" => Ok(EnumRepr::InternallyTagged { tag: word(words)? }),
+        "adjacent" => Ok(EnumRepr::AdjacentlyTagged {
+            tag: word(words)?,
+            content: word(words)?,
+        }),
+        _ => Err(Stop::Unread),
+    }
 }

@@ -1,11 +1,11 @@
 //! The sample of the README, whole.
 
+use crate::in_code::{Failure, hold};
 use facet_solver::{
     DomMark, Field, FieldKey, KeyResult, ScalarType, Schema, Shape, ShapeId, ShapeKind, Shapes,
     Solver, SolverError, StructKind, Variant,
 };
 use std::alloc::{AllocError, Global};
-use std::test::Fail;
 
 fn field(alloc: Global, name: &str, shape: usize) -> Result<Field, AllocError> {
     Ok(Field {
@@ -91,22 +91,22 @@ fn meaning(alloc: Global, solver: Solver<'_, '_, '_>) -> Result<String, AllocErr
     }
 }
 
-#[test]
-fn keys_tell_the_payload(rt: HostRuntime) -> Result<(), Fail> {
-    let alloc = rt.alloc();
+/// The keys of a message tell its payload.
+pub fn keys_tell_the_payload(alloc: Global) -> Result<(), Failure> {
     let shapes = Shapes::new(message(alloc)?)?;
     let root = ShapeId::new(6);
     if !shapes.has(root) {
-        return Err("no such shape".into());
+        return Err(Failure::Broken("the root of the README's shapes"));
     }
     let schema = Schema::build(alloc, &shapes, root)?;
     let mut solver = Solver::new(alloc, &schema)?;
     // An identifier is a String, the shape of index 0, in both.
     let id = solver.see_key(alloc, FieldKey::flat("id"))?;
-    assert_eq!(rt; learned(alloc, &id)?.as_str(), "a value of shape 0");
+    hold(learned(alloc, &id)?.as_str() == "a value of shape 0", "id")?;
     // Only a text has content.
     let content = solver.see_key(alloc, FieldKey::flat("content"))?;
-    assert_eq!(rt; learned(alloc, &content)?.as_str(), "resolution 0");
-    assert_eq!(rt; meaning(alloc, solver)?.as_str(), "0: MessagePayload::Text");
-    Ok(())
+    let told = learned(alloc, &content)?;
+    hold(told.as_str() == "resolution 0", "content")?;
+    let end = meaning(alloc, solver)?;
+    hold(end.as_str() == "0: MessagePayload::Text", "finish")
 }

@@ -1,0 +1,153 @@
+//! Calls on paths and resolutions that are made by hand.
+
+use crate::catalogue::Catalogue;
+use crate::line::{Stop, word};
+use crate::resolution::{category_of, of_resolution, refusal};
+use facet_solver::{
+    Field, FieldCategory, FieldInfo, FieldPath, KeyPath, PathSegment, Resolution, SchemaError,
+    ShapeId,
+};
+use std::alloc::{AllocError, Global};
+use std::mem;
+use std::str::SplitWhitespace;
+
+/// A path that grows, the resolution that calls are about, and the one that it may be merged with.
+#[derive(Drop)]
+pub struct Hand<'c, 't> {
+    catalogue: Catalogue<'c, 't>,
+    field: &'c Field,
+    path: FieldPath<'c>,
+    resolution: Resolution<'c>,
+    other: Resolution<'c>,
+}
+
+impl<'c, 't> Hand<'c, 't>
+where
+    't: 'c,
+{
+    /// Nothing made yet. Each field to be made stands for this declared one.
+    pub fn new(catalogue: Catalogue<'c, 't>, field: &'c Field) -> Self {
+        Hand {
+            catalogue,
+            field,
+            path: FieldPath::empty(catalogue.alloc),
+            resolution: Resolution::new(catalogue.alloc),
+            other: Resolution::new(catalogue.alloc),
+        }
+    }
+
+    /// What a call answers.
+    pub fn answer(&mut self, words: &mut SplitWhitespace<'t>) -> Result<String, Stop> {
+        match word(words)? {
+            "add_field" => self.add_field(words),
+            "add_key_path" => self.add_key_path(words),
+            "add_variant_selection" => self.add_variant_selection(words),
+            "set_catch_all_map" => self.set_catch_all_map(words),
+            "mark_all_optional" => {
+                self.resolution.mark_all_optional();
+                self.done(Ok(()))
+            }
+            "merge" => {
+                let merged = self.resolution.merge(&self.other);
+                self.done(merged)
+            }
+            "other" => {
+                mem::swap(&mut self.resolution, &mut self.other);
+                self.done(Ok(()))
+            }
+            call => self.path_answer(call, words),
+        }
+    }
+
+    // What a call answers that is about the path, or that reads the resolution.
+    fn path_answer(&mut self, call: &str, words: &mut SplitWhitespace<'t>) -> Result<String, Stop> {
+        let alloc = self.catalogue.alloc;
+        let path = match call {
+            "root" => FieldPath::empty(alloc),
+            "push_field" => self.path.push_field(alloc, word(words)?)?,
+            "push_variant" => self.path.push_variant(alloc, word(words)?, word(words)?)?,
+            "parent" => self.path.parent(alloc)?,
+            "last" => return Ok(self.last()?),
+            _ => return of_resolution(self.catalogue, &self.resolution, call, words),
+        };
+        drop(mem::replace(&mut self.path, path));
+        Ok(format!(in alloc; "{} {}", self.path.depth(), self.path)?)
+    }
+
+    fn last(&self) -> Result<String, AllocError> {
+        let alloc = self.catalogue.alloc;
+        match self.path.last() {
+            Some(PathSegment::Field(name)) => format!(in alloc; "field {name}"),
+            Some(PathSegment::Variant(field, name)) => format!(in alloc; "variant {field} {name}"),
+            None => String::from_str(alloc, "none"),
+        }
+    }
+
+    fn done(&self, outcome: Result<(), SchemaError<'c>>) -> Result<String, Stop> {
+        match outcome {
+            Ok(()) => Ok(String::from_str(self.catalogue.alloc, "ok")?),
+            Err(error) => refusal(self.catalogue.alloc, &error),
+        }
+    }
+
+    // A field of a name, at the path.
+    fn info(
+        &self,
+        name: &'c str,
+        required: bool,
+        category: FieldCategory,
+    ) -> Result<FieldInfo<'c>, AllocError> {
+        let alloc = self.catalogue.alloc;
+        Ok(FieldInfo {
+            serialized_name: name,
+            path: copied(alloc, &self.path)?,
+            required,
+            value_shape: ShapeId::new(0),
+            field: self.field,
+            category,
+        })
+    }
+
+    fn add_field(&mut self, words: &mut SplitWhitespace<'t>) -> Result<String, Stop> {
+        let category = category_of(words)?;
+        let name = word(words)?;
+        let required = word(words)? == "required";
+        let info = self.info(name, required, category)?;
+        let added = self.resolution.add_field(info);
+        self.done(added)
+    }
+
+    fn set_catch_all_map(&mut self, words: &mut SplitWhitespace<'t>) -> Result<String, Stop> {
+        let category = category_of(words)?;
+        let info = self.info(word(words)?, false, category)?;
+        self.resolution.set_catch_all_map(category, info)?;
+        self.done(Ok(()))
+    }
+
+    fn add_variant_selection(&mut self, words: &mut SplitWhitespace<'t>) -> Result<String, Stop> {
+        let path = copied(self.catalogue.alloc, &self.path)?;
+        self.resolution
+            .add_variant_selection(path, word(words)?, word(words)?)?;
+        self.done(Ok(()))
+    }
+
+    fn add_key_path(&mut self, words: &mut SplitWhitespace<'t>) -> Result<String, Stop> {
+        let mut path: KeyPath<'c> = Vec::new(self.catalogue.alloc);
+        for name in words {
+            path.push(name)?;
+        }
+        self.resolution.add_key_path(path)?;
+        self.done(Ok(()))
+    }
+}
+
+fn copied<'c>(alloc: Global, path: &FieldPath<'c>) -> Result<FieldPath<'c>, AllocError> {
+    let mut copy = FieldPath::empty(alloc);
+    for segment in path.segments() {
+        copy = match *segment {
+            PathSegment::Field(name) => copy.push_field(alloc, name)?,
+            PathSegment::Variant(field, name) => copy.push_variant(alloc, field, name)?,
+        };
+    }
+    Ok(copy)
+}

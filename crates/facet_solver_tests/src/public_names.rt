@@ -1,0 +1,79 @@
+//! Every public type, from the root of the library, with what can be done with it.
+
+use crate::in_code::Failure;
+use facet_solver::{
+    CandidateFailure, CatalogueError, DomMark, DuplicateFieldError, EnumRepr, Field, FieldCategory,
+    FieldInfo, FieldKey, FieldPath, Format, KeyPath, KeyResult, MissingFieldInfo, PathSegment,
+    Resolution, ResolutionHandle, ResolutionSet, ResolutionSetIter, ScalarType, Schema,
+    SchemaError, Shape, ShapeId, ShapeKind, Shapes, Solver, SolverError, StructKind, Variant,
+    VariantFormat, VariantSelection, VariantsByFormat,
+};
+use std::fmt::Debug;
+use std::hash::Hash;
+
+fn is_printed<T: Debug>() {}
+
+fn is_copied<T: Debug + Copy + Eq>() {}
+
+fn is_ordered<T: Debug + Copy + Ord>() {}
+
+fn is_hashed<T: Hash>() {}
+
+fn is_compared<T: Debug + Eq>() {}
+
+/// Each type can be what its declaration says; a call of one that can't would not compile.
+pub fn public_types_have_their_derives() -> Result<(), Failure> {
+    values_are_copied();
+    parts_are_printed();
+    wholes_are_printed();
+    is_compared::<FieldPath<'static>>();
+    is_hashed::<ShapeId>();
+    if Format::default() != Format::Flat {
+        return Err(Failure::Broken("the format of a schema"));
+    }
+    if EnumRepr::default() != EnumRepr::Flattened {
+        return Err(Failure::Broken("the representation of an enum"));
+    }
+    Ok(())
+}
+
+fn values_are_copied() {
+    is_ordered::<ShapeId>();
+    is_ordered::<FieldCategory>();
+    is_ordered::<FieldKey<'static>>();
+    is_copied::<StructKind>();
+    is_copied::<ScalarType>();
+    is_copied::<DomMark>();
+    is_copied::<CatalogueError>();
+    is_copied::<PathSegment<'static>>();
+    is_copied::<Format>();
+    is_copied::<EnumRepr<'static>>();
+    is_copied::<VariantFormat>();
+    is_copied::<ResolutionHandle<'static, 'static>>();
+}
+
+fn parts_are_printed() {
+    is_printed::<Shape>();
+    is_printed::<ShapeKind>();
+    is_printed::<Variant>();
+    is_printed::<Field>();
+    is_printed::<Shapes>();
+    is_printed::<KeyPath<'static>>();
+    is_printed::<FieldInfo<'static>>();
+    is_printed::<VariantSelection<'static>>();
+    is_printed::<DuplicateFieldError<'static>>();
+    is_printed::<Resolution<'static>>();
+}
+
+fn wholes_are_printed() {
+    is_printed::<VariantsByFormat<'static>>();
+    is_printed::<SchemaError<'static>>();
+    is_printed::<Schema<'static>>();
+    is_printed::<ResolutionSet>();
+    is_printed::<ResolutionSetIter<'static>>();
+    is_printed::<Solver<'static, 'static, 'static>>();
+    is_printed::<KeyResult<'static, 'static>>();
+    is_printed::<SolverError<'static>>();
+    is_printed::<MissingFieldInfo<'static>>();
+    is_printed::<CandidateFailure<'static>>();
+}

@@ -1,0 +1,143 @@
+//! Transcripts: types, and then calls with the answers that are wanted.
+
+use crate::by_hand::Hand;
+use crate::catalogue::Catalogue;
+use crate::line::{End, Line};
+use crate::resolution::refusal;
+use crate::solving::Session;
+use crate::types::{Types, declares};
+use facet_solver::{CatalogueError, Schema, Shapes};
+use std::alloc::{AllocError, Global};
+
+/// The lines under one name.
+#[derive(Drop)]
+pub struct Transcript<'t> {
+    pub name: &'t str,
+    types: Vec<Line<'t>>,
+    calls: Vec<Line<'t>>,
+}
+
+/// The transcripts of a file. Empty lines and those that begin with `#` say nothing.
+pub fn transcripts(alloc: Global, text: &str) -> Result<Vec<Transcript<'_>>, AllocError> {
+    let mut transcripts: Vec<Transcript<'_>> = Vec::new(alloc);
+    let mut number = 0usize;
+    for line in text.lines() {
+        number = number.saturating_add(1);
+        let text = line.trim();
+        if let Some(name) = text.strip_prefix("transcript ") {
+            let (types, calls) = (Vec::new(alloc), Vec::new(alloc));
+            transcripts.push(Transcript { name, types, calls })?;
+        } else if !text.is_empty() && !text.starts_with('#') {
+            if let Some(last) = transcripts.last_mut() {
+                last.add(Line { number, text })?;
+            }
+        }
+    }
+    Ok(transcripts)
+}
+
+impl<'t> Transcript<'t> {
+    fn add(&mut self, line: Line<'t>) -> Result<(), AllocError> {
+        if self.calls.is_empty() && declares(line.keyword()) {
+            self.types.push(line)?;
+        } else {
+            self.calls.push(line)?;
+        }
+        Ok(())
+    }
+
+    /// Makes the calls, and compares what they answer with what is wanted.
+    pub fn run(&self, alloc: Global) -> Result<(), End<'t>> {
+        let mut types = Types::new(alloc);
+        for line in &self.types {
+            types.declare(line.text).map_err(|stop| line.end(stop))?;
+        }
+        let Types { names, shapes, .. } = types;
+        match Shapes::new(shapes) {
+            Ok(shapes) => {
+                let (shapes, names) = (&shapes, names.as_slice());
+                let catalogue = Catalogue {
+                    alloc,
+                    shapes,
+                    names,
+                };
+                on_catalogue(catalogue, &self.calls)
+            }
+            Err(fault) => on_fault(alloc, fault, &self.calls),
+        }
+    }
+}
+
+// The calls where the types are no catalogue: only what the check says.
+fn on_fault<'t>(alloc: Global, fault: CatalogueError, calls: &[Line<'t>]) -> Result<(), End<'t>> {
+    for line in calls {
+        let (number, place) = (fault.number(), fault.shape());
+        let answer = format!(in alloc; "{number} at {place}")?;
+        let mut words = line.call_words();
+        words.next();
+        line.expect(&mut words, Ok(answer))?;
+    }
+    Ok(())
+}
+
+// The calls up to the first schema, and those behind it.
+fn on_catalogue<'t>(catalogue: Catalogue<'_, 't>, calls: &[Line<'t>]) -> Result<(), End<'t>> {
+    for index in 0..calls.len() {
+        let line = &calls[index];
+        let mut words = line.call_words();
+        match line.keyword() {
+            "build" => {
+                words.next();
+                let built = catalogue.build(&mut words).map_err(|stop| line.end(stop))?;
+                let came = match &built {
+                    Ok(_) => Ok(String::from_str(catalogue.alloc, "ok")?),
+                    Err(error) => refusal(catalogue.alloc, error),
+                };
+                line.expect(&mut words, came)?;
+                if let Ok(schema) = &built {
+                    return on_schema(catalogue, schema, &calls[index + 1..]);
+                }
+            }
+            "by_hand" => return by_hand(catalogue, line, &calls[index + 1..]),
+            _ => {
+                let came = catalogue.answer(&mut words);
+                line.expect(&mut words, came)?;
+            }
+        }
+    }
+    Ok(())
+}
+
+fn on_schema<'c, 't>(
+    catalogue: Catalogue<'c, 't>,
+    schema: &Schema<'c>,
+    calls: &[Line<'t>],
+) -> Result<(), End<'t>> {
+    let mut session = Session::new(catalogue, schema)?;
+    for line in calls {
+        let mut words = line.call_words();
+        let came = session.answer(&mut words);
+        line.expect(&mut words, came)?;
+    }
+    Ok(())
+}
+
+// The calls on what is made by hand, whose fields stand for the first field of the type that is named.
+fn by_hand<'t>(
+    catalogue: Catalogue<'_, 't>,
+    line: &Line<'t>,
+    calls: &[Line<'t>],
+) -> Result<(), End<'t>> {
+    let mut words = line.call_words();
+    words.next();
+    let field = catalogue
+        .first_field(&mut words)
+        .map_err(|stop| line.end(stop))?;
+    let mut hand = Hand::new(catalogue, field);
+    for line in calls {
+        let mut words = line.call_words();
+        let came = hand.answer(&mut words);
+        line.expect(&mut words, came)?;
+    }
+    Ok(())
+}
