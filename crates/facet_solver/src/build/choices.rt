@@ -129,7 +129,8 @@ pub(crate) fn choices_of_root<'c>(
 ) -> Result<Vec<Choice>, AllocError>
     requires ready { IsReady walker.now }
     requires has { root < length walker.now.build.shapes.now }
-    ensures listed { IfOk result (λ v. ListsChoices (build_of walker.now.build) root (lists v.items)) }
+    ensures listed { IfOk result
+        (λ v. ListsChoices (build_of walker.now.build) root (lists v.items)) }
     ensures counted { IfOk result
         (λ v. length (lists v.items) ≡ count_of_root (build_of walker.now.build) root) }
 {

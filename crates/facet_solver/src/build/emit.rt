@@ -53,7 +53,8 @@ fn emit_regular<'c>(
     resolution: &mut Resolution<'c>,
 ) -> Result<(), SchemaError<'c>>
     requires ready { IsReady walker.now }
-    ensures { let emitted = emissions.emit_regular (build_of walker.now.build) field.now place.now in
+    ensures { let emitted =
+        emissions.emit_regular (build_of walker.now.build) field.now place.now in
         Gives (take_all resolution.old emitted) result resolution.new }
 {
     let info = regular_field(walker.build, field, place)?;
@@ -93,7 +94,8 @@ fn emit_leaf<'c>(
     place: &Place<'c>,
     resolution: &mut Resolution<'c>,
 ) -> Result<(), SchemaError<'c>>
-    ensures { let emitted = emissions.emit_leaf (build_of walker.now.build) field.now target place.now in
+    ensures { let emitted =
+        emissions.emit_leaf (build_of walker.now.build) field.now target place.now in
         Gives (take_all resolution.old emitted) result resolution.new }
 {
     let info = leaf_field(walker.build, field, target, place)?;
@@ -146,8 +148,10 @@ fn add_selector<'c>(
     resolution: &mut Resolution<'c>,
 ) -> Result<(), SchemaError<'c>>
     ensures { let field =
-        emissions.selector_field (build_of walker.now.build) name.now (chosen_of chosen.now) place.now in
-        Gives (take_all resolution.old (emissions.field_and_paths field no_paths)) result resolution.new }
+        emissions.selector_field (build_of walker.now.build) name.now
+        (chosen_of chosen.now) place.now in
+        let emitted = emissions.field_and_paths field no_paths in
+        Gives (take_all resolution.old emitted) result resolution.new }
 {
     let info = selector_field(walker.build, name, chosen, place)?;
     add_with_path(walker, info, resolution)

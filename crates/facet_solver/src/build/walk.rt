@@ -37,7 +37,8 @@ pub(crate) fn walk_fields<'c, 'n>(
 ) -> Result<&'n [usize], SchemaError<'c>>
     requires ready { IsReady walker.now }
     requires below { FieldsBelow (length walker.now.build.shapes.now) fields.now }
-    requires walked { IsSome (walk.walk_fields (build_of walker.now.build) fields.now place.now indices.now) }
+    requires walked { IsSome
+        (walk.walk_fields (build_of walker.now.build) fields.now place.now indices.now) }
     ensures { let walked =
         walk.walk_fields (build_of walker.now.build) fields.now place.now indices.now in
         Walks (effect resolution.old walked) result resolution.new }
@@ -60,8 +61,10 @@ fn walk_field<'c, 'n>(
 ) -> Result<&'n [usize], SchemaError<'c>>
     requires ready { IsReady walker.now }
     requires below { field.now.shape < length walker.now.build.shapes.now }
-    requires walked { IsSome (walk.walk_field (build_of walker.now.build) field.now place.now indices.now) }
-    ensures { let walked = walk.walk_field (build_of walker.now.build) field.now place.now indices.now in
+    requires walked { IsSome
+        (walk.walk_field (build_of walker.now.build) field.now place.now indices.now) }
+    ensures { let walked =
+        walk.walk_field (build_of walker.now.build) field.now place.now indices.now in
         Walks (effect resolution.old walked) result resolution.new }
 {
     let role = role_of(walker.build.shapes, field);
@@ -97,11 +100,14 @@ fn walk_variant<'c, 'n>(
     resolution: &mut Resolution<'c>,
 ) -> Result<&'n [usize], SchemaError<'c>>
     requires ready { IsReady walker.now }
-    requires below { FieldsBelow (length walker.now.build.shapes.now) chosen.now.variant.now.fields.items }
+    requires below { FieldsBelow
+        (length walker.now.build.shapes.now) chosen.now.variant.now.fields.items }
     requires walked { IsSome
-        (walk.walk_variant (build_of walker.now.build) (chosen_of chosen.now) place.now indices.now) }
+        (walk.walk_variant (build_of walker.now.build)
+        (chosen_of chosen.now) place.now indices.now) }
     ensures { let walked =
-        walk.walk_variant (build_of walker.now.build) (chosen_of chosen.now) place.now indices.now in
+        walk.walk_variant (build_of walker.now.build)
+        (chosen_of chosen.now) place.now indices.now in
         Walks (effect resolution.old walked) result resolution.new }
 {
     emit_variant(walker, chosen, place, resolution)?;
