@@ -33,10 +33,11 @@ impl<'c> Model for Schema<'c> {
 
     ghost coded = { schema_code };
 
-    ghost view = { λ s. schema_view s.shapes.now s.root s.representation s.format s.resolutions.items };
+    ghost view = { λ s.
+        schema_view s.shapes.now s.root s.representation s.format s.resolutions.items };
 
-    ghost invariant = { λ s.
-        IsOwnBuild (schema_view s.shapes.now s.root s.representation s.format s.resolutions.items) };
+    ghost invariant = { λ s. IsOwnBuild
+        (schema_view s.shapes.now s.root s.representation s.format s.resolutions.items) };
 }
 
 impl<'c> Schema<'c> {

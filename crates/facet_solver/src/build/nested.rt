@@ -36,48 +36,48 @@ impl Entered {
 
 /// Adds the key paths under the shape of a regular field, behind the field's name.
 pub(crate) fn add_nested_paths<'c>(
-    plan: Build<'c>,
+    build: Build<'c>,
     name: &'c str,
     id: ShapeId,
     resolution: &mut Resolution<'c>,
 ) -> Result<(), AllocError>
-    requires checked { NamesEarlier plan.shapes.now }
-    ensures ok { let paths = nested.nested_paths plan.entry.shapes.now id in
+    requires checked { NamesEarlier build.shapes.now }
+    ensures ok { let paths = nested.nested_paths build.entry.shapes.now id in
         OnOk result (resolution.new ≡ with_paths_behind resolution.old (name.now ∷ []) paths) }
 {
-    add_if_entered(plan, Entered::StructsAlone, id, &[name], resolution)
+    add_if_entered(build, Entered::StructsAlone, id, &[name], resolution)
 }
 
 /// Adds the key paths under the content of a variant that is written apart from its enum's siblings, behind the name
 /// that holds the content.
 pub(crate) fn add_content_paths<'c>(
-    plan: Build<'c>,
+    build: Build<'c>,
     name: &'c str,
     variant: &'c Variant,
     resolution: &mut Resolution<'c>,
 ) -> Result<(), AllocError>
-    requires checked { NamesEarlier plan.shapes.now }
-    ensures ok { let paths = nested.content_paths plan.entry.shapes.now variant.now in
+    requires checked { NamesEarlier build.shapes.now }
+    ensures ok { let paths = nested.content_paths build.entry.shapes.now variant.now in
         OnOk result (resolution.new ≡ with_paths_behind resolution.old (name.now ∷ []) paths) }
 {
-    add_under_variant(plan, Entered::EveryKind, variant, &[name], resolution)
+    add_under_variant(build, Entered::EveryKind, variant, &[name], resolution)
 }
 
 /// Adds the key paths under a shape where it is entered, each behind the prefix.
 #[cycle(nested)]
 fn add_if_entered<'c>(
-    plan: Build<'c>,
+    build: Build<'c>,
     entered: Entered,
     id: ShapeId,
     prefix: &[&'c str],
     resolution: &mut Resolution<'c>,
 ) -> Result<(), AllocError>
-    requires { NamesEarlier plan.shapes.now }
+    requires { NamesEarlier build.shapes.now }
     ensures { OnOk result (resolution.new ≡ with_paths_behind resolution.old (names_of prefix.now)
-        (nested.if_entered (entered_view entered) plan.entry.shapes.now id)) }
+        (nested.if_entered (entered_view entered) build.entry.shapes.now id)) }
 {
-    if entered.has(plan.shapes, id) {
-        add_under_shape(plan, entered, id, prefix, resolution)
+    if entered.has(build.shapes, id) {
+        add_under_shape(build, entered, id, prefix, resolution)
     } else {
         Ok(())
     }
@@ -86,25 +86,25 @@ fn add_if_entered<'c>(
 /// Adds those under a shape, entered or not.
 #[cycle(nested)]
 fn add_under_shape<'c>(
-    plan: Build<'c>,
+    build: Build<'c>,
     entered: Entered,
     id: ShapeId,
     prefix: &[&'c str],
     resolution: &mut Resolution<'c>,
 ) -> Result<(), AllocError>
-    requires { NamesEarlier plan.shapes.now }
+    requires { NamesEarlier build.shapes.now }
     ensures { OnOk result (resolution.new ≡ with_paths_behind resolution.old (names_of prefix.now)
-        (nested.under_shape (entered_view entered) plan.entry.shapes.now id)) }
+        (nested.under_shape (entered_view entered) build.entry.shapes.now id)) }
 {
-    let Some(shape) = plan.shapes.get(id) else {
+    let Some(shape) = build.shapes.get(id) else {
         return Ok(());
     };
     match &shape.kind {
         ShapeKind::Struct { fields, .. } => {
-            add_through_fields(plan, entered, fields.as_slice(), prefix, resolution)
+            add_through_fields(build, entered, fields.as_slice(), prefix, resolution)
         }
         ShapeKind::Enum { variants } => {
-            add_under_variants(plan, entered, variants.as_slice(), prefix, resolution)
+            add_under_variants(build, entered, variants.as_slice(), prefix, resolution)
         }
         _ => Ok(()),
     }
@@ -113,18 +113,18 @@ fn add_under_shape<'c>(
 /// Adds those under variants, one after another.
 #[cycle(nested)]
 fn add_under_variants<'c>(
-    plan: Build<'c>,
+    build: Build<'c>,
     entered: Entered,
     variants: &'c [Variant],
     prefix: &[&'c str],
     resolution: &mut Resolution<'c>,
 ) -> Result<(), AllocError>
-    requires { NamesEarlier plan.shapes.now }
+    requires { NamesEarlier build.shapes.now }
     ensures { OnOk result (resolution.new ≡ with_paths_behind resolution.old (names_of prefix.now)
-        (nested.under_variants (entered_view entered) plan.entry.shapes.now variants.now)) }
+        (nested.under_variants (entered_view entered) build.entry.shapes.now variants.now)) }
 {
     for variant in variants {
-        add_under_variant(plan, entered, variant, prefix, resolution)?;
+        add_under_variant(build, entered, variant, prefix, resolution)?;
     }
     Ok(())
 }
@@ -132,41 +132,41 @@ fn add_under_variants<'c>(
 /// Adds those under a variant.
 #[cycle(nested)]
 fn add_under_variant<'c>(
-    plan: Build<'c>,
+    build: Build<'c>,
     entered: Entered,
     variant: &'c Variant,
     prefix: &[&'c str],
     resolution: &mut Resolution<'c>,
 ) -> Result<(), AllocError>
-    requires { NamesEarlier plan.shapes.now }
+    requires { NamesEarlier build.shapes.now }
     ensures { OnOk result (resolution.new ≡ with_paths_behind resolution.old (names_of prefix.now)
-        (nested.under_variant (entered_view entered) plan.entry.shapes.now variant.now)) }
+        (nested.under_variant (entered_view entered) build.entry.shapes.now variant.now)) }
 {
     let fields = variant.fields.as_slice();
     if let [field] = fields
         && field.name.as_str() == "0"
-        && entered.has(plan.shapes, field.shape)
+        && entered.has(build.shapes, field.shape)
     {
-        return add_under_shape(plan, entered, field.shape, prefix, resolution);
+        return add_under_shape(build, entered, field.shape, prefix, resolution);
     }
-    add_through_fields(plan, entered, fields, prefix, resolution)
+    add_through_fields(build, entered, fields, prefix, resolution)
 }
 
 /// Adds those through fields, one after another.
 #[cycle(nested)]
 fn add_through_fields<'c>(
-    plan: Build<'c>,
+    build: Build<'c>,
     entered: Entered,
     fields: &'c [Field],
     prefix: &[&'c str],
     resolution: &mut Resolution<'c>,
 ) -> Result<(), AllocError>
-    requires { NamesEarlier plan.shapes.now }
+    requires { NamesEarlier build.shapes.now }
     ensures { OnOk result (resolution.new ≡ with_paths_behind resolution.old (names_of prefix.now)
-        (nested.through_fields (entered_view entered) plan.entry.shapes.now fields.now)) }
+        (nested.through_fields (entered_view entered) build.entry.shapes.now fields.now)) }
 {
     for field in fields {
-        add_through_field(plan, entered, field, prefix, resolution)?;
+        add_through_field(build, entered, field, prefix, resolution)?;
     }
     Ok(())
 }
@@ -174,22 +174,22 @@ fn add_through_fields<'c>(
 /// Adds those through a field.
 #[cycle(nested)]
 fn add_through_field<'c>(
-    plan: Build<'c>,
+    build: Build<'c>,
     entered: Entered,
     field: &'c Field,
     prefix: &[&'c str],
     resolution: &mut Resolution<'c>,
 ) -> Result<(), AllocError>
-    requires { NamesEarlier plan.shapes.now }
+    requires { NamesEarlier build.shapes.now }
     ensures { OnOk result (resolution.new ≡ with_paths_behind resolution.old (names_of prefix.now)
-        (nested.through_field (entered_view entered) plan.entry.shapes.now field.now)) }
+        (nested.through_field (entered_view entered) build.entry.shapes.now field.now)) }
 {
     if field.flattened {
-        return add_under_shape(plan, entered, field.shape, prefix, resolution);
+        return add_under_shape(build, entered, field.shape, prefix, resolution);
     }
-    let path = with_name(plan.alloc, prefix, field.effective_name())?;
-    resolution.add_key_path(Vec::from_slice(plan.alloc, &path)?)?;
-    add_if_entered(plan, entered, field.shape, &path, resolution)
+    let path = with_name(build.alloc, prefix, field.effective_name())?;
+    resolution.add_key_path(Vec::from_slice(build.alloc, &path)?)?;
+    add_if_entered(build, entered, field.shape, &path, resolution)
 }
 
 /// A prefix with one more name.

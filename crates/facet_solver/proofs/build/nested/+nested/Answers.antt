@@ -32,7 +32,7 @@ add_through_field-returns t c =
     let is : names_of c.args.prefix.now ++ effective_name c.args.field.now ∷ [] ≡ path = sym (c.in_ok-path.ensures ∙ ap (λ (n : Name). names_of c.args.prefix.now ++ n ∷ []) c.effective_name.ensures) in
     let made : with_key_path r path ≡ c.add_key_path.new.self = sym (c.in_ok-add_key_path.ensures.ok ∙ ap (λ (p : KeyPath). with_key_path r p) (ap names_of (c.in_ok-from_slice.ensures.items ∙ c.deref.ensures.value))) in
     let e = entered_view c.args.entered in
-    let cat = c.args.plan.shapes.now in
+    let cat = c.args.build.shapes.now in
     let paths = if_entered e cat c.args.field.now.shape in
     let regular : with_paths_behind r (names_of c.args.prefix.now) (through_field e cat c.args.field.now) ≡ with_paths_behind r (names_of c.args.prefix.now) (named (effective_name c.args.field.now) paths)
     = ap (λ (b : Bool). with_paths_behind r (names_of c.args.prefix.now) (if b then under_shape e cat c.args.field.now.shape else named (effective_name c.args.field.now) paths)) c.if-field.false in
@@ -49,7 +49,7 @@ add_through_fields-add_through_field-requires t c =
 pub add_through_fields-loop-field-preserved : goal.add_through_fields-loop-field-preserved
 add_through_fields-loop-field-preserved t c =
     let e = entered_view c.args.entered in
-    let cat = c.args.plan.shapes.now in
+    let cat = c.args.build.shapes.now in
     rw c.in_ok-add_through_field.ensures
     (behind-more (through_field e cat) (names_of c.args.prefix.now) c.args.fields.now c.loop-field.field-index c.loop-field.resolution c.field-item.result c.loop-field-test.true c.field-item.is
     ∙ c.loop-field.invariant)
@@ -57,42 +57,42 @@ add_through_fields-loop-field-preserved t c =
 pub add_through_fields-returns : goal.add_through_fields-returns
 add_through_fields-returns t c =
     let e = entered_view c.args.entered in
-    let cat = c.args.plan.shapes.now in
+    let cat = c.args.build.shapes.now in
     sym (behind-end (through_field e cat) (names_of c.args.prefix.now) c.args.fields.now c.loop-field.field-index c.loop-field.resolution c.loop-field-test.false)
     ∙ c.loop-field.invariant
 
 pub add_under_shape-returns-in_default : goal.add_under_shape-returns-in_default
 add_under_shape-returns-in_default t c =
-    let e = at-other (entered_view c.args.entered) c.args.plan.shapes.now c.requires c.args.id
+    let e = at-other (entered_view c.args.entered) c.args.build.shapes.now c.requires c.args.id
     (λ kind fs h. not_other kind fs (ap kind_of c.in_default.ensures.entry ∙ h))
     (λ vs h. not_other_enum vs (ap kind_of c.in_default.ensures.entry ∙ h)) in
     rw e (sym (behind-none c.args.resolution.now (names_of c.args.prefix.now)))
 
 pub add_under_shape-add_through_fields-requires : goal.add_under_shape-add_through_fields-requires
 add_under_shape-add_through_fields-requires t c =
-    let l = struct-limit (entered_view c.args.entered) c.args.plan.shapes.now c.requires c.args.id c.in-Struct.kind c.in-Struct.fields (ap kind_of (sym c.in-Some.ensures.entry) ∙ c.in-Struct.is) in
+    let l = struct-limit (entered_view c.args.entered) c.args.build.shapes.now c.requires c.args.id c.in-Struct.kind c.in-Struct.fields (ap kind_of (sym c.in-Some.ensures.entry) ∙ c.in-Struct.is) in
     let e = ap limit_of c.as_slice.ensures.value in
     (omega arith, c.requires)
 
 pub add_under_shape-add_under_variants-requires : goal.add_under_shape-add_under_variants-requires
 add_under_shape-add_under_variants-requires t c =
-    let l = enum-limit (entered_view c.args.entered) c.args.plan.shapes.now c.requires c.args.id c.in-Enum.variants (ap kind_of (sym c.in-Some.ensures.entry) ∙ c.in-Enum.is) in
+    let l = enum-limit (entered_view c.args.entered) c.args.build.shapes.now c.requires c.args.id c.in-Enum.variants (ap kind_of (sym c.in-Some.ensures.entry) ∙ c.in-Enum.is) in
     let e = ap limit_of_variants c.as_slice-in-Enum.ensures.value in
     (omega arith, c.requires)
 
 pub add_under_shape-returns-in-Struct : goal.add_under_shape-returns-in-Struct
 add_under_shape-returns-in-Struct t c =
-    let e = at-struct (entered_view c.args.entered) c.args.plan.shapes.now c.requires c.args.id c.in-Struct.kind c.in-Struct.fields (ap kind_of (sym c.in-Some.ensures.entry) ∙ c.in-Struct.is) in
+    let e = at-struct (entered_view c.args.entered) c.args.build.shapes.now c.requires c.args.id c.in-Struct.kind c.in-Struct.fields (ap kind_of (sym c.in-Some.ensures.entry) ∙ c.in-Struct.is) in
     rw (e, ← c.as_slice.ensures.value) c.add_through_fields.ensures
 
 pub add_under_shape-returns-in-Enum : goal.add_under_shape-returns-in-Enum
 add_under_shape-returns-in-Enum t c =
-    let e = at-enum (entered_view c.args.entered) c.args.plan.shapes.now c.requires c.args.id c.in-Enum.variants (ap kind_of (sym c.in-Some.ensures.entry) ∙ c.in-Enum.is) in
+    let e = at-enum (entered_view c.args.entered) c.args.build.shapes.now c.requires c.args.id c.in-Enum.variants (ap kind_of (sym c.in-Some.ensures.entry) ∙ c.in-Enum.is) in
     rw (e, ← c.as_slice-in-Enum.ensures.value) c.add_under_variants.ensures
 
 pub add_under_shape-returns-in_default-kind : goal.add_under_shape-returns-in_default-kind
 add_under_shape-returns-in_default-kind t c =
-    let e = at-other (entered_view c.args.entered) c.args.plan.shapes.now c.requires c.args.id
+    let e = at-other (entered_view c.args.entered) c.args.build.shapes.now c.requires c.args.id
     (λ kind fs h. c.in_default-kind.not-Struct kind fs (ap kind_of c.in-Some.ensures.entry ∙ h))
     (λ vs h. c.in_default-kind.not-Enum vs (ap kind_of c.in-Some.ensures.entry ∙ h)) in
     rw e (sym (behind-none c.args.resolution.now (names_of c.args.prefix.now)))
@@ -115,7 +115,7 @@ add_under_variants-add_under_variant-requires t c =
 pub add_under_variants-loop-variant-preserved : goal.add_under_variants-loop-variant-preserved
 add_under_variants-loop-variant-preserved t c =
     let e = entered_view c.args.entered in
-    let cat = c.args.plan.shapes.now in
+    let cat = c.args.build.shapes.now in
     rw c.in_ok-add_under_variant.ensures
     (behind-more (under_variant e cat) (names_of c.args.prefix.now) c.args.variants.now c.loop-variant.variant-index c.loop-variant.resolution c.variant-item.result c.loop-variant-test.true c.variant-item.is
     ∙ c.loop-variant.invariant)
@@ -123,6 +123,6 @@ add_under_variants-loop-variant-preserved t c =
 pub add_under_variants-returns : goal.add_under_variants-returns
 add_under_variants-returns t c =
     let e = entered_view c.args.entered in
-    let cat = c.args.plan.shapes.now in
+    let cat = c.args.build.shapes.now in
     sym (behind-end (under_variant e cat) (names_of c.args.prefix.now) c.args.variants.now c.loop-variant.variant-index c.loop-variant.resolution c.loop-variant-test.false)
     ∙ c.loop-variant.invariant

@@ -25,13 +25,13 @@ decreases-add_under_variants l = 6 * limit_of_variants l.variants.now + 2
 
 abbrev pub invariant-add_through_fields-loop-field : goal.invariant-add_through_fields-loop-field
 invariant-add_through_fields-loop-field l =
-    let paths = through_fields (entered_view l.entered) l.plan.shapes.now in
+    let paths = through_fields (entered_view l.entered) l.build.shapes.now in
     with_paths_behind l.resolution (names_of l.prefix) (paths (drop l.field-index l.fields))
     ≡ with_paths_behind l.fn.resolution (names_of l.prefix) (paths l.fields)
 
 abbrev pub invariant-add_under_variants-loop-variant :
     goal.invariant-add_under_variants-loop-variant
 invariant-add_under_variants-loop-variant l =
-    let paths = under_variants (entered_view l.entered) l.plan.shapes.now in
+    let paths = under_variants (entered_view l.entered) l.build.shapes.now in
     with_paths_behind l.resolution (names_of l.prefix) (paths (drop l.variant-index l.variants))
     ≡ with_paths_behind l.fn.resolution (names_of l.prefix) (paths l.variants)
