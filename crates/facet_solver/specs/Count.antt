@@ -20,7 +20,7 @@ Count = List Field → ℕ
 abbrev pub count_variant : Count → Catalogue → Bool → Variant → ℕ
 count_variant below cat walked v = if walked then below (content_of cat v).fields else 1
 
--- one field, by its role: an enum is the sum over its variants, and without variants it is one
+-- one field, by its role: an enum is the sum over its variants, and what takes no index counts one
 abbrev pub count_role : Count → Build → Role → ℕ
 count_role below build (block target fs) = below fs
 count_role below build (alternatives target s vs) =

@@ -20,7 +20,7 @@ pub enum KeyResult<'s, 'c> {
         /// The first field of each shape, in the order of the candidates, with the score of the shape.
         fields: Vec<(&'s FieldInfo<'c>, u64)>,
     },
-    /// One candidate is left.
+    /// One candidate has the key.
     Solved(ResolutionHandle<'s, 'c>),
     /// No candidate has a field that the key means.
     Unknown,
