@@ -68,13 +68,12 @@ walk_variant_step below build chosen place ns =
 
 -- one field, by its role
 abbrev pub walk_role : Walk → Build → Field → Place → Role → Walking
-walk_role below build f place (block target fs) ns = below fs (inside_field place f target) ns
-walk_role below build f place (alternatives target s vs) ns =
-    choose vs ns (λ v rest. walk_variant_step below build (choosing f target s v) place rest)
-walk_role below build f place regular ns = emit (emit_plain build f place regular) ns
-walk_role below build f place (catch_all target) ns =
-    emit (emit_plain build f place (catch_all target)) ns
-walk_role below build f place (leaf target) ns = emit (emit_plain build f place (leaf target)) ns
+walk_role below build f place (block target fs) = below fs (inside_field place f target)
+walk_role below build f place (alternatives target s vs) =
+    λ ns. choose vs ns (λ v rest. walk_variant_step below build (choosing f target s v) place rest)
+walk_role below build f place regular = emit (emit_plain build f place regular)
+walk_role below build f place (catch_all target) = emit (emit_plain build f place (catch_all target))
+walk_role below build f place (leaf target) = emit (emit_plain build f place (leaf target))
 
 -- fields in order, each with the indices that the one before it left; `below` walks the fields of
 -- what is flattened
