@@ -1,6 +1,6 @@
 //! All resolutions of a type.
 ghost use Rattle.std.specs.Prelude.{◌≡◌, ◌<◌, IfErr, IfOk, None, Some, length};
-ghost use Rattle.facet_solver.specs.Build.{build_of};
+ghost use Rattle.facet_solver.specs.Build.{build_of, build_with};
 ghost use Rattle.facet_solver.specs.Choice.{IsRefusal};
 ghost use Rattle.facet_solver.specs.Count.{IsCountOf};
 ghost use Rattle.facet_solver.specs.Representation.{asked_view, externally_tagged, flattened, repr_view};
@@ -109,11 +109,44 @@ impl<'c> Schema<'c> {
         ensures built { IfOk result (IsBuilt (flat_build shapes.now None) root) }
         ensures refused { IfErr result (IsRefusal (flat_build shapes.now None) root) }
     {
+        Schema::build_with_format(alloc, shapes, root, Format::Flat)
+    }
+
+    /// The schema of a root for documents of attributes and elements, such as XML, with the representation of each
+    /// flattened enum that its own attributes ask for.
+    ///
+    /// Refused where two fields of one choice have one key, and where memory is refused.
+    pub fn build_dom(
+        alloc: Global,
+        shapes: &'c Shapes,
+        root: ShapeId,
+    ) -> Result<Schema<'c>, SchemaError<'c>>
+        requires { root < length shapes.now }
+        ensures built { IfOk result (IsBuilt (build_with shapes.now None Format.Dom) root) }
+        ensures refused { IfErr result (IsRefusal (build_with shapes.now None Format.Dom) root) }
+    {
+        Schema::build_with_format(alloc, shapes, root, Format::Dom)
+    }
+
+    /// The schema of a root for documents of a format, with the representation of each flattened enum that its own
+    /// attributes ask for.
+    ///
+    /// Refused where two fields of one choice have one key, and where memory is refused.
+    pub fn build_with_format(
+        alloc: Global,
+        shapes: &'c Shapes,
+        root: ShapeId,
+        format: Format,
+    ) -> Result<Schema<'c>, SchemaError<'c>>
+        requires { root < length shapes.now }
+        ensures built { IfOk result (IsBuilt (build_with shapes.now None format) root) }
+        ensures refused { IfErr result (IsRefusal (build_with shapes.now None format) root) }
+    {
         let build = Build {
             alloc,
             shapes,
             representation: None,
-            format: Format::Flat,
+            format,
         };
         Schema::of_build(build, root)
     }

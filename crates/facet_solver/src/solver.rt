@@ -2,7 +2,8 @@
 ghost use Rattle.std.specs.Prelude.{◌≡◌, ◌≢◌, ◌↔◌, ◌∷◌, [], ◌≤◌, All, IfErr, IfOk, IsOk, IsTrue, OnErr, OnOk, false, length, map, true};
 ghost use Rattle.std.specs.Bool.{OnFalse};
 ghost use Rattle.std.specs.List.Sorted.{IsStrictlyIncreasing};
-ghost use Rattle.facet_solver_shape.specs.Keys.{key_of};
+ghost use Rattle.facet_solver_shape.specs.Keys.{dom_key, key_of};
+ghost use Rattle.facet_solver_shape.specs.declared.resolution.key.FieldCategory.TheVariants.{Attribute, Element, Text};
 ghost use Rattle.facet_solver.specs.Handle.{IsHandleOf, index_of};
 ghost use Rattle.facet_solver.specs.HowMany.{IsWithin, how_many, matches_view};
 ghost use Rattle.facet_solver.specs.KeyResult.{HoldsHandleOf, key_result, key_result_view};
@@ -121,6 +122,47 @@ impl<'s, 'c, 'a> Solver<'s, 'c, 'a> {
         self.mark_seen(key)?;
         self.narrow(HasKey { key });
         Ok(answer)
+    }
+
+    /// Sees an attribute of the document. It is `see_key` of `FieldKey::attribute(name)`, errors included.
+    pub fn see_attribute(
+        &mut self,
+        alloc: Global,
+        name: &'a str,
+    ) -> Result<KeyResult<'s, 'c>, AllocError>
+        ensures answer { IfOk result (λ answer.
+            key_result_view answer ≡ key_result (dom_key Attribute name.now) self.old) }
+        ensures handle { IfOk result (HoldsHandleOf self.old.schema) }
+        ensures ok { OnOk result (self.new ≡ state.see_key (dom_key Attribute name.now) self.old) }
+        ensures err { OnErr result (self.new ≡ self.old) }
+    {
+        self.see_key(alloc, FieldKey::attribute(name))
+    }
+
+    /// Sees a child element of the document. It is `see_key` of `FieldKey::element(name)`, errors included.
+    pub fn see_element(
+        &mut self,
+        alloc: Global,
+        name: &'a str,
+    ) -> Result<KeyResult<'s, 'c>, AllocError>
+        ensures answer { IfOk result (λ answer.
+            key_result_view answer ≡ key_result (dom_key Element name.now) self.old) }
+        ensures handle { IfOk result (HoldsHandleOf self.old.schema) }
+        ensures ok { OnOk result (self.new ≡ state.see_key (dom_key Element name.now) self.old) }
+        ensures err { OnErr result (self.new ≡ self.old) }
+    {
+        self.see_key(alloc, FieldKey::element(name))
+    }
+
+    /// Sees the text of the document's element. It is `see_key` of `FieldKey::text()`, errors included.
+    pub fn see_text(&mut self, alloc: Global) -> Result<KeyResult<'s, 'c>, AllocError>
+        ensures answer { IfOk result (λ answer.
+            key_result_view answer ≡ key_result (dom_key Text []) self.old) }
+        ensures handle { IfOk result (HoldsHandleOf self.old.schema) }
+        ensures ok { OnOk result (self.new ≡ state.see_key (dom_key Text []) self.old) }
+        ensures err { OnErr result (self.new ≡ self.old) }
+    {
+        self.see_key(alloc, FieldKey::text())
     }
 
     /// Sees a key without narrowing the candidates.

@@ -3,7 +3,7 @@
 use crate::line::{Stop, add, number, word};
 use crate::types::place_of;
 use facet_solver::{
-    EnumRepr, Field, Schema, SchemaError, Shape, ShapeId, ShapeKind, Shapes, Variant,
+    EnumRepr, Field, Format, Schema, SchemaError, Shape, ShapeId, ShapeKind, Shapes, Variant,
     VariantFormat, VariantsByFormat, specificity_score,
 };
 use std::alloc::{AllocError, Global};
@@ -36,7 +36,12 @@ impl<'c, 't> Catalogue<'c, 't> {
 
     /// The place of the type that is named next.
     pub fn id(&self, words: &mut SplitWhitespace<'t>) -> Result<ShapeId, Stop> {
-        let id = place_of(self.names, word(words)?).ok_or(Stop::Unread)?;
+        self.id_of(word(words)?)
+    }
+
+    /// The place of the type of a name.
+    pub fn id_of(&self, name: &str) -> Result<ShapeId, Stop> {
+        let id = place_of(self.names, name).ok_or(Stop::Unread)?;
         if self.shapes.has(id) {
             Ok(id)
         } else {
@@ -80,6 +85,11 @@ impl<'c, 't> Catalogue<'c, 't> {
             None => Ok(Schema::build(self.alloc, self.shapes, root)),
             Some("external") => Ok(Schema::build_externally_tagged(self.alloc, self.shapes, root)),
             Some("auto") => Ok(Schema::build_auto(self.alloc, self.shapes, root)),
+            Some("dom") => Ok(Schema::build_dom(self.alloc, self.shapes, root)),
+            Some("format") => {
+                let format = format(words)?;
+                Ok(Schema::build_with_format(self.alloc, self.shapes, root, format))
+            }
             Some("with") => {
                 let repr = repr(words)?;
                 Ok(Schema::build_with_repr(self.alloc, self.shapes, root, repr))
@@ -236,6 +246,15 @@ fn expected(format: &VariantFormat) -> &'static str {
         "no value"
     } else {
         "any value"
+    }
+}
+
+// A format in a word.
+fn format(words: &mut SplitWhitespace<'_>) -> Result<Format, Stop> {
+    match word(words)? {
+        "flat" => Ok(Format::Flat),
+        "dom" => Ok(Format::Dom),
+        _ => Err(Stop::Unread),
     }
 }
 

@@ -4,7 +4,7 @@ use crate::catalogue::Catalogue;
 use crate::line::{Stop, add, number, word};
 use crate::resolution;
 use crate::resolution::{add_key, key};
-use facet_solver::{KeyResult, ResolutionHandle, Schema, Solver, SolverError};
+use facet_solver::{KeyResult, ResolutionHandle, SatisfyResult, Schema, Solver, SolverError};
 use std::alloc::AllocError;
 use std::mem;
 use std::str::SplitWhitespace;
@@ -30,6 +30,13 @@ impl<'s, 'c, 't> Session<'s, 'c, 't> {
     pub fn answer(&mut self, words: &mut SplitWhitespace<'t>) -> Result<String, Stop> {
         match word(words)? {
             "see" => self.see(words),
+            "see_attribute" => self.see_attribute(words),
+            "see_element" => self.see_element(words),
+            "see_text" => Ok(self.see_text()?),
+            "mark_seen" => self.mark_seen(words),
+            "was_seen" => self.was_seen(words),
+            "hint_variant" => self.hint_variant(words),
+            "satisfy_shapes" => self.satisfy_shapes(words),
             "candidates" => Ok(self.candidates()?),
             "candidate_set" => Ok(self.candidate_set()?),
             "contains" => self.contains(words),
@@ -44,6 +51,38 @@ impl<'s, 'c, 't> Session<'s, 'c, 't> {
         let key = key(word(words)?)?;
         let answer = self.solver.see_key(self.catalogue.alloc, key)?;
         Ok(self.key_answer(&answer)?)
+    }
+
+    fn see_attribute(&mut self, words: &mut SplitWhitespace<'t>) -> Result<String, Stop> {
+        let name = word(words)?;
+        let answer = self.solver.see_attribute(self.catalogue.alloc, name)?;
+        Ok(self.key_answer(&answer)?)
+    }
+
+    fn see_element(&mut self, words: &mut SplitWhitespace<'t>) -> Result<String, Stop> {
+        let name = word(words)?;
+        let answer = self.solver.see_element(self.catalogue.alloc, name)?;
+        Ok(self.key_answer(&answer)?)
+    }
+
+    fn see_text(&mut self) -> Result<String, AllocError> {
+        let answer = self.solver.see_text(self.catalogue.alloc)?;
+        self.key_answer(&answer)
+    }
+
+    fn mark_seen(&mut self, words: &mut SplitWhitespace<'t>) -> Result<String, Stop> {
+        self.solver.mark_seen(key(word(words)?)?)?;
+        Ok(String::from_str(self.catalogue.alloc, "ok")?)
+    }
+
+    fn was_seen(&self, words: &mut SplitWhitespace<'t>) -> Result<String, Stop> {
+        let was_seen = self.solver.was_field_seen(word(words)?);
+        Ok(self.yes_or_no(was_seen)?)
+    }
+
+    fn hint_variant(&mut self, words: &mut SplitWhitespace<'t>) -> Result<String, Stop> {
+        let is_picked = self.solver.hint_variant(word(words)?);
+        Ok(self.yes_or_no(is_picked)?)
     }
 
     fn key_answer(&self, answer: &KeyResult<'_, '_>) -> Result<String, AllocError> {
@@ -95,8 +134,26 @@ impl<'s, 'c, 't> Session<'s, 'c, 't> {
 
     fn contains(&self, words: &mut SplitWhitespace<'t>) -> Result<String, Stop> {
         let contained = self.solver.candidate_set().contains(number(words)?);
-        let answer = if contained { "yes" } else { "no" };
-        Ok(String::from_str(self.catalogue.alloc, answer)?)
+        Ok(self.yes_or_no(contained)?)
+    }
+
+    fn yes_or_no(&self, holds: bool) -> Result<String, AllocError> {
+        let answer = if holds { "yes" } else { "no" };
+        String::from_str(self.catalogue.alloc, answer)
+    }
+
+    // The types are those of all words that are left.
+    fn satisfy_shapes(&mut self, words: &mut SplitWhitespace<'t>) -> Result<String, Stop> {
+        let alloc = self.catalogue.alloc;
+        let mut shapes = Vec::new(alloc);
+        for name in words {
+            shapes.push(self.catalogue.id_of(name)?)?;
+        }
+        match self.solver.satisfy_shapes(&shapes) {
+            SatisfyResult::Continue => Ok(String::from_str(alloc, "continue")?),
+            SatisfyResult::Solved(handle) => Ok(format!(in alloc; "solved {}", handle.index())?),
+            SatisfyResult::NoMatch => Ok(String::from_str(alloc, "no match")?),
+        }
     }
 
     // The last candidate.
