@@ -3,6 +3,7 @@ use Rattle.facet_solver.specs.Build.{Catalogue, kind_of, kind_at}
 use Rattle.std.proofs.Common.{◌⊎◌, inl, inr, ◌≡◌, ℕ, zero, suc, ◌<◌, ◌≤◌, List, [], ◌∷◌, Option, Some, None, Bool, true, false, sym, refl, ap, ◌∙◌, slice_get, length, arith, subst, get_or, string_bytes}
 use Rattle.std.specs.Prelude.{if◌then◌else◌, IsSome, nat_eq, not}
 use Rattle.std.specs.Option.{IfSome}
+use Rattle.std.proofs.lemmas.Option.{slice_get_past}
 use Rattle.facet_solver_shape.specs.declared.shape.Shape.{Shape}
 use Rattle.facet_solver_shape.specs.declared.shape.Field.{Field}
 use Rattle.facet_solver_shape.specs.Catalogues.{NamesEarlier}
@@ -35,11 +36,6 @@ module _ (cat : Catalogue) (checked : NamesEarlier cat) where
       go None b x = refl
       go (Some next) b x = x next b
 
-  past_end : (xs : List Shape) (i : ℕ) → length xs ≤ i → slice_get xs i ≡ None
-  past_end [] i h = refl
-  past_end (x ∷ xs) zero h = absurd (omega arith)
-  past_end (x ∷ xs) (suc i) h = past_end xs i (omega arith)
-
   pub effective-step : (id : ℕ) → effective cat id ≡ go_on (effective cat) id (next_inside (slice_get cat id))
   effective-step id = elim (le_or_lt (length cat) id) [ inl past ↦ outside past | inr inside ↦ within inside ]
     where
@@ -51,7 +47,7 @@ module _ (cat : Catalogue) (checked : NamesEarlier cat) where
       none (suc n) e = ap (λ (o : Option Shape). go_on (effective_within n cat) id (next_inside o)) e
 
       outside : length cat ≤ id → effective cat id ≡ go_on (effective cat) id (next_inside (slice_get cat id))
-      outside h = none (length cat) (past_end cat id h) ∙ sym (ap (λ (o : Option Shape). go_on (effective cat) id (next_inside o)) (past_end cat id h))
+      outside h = none (length cat) (slice_get_past cat id h) ∙ sym (ap (λ (o : Option Shape). go_on (effective cat) id (next_inside o)) (slice_get_past cat id h))
 
       within : id < length cat → effective cat id ≡ go_on (effective cat) id (next_inside (slice_get cat id))
       within h = same_effective (length cat) (suc (length cat)) id (omega arith) (omega arith)

@@ -16,6 +16,7 @@ use Rattle.facet_solver.specs.Listing.{Choices, product, indexed, choices_of_var
 use Rattle.facet_solver.specs.Count.{Count, count_variant, count_role, count_fields_step, count_within, count_fields, count_of_root, count_of_shape, count_kind, count_variants, below_2_64, IsCountOf, count_shape, count_field, count_content}
 use Rattle.facet_solver_shape.specs.Catalogues.{FieldsBelow, VariantsBelow, NamesEarlier}
 use Rattle.facet_solver.proofs.Roles.{RoleBelow, role_of-below, content_of-below, IsLocal, one_step, target_in, target_in_role, target_in_role-le, FieldsBelow-mono}
+use Rattle.facet_solver.proofs.Outcome.{get_push}
 use Rattle.facet_solver.specs.declared.build.representation.Format.{Format}
 use Rattle.std.proofs.lemmas.List.{length_push, take_all}
 use Rattle.facet_solver.specs.declared.build.count.saturating.SaturatingCount.{SaturatingCount}
@@ -184,13 +185,6 @@ pub for_each_format : (representation : Option Repr) (cat : Catalogue) (root : �
 for_each_format representation cat root known answer e = λ format. e ∙ ap below_2_64 (same_root representation cat known format root)
 
 -- ---- a table of counts grows index by index to that of the whole catalogue
--- an entry after a push is an earlier one or the one pushed
-pushed : (ts : List SaturatingCount) (t : SaturatingCount) (i : ℕ) (u : SaturatingCount) → slice_get (ts ++ t ∷ []) i ≡ Some u → (slice_get ts i ≡ Some u) ⊎ ((i ≡ length ts) × (t ≡ u))
-pushed [] t zero u e = let same : t ≡ u = cc in inr (refl, same)
-pushed [] t (suc i) u e = absurd (cc)
-pushed (v ∷ ts) t zero u e = inl e
-pushed (v ∷ ts) t (suc i) u e = elim (pushed ts t i u e) [ inl before ↦ inl before | inr last ↦ inr (ap suc last.0, last.1) ]
-
 -- past the end there is no entry
 none_past : (cat : List Shape) (i : ℕ) → slice_get cat i ≡ None → length cat ≤ i
 none_past [] i e = omega arith
@@ -207,7 +201,7 @@ module _ (build : Build) where
   one_more_entry ts t s counted lt here tells =
       record {
         within = simp (length_push ts t) (omega arith);
-        each = λ id u e. entry id u (pushed ts t id u e);
+        each = λ id u e. entry id u (get_push ts t u id e);
       }
     where
       entry : (id : ℕ) (u : SaturatingCount) → (slice_get ts id ≡ Some u) ⊎ ((id ≡ length ts) × (t ≡ u)) → CountsTo u (count_at build id)

@@ -151,16 +151,19 @@ take_all-field_and_paths r f ps = go (take_in r (a_field f))
 pub ruleset takes = (take_all-nil, take_all-one, take_all-next, take_all-stop)
 
 -- ---- emissions taken in one by one come to their resolution, or to a clash
+-- an item of the first of two lists
 get_left : {X : Type 0} (xs ys : List X) (k : ℕ) (x : X) → slice_get xs k ≡ Some x → slice_get (xs ++ ys) k ≡ Some x
 get_left [] ys k x h = absurd (cc)
 get_left (y ∷ xs) ys zero x h = h
 get_left (y ∷ xs) ys (suc k) x h = get_left xs ys k x h
 
+-- an item between two lists
 get_mid : {X : Type 0} (xs ys : List X) (x : X) → slice_get (xs ++ x ∷ ys) (length xs) ≡ Some x
 get_mid [] ys x = refl
 get_mid (y ∷ xs) ys x = get_mid xs ys x
 
-get_push : {X : Type 0} (xs : List X) (x y : X) (k : ℕ) → slice_get (xs ++ x ∷ []) k ≡ Some y → (slice_get xs k ≡ Some y) ⊎ ((k ≡ length xs) × (x ≡ y))
+-- an item after a push is an earlier one or the one pushed
+pub get_push : {X : Type 0} (xs : List X) (x y : X) (k : ℕ) → slice_get (xs ++ x ∷ []) k ≡ Some y → (slice_get xs k ≡ Some y) ⊎ ((k ≡ length xs) × (x ≡ y))
 get_push [] x y zero h = inr (refl, cc)
 get_push [] x y (suc k) h = absurd (cc)
 get_push (z ∷ xs) x y zero h = inl h
