@@ -14,15 +14,13 @@ use Rattle.facet_solver_shape.specs.declared.shape.ShapeKind.TheVariants.{Struct
 use Rattle.facet_solver_shape.specs.declared.shape.Field.{Field}
 use Rattle.facet_solver_shape.specs.declared.shape.Variant.{Variant}
 use Rattle.facet_solver_shape.specs.Catalogues.{FieldsBelow, VariantsBelow, KindBelow, NamesEarlier}
-use Rattle.facet_solver.specs.Targets.{Catalogue, kind_of, kind_at}
+use Rattle.facet_solver.specs.Build.{Catalogue, kind_of, kind_at}
 use Rattle.facet_solver.specs.Content.{is_zero}
-use Rattle.facet_solver.specs.KeyPaths.{KeyPath, KeyPaths, no_paths, paths_of_each, behind_prefix, named}
-use Rattle.facet_solver.specs.Nested.{Under, Entered, structs_alone, every_kind, through_field_step, through_fields_step, under_fields_step, under_variant_step, under_struct, under_kind, if_entered_step, under_shape_step, under_within, under_shape, if_entered, through_fields, under_variant, under_variants, nested_paths, flattened_paths, variant_paths, content_paths_of_shape, content_paths, FollowsKinds, EndsByLength, HasNoGaps}
-use Rattle.facet_solver.proofs.Descent.{kind_of-below}
-use Rattle.facet_solver.proofs.Limits.{limit_of, limit_of_variants, limit_of-le, limit_of_variants-le}
-use Rattle.facet_solver.proofs.KeyPaths.{Has, Has-none, Has-union, Has-left, Has-right, Has-insert, Has-other, Has-itself, Has-behind, Has-behind_from}
+use Rattle.facet_solver.specs.Nested.{KeyPath, KeyPaths, no_paths, paths_of_each, behind_prefix, named, Under, Entered, structs_alone, every_kind, through_field_step, through_fields_step, under_fields_step, under_variant_step, under_struct, under_kind, if_entered_step, under_shape_step, under_within, under_shape, if_entered, through_fields, under_variant, under_variants, nested_paths, flattened_paths, variant_paths, content_paths_of_shape, content_paths, FollowsKinds, EndsByLength, HasNoGaps}
+use Rattle.facet_solver.proofs.Roles.{kind_of-below, limit_of, limit_of_variants, limit_of-le, limit_of_variants-le}
+use Rattle.facet_solver.proofs.NestedSets.{Has, Has-none, Has-union, Has-left, Has-right, Has-insert, Has-other, Has-itself, Has-behind, Has-behind_from}
 
--- two definitions agree on the places below a limit
+-- two definitions agree on the indices below a limit
 abbrev AgreeBelow : ℕ → Under → Under → Type 0
 AgreeBelow limit g h = (id : ℕ) → id < limit → g id ≡ h id
 
@@ -78,7 +76,7 @@ module _ (entered : Entered) (cat : Catalogue) (checked : NamesEarlier cat) wher
       let agree : AgreeBelow id g h = λ k lt. same_levels n m k (omega arith) (omega arith) in
       kind_same entered cat id (if_entered_step entered cat g) (if_entered_step entered cat h) g h (entered_same entered cat id g h agree) agree (kind_at cat id) (kind_at-below id)
 
-  -- nothing is under a place past the end
+  -- nothing is under an index past the end
   nothing_past : (n id : ℕ) → length cat ≤ id → under_within (suc n) entered cat id ≡ no_paths
   unfolding under_within
   nothing_past n id h =

@@ -1,11 +1,25 @@
--- What a build goes by.
-use Rattle.std.specs.Prelude.{Option}
+-- What a build goes by: a catalogue, which is a list of shapes, each named by its index, and its rules.
+use Rattle.std.specs.Prelude.{ℕ, List, Option, Some, None, slice_get}
 use Rattle.std.specs.Option.{unwrap_or}
 use Rattle.facet_solver_shape.specs.declared.shape.Shape.{Shape}
+use Rattle.facet_solver_shape.specs.declared.shape.ShapeKind.{ShapeKind}
+use Rattle.facet_solver_shape.specs.declared.shape.ShapeKind.TheVariants.{Other}
 use Rattle.facet_solver.specs.declared.build.Build as code
 use Rattle.facet_solver.specs.declared.build.representation.Format.{Format}
 use Rattle.facet_solver.specs.Representation.{Repr, asked_view, repr_of_shape}
-use Rattle.facet_solver.specs.Targets.{Catalogue}
+
+-- a catalogue
+abbrev pub Catalogue : Type 0
+Catalogue = List Shape
+
+-- the kind of a shape that may be absent
+abbrev pub kind_of : Option Shape → ShapeKind
+kind_of None = Other
+kind_of (Some s) = s.kind
+
+-- the kind of the shape at an index
+abbrev pub kind_at : Catalogue → ℕ → ShapeKind
+kind_at cat id = kind_of (slice_get cat id)
 
 -- a catalogue, one representation for all flattened enums or else each enum's own, and the kind of
 -- document

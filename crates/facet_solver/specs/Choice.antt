@@ -4,7 +4,7 @@ use Rattle.std.specs.Prelude.{◌≡◌, ℕ, ◌<◌, List, [], Some, Contains,
 use Rattle.facet_solver_shape.specs.Names.{Name}
 use Rattle.facet_solver_shape.specs.Fields.{FieldView, key_of_field}
 use Rattle.facet_solver_shape.specs.Resolved.{Resolved, nothing, with_field, with_pick, with_catch_all}
-use Rattle.facet_solver.specs.KeyPaths.{with_key_paths}
+use Rattle.facet_solver.specs.Nested.{with_key_paths}
 use Rattle.facet_solver.specs.Emissions.{Emission, a_field, some_key_paths, a_pick, a_catch_all}
 use Rattle.facet_solver.specs.Walk.{walk_root}
 use Rattle.facet_solver_shape.specs.declared.resolution.error.SchemaError.{SchemaError}

@@ -1,12 +1,11 @@
 -- The number of choices, by cases on the shapes alone.
-use Rattle.facet_solver.specs.Build.{Build, build_with, repr_for}
+use Rattle.facet_solver.specs.Build.{Build, build_with, repr_for, Catalogue}
 use Rattle.std.specs.Prelude.{ℕ, zero, suc, ◌*◌, List, [], ◌∷◌, Bool, true, if◌then◌else◌, Option, Some, None, slice_get, length, sum_by, ◌≡◌, ◌^◌, nat_lt}
 use Rattle.facet_solver_shape.specs.declared.shape.Shape.{Shape}
 use Rattle.facet_solver_shape.specs.declared.shape.Field.{Field}
 use Rattle.facet_solver_shape.specs.declared.shape.Variant.{Variant}
 use Rattle.facet_solver_shape.specs.declared.shape.ShapeKind.{ShapeKind}
 use Rattle.facet_solver_shape.specs.declared.shape.ShapeKind.TheVariants.{Struct, Enum}
-use Rattle.facet_solver.specs.Targets.{Catalogue}
 use Rattle.facet_solver.specs.Representation.{is_walked, Repr}
 use Rattle.facet_solver.specs.Content.{content_of}
 use Rattle.facet_solver.specs.Roles.{Role, regular, block, alternatives, catch_all, leaf, role_of}

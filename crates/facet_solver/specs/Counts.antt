@@ -1,10 +1,13 @@
--- What saturating counts say, and a table of them. Only private contracts and proofs speak of it.
-use Rattle.facet_solver.specs.Build.{Build}
+-- What saturating counts say, a table of them, and what a walker must satisfy that carries one. Only
+-- private contracts and proofs speak of it.
+use Rattle.facet_solver.specs.Build.{Build, build_of}
 use Rattle.std.specs.Prelude.{◌≡◌, ℕ, ◌^◌, ◌≤◌, List, Option, Some, None, slice_get, length}
 use Rattle.facet_solver.specs.declared.build.count.saturating.SaturatingCount.{SaturatingCount}
 use Rattle.facet_solver.specs.declared.build.count.saturating.SaturatingCount.TheVariants.{Exact, Larger}
 use Rattle.std.specs.Option.{option_map_or}
 use Rattle.facet_solver.specs.Count.{count_shape}
+use Rattle.facet_solver_shape.specs.Catalogues.{NamesEarlier}
+use Rattle.facet_solver.specs.declared.build.walker.Walker.{Walker}
 
 -- what a saturating count says of a number without bound: the number, or that it is 2^64 or more
 abbrev pub CountsTo : SaturatingCount → ℕ → Type 0
@@ -30,3 +33,8 @@ pub record AreFirstCounts (build : Build) (counts : List SaturatingCount) : Type
 pub record AreCounts (build : Build) (counts : List SaturatingCount) : Type 0 where
   pub all : length counts ≡ length build.catalogue
   pub first : AreFirstCounts build counts
+
+-- a walker's catalogue is checked, and its counts are those of its build
+pub record IsReady (walker : Walker) : Type 0 where
+  pub checked : NamesEarlier walker.build.shapes.now
+  pub counted : AreCounts (build_of walker.build) walker.counts

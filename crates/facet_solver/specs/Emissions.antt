@@ -9,12 +9,10 @@ use Rattle.facet_solver_shape.specs.Resolved.{Pick}
 use Rattle.facet_solver.specs.declared.build.place.Place.{Place}
 use Rattle.facet_solver.specs.declared.build.role.Target.{Target}
 use Rattle.facet_solver.specs.Build.{Build, repr_for}
-use Rattle.facet_solver.specs.Targets.{is_option}
+use Rattle.facet_solver.specs.Roles.{is_option, Role, regular, block, alternatives, catch_all, leaf}
 use Rattle.facet_solver.specs.Place.{Path, Chosen, field_path, variant_path, unwrapped_at}
-use Rattle.facet_solver.specs.Roles.{Role, regular, block, alternatives, catch_all, leaf}
 use Rattle.facet_solver.specs.Representation.{Repr, flattened, externally_tagged, internally_tagged, adjacently_tagged, field_category, selector_category, catch_all_category}
-use Rattle.facet_solver.specs.KeyPaths.{KeyPaths, no_paths, named}
-use Rattle.facet_solver.specs.Nested.{nested_paths, content_paths}
+use Rattle.facet_solver.specs.Nested.{KeyPaths, no_paths, named, nested_paths, content_paths}
 
 -- a field, key paths, a pick or a catch-all
 pub data Emission : Type 0 where

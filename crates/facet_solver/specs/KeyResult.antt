@@ -10,11 +10,10 @@ use Rattle.facet_solver_shape.specs.Scores.{score_of}
 use Rattle.facet_solver_shape.specs.declared.resolution.field.FieldInfo.{FieldInfo}
 use Rattle.facet_solver.specs.declared.solver.key_result.KeyResult.{KeyResult}
 use Rattle.facet_solver.specs.declared.solver.key_result.KeyResult.TheVariants.{Unambiguous, Ambiguous, Solved, Unknown}
-use Rattle.facet_solver.specs.Handle.{index_of, IsHandleOf}
-use Rattle.facet_solver.specs.HowMany.{HowMany, no_index, one_index, several_indices, how_many}
-use Rattle.facet_solver.specs.Schema.{SchemaView}
+use Rattle.facet_solver.specs.Schema.{index_of, IsHandleOf, SchemaView}
+use Rattle.facet_solver.specs.IndexSet.{HowMany, no_index, one_index, several_indices, how_many}
 use Rattle.facet_solver.specs.State.{State, field_by_key, has_key, passing}
-use Rattle.facet_solver.specs.Targets.{Catalogue}
+use Rattle.facet_solver.specs.Build.{Catalogue}
 
 -- no candidate has the key; one is left; the value has one shape; or it has one of several, each shown by a field with the
 -- score of the shape

@@ -1,7 +1,6 @@
-pub mod Targets
+pub mod Build
 pub mod Representation
 pub mod Content
-pub mod KeyPaths
 pub mod Nested
 pub mod Roles
 pub mod Place
@@ -11,18 +10,14 @@ pub mod Choice
 pub mod Count
 pub mod Listing
 pub mod Outcome
-pub mod Build
 pub mod IndexSet
-pub mod HowMany
 pub mod Words
 pub mod Schema
-pub mod Handle
 pub mod State
 pub mod KeyResult
 pub mod SatisfyResult
 pub mod Verdict
 pub mod Counts
-pub mod Walker
 pub use Rattle.facet_solver_shape.specs.Names
 pub use Rattle.facet_solver_shape.specs.Scalars
 pub use Rattle.facet_solver_shape.specs.Catalogues

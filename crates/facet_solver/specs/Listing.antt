@@ -1,14 +1,12 @@
 -- The choices as a list, by parts: a product over fields, a sum over variants. No public clause
--- speaks of it: those say
--- what a list of all choices is.
-use Rattle.facet_solver.specs.Build.{Build, repr_for}
+-- speaks of it: those say what a list of all choices is.
+use Rattle.facet_solver.specs.Build.{Build, repr_for, Catalogue}
 use Rattle.std.specs.Prelude.{ℕ, zero, suc, List, [], ◌∷◌, ◌++◌, map, flat_map, Bool, true, if◌then◌else◌, Option, Some, None, slice_get, length, Vec}
 use Rattle.facet_solver_shape.specs.declared.shape.Shape.{Shape}
 use Rattle.facet_solver_shape.specs.declared.shape.Field.{Field}
 use Rattle.facet_solver_shape.specs.declared.shape.Variant.{Variant}
 use Rattle.facet_solver_shape.specs.declared.shape.ShapeKind.{ShapeKind}
 use Rattle.facet_solver_shape.specs.declared.shape.ShapeKind.TheVariants.{Struct, Enum}
-use Rattle.facet_solver.specs.Targets.{Catalogue}
 use Rattle.facet_solver.specs.Representation.{is_walked}
 use Rattle.facet_solver.specs.Content.{content_of}
 use Rattle.facet_solver.specs.Roles.{Role, regular, block, alternatives, catch_all, leaf, role_of}

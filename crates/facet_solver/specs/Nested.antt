@@ -1,18 +1,53 @@
--- Nested key paths: what lies under a shape or a variant, by names alone. They are five sets that share
--- one definition. They end since fields name earlier shapes: the definition goes down as many levels as
--- the catalogue has shapes.
-use Rattle.std.specs.Prelude.{◌≡◌, ◌⊎◌, ◌<◌, ℕ, zero, suc, Bool, true, false, ◌&&◌, List, [], ◌∷◌, ◌++◌, if◌then◌else◌, string_bytes, length}
+-- Sets of key paths, and the nested ones: what lies under a shape or a variant, by names alone. They are
+-- five sets that share one definition. They end since fields name earlier shapes: the definition goes down
+-- as many levels as the catalogue has shapes.
+use Rattle.std.specs.Prelude.{List, [], ◌∷◌, ◌++◌, map, ◌≡◌, ◌⊎◌, ◌<◌, ℕ, zero, suc, Bool, true, false, ◌&&◌, if◌then◌else◌, string_bytes, length}
+use Rattle.std.specs.Ordering.{nat_cmp}
+use Rattle.std.specs.Cmp.Lexicographic.{slice_cmp}
 use Rattle.std.specs.FinSet as set
+use Rattle.facet_solver_shape.specs.Names.{Name, effective_name}
+use Rattle.facet_solver_shape.specs.Resolved.{Resolved}
 use Rattle.facet_solver_shape.specs.declared.shape.Field.{Field}
 use Rattle.facet_solver_shape.specs.declared.shape.Variant.{Variant}
 use Rattle.facet_solver_shape.specs.declared.shape.ShapeKind.{ShapeKind}
 use Rattle.facet_solver_shape.specs.declared.shape.ShapeKind.TheVariants.{Struct, Enum}
-use Rattle.facet_solver_shape.specs.Names.{Name, effective_name}
 use Rattle.facet_solver.specs.declared.build.nested.Entered as code
 use Rattle.facet_solver.specs.declared.build.nested.Entered.TheVariants.{StructsAlone, EveryKind}
-use Rattle.facet_solver.specs.Targets.{Catalogue, kind_at}
+use Rattle.facet_solver.specs.Build.{Catalogue, kind_at}
 use Rattle.facet_solver.specs.Content.{is_zero}
-use Rattle.facet_solver.specs.KeyPaths.{KeyPath, KeyPaths, no_paths, paths_of_each, named}
+
+-- the names from the root to a key
+abbrev pub KeyPath : Type 0
+KeyPath = List Name
+
+-- a set of key paths
+abbrev pub KeyPaths : Type 0
+KeyPaths = set.FinSet (slice_cmp (slice_cmp nat_cmp))
+
+-- no key path
+abbrev pub no_paths : KeyPaths
+no_paths = set.empty
+
+-- the key paths of all items together
+abbrev pub paths_of_each : {X : Type 0} → (X → KeyPaths) → List X → KeyPaths
+paths_of_each paths [] = no_paths
+paths_of_each paths (x ∷ xs) = set.union (paths x) (paths_of_each paths xs)
+
+-- each key path behind a prefix
+unfoldable pub behind_prefix : KeyPath → KeyPaths → KeyPaths
+behind_prefix prefix paths = set.from_list (map (λ q. prefix ++ q) (set.items paths))
+
+-- a name, and each key path behind it
+abbrev pub named : Name → KeyPaths → KeyPaths
+named name paths = set.insert (behind_prefix (name ∷ []) paths) (name ∷ [])
+
+-- with the key paths of a set
+unfoldable pub with_key_paths : Resolved → KeyPaths → Resolved
+with_key_paths r paths = record r { key_paths = set.union r.key_paths paths }
+
+-- with the key paths of a set, each behind a prefix
+abbrev pub with_paths_behind : Resolved → KeyPath → KeyPaths → Resolved
+with_paths_behind r prefix paths = with_key_paths r (behind_prefix prefix paths)
 
 -- the key paths under a shape
 abbrev pub Under : Type 0

@@ -1,12 +1,12 @@
 -- What emissions, taken in one by one, make of a resolution: more of it, or a clash. No public
 -- clause speaks of it.
-use Rattle.std.specs.Prelude.{ℕ, List, [], ◌∷◌, Option, Some, None, ◌≡◌, Result, MatchResult}
+use Rattle.std.specs.Prelude.{⊤, ℕ, List, [], ◌∷◌, Option, Some, None, ◌≡◌, Result, MatchResult}
 use Rattle.std.specs.FinMap as map
 use Rattle.facet_solver_shape.specs.Names.{Name}
 use Rattle.facet_solver_shape.specs.Fields.{FieldView, key_of_field}
 use Rattle.facet_solver_shape.specs.Resolved.{Resolved, with_field, with_pick, with_catch_all}
 use Rattle.facet_solver.specs.Place.{Path}
-use Rattle.facet_solver.specs.KeyPaths.{with_key_paths}
+use Rattle.facet_solver.specs.Nested.{with_key_paths}
 use Rattle.facet_solver.specs.Emissions.{Emission, a_field, some_key_paths, a_pick, a_catch_all}
 use Rattle.facet_solver.specs.Walk.{Walked}
 use Rattle.std.specs.Borrow.{Bor}
@@ -62,7 +62,7 @@ duplicate_view d =
 -- nothing
 abbrev pub ErrorOf : Outcome → SchemaError → Type 0
 ErrorOf o (DuplicateField d) = o ≡ duplicate (duplicate_view d)
-ErrorOf o OutOfMemory = Unit {0}
+ErrorOf o OutOfMemory = ⊤
 
 -- the result of a call that leaves the resolution that an outcome says, or fails as it says
 abbrev pub Gives : {T : Type 0} → Outcome → Result T SchemaError → Resolved → Type 0
@@ -71,7 +71,7 @@ Gives o result r = MatchResult result (λ _. o ≡ resolved r) (λ e. ErrorOf o 
 -- what an error says of the effect of a walk
 abbrev pub StopsBy : Option (Outcome × List ℕ) → SchemaError → Type 0
 StopsBy e (DuplicateField d) = (rest : List ℕ) × (e ≡ Some (duplicate (duplicate_view d), rest))
-StopsBy e OutOfMemory = Unit {0}
+StopsBy e OutOfMemory = ⊤
 
 -- the result of a walk that hands on the indices that it leaves
 abbrev pub Walks : Option (Outcome × List ℕ) → Result (Bor (List ℕ)) SchemaError → Resolved → Type 0

@@ -1,14 +1,23 @@
 -- What a field is to the fields that it stands among.
-use Rattle.std.specs.Prelude.{⊤, true, false, if◌then◌else◌, ℕ, List, Option, Some, None, slice_get}
+use Rattle.std.specs.Prelude.{ℕ, Bool, true, false, List, Option, Some, None, slice_get, ⊤, if◌then◌else◌}
 use Rattle.facet_solver_shape.specs.declared.shape.Shape.{Shape}
+use Rattle.facet_solver_shape.specs.declared.shape.ShapeKind.{ShapeKind}
+use Rattle.facet_solver_shape.specs.declared.shape.ShapeKind.TheVariants.{Option as OptionOf, Struct, Enum, Map, DynamicValue}
 use Rattle.facet_solver_shape.specs.declared.shape.Field.{Field}
 use Rattle.facet_solver_shape.specs.declared.shape.Variant.{Variant}
-use Rattle.facet_solver_shape.specs.declared.shape.ShapeKind.{ShapeKind}
-use Rattle.facet_solver_shape.specs.declared.shape.ShapeKind.TheVariants.{Struct, Enum, Map, DynamicValue, Option as OptionOf}
 use Rattle.facet_solver.specs.declared.build.role.Role as code
 use Rattle.facet_solver.specs.declared.build.role.Role.TheVariants.{Regular, Block, Alternatives, CatchAll, Leaf}
 use Rattle.facet_solver.specs.declared.build.role.Target.{Target}
-use Rattle.facet_solver.specs.Targets.{Catalogue, kind_at}
+use Rattle.facet_solver.specs.Build.{Catalogue, kind_at}
+
+-- whether a kind is an option
+abbrev pub has_inside : ShapeKind → Bool
+has_inside (OptionOf inside) = true
+has_inside _ = false
+
+-- whether the shape at an index is an option
+abbrev pub is_option : Catalogue → ℕ → Bool
+is_option cat id = has_inside (kind_at cat id)
 
 -- the target of a field whose shape is of a kind: the inside of an option, else the shape itself
 abbrev pub target_by_kind : ℕ → ShapeKind → Target

@@ -2,9 +2,8 @@
 use Rattle.std.specs.Prelude.{⊤}
 use Rattle.facet_solver.specs.declared.solver.satisfy_result.SatisfyResult.{SatisfyResult}
 use Rattle.facet_solver.specs.declared.solver.satisfy_result.SatisfyResult.TheVariants.{Continue, Solved, NoMatch}
-use Rattle.facet_solver.specs.Handle.{index_of, IsHandleOf}
-use Rattle.facet_solver.specs.HowMany.{HowMany, no_index, one_index, several_indices, how_many}
-use Rattle.facet_solver.specs.Schema.{SchemaView}
+use Rattle.facet_solver.specs.Schema.{index_of, IsHandleOf, SchemaView}
+use Rattle.facet_solver.specs.IndexSet.{HowMany, no_index, one_index, several_indices, how_many}
 use Rattle.facet_solver.specs.State.{State}
 
 -- several candidates are left, one, or none

@@ -1,5 +1,5 @@
--- What a schema says.
-use Rattle.std.specs.Prelude.{◌≡◌, ℕ, zero, suc, List, [], Option, length, refl}
+-- What a schema says, and handles of its resolutions.
+use Rattle.std.specs.Prelude.{◌≡◌, ℕ, zero, suc, List, [], Option, length, refl, Bool, Some, nat_eq, slice_get}
 use Rattle.std.specs.Coded.{Coded, code_by, coded×, coded_ℕ, coded_list, coded_option}
 use Rattle.facet_solver_shape.specs.Names.{Name}
 use Rattle.facet_solver_shape.specs.Resolved.{Resolved}
@@ -9,11 +9,13 @@ use Rattle.facet_solver.specs.contracts.build.representation.Format as format
 use Rattle.facet_solver.specs.declared.build.representation.EnumRepr.{EnumRepr}
 use Rattle.facet_solver.specs.declared.build.representation.Format.{Format}
 use Rattle.facet_solver.specs.declared.build.representation.Format.TheVariants.{Flat}
-use Rattle.facet_solver.specs.Build.{Build, build_with}
+use Rattle.facet_solver.specs.Build.{Build, build_with, Catalogue}
 use Rattle.facet_solver.specs.Choice.{Enumerates}
 use Rattle.facet_solver.specs.Count.{count_of_root}
 use Rattle.facet_solver.specs.Representation.{Repr, asked_view, flattened, externally_tagged, internally_tagged, adjacently_tagged}
-use Rattle.facet_solver.specs.Targets.{Catalogue}
+use Rattle.std.specs.Cmp.{IsEquivalence}
+use Rattle.std.proofs.lemmas.Cmp.{nat_eq_equiv}
+use Rattle.facet_solver.specs.declared.schema.handle.ResolutionHandle.{ResolutionHandle}
 
 -- what the build went by, the root, and the resolutions
 pub record SchemaView : Type 0 where
@@ -44,8 +46,8 @@ schema_view cat root repr format resolutions = record {
   resolutions = resolutions;
 }
 
--- How a schema is stored, by which proofs tell values apart. No clause speaks of it: a representation is its place among
--- the four and its names
+-- How a schema is stored, by which proofs tell values apart. No clause speaks of it: a representation is its index
+-- among the four and its names
 abbrev repr_parts : Repr → ℕ × (Name × Name)
 repr_parts flattened = (0, ([], []))
 repr_parts externally_tagged = (1, ([], []))
@@ -90,3 +92,28 @@ schema_code =
     (λ s. (s.build, (s.root, s.resolutions)))
     (λ p. record { build = p.0; root = p.1.0; resolutions = p.1.1 })
     (λ _. refl)
+
+-- the index of a handle's resolution among those of its schema
+abbrev pub index_of : ResolutionHandle → ℕ
+index_of handle = handle.index
+
+-- a handle's resolution
+abbrev pub resolution_of : ResolutionHandle → Resolved
+resolution_of handle = handle.resolution.now
+
+-- a handle of a schema: it holds the resolution at its index
+abbrev pub IsHandleOf : SchemaView → ResolutionHandle → Type 0
+IsHandleOf schema handle =
+    slice_get schema.resolutions (index_of handle) ≡ Some (resolution_of handle)
+
+-- whether two handles have one index
+abbrev pub same_index : ResolutionHandle → ResolutionHandle → Bool
+same_index g h = nat_eq (index_of g) (index_of h)
+
+-- which is an equivalence
+pub same_index_equiv : IsEquivalence same_index
+same_index_equiv = record {
+  refl = λ g. nat_eq_equiv.refl (index_of g);
+  symm = λ g h. nat_eq_equiv.symm (index_of g) (index_of h);
+  congr = λ f g h. nat_eq_equiv.congr (index_of f) (index_of g) (index_of h);
+}

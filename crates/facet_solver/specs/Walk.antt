@@ -1,6 +1,5 @@
 -- The walk of a list of fields: what one choice of variants emits. It takes the indices of
--- variants, one for each enum
--- that it meets, and hands on those that it leaves.
+-- variants, one for each enum that it meets, and hands on those that it leaves.
 use Rattle.std.specs.Prelude.{◌<◌, ℕ, zero, suc, List, [], ◌∷◌, ◌++◌, if◌then◌else◌, Option, Some, None, slice_get, length}
 use Rattle.facet_solver_shape.specs.declared.shape.Shape.{Shape}
 use Rattle.facet_solver_shape.specs.declared.shape.Field.{Field}
@@ -8,8 +7,7 @@ use Rattle.facet_solver_shape.specs.declared.shape.Variant.{Variant}
 use Rattle.facet_solver_shape.specs.declared.shape.ShapeKind.{ShapeKind}
 use Rattle.facet_solver_shape.specs.declared.shape.ShapeKind.TheVariants.{Struct, Enum}
 use Rattle.facet_solver.specs.declared.build.place.Place.{Place}
-use Rattle.facet_solver.specs.Build.{Build, repr_for}
-use Rattle.facet_solver.specs.Targets.{Catalogue}
+use Rattle.facet_solver.specs.Build.{Build, repr_for, Catalogue}
 use Rattle.facet_solver.specs.Representation.{is_walked}
 use Rattle.facet_solver.specs.Content.{content_of}
 use Rattle.facet_solver.specs.Roles.{Role, regular, block, alternatives, catch_all, leaf, role_of}
@@ -76,8 +74,7 @@ walk_role below build f place (catch_all target) = emit (emit_plain build f plac
 walk_role below build f place (leaf target) = emit (emit_plain build f place (leaf target))
 
 -- fields in order, each with the indices that the one before it left; `below` walks the fields of
--- what is flattened
--- into them
+-- what is flattened into them
 unfoldable pub walk_fields_step : Walk → Build → Walk
 walk_fields_step below build [] place ns = Some ([], ns)
 walk_fields_step below build (f ∷ fs) place ns =

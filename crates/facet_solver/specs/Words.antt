@@ -14,7 +14,7 @@ words_of (Many words) = words.items
 abbrev pub word_count : ℕ → ℕ
 word_count bound = (bound - 1) / 64 + 1
 
--- whether the bit of an index is set, where a function gives the words by their places
+-- whether the bit of an index is set, where a function gives the words by their indices
 unfoldable pub bit_of : (ℕ → ℕ) → ℕ → Bool
 bit_of word i = nat_eq (bit_at (word (i / 64)) (i % 64)) 1
 

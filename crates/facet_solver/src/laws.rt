@@ -13,8 +13,8 @@ ghost use Rattle.facet_solver.specs.declared.build.representation.Format.TheVari
 ghost use Rattle.facet_solver.specs.Nested.{nested_paths, flattened_paths, variant_paths};
 ghost use Rattle.facet_solver.specs.Nested.{content_paths_of_shape, content_paths};
 ghost use Rattle.facet_solver.specs.Nested.{FollowsKinds, EndsByLength, HasNoGaps};
-ghost use Rattle.facet_solver.specs.Build.{Build};
-ghost use Rattle.facet_solver.specs.Targets.{Catalogue, effective, go_on, next_inside};
+ghost use Rattle.facet_solver.specs.Build.{Build, Catalogue};
+ghost use Rattle.facet_solver.specs.Content.{effective, go_on, next_inside};
 ghost use Rattle.facet_solver.specs.Walk.{walk_fields, walk_fields_step};
 
 /// A root has one list of all choices, and at most one list of resolutions.

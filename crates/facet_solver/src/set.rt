@@ -1,8 +1,7 @@
 //! Sets of resolutions, by their indices.
 ghost use Rattle.std.specs.Prelude.{◌≡◌, ◌↔◌, ◌<◌, ◌≤◌, [], All, IfOk, IsOk, IsTrue, filter, length, slice_get};
 ghost use Rattle.std.specs.List.Sorted.{IsStrictlyIncreasing};
-ghost use Rattle.facet_solver.specs.HowMany.{IsWithin, how_many, matches_view};
-ghost use Rattle.facet_solver.specs.IndexSet.{full, has};
+ghost use Rattle.facet_solver.specs.IndexSet.{IsWithin, how_many, matches_view, full, has};
 
 mod bits;
 pub(crate) mod condition;

@@ -4,8 +4,8 @@ ghost use Rattle.std.specs.Bool.{OnFalse};
 ghost use Rattle.std.specs.List.Sorted.{IsStrictlyIncreasing};
 ghost use Rattle.facet_solver_shape.specs.Keys.{dom_key, key_of};
 ghost use Rattle.facet_solver_shape.specs.declared.resolution.key.FieldCategory.TheVariants.{Attribute, Element, Text};
-ghost use Rattle.facet_solver.specs.Handle.{IsHandleOf, index_of};
-ghost use Rattle.facet_solver.specs.HowMany.{IsWithin, how_many, matches_view};
+ghost use Rattle.facet_solver.specs.Schema.{IsHandleOf, index_of};
+ghost use Rattle.facet_solver.specs.IndexSet.{IsWithin, how_many, matches_view};
 ghost use Rattle.facet_solver.specs.KeyResult.{HoldsHandleOf, key_result, key_result_view};
 ghost use Rattle.facet_solver.specs.SatisfyResult as satisfy;
 ghost use Rattle.facet_solver.specs.SatisfyResult.{satisfy_result, satisfy_result_view};
@@ -168,7 +168,7 @@ impl<'s, 'c, 'a> Solver<'s, 'c, 'a> {
     /// Sees a key without narrowing the candidates.
     ///
     /// The only error is refused memory; then the seen keys are as before.
-    #[tactic(auto, using(crate::proofs::States::seen_with))]
+    #[tactic(auto, using(crate::proofs::State::seen_with))]
     pub fn mark_seen(&mut self, key: FieldKey<'a>) -> Result<(), AllocError>
         ensures ok { OnOk result (self.new ≡ state.mark_seen (key_of key.entry) self.old) }
         ensures err { OnErr result (self.new ≡ self.old) }

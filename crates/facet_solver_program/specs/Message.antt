@@ -11,7 +11,7 @@ use Rattle.facet_solver.specs.declared.StructKind.{StructKind}
 use Rattle.facet_solver.specs.declared.StructKind.TheVariants.{Struct as ByName, TupleStruct}
 use Rattle.facet_solver.specs.declared.Variant.{Variant}
 use Rattle.facet_solver.specs.Names.{Name, optional_name}
-use Rattle.facet_solver.specs.Targets.{Catalogue}
+use Rattle.facet_solver.specs.Build.{Catalogue}
 
 -- all that a field says, with its names as bytes
 pub record FieldView : Type 0 where

@@ -13,7 +13,7 @@ use Rattle.facet_solver.specs.Place.{Path}
 use Rattle.facet_solver.specs.Representation.{flattened}
 use Rattle.facet_solver.specs.Schema.{SchemaView, IsBuilt, flat_build}
 use Rattle.facet_solver.specs.State.{State, new_solver, see_key}
-use Rattle.facet_solver.specs.Targets.{Catalogue}
+use Rattle.facet_solver.specs.Build.{Catalogue}
 use Rattle.facet_solver.specs.Verdict.{viable}
 use Rattle.facet_solver_program.specs.declared.reply.Reply.{Reply}
 

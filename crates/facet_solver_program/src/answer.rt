@@ -1,7 +1,7 @@
 //! What the program answers.
 ghost use Rattle.std.specs.Prelude.{◌≡◌, ◌<◌, ◌∷◌, [], List, codes, length, IfOk, OnOk};
-ghost use Rattle.facet_solver.specs.Handle.{index_of, resolution_of};
-ghost use Rattle.facet_solver.specs.Targets.{Catalogue};
+ghost use Rattle.facet_solver.specs.Schema.{index_of, resolution_of};
+ghost use Rattle.facet_solver.specs.Build.{Catalogue};
 ghost use Rattle.facet_solver.specs.Names.{names_of};
 ghost use Rattle.facet_solver_program.specs.Message.{IsMessage};
 ghost use Rattle.facet_solver_program.specs.Replies as replies;

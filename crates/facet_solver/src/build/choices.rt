@@ -5,7 +5,7 @@ ghost use Rattle.facet_solver.specs.Listing as listing;
 ghost use Rattle.facet_solver.specs.Choice.{ListsChoices};
 ghost use Rattle.facet_solver.specs.Listing.{lists};
 ghost use Rattle.facet_solver.specs.Count.{count_of_root};
-ghost use Rattle.facet_solver.specs.Walker.{IsReady};
+ghost use Rattle.facet_solver.specs.Counts.{IsReady};
 ghost use Rattle.facet_solver.specs.Build.{build_of};
 
 use crate::build::content::content_fields;

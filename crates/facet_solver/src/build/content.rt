@@ -2,7 +2,6 @@
 ghost use Rattle.std.specs.Prelude.{◌≡◌, slice_get, MatchOption};
 ghost use Rattle.std.specs.Option.{option_copied, option_map};
 ghost use Rattle.facet_solver_shape.specs.Catalogues.{NamesEarlier};
-ghost use Rattle.facet_solver.specs.Targets as targets;
 ghost use Rattle.facet_solver.specs.Content as content;
 ghost use Rattle.facet_solver.specs.Content.{IsNewtypeOf};
 
@@ -11,7 +10,7 @@ use facet_solver_shape::{Field, ShapeId, ShapeKind, Shapes, Variant};
 /// The shape that `inner` and then `proxy` lead to, and so on to the end.
 pub(crate) fn effective(shapes: &Shapes, id: ShapeId) -> ShapeId
     requires { NamesEarlier shapes.now }
-    ensures { result ≡ targets.effective shapes.now id }
+    ensures { result ≡ content.effective shapes.now id }
 {
     let mut id = id;
     while let Some(shape) = shapes.get(id) {

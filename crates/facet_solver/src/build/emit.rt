@@ -2,13 +2,12 @@
 ghost use Rattle.std.specs.Prelude.{◌≡◌, ◌∷◌, [], map, IfOk, OnOk};
 ghost use Rattle.facet_solver_shape.specs.Fields.{field_view};
 ghost use Rattle.facet_solver.specs.Emissions as emissions;
-ghost use Rattle.facet_solver.specs.KeyPaths.{no_paths, named, with_key_paths};
-ghost use Rattle.facet_solver.specs.Nested.{content_paths};
+ghost use Rattle.facet_solver.specs.Nested.{no_paths, named, with_key_paths, content_paths};
 ghost use Rattle.facet_solver.specs.Place.{chosen_of};
 ghost use Rattle.facet_solver.specs.Outcome.{take_in, take_all, Gives};
 ghost use Rattle.facet_solver.specs.Build.{build_of};
 ghost use Rattle.facet_solver.specs.Roles.{role_view, IsPlain};
-ghost use Rattle.facet_solver.specs.Walker.{IsReady};
+ghost use Rattle.facet_solver.specs.Counts.{IsReady};
 
 use crate::build::field::{catch_all_field, leaf_field, regular_field, selector_field};
 use crate::build::nested::{add_content_paths, add_nested_paths};

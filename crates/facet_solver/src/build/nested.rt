@@ -2,10 +2,9 @@
 ghost use Rattle.std.specs.Prelude.{◌≡◌, ◌++◌, ◌∷◌, [], OnOk, IfOk};
 ghost use Rattle.facet_solver_shape.specs.Catalogues.{NamesEarlier};
 ghost use Rattle.facet_solver_shape.specs.Names.{names_of};
-ghost use Rattle.facet_solver.specs.Targets.{kind_at};
+ghost use Rattle.facet_solver.specs.Build.{kind_at};
 ghost use Rattle.facet_solver.specs.Nested as nested;
-ghost use Rattle.facet_solver.specs.Nested.{entered_view};
-ghost use Rattle.facet_solver.specs.KeyPaths.{with_paths_behind};
+ghost use Rattle.facet_solver.specs.Nested.{entered_view, with_paths_behind};
 
 use crate::build::Build;
 use facet_solver_shape::{Field, KeyPath, Resolution, ShapeId, ShapeKind, Shapes, Variant};

@@ -6,7 +6,7 @@ ghost use Rattle.facet_solver.specs.Count.{count_of_root};
 ghost use Rattle.facet_solver.specs.Outcome.{Walks, effect};
 ghost use Rattle.facet_solver.specs.Build.{build_of};
 ghost use Rattle.facet_solver.specs.Walk as walk;
-ghost use Rattle.facet_solver.specs.Walker.{IsReady};
+ghost use Rattle.facet_solver.specs.Counts.{IsReady};
 
 use crate::build::Build;
 use crate::build::choices::choices_of_root;

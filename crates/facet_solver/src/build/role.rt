@@ -1,6 +1,5 @@
 //! What a field is to the fields that it stands among, by the kind of its target.
 ghost use Rattle.std.specs.Prelude.{◌≡◌, slice_get};
-ghost use Rattle.facet_solver.specs.Targets as targets;
 ghost use Rattle.facet_solver.specs.Roles as roles;
 ghost use Rattle.facet_solver.specs.Roles.{role_view};
 
@@ -49,7 +48,7 @@ fn target_of(shapes: &Shapes, field: &Field) -> Target
 
 /// Whether a shape is an option.
 pub(crate) fn is_option(shapes: &Shapes, id: ShapeId) -> bool
-    ensures { result ≡ targets.is_option shapes.now id }
+    ensures { result ≡ roles.is_option shapes.now id }
 {
     match shapes.get(id) {
         Some(shape) => matches!(shape.kind, ShapeKind::Option(_)),

@@ -5,7 +5,7 @@ ghost use Rattle.facet_solver.specs.Outcome.{Walks, effect};
 ghost use Rattle.facet_solver.specs.Build.{build_of};
 ghost use Rattle.facet_solver.specs.Place.{chosen_of};
 ghost use Rattle.facet_solver.specs.Walk as walk;
-ghost use Rattle.facet_solver.specs.Walker.{IsReady};
+ghost use Rattle.facet_solver.specs.Counts.{IsReady};
 
 use crate::build::content::newtype_fields;
 use crate::build::emit::{emit_plain, emit_variant};

@@ -47,8 +47,8 @@ fn is_bit_set(word: u64, bit: usize) -> bool
 pub(crate) fn is_set(words: &[u64], index: usize) -> bool
     ensures { result ≡ has (members_of words.now) index }
 {
-    let place = index / 64;
-    place < words.len() && is_bit_set(words[place], index % 64)
+    let word = index / 64;
+    word < words.len() && is_bit_set(words[word], index % 64)
 }
 
 /// Whether no bit is set.
@@ -82,18 +82,18 @@ pub(crate) fn next_bit(words: &[u64], from: usize) -> Option<usize>
         (λ i. members_from words.now from ≡ i ∷ members_from words.now (i + 1)) }
     ensures fits { IfSome result (λ i. i < 2 ^ 64 - 1) }
 {
-    let place = from / 64;
-    if place >= words.len() {
+    let word = from / 64;
+    if word >= words.len() {
         return None;
     }
-    let rest = words[place] >> (from % 64);
+    let rest = words[word] >> (from % 64);
     if rest != 0 {
         return Some(from + rest.trailing_zeros() as usize);
     }
-    for k in place + 1..words.len() {
-        let word = words[k];
-        if word != 0 {
-            return Some(k * 64 + word.trailing_zeros() as usize);
+    for k in word + 1..words.len() {
+        let bits = words[k];
+        if bits != 0 {
+            return Some(k * 64 + bits.trailing_zeros() as usize);
         }
     }
     None

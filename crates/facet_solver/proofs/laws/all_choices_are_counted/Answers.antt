@@ -1,4 +1,4 @@
-use Rattle.facet_solver.proofs.ChoiceLaws.{choices-counted}
+use Rattle.facet_solver.proofs.Choice.{choices-counted}
 use Rattle.facet_solver.proofs.laws.all_choices_are_counted.Goals as goal
 
 pub returns : goal.returns

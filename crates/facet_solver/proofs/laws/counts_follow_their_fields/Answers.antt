@@ -1,5 +1,5 @@
 use Rattle.facet_solver_shape.proofs.Catalogues.{names_earlier}
-use Rattle.facet_solver.proofs.OwnSteps.{count-is_step}
+use Rattle.facet_solver.proofs.WalkSteps.{count-is_step}
 use Rattle.facet_solver.proofs.laws.counts_follow_their_fields.Goals as goal
 
 pub returns : goal.returns

@@ -1,4 +1,4 @@
-use Rattle.facet_solver.proofs.ChoiceLaws.{one_list, one_enumeration}
+use Rattle.facet_solver.proofs.Choice.{one_list, one_enumeration}
 use Rattle.facet_solver.proofs.laws.lists_are_the_only_ones.Goals as goal
 
 pub returns-clause-choices : goal.returns-clause-choices

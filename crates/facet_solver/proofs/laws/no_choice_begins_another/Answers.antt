@@ -1,4 +1,4 @@
-use Rattle.facet_solver.proofs.ChoiceLaws.{no_choice-begins}
+use Rattle.facet_solver.proofs.Choice.{no_choice-begins}
 use Rattle.facet_solver.proofs.laws.no_choice_begins_another.Goals as goal
 
 pub returns : goal.returns

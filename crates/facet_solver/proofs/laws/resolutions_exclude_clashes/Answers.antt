@@ -1,4 +1,4 @@
-use Rattle.facet_solver.proofs.ChoiceLaws.{no_clash}
+use Rattle.facet_solver.proofs.Choice.{no_clash}
 use Rattle.facet_solver.proofs.laws.resolutions_exclude_clashes.Goals as goal
 
 pub returns : goal.returns

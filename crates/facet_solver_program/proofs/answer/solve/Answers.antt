@@ -1,14 +1,13 @@
 use Rattle.std.proofs.Common.{◌≡◌, ◌<◌, ℕ, Some, List, [], ◌∷◌, length, refl, sym, ap, subst, ◌∙◌, slice_get}
 use Rattle.std.proofs.lemmas.Result.{IfOk-weaker}
-use Rattle.facet_solver.specs.Handle.{index_of, resolution_of}
+use Rattle.facet_solver.specs.Schema.{index_of, resolution_of, SchemaView, IsBuilt, flat_build}
 use Rattle.facet_solver.specs.Keys.{flat_key}
 use Rattle.facet_solver.specs.Names.{Name, names_of}
 use Rattle.facet_solver.specs.declared.error.SolverError.{SolverError}
 use Rattle.facet_solver.specs.declared.error.SolverError.TheVariants.{NoMatch, Ambiguous, OutOfMemory}
 use Rattle.facet_solver.specs.Representation.{flattened}
-use Rattle.facet_solver.specs.Schema.{SchemaView, IsBuilt, flat_build}
 use Rattle.facet_solver.specs.State.{State, new_solver, see_key}
-use Rattle.facet_solver.specs.Targets.{Catalogue}
+use Rattle.facet_solver.specs.Build.{Catalogue}
 use Rattle.facet_solver.specs.Verdict.{IsReportOn, viable}
 use Rattle.facet_solver_program.specs.Replies.{Ending, resolved, IsErrorAs, IsEnding, left_by, see_keys}
 use Rattle.facet_solver_program.proofs.answer.solve.Goals as goal

@@ -6,12 +6,10 @@ use Rattle.facet_solver_shape.specs.declared.shape.Variant.{Variant}
 use Rattle.facet_solver_shape.specs.Catalogues.{FieldsBelow}
 use Rattle.facet_solver.specs.Listing.{choices_of_variant, choices_of_fields, lists}
 use Rattle.facet_solver.specs.Build.{build_of}
-use Rattle.facet_solver.proofs.Descent.{content_of-below, FieldsBelow-mono, VariantsBelow-mono}
-use Rattle.facet_solver.proofs.Limits.{limit_of, limit_of-le, limit_of_variants-le, limit_of-at, limit_of_variants-at, FieldsBelow-at, VariantsBelow-at, limit_of-content}
-use Rattle.facet_solver.proofs.Products.{at-block, at-alternatives, at-plain, among-start, among-more, among-end, variant-walked, variant-alone, block-below, alternatives-below, left-start, left-more, left-end}
+use Rattle.facet_solver.proofs.Roles.{content_of-below, FieldsBelow-mono, VariantsBelow-mono, limit_of, limit_of-le, limit_of_variants-le, limit_of-at, limit_of_variants-at, FieldsBelow-at, VariantsBelow-at, limit_of-content, plain_role}
+use Rattle.facet_solver.proofs.Listing.{at-block, at-alternatives, at-plain, among-start, among-more, among-end, variant-walked, variant-alone, block-below, alternatives-below, left-start, left-more, left-end}
 use Rattle.facet_solver.specs.Count.{count_fields}
-use Rattle.facet_solver.proofs.NoChoices.{none_below}
-use Rattle.facet_solver.proofs.RoleViews.{plain_role}
+use Rattle.facet_solver.proofs.Choice.{none_below}
 use Rattle.facet_solver.specs.Roles.{role_view}
 use Rattle.facet_solver.proofs.build.choices.+choices.Goals as goal
 use Rattle.facet_solver.proofs.build.choices.+choices.Goals.{choices_of_variants-then-walked+in_ok-contents, choices_of_variants-else-walked+in_ok-contents-2}

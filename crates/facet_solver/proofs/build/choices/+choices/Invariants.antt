@@ -1,8 +1,8 @@
 use Rattle.std.proofs.Common.{◌≡◌, ◌++◌, drop, ◌+◌, ◌*◌}
 use Rattle.facet_solver.specs.Listing.{product, indexed, choices_of_fields, choices_of_variant, choices_of_variants, lists}
 use Rattle.facet_solver.specs.Build.{build_of}
-use Rattle.facet_solver.proofs.Limits.{limit_of, limit_of_variants}
-use Rattle.facet_solver.proofs.Products.{choices_left}
+use Rattle.facet_solver.proofs.Roles.{limit_of, limit_of_variants}
+use Rattle.facet_solver.proofs.Listing.{choices_left}
 use Rattle.facet_solver.proofs.build.choices.+choices.Given as goal
 
 abbrev pub decreases-choices_of_field : goal.decreases-choices_of_field

@@ -7,10 +7,10 @@ use Rattle.facet_solver.specs.Choice.{ListsChoices}
 use Rattle.facet_solver.specs.Count.{count_of_root}
 use Rattle.facet_solver.specs.Listing.{Choices, choices_of_root, lists}
 use Rattle.facet_solver.specs.Build.{Build, build_of}
-use Rattle.facet_solver.proofs.Bijection.{choices_listed}
-use Rattle.facet_solver.proofs.Counts.{root_count}
-use Rattle.facet_solver.proofs.Descent.{struct-below, enum-below}
-use Rattle.facet_solver.proofs.Products.{root-struct, root-enum, root-other}
+use Rattle.facet_solver.proofs.Choice.{choices_listed}
+use Rattle.facet_solver.proofs.Count.{root_count}
+use Rattle.facet_solver.proofs.Roles.{struct-below, enum-below}
+use Rattle.facet_solver.proofs.Listing.{root-struct, root-enum, root-other}
 use Rattle.facet_solver.proofs.build.choices.choices_of_root.Goals as goal
 
 -- a list that equals the one by parts lists the choices

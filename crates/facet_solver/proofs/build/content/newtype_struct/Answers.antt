@@ -1,7 +1,7 @@
 use Rattle.std.proofs.Common.{ap, sym}
 use Rattle.std.specs.Prelude.{is_some}
 use Rattle.facet_solver.specs.Content.{struct_fields}
-use Rattle.facet_solver.proofs.Newtypes.{only-one, newtype_of, zero_named}
+use Rattle.facet_solver.proofs.Content.{only-one, newtype_of, zero_named}
 use Rattle.facet_solver.proofs.build.content.newtype_struct.Goals as goal
 
 pub returns-in-Struct : goal.returns-in-Struct

@@ -1,8 +1,7 @@
 use Rattle.std.proofs.Common.{◌∷◌, [], ◌∙◌, ap, sym}
 use Rattle.facet_solver_shape.specs.Resolved.{Resolved, with_key_path}
-use Rattle.facet_solver.specs.KeyPaths.{KeyPath, behind_prefix, with_key_paths}
-use Rattle.facet_solver.specs.Nested.{content_paths}
-use Rattle.facet_solver.proofs.KeyPaths.{with_key_paths-insert}
+use Rattle.facet_solver.specs.Nested.{KeyPath, behind_prefix, with_key_paths, content_paths}
+use Rattle.facet_solver.proofs.NestedSets.{with_key_paths-insert}
 use Rattle.facet_solver.proofs.build.emit.add_content.Goals as goal
 
 pub returns : goal.returns

@@ -1,4 +1,4 @@
-use Rattle.facet_solver.proofs.Outcomes.{taken-pick}
+use Rattle.facet_solver.proofs.Outcome.{taken-pick}
 use Rattle.facet_solver.proofs.build.emit.add_pick.Goals as goal
 
 pub returns : goal.returns

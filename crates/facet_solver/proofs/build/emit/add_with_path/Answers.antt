@@ -1,10 +1,10 @@
 use Rattle.std.proofs.Common.{◌∷◌, [], ◌∙◌, ap, sym}
 use Rattle.facet_solver_shape.specs.Fields.{field_view}
 use Rattle.facet_solver_shape.specs.Resolved.{with_key_path}
-use Rattle.facet_solver.specs.KeyPaths.{KeyPath, no_paths, named}
+use Rattle.facet_solver.specs.Nested.{KeyPath, no_paths, named}
 use Rattle.facet_solver.specs.Emissions.{a_field, some_key_paths, field_and_paths}
-use Rattle.facet_solver.proofs.KeyPaths.{with-name}
-use Rattle.facet_solver.proofs.Outcomes.{taken-field, taken-paths, refused-field, gives-exit, error-next, take_all-both, take_all-one}
+use Rattle.facet_solver.proofs.NestedSets.{with-name}
+use Rattle.facet_solver.proofs.Outcome.{taken-field, taken-paths, refused-field, gives-exit, error-next, take_all-both, take_all-one}
 use Rattle.facet_solver.proofs.build.emit.add_with_path.Goals as goal
 
 pub returns-in_err-add_field : goal.returns-in_err-add_field

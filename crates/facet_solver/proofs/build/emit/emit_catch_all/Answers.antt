@@ -1,8 +1,8 @@
 use Rattle.std.proofs.Common.{◌∙◌}
 use Rattle.facet_solver_shape.specs.Fields.{field_view}
 use Rattle.facet_solver.specs.Build.{build_of}
-use Rattle.facet_solver.proofs.Outcomes.{taken-catch_all, take_all-one}
-use Rattle.facet_solver.proofs.Selectors.{catch_all-part}
+use Rattle.facet_solver.proofs.Outcome.{taken-catch_all, take_all-one}
+use Rattle.facet_solver.proofs.Emissions.{catch_all-part}
 use Rattle.facet_solver.proofs.build.emit.emit_catch_all.Goals as goal
 
 pub returns : goal.returns

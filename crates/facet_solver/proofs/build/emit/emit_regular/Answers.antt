@@ -1,7 +1,7 @@
 use Rattle.std.proofs.Common.{◌∙◌}
 use Rattle.facet_solver.specs.Build.{build_of}
-use Rattle.facet_solver.proofs.Outcomes.{gives-stopped, take_all-both, take_all-one, taken-paths}
-use Rattle.facet_solver.proofs.Selectors.{regular-parts}
+use Rattle.facet_solver.proofs.Outcome.{gives-stopped, take_all-both, take_all-one, taken-paths}
+use Rattle.facet_solver.proofs.Emissions.{regular-parts}
 use Rattle.facet_solver.proofs.build.emit.emit_regular.Goals as goal
 
 pub returns-in_err-add_with_path : goal.returns-in_err-add_with_path

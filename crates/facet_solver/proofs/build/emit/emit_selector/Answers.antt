@@ -1,11 +1,10 @@
 use Rattle.std.proofs.Common.{[], ◌∷◌, ◌∙◌, ap, sym}
-use Rattle.facet_solver.specs.Nested.{content_paths}
+use Rattle.facet_solver.specs.Nested.{content_paths, with_paths_behind}
 use Rattle.facet_solver_shape.specs.Names.{Name}
-use Rattle.facet_solver.specs.KeyPaths.{with_paths_behind}
 use Rattle.facet_solver.specs.Place.{chosen_of}
 use Rattle.facet_solver.specs.Build.{build_of, repr_for}
-use Rattle.facet_solver.proofs.Outcomes.{gives-stopped, take_all-both, take_all-nil, take_all-one, taken-paths}
-use Rattle.facet_solver.proofs.Selectors.{selector-flattened, selector-external, selector-internal, selector-adjacent}
+use Rattle.facet_solver.proofs.Outcome.{gives-stopped, take_all-both, take_all-nil, take_all-one, taken-paths}
+use Rattle.facet_solver.proofs.Emissions.{selector-flattened, selector-external, selector-internal, selector-adjacent}
 use Rattle.facet_solver.proofs.build.emit.emit_selector.Goals as goal
 
 pub returns-in-Flattened : goal.returns-in-Flattened

@@ -1,5 +1,5 @@
 use Rattle.facet_solver.specs.Emissions.{emit_variant}
-use Rattle.facet_solver.proofs.Outcomes.{gives-exit, gives-next, error-next}
+use Rattle.facet_solver.proofs.Outcome.{gives-exit, gives-next, error-next}
 use Rattle.facet_solver.proofs.build.emit.emit_variant.Goals as goal
 
 pub returns-in_err-add_pick : goal.returns-in_err-add_pick

@@ -7,11 +7,10 @@ use Rattle.facet_solver_shape.specs.declared.shape.StructKind.{StructKind}
 use Rattle.facet_solver_shape.specs.declared.shape.ShapeKind.TheVariants.{Struct, Enum, Other}
 use Rattle.facet_solver_shape.specs.declared.shape.Field.{Field}
 use Rattle.facet_solver_shape.specs.declared.shape.Variant.{Variant}
-use Rattle.facet_solver.specs.Targets.{kind_of}
-use Rattle.facet_solver.specs.KeyPaths.{KeyPath, named, with_paths_behind}
-use Rattle.facet_solver.specs.Nested.{entered_view, if_entered, through_field, under_variant, under_shape}
-use Rattle.facet_solver.proofs.Limits.{limit_of, limit_of_variants, limit_of-at, limit_of_variants-at}
-use Rattle.facet_solver.proofs.KeyPaths.{behind-more, behind-end, behind-none, behind-named}
+use Rattle.facet_solver.specs.Build.{kind_of}
+use Rattle.facet_solver.specs.Nested.{KeyPath, named, with_paths_behind, entered_view, if_entered, through_field, under_variant, under_shape}
+use Rattle.facet_solver.proofs.Roles.{limit_of, limit_of_variants, limit_of-at, limit_of_variants-at}
+use Rattle.facet_solver.proofs.NestedSets.{behind-more, behind-end, behind-none, behind-named}
 use Rattle.facet_solver.proofs.Nested.{at-struct, at-enum, at-other, struct-limit, enum-limit}
 use Rattle.facet_solver.proofs.build.nested.+nested.Goals as goal
 

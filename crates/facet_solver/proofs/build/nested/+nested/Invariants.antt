@@ -1,8 +1,7 @@
 use Rattle.std.proofs.Common.{◌≡◌, ◌+◌, ◌*◌, drop}
 use Rattle.facet_solver_shape.specs.Names.{names_of}
-use Rattle.facet_solver.specs.Nested.{entered_view, through_fields, under_variants}
-use Rattle.facet_solver.specs.KeyPaths.{with_paths_behind}
-use Rattle.facet_solver.proofs.Limits.{limit_of, limit_of_variants}
+use Rattle.facet_solver.specs.Nested.{entered_view, through_fields, under_variants, with_paths_behind}
+use Rattle.facet_solver.proofs.Roles.{limit_of, limit_of_variants}
 use Rattle.facet_solver.proofs.build.nested.+nested.Given as goal
 
 abbrev pub decreases-add_if_entered : goal.decreases-add_if_entered

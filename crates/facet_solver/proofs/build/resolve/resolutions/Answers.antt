@@ -5,7 +5,7 @@ use Rattle.std.specs.declared.alloc.Global.{Global}
 use Rattle.facet_solver.specs.Choice.{IsChoice, ListsChoices, IsResolution}
 use Rattle.facet_solver.specs.Listing.{lists}
 use Rattle.facet_solver.specs.Build.{build_of}
-use Rattle.facet_solver.proofs.Enumerations.{listed-choice, resolves-more, resolves-length}
+use Rattle.facet_solver.proofs.ChoiceResolutions.{listed-choice, resolves-more, resolves-length}
 use Rattle.facet_solver.proofs.build.resolve.resolutions.Goals as goal
 
 pub resolve-requires-clause-choice : goal.resolve-requires-clause-choice

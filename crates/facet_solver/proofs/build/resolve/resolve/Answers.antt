@@ -4,7 +4,7 @@ use Rattle.facet_solver.specs.Walk.{walk_root}
 use Rattle.facet_solver_shape.specs.Resolved.{Resolved}
 use Rattle.facet_solver.specs.Outcome.{effect, StopsBy}
 use Rattle.facet_solver.specs.Build.{build_of}
-use Rattle.facet_solver.proofs.Enumerations.{choice-walked, resolution-is, stops-clash}
+use Rattle.facet_solver.proofs.ChoiceResolutions.{choice-walked, resolution-is, stops-clash}
 use Rattle.facet_solver.proofs.build.resolve.resolve.Goals as goal
 
 pub walk_root-requires-clause-walked : goal.walk_root-requires-clause-walked

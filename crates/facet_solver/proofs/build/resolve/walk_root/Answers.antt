@@ -6,10 +6,9 @@ use Rattle.facet_solver.specs.Place.{at_root}
 use Rattle.facet_solver.specs.Walk.{Walked, walk_fields, choose, walk_root_variant}
 use Rattle.facet_solver.specs.Outcome.{Outcome, effect}
 use Rattle.facet_solver.specs.Build.{build_of}
-use Rattle.facet_solver.proofs.Outcomes.{take_all-nil}
-use Rattle.facet_solver.proofs.Walking.{walks-same, has_choice, choose-is, VariantsBelow-get}
-use Rattle.facet_solver.proofs.Descent.{struct-below, enum-below}
-use Rattle.facet_solver.proofs.Roots.{root-fields, root-variants, root-nothing}
+use Rattle.facet_solver.proofs.Outcome.{take_all-nil}
+use Rattle.facet_solver.proofs.Walk.{walks-same, has_choice, choose-is, VariantsBelow-get, root-fields, root-variants, root-nothing}
+use Rattle.facet_solver.proofs.Roles.{struct-below, enum-below}
 use Rattle.facet_solver.proofs.build.resolve.walk_root.Goals as goal
 
 pub walk_fields-requires-clause-below : goal.walk_fields-requires-clause-below

@@ -1,6 +1,5 @@
 use Rattle.facet_solver.specs.Build.{build_of}
-use Rattle.facet_solver.proofs.Walking.{walks-exit, walks-same}
-use Rattle.facet_solver.proofs.Roots.{picked, picked-some, picked-stops}
+use Rattle.facet_solver.proofs.Walk.{walks-exit, walks-same, picked, picked-some, picked-stops}
 use Rattle.facet_solver.proofs.build.resolve.walk_root_variant.Goals as goal
 
 pub returns-in_err-add_pick : goal.returns-in_err-add_pick

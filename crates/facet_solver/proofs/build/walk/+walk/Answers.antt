@@ -8,11 +8,9 @@ use Rattle.facet_solver.specs.Content.{newtype_fields}
 use Rattle.facet_solver.specs.Outcome.{effect}
 use Rattle.facet_solver.specs.Build.{build_of}
 use Rattle.facet_solver.specs.Roles.{role_view}
-use Rattle.facet_solver.proofs.RoleViews.{plain_role}
-use Rattle.facet_solver.proofs.Descent.{FieldsBelow-mono}
-use Rattle.facet_solver.proofs.Limits.{limit_of, limit_of-le, limit_of-at, FieldsBelow-at}
-use Rattle.facet_solver.proofs.Products.{block-below, alternatives-below}
-use Rattle.facet_solver.proofs.Walking.{walk-start, turn-walked, turn-left, turn-stops, turns-done, stops-emit, emit-done, walks-exit, walks-same, at-block, at-alternatives, at-plain, has_choice, choose-is, VariantsBelow-get, then-inside, then-alone, inside-some, stops-chosen, inside-newtype, inside-own, newtype-limits}
+use Rattle.facet_solver.proofs.Roles.{plain_role, FieldsBelow-mono, limit_of, limit_of-le, limit_of-at, FieldsBelow-at}
+use Rattle.facet_solver.proofs.Listing.{block-below, alternatives-below}
+use Rattle.facet_solver.proofs.Walk.{walk-start, turn-walked, turn-left, turn-stops, turns-done, stops-emit, emit-done, walks-exit, walks-same, at-block, at-alternatives, at-plain, has_choice, choose-is, VariantsBelow-get, then-inside, then-alone, inside-some, stops-chosen, inside-newtype, inside-own, newtype-limits}
 use Rattle.facet_solver.proofs.build.walk.+walk.Goals as goal
 
 pub walk_fields-loop-field-init : goal.walk_fields-loop-field-init

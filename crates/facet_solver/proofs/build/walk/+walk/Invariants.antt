@@ -2,8 +2,8 @@ use Rattle.std.proofs.Common.{◌≡◌, drop, ◌+◌, ◌*◌}
 use Rattle.facet_solver.specs.Walk.{walk_fields}
 use Rattle.facet_solver.specs.Outcome.{effect}
 use Rattle.facet_solver.specs.Build.{build_of}
-use Rattle.facet_solver.proofs.Limits.{limit_of}
-use Rattle.facet_solver.proofs.Walking.{walk_left}
+use Rattle.facet_solver.proofs.Roles.{limit_of}
+use Rattle.facet_solver.proofs.Walk.{walk_left}
 use Rattle.facet_solver.proofs.build.walk.+walk.Given as goal
 
 abbrev pub decreases-walk_field : goal.decreases-walk_field

@@ -1,7 +1,7 @@
 use Rattle.std.proofs.lemmas.Result.{IfOk-weaker}
 use Rattle.facet_solver.specs.declared.build.representation.Format.TheVariants.{Flat}
 use Rattle.facet_solver.specs.Representation.{asked_view}
-use Rattle.facet_solver.proofs.CountFormats.{for_each_format}
+use Rattle.facet_solver.proofs.Count.{for_each_format}
 use Rattle.facet_solver.proofs.schema.Schema.resolution_count.Goals as goal
 
 pub returns : goal.returns

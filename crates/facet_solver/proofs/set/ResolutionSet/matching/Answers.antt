@@ -1,6 +1,6 @@
 use Rattle.std.proofs.Common.{◌<◌, ap, sym, ◌∙◌}
-use Rattle.facet_solver.specs.HowMany.{matches_view}
-use Rattle.facet_solver.proofs.IndexSets.{rest_more, item_passes, first_passes}
+use Rattle.facet_solver.specs.IndexSet.{matches_view}
+use Rattle.facet_solver.proofs.IndexSet.{rest_more, item_passes, first_passes}
 use Rattle.facet_solver.proofs.set.ResolutionSet.matching.Goals as goal
 
 pub loop-index-preserved-in-None-found : goal.loop-index-preserved-in-None-found

@@ -2,9 +2,8 @@ use Rattle.std.proofs.Common.{◌≡◌, ◌+◌, ◌-◌, ◌*◌, ◌^◌, get
 use Rattle.std.specs.Int.Count.{ones}
 use Rattle.facet_solver.specs.IndexSet.{upto}
 use Rattle.facet_solver.specs.Words.{has_bit}
-use Rattle.facet_solver.proofs.Bits.{count_more}
-use Rattle.facet_solver.proofs.Members.{members_upto}
-use Rattle.facet_solver.proofs.Filters.{count_within}
+use Rattle.facet_solver.proofs.Words.{count_more, members_upto}
+use Rattle.facet_solver.proofs.IndexSet.{count_within}
 use Rattle.facet_solver.proofs.set.bits.count_bits.Goals as goal
 
 pub overflow_add-total : goal.overflow_add-total

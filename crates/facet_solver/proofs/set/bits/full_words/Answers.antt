@@ -1,6 +1,6 @@
 use Rattle.std.proofs.Common.{inl, inr, arith, rules}
 use Rattle.std.proofs.lemmas.Bool.{cases_lt}
-use Rattle.facet_solver.proofs.Bits.{full_bits, full_past}
+use Rattle.facet_solver.proofs.Words.{full_bits, full_past}
 use Rattle.facet_solver.proofs.set.bits.full_words.Goals as goal
 
 pub returns-clause-full : goal.returns-clause-full

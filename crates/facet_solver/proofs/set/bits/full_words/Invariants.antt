@@ -1,5 +1,5 @@
 use Rattle.std.proofs.Common.{◌≡◌, ℕ, ◌<◌, get_or, vec_len}
-use Rattle.facet_solver.proofs.Bits.{full_word}
+use Rattle.facet_solver.proofs.Words.{full_word}
 use Rattle.facet_solver.proofs.set.bits.full_words.Given as goal
 
 abbrev pub invariant-loop-k : goal.invariant-loop-k

@@ -1,8 +1,7 @@
 use Rattle.std.proofs.Common.{length, inl, inr, arith, rules}
 use Rattle.std.proofs.lemmas.Bool.{cases_lt}
 use Rattle.std.proofs.lemmas.List.{get_or_past}
-use Rattle.facet_solver.proofs.Bits.{clear_of_zeros, zero_of_clear}
-use Rattle.facet_solver.proofs.Members.{no_members, no_bits}
+use Rattle.facet_solver.proofs.Words.{clear_of_zeros, zero_of_clear, no_members, no_bits}
 use Rattle.facet_solver.proofs.set.bits.is_clear.Goals as goal
 
 pub returns-then-word-ne0 : goal.returns-then-word-ne0

@@ -1,7 +1,7 @@
 use Rattle.std.proofs.Common.{◌≡◌, ℕ, ◌+◌, ◌&&◌, Bool, false, nat_eq, ap, sym, ◌∙◌, refl, arith, rules}
 use Rattle.std.proofs.Math.Bool.{and-true}
 use Rattle.std.specs.Int.{bit_at}
-use Rattle.facet_solver.proofs.Bits.{keeps_met, keeps_unmet, keeps_zero}
+use Rattle.facet_solver.proofs.Words.{keeps_met, keeps_unmet, keeps_zero}
 use Rattle.facet_solver.proofs.set.bits.kept_bits.Goals as goal
 use Rattle.facet_solver.proofs.set.bits.kept_bits.Goals.{then-is_bit_set+then-not-holds, else-is_bit_set, else-is_bit_set-via-then-is_bit_set+else-not-holds, else-is_bit_set-via-else-is_bit_set}
 

@@ -1,5 +1,5 @@
 use Rattle.std.proofs.Common.{◌+◌}
-use Rattle.facet_solver.proofs.Bits.{KeepsBelow}
+use Rattle.facet_solver.proofs.Words.{KeepsBelow}
 use Rattle.facet_solver.proofs.set.bits.kept_bits.Given as goal
 
 abbrev pub invariant-loop-bit : goal.invariant-loop-bit

@@ -1,6 +1,6 @@
 use Rattle.std.proofs.Common.{◌*◌, inl, inr, arith, rules, ◌∙◌, get_or-set_other}
 use Rattle.std.proofs.lemmas.Bool.{cases_lt}
-use Rattle.facet_solver.proofs.Bits.{word_kept, past_kept}
+use Rattle.facet_solver.proofs.Words.{word_kept, past_kept}
 use Rattle.facet_solver.proofs.set.bits.retain_bits.Goals as goal
 
 pub loop-k-preserved : goal.loop-k-preserved

@@ -1,6 +1,6 @@
 use Rattle.std.proofs.Common.{ℕ, nat_eq, ◌∙◌}
 use Rattle.std.specs.List.{list_any}
-use Rattle.facet_solver.proofs.States.{shape_among}
+use Rattle.facet_solver.proofs.State.{shape_among}
 use Rattle.facet_solver.proofs.solver.conditions.has_shape_among.Goals as goal
 
 pub returns : goal.returns

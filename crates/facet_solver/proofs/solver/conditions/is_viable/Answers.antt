@@ -2,7 +2,7 @@ use Rattle.std.proofs.Common.{map, ap, sym, ◌∙◌}
 use Rattle.std.specs.FinSet.{is_subset}
 use Rattle.facet_solver_shape.specs.Keys.{key_of}
 use Rattle.facet_solver.specs.Verdict.{names_among}
-use Rattle.facet_solver.proofs.Viability.{are_names_among}
+use Rattle.facet_solver.proofs.Verdict.{are_names_among}
 use Rattle.facet_solver.proofs.solver.conditions.is_viable.Goals as goal
 
 pub returns : goal.returns

@@ -2,7 +2,7 @@ use Rattle.std.proofs.Common.{ap, ◌∙◌}
 use Rattle.std.specs.List.{list_any}
 use Rattle.facet_solver_shape.specs.Names.{name_eq}
 use Rattle.facet_solver_shape.specs.Resolved.{Pick}
-use Rattle.facet_solver.proofs.States.{variant_named}
+use Rattle.facet_solver.proofs.State.{variant_named}
 use Rattle.facet_solver.proofs.solver.conditions.picks_variant.Goals as goal
 
 pub returns : goal.returns

@@ -1,5 +1,5 @@
 use Rattle.std.proofs.Common.{◌∙◌}
-use Rattle.facet_solver.proofs.States.{key_named}
+use Rattle.facet_solver.proofs.State.{key_named}
 use Rattle.facet_solver.proofs.solver.conditions.was_name_seen.Goals as goal
 
 pub returns : goal.returns

@@ -4,8 +4,8 @@ use Rattle.facet_solver_shape.specs.declared.resolution.field.FieldInfo.{FieldIn
 use Rattle.facet_solver_shape.specs.Keys.{key_of}
 use Rattle.facet_solver_shape.specs.Fields.{field_view}
 use Rattle.facet_solver.specs.KeyResult.{field_at, scored_view}
-use Rattle.facet_solver.proofs.Distinct.{firsts_new, firsts_old, firsts_none}
-use Rattle.facet_solver.proofs.IndexSets.{rest_more}
+use Rattle.facet_solver.proofs.KeyResultFields.{firsts_new, firsts_old, firsts_none}
+use Rattle.facet_solver.proofs.IndexSet.{rest_more}
 use Rattle.facet_solver.proofs.solver.distinct_fields.distinct_fields.Goals as goal
 
 -- what the call told of the fields so far

@@ -1,6 +1,6 @@
 use Rattle.std.proofs.Common.{◌≡◌, sym, ◌∙◌, ap, map, string_bytes, ◌++◌, append-nil}
-use Rattle.facet_solver.proofs.IndexSets.{rest_more}
-use Rattle.facet_solver.proofs.Verdicts.{passing_texts, passing_texts_are, texts_more, texts_same}
+use Rattle.facet_solver.proofs.IndexSet.{rest_more}
+use Rattle.facet_solver.proofs.Verdict.{passing_texts, passing_texts_are, texts_more, texts_same}
 use Rattle.facet_solver.proofs.solver.report.descriptions.Goals as goal
 
 pub loop-index-preserved-in_ok-push : goal.loop-index-preserved-in_ok-push

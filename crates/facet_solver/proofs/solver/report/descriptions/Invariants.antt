@@ -1,5 +1,5 @@
 use Rattle.std.proofs.Common.{◌≡◌, ◌++◌, map, string_bytes}
-use Rattle.facet_solver.proofs.Verdicts.{passing_texts}
+use Rattle.facet_solver.proofs.Verdict.{passing_texts}
 use Rattle.facet_solver.proofs.solver.report.descriptions.Given as goal
 
 abbrev pub invariant-loop-index : goal.invariant-loop-index

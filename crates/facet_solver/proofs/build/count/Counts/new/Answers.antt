@@ -2,7 +2,7 @@ use Rattle.std.proofs.Common.{◌≡◌, [], ◌∷◌, length, length-append, s
 use Rattle.std.proofs.lemmas.Option.{slice_get_within}
 use Rattle.facet_solver_shape.proofs.Catalogues.{names_earlier}
 use Rattle.facet_solver.specs.Build.{build_of}
-use Rattle.facet_solver.proofs.CountTables.{one_more_entry, all_entries}
+use Rattle.facet_solver.proofs.Count.{one_more_entry, all_entries}
 use Rattle.facet_solver.proofs.build.count.Counts.new.Goals as goal
 
 pub count_shape-requires-clause-checked : goal.count_shape-requires-clause-checked

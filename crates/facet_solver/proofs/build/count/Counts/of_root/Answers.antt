@@ -7,9 +7,8 @@ use Rattle.facet_solver.specs.declared.build.count.saturating.SaturatingCount.Th
 use Rattle.facet_solver.specs.Build.{build_of}
 use Rattle.facet_solver.specs.Counts.{CountsTo, AreFirstCounts, count_at}
 use Rattle.facet_solver.specs.Count.{count_variants}
-use Rattle.facet_solver.proofs.Descent.{enum-below}
-use Rattle.facet_solver.proofs.RootCounts.{absent-count, enum-count, other-count}
-use Rattle.facet_solver.proofs.FieldCounts.{entry_counted}
+use Rattle.facet_solver.proofs.Roles.{enum-below}
+use Rattle.facet_solver.proofs.Count.{absent-count, enum-count, other-count, entry_counted}
 use Rattle.facet_solver.proofs.build.count.Counts.of_root.Goals as goal
 
 pub returns-in_default : goal.returns-in_default

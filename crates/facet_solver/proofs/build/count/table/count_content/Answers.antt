@@ -1,7 +1,7 @@
 use Rattle.std.proofs.Common.{◌<◌, length, arith}
 use Rattle.facet_solver.specs.Content.{IsNewtypeOf}
 use Rattle.facet_solver.specs.Build.{build_of}
-use Rattle.facet_solver.proofs.FieldCounts.{newtype_counted}
+use Rattle.facet_solver.proofs.Count.{newtype_counted}
 use Rattle.facet_solver.proofs.build.count.table.count_content.Goals as goal
 
 newtype : (c : goal.After-index) → IsNewtypeOf c.args.build.shapes.now c.args.variant.now.fields.items c.index.result

@@ -1,8 +1,7 @@
 use Rattle.std.proofs.Common.{◌<◌, length, arith}
 use Rattle.facet_solver.specs.Build.{build_of}
-use Rattle.facet_solver.proofs.Descent.{target_in_role-le}
-use Rattle.facet_solver.proofs.FieldCounts.{field_counted}
-use Rattle.facet_solver.proofs.RoleViews.{target_in_hand}
+use Rattle.facet_solver.proofs.Roles.{target_in_role-le, target_in_hand}
+use Rattle.facet_solver.proofs.Count.{field_counted}
 use Rattle.facet_solver.proofs.build.count.table.count_field.Goals as goal
 
 -- the target stands no later than the field's shape

@@ -3,8 +3,8 @@ use Rattle.facet_solver_shape.specs.declared.shape.Field.{Field}
 use Rattle.facet_solver.specs.Count.{count_fields_step, count_fields, count_field}
 use Rattle.facet_solver.specs.Counts.{CountsTo}
 use Rattle.facet_solver.specs.Build.{build_of}
-use Rattle.facet_solver.proofs.Limits.{FieldsBelow-at}
-use Rattle.facet_solver.proofs.FieldCounts.{count_fields_step-more, count_fields_step-all}
+use Rattle.facet_solver.proofs.Roles.{FieldsBelow-at}
+use Rattle.facet_solver.proofs.Count.{count_fields_step-more, count_fields_step-all}
 use Rattle.facet_solver.proofs.build.count.table.count_fields.Goals as goal
 
 pub count_field-requires-clause-below : goal.count_field-requires-clause-below

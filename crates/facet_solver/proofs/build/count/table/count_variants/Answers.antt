@@ -6,8 +6,8 @@ use Rattle.facet_solver_shape.specs.Catalogues.{FieldsBelow}
 use Rattle.facet_solver.specs.Count.{count_variant, count_fields, count_variants}
 use Rattle.facet_solver.specs.Counts.{CountsTo}
 use Rattle.facet_solver.specs.Build.{build_of}
-use Rattle.facet_solver.proofs.Limits.{VariantsBelow-at}
-use Rattle.facet_solver.proofs.FieldCounts.{walked_counted, unwalked_counted}
+use Rattle.facet_solver.proofs.Roles.{VariantsBelow-at}
+use Rattle.facet_solver.proofs.Count.{walked_counted, unwalked_counted}
 use Rattle.facet_solver.proofs.build.count.table.count_variants.Goals as goal
 use Rattle.facet_solver.proofs.build.count.table.count_variants.Goals.{then-walked, else-walked}
 

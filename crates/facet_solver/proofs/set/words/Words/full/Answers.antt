@@ -1,4 +1,4 @@
-use Rattle.facet_solver.proofs.Bits.{one_full}
+use Rattle.facet_solver.proofs.Words.{one_full}
 use Rattle.facet_solver.proofs.set.words.Words.full.Goals as goal
 
 pub returns-then-bound-le64-clause-full : goal.returns-then-bound-le64-clause-full

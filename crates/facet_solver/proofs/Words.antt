@@ -1,5 +1,5 @@
--- Bits of words.
-use Rattle.std.proofs.Common.{◌≡◌, ℕ, zero, suc, ◌+◌, ◌-◌, ◌*◌, ◌/◌, ◌%◌, ◌^◌, ◌<◌, ◌≤◌, min, Bool, false, cond, ◌&&◌, inl, inr, nat_eq, List, [], ◌∷◌, length, get_or, set, filter, add-zero, length-append, refl, ap, sym, ◌∙◌, arith, le-ltb, w64, get_or-set_other, get_or-set_same}
+-- Sets of indices as bits of words: the bits of words, and the members that they stand for.
+use Rattle.std.proofs.Common.{◌≡◌, ℕ, zero, suc, ◌+◌, ◌-◌, ◌*◌, ◌/◌, ◌%◌, ◌^◌, ◌<◌, ◌≤◌, min, Bool, false, cond, ◌&&◌, inl, inr, nat_eq, List, [], ◌∷◌, length, get_or, set, filter, add-zero, length-append, refl, ap, sym, ◌∙◌, arith, le-ltb, w64, get_or-set_other, get_or-set_same, All}
 use Rattle.std.proofs.lemmas.Bool.{and_left, and_right, cases_eq, cases_lt, eqb-false, lt-ltb}
 use Rattle.std.proofs.lemmas.List.{get_or_past}
 use Rattle.std.proofs.lemmas.Nat.Bits.{bit_at-zero, bit_at-lt, bit_at_clear_same, bit_at_clear_other, bit_at_ones, bit_at_ones_above, bit_at_above, bit_at-trailing_zeros, bit_at-suc, bit_at_lowest, same_from_bits_below}
@@ -8,10 +8,13 @@ use Rattle.std.specs.Int.Count.{ones}
 use Rattle.std.specs.List.{range_with_len}
 use Rattle.std.specs.Prelude.{bit_and}
 use Rattle.std.specs.Int.{bit_at, bit_not, trailing_zeros}
-use Rattle.facet_solver.specs.IndexSet.{upto}
-use Rattle.facet_solver.specs.Words.{IsFull, KeepsBits, bit_of, has_bit}
-use Rattle.facet_solver.proofs.Filters.{IsNext, filter_split}
+use Rattle.facet_solver.specs.IndexSet.{upto, has}
+use Rattle.facet_solver.specs.Words.{IsFull, KeepsBits, bit_of, has_bit, HoldBelow, members_from, members_of}
+use Rattle.facet_solver.proofs.IndexSet.{IsNext, filter_split, filter-below, filter-next, filter-rises, filter_all, filter_cut, filter_filter, filter_none, filter_same, has_passing}
+use Rattle.std.proofs.Math.Nat.{sub-zero}
+use Rattle.std.specs.List.Sorted.{IsStrictlyIncreasing}
 
+-- ---- bits of words
 -- the test of a bit of one word
 pub bit_is_set : (words : List ℕ) (i : ℕ) → nat_eq (bit_at (get_or words (i / 64) 0) (i % 64)) 1 ≡ has_bit words i
 unfolding bit_of
@@ -37,9 +40,9 @@ unfolding bit_of
 zero_of_clear words k fits clear =
     same_from_bits_below 64 (get_or words k 0) 0 fits (omega arith)
     (λ j small.
-    let place : (k * 64 + j) / 64 ≡ k = omega arith in
+    let index_is : (k * 64 + j) / 64 ≡ k = omega arith in
     let bit : (k * 64 + j) % 64 ≡ j = omega arith in
-    let is_not : nat_eq (bit_at (get_or words k 0) j) 1 ≡ false = rw (place, bit) at (clear (k * 64 + j)) in
+    let is_not : nat_eq (bit_at (get_or words k 0) j) 1 ≡ false = rw (index_is, bit) at (clear (k * 64 + j)) in
     let ne = eqb-false (bit_at (get_or words k 0) j) 1 is_not in
     let below = bit_at-lt (get_or words k 0) j in
     let value : bit_at (get_or words k 0) j ≡ 0 = omega arith in
@@ -93,11 +96,11 @@ next_in_word f from fits some =
       | inl small ↦ small
       | inr large ↦ absurd (let none : bit_at word (r + tz) ≡ 0 = bit_at_above word 64 (r + tz) fits large in omega arith)
     ] in
-    let place : (from + tz) / 64 ≡ from / 64 = omega arith in
+    let index_is : (from + tz) / 64 ≡ from / 64 = omega arith in
     let bit : (from + tz) % 64 ≡ r + tz = omega arith in
     record {
       above = omega arith;
-      passes = rw (place, bit, set) refl;
+      passes = rw (index_is, bit, set) refl;
       skipped = λ i high below.
           let d : ℕ = i - from in
           let at : i / 64 ≡ from / 64 = omega arith in
@@ -127,11 +130,11 @@ unfolding bit_of
 next_in_later f from k fits some above before =
     let low = bit_at-trailing_zeros w64 (f k) some fits in
     let tz : ℕ = trailing_zeros w64 (f k) in
-    let place : (k * 64 + tz) / 64 ≡ k = omega arith in
+    let index_is : (k * 64 + tz) / 64 ≡ k = omega arith in
     let bit : (k * 64 + tz) % 64 ≡ tz = omega arith in
     record {
       above = omega arith;
-      passes = rw (place, bit, low.1) refl;
+      passes = rw (index_is, bit, low.1) refl;
       skipped = λ i high below.
           elim (cases_lt i (k * 64)) [
             | inl early ↦ before i high early
@@ -175,8 +178,8 @@ count_word (suc n) w a p small each =
     let later : length (filter p (range_with_len (a + 1) n)) ≡ ones (w / 2) =
     count_word n (w / 2) (a + 1) p half
     (λ j low.
-    let place : a + 1 + j ≡ a + suc j = omega arith in
-    rw place (each (suc j) (omega arith) ∙ ap (λ b. nat_eq b 1) (bit_at-suc w j))) in
+    let index_is : a + 1 + j ≡ a + suc j = omega arith in
+    rw index_is (each (suc j) (omega arith) ∙ ap (λ b. nat_eq b 1) (bit_at-suc w j))) in
     let here : p a ≡ nat_eq (w % 2) 1 = let e = each 0 (omega arith) in simp (add-zero, bit_at_lowest) at e in
     let parts : ones w ≡ ones (w / 2) + ones (w % 2) = let cat = ones_cat 1 (w / 2) (w % 2) (omega arith) in let e : w / 2 * 2 ^ 1 + w % 2 ≡ w = omega arith in rw e at cat in
     first_counts a (w % 2) (filter p (range_with_len (a + 1) n)) (p a) here (omega arith)
@@ -192,9 +195,9 @@ count_more words k fits =
     let word : length (filter p (range_with_len (k * 64) 64)) ≡ ones (get_or words k 0) =
     count_word 64 (get_or words k 0) (k * 64) p fits
     (λ j low.
-    let place : (k * 64 + j) / 64 ≡ k = omega arith in
+    let index_is : (k * 64 + j) / 64 ≡ k = omega arith in
     let bit : (k * 64 + j) % 64 ≡ j = omega arith in
-    rw (place, bit) refl) in
+    rw (index_is, bit) refl) in
     rw (more, filter_split p (k * 64) 64, length-append) (ap (λ n. length (filter p (upto (k * 64))) + n) word)
 
 -- ---- the bits that meet a condition
@@ -242,12 +245,62 @@ word_kept holds old now k word within same kept before i low =
     elim (cases_lt i (k * 64)) [
       | inl early ↦ rw (get_or-set_other now k (i / 64) word 0 (λ e. omega arith)) (before i early)
       | inr late ↦
-          let place : i / 64 ≡ k = omega arith in
+          let index_is : i / 64 ≡ k = omega arith in
           let index : k * 64 + i % 64 ≡ i = omega arith in
-          rw (place, get_or-set_same now k word 0 within, kept (i % 64) (omega arith), same, index) refl
+          rw (index_is, get_or-set_same now k word 0 within, kept (i % 64) (omega arith), same, index) refl
     ]
 
 -- past the words there are none
 pub past_kept : (holds : ℕ → Bool) (old now : List ℕ) (i : ℕ) → length now ≡ length old → length old ≤ i / 64 → has_bit now i ≡ (has_bit old i && holds i)
 past_kept holds old now i same past =
     sym (not_set now i (omega arith)) ∙ sym (and_left (has_bit old i) (holds i) (sym (not_set old i past)))
+
+-- ---- the members of a set that is stored as bits of words
+-- a range from 0 on
+pub members_upto : (words : List ℕ) → members_of words ≡ filter (has_bit words) (upto (length words * 64))
+members_upto words = ap (λ n. filter (has_bit words) (upto n)) (sub-zero (length words * 64))
+
+-- the members from an index on, where there is a next one
+pub next_member : (words : List ℕ) (from i : ℕ) → IsNext (has_bit words) from i → members_from words from ≡ i ∷ members_from words (i + 1)
+next_member words from i next = filter-next (has_bit words) from i (length words * 64) (clear_past words) next
+
+-- and where there is none
+pub no_members : (words : List ℕ) (from : ℕ) → ((i : ℕ) → from ≤ i → has_bit words i ≡ false) → members_from words from ≡ []
+no_members words from clear = filter_none (has_bit words) from (length words * 64 - from) (λ i high _. clear i high)
+
+-- an index is a member where its bit is set
+pub has_members : (words : List ℕ) (i : ℕ) → has_bit words i ≡ has (members_of words) i
+has_members words i =
+    sym (ap (λ members. has members i) (members_upto words) ∙ has_passing (has_bit words) (length words * 64) i (clear_past words))
+
+-- so no bit is set where there is no member
+pub no_bits : (words : List ℕ) → members_of words ≡ [] → (i : ℕ) → has_bit words i ≡ false
+no_bits words none i = has_members words i ∙ ap (λ members. has members i) none
+
+-- the members are below the bound
+pub members_below : (words : List ℕ) (bound : ℕ) → HoldBelow bound words → members_of words ≡ filter (has_bit words) (upto bound)
+members_below words bound hold =
+    let count = hold.count in
+    let room : bound ≤ length words * 64 = omega arith in
+    members_upto words ∙ filter_cut (has_bit words) (length words * 64) bound room hold.clear
+
+-- the members that meet a condition
+pub members_kept : (before after : List ℕ) (holds : ℕ → Bool) → length after ≡ length before
+    → ((i : ℕ) → has_bit after i ≡ (has_bit before i && holds i)) → members_of after ≡ filter holds (members_of before)
+members_kept before after holds count each =
+    ap (λ n. filter (has_bit after) (range_with_len 0 (n * 64 - 0))) count
+    ∙ filter_same (has_bit after) (λ i. has_bit before i && holds i) 0 (length before * 64 - 0) (λ i _ _. each i)
+    ∙ sym (filter_filter (has_bit before) holds (range_with_len 0 (length before * 64 - 0)))
+
+-- they rise
+pub members_rise : (words : List ℕ) → IsStrictlyIncreasing (members_of words)
+members_rise words = rw (members_upto words) (filter-rises (has_bit words) (length words * 64))
+
+-- and are below the bound
+pub members_within : (words : List ℕ) (bound : ℕ) → HoldBelow bound words → All (λ i. i < bound) (members_of words)
+members_within words bound hold = rw (members_below words bound hold) (filter-below (has_bit words) bound)
+
+-- those of all indices below a bound
+pub full_members : (words : List ℕ) (bound : ℕ) → HoldBelow bound words → IsFull bound words → members_of words ≡ upto bound
+full_members words bound hold full =
+    members_below words bound hold ∙ filter_all (has_bit words) 0 bound (λ i _ low. full i ∙ lt-ltb i bound (omega arith))

@@ -1,7 +1,7 @@
 -- The walk part by part, and what each part makes of a resolution.
 use Rattle.facet_solver.specs.Build.{Build, repr_for}
 use Rattle.std.proofs.Common.{◌≡◌, ℕ, zero, suc, ◌+◌, ◌<◌, ◌≤◌, List, [], ◌∷◌, Option, Some, None, slice_get, Bool, true, false, sym, refl, ap, ◌∙◌, subst, length, get_or, drop, append-nil, arith, IsSome}
-use Rattle.std.specs.Prelude.{if◌then◌else◌, Result, IsErrAnd, slice_index, codes}
+use Rattle.std.specs.Prelude.{if◌then◌else◌, Result, IsErrAnd, slice_index, codes, Vec}
 use Rattle.std.specs.Borrow.{Bor}
 use Rattle.std.proofs.lemmas.Result.{err_from_is_err_and}
 use Rattle.facet_solver_shape.specs.declared.resolution.error.SchemaError as schema
@@ -9,25 +9,29 @@ use Rattle.facet_solver_shape.specs.declared.resolution.error.SchemaError.TheVar
 use Rattle.facet_solver_shape.specs.Catalogues.{FieldsBelow, VariantsBelow, NamesEarlier}
 use Rattle.facet_solver_shape.specs.Paths.{by_field}
 use Rattle.facet_solver_shape.specs.Resolved.{Resolved}
-use Rattle.facet_solver.specs.Outcome.{ErrorOf, StopsBy, Walks, duplicate_view, Outcome, resolved, take_all, effect}
+use Rattle.facet_solver.specs.Outcome.{ErrorOf, StopsBy, Walks, duplicate_view, Outcome, resolved, take_all, effect, take_in}
 use Rattle.facet_solver.specs.Roles.{IsPlain, Role, regular, block, alternatives, catch_all, leaf, role_of}
 use Rattle.facet_solver.specs.Representation.{is_walked}
 use Rattle.facet_solver.specs.Content.{newtype_fields, content_or}
-use Rattle.facet_solver.specs.Emissions.{Emission, emit_variant, emit_plain}
-use Rattle.facet_solver.specs.Place.{Path, Chosen, choosing, further, inside_field, inside_variant}
-use Rattle.facet_solver.specs.Walk.{Walked, put_before, and_then, emit, choose, at_chosen, walk_fields, walk_field, walk_variant, walk_content, walk_role, walk_content_step, walk_fields_step, HasChoice, Walk}
-use Rattle.facet_solver.proofs.Limits.{limit_of, limit_of-content}
-use Rattle.facet_solver.proofs.Descent.{content_of-below}
+use Rattle.facet_solver.specs.Emissions.{Emission, emit_variant, emit_plain, pick_of}
+use Rattle.facet_solver.specs.Place.{Path, Chosen, choosing, further, inside_field, inside_variant, at_root, at_root_variant}
+use Rattle.facet_solver.specs.Walk.{Walked, put_before, and_then, emit, choose, at_chosen, walk_fields, walk_field, walk_variant, walk_content, walk_role, walk_content_step, walk_fields_step, HasChoice, Walk, walk_root, walk_root_shape, walk_root_kind, walk_root_variant}
+use Rattle.facet_solver.proofs.Roles.{limit_of, limit_of-content, content_of-below}
 use Rattle.std.proofs.lemmas.List.{drop_more}
 use Rattle.std.proofs.Math.ListN.{drop_of_length-le}
 use Rattle.facet_solver_shape.specs.declared.shape.Shape.{Shape}
 use Rattle.facet_solver_shape.specs.declared.shape.Field.{Field}
 use Rattle.facet_solver_shape.specs.declared.shape.Variant.{Variant}
-use Rattle.facet_solver.proofs.Outcomes.{take_all-nil, effect-put_before, effect-and_then, effect-and_then-stopped, effect-stopped, put_before-some}
-use Rattle.facet_solver.proofs.Steps.{walk_step}
+use Rattle.facet_solver.proofs.Outcome.{take_all-nil, effect-put_before, effect-and_then, effect-and_then-stopped, effect-stopped, put_before-some, take_all-one}
+use Rattle.facet_solver.proofs.WalkSteps.{walk_step}
 use Rattle.facet_solver.specs.declared.build.place.Place.{Place}
 use Rattle.facet_solver.specs.declared.build.role.Target.{Target}
+use Rattle.std.specs.declared.alloc.Global.{Global}
+use Rattle.facet_solver_shape.specs.declared.shape.StructKind.{StructKind}
+use Rattle.facet_solver_shape.specs.declared.shape.ShapeKind.{ShapeKind}
+use Rattle.facet_solver_shape.specs.declared.shape.ShapeKind.TheVariants.{Struct, Enum}
 
+-- ---- the walk part by part, and what each part makes of a resolution
 -- the walk of the fields that are left
 unfoldable pub walk_left : Build → Walk
 walk_left build fs place ns = walk_fields_step (walk_fields build) build fs place ns
@@ -237,3 +241,42 @@ module _ (build : Build) (chosen : Chosen) (place : Place) (ns : List ℕ) where
       let a = chosen-announced build chosen place ns in
       subst (λ (w : Walked). StopsBy (effect r w) err) (sym a.1)
       (stops-put_before r _ a.0 err (subst (λ (w : Walked). IsSome w) a.1 h) k)
+
+-- ---- the walk of a root by its kind
+module _ (build : Build) (root : ℕ) (ns : List ℕ) (s : Shape) (is : slice_get build.catalogue root ≡ Some s) where
+  by_kind : walk_root build root ns ≡ walk_root_kind build s s.kind ns
+  unfolding walk_root
+  by_kind = ap (λ (o : Option Shape). walk_root_shape build o ns) is
+
+  pub root-fields : (kind : StructKind) (fs : Vec Field Global) → s.kind ≡ Struct kind fs → walk_root build root ns ≡ walk_fields build fs.items at_root ns
+  root-fields kind fs e = by_kind ∙ ap (λ (k : ShapeKind). walk_root_kind build s k ns) e
+
+  pub root-variants : (vs : Vec Variant Global) → s.kind ≡ Enum vs → walk_root build root ns ≡ choose vs.items ns (λ v rest. walk_root_variant build s v rest)
+  root-variants vs e = by_kind ∙ ap (λ (k : ShapeKind). walk_root_kind build s k ns) e
+
+  pub root-nothing : ((kind : StructKind) (fs : Vec Field Global) → s.kind ≡ Struct kind fs → ⊥) → ((vs : Vec Variant Global) → s.kind ≡ Enum vs → ⊥) → walk_root build root ns ≡ Some ([], ns)
+  root-nothing no_struct no_enum = by_kind ∙ go s.kind refl
+    where
+      go : (k : ShapeKind) → s.kind ≡ k → walk_root_kind build s k ns ≡ Some ([], ns)
+      go (Struct kind fs) e = absurd (no_struct kind fs e)
+      go (Enum vs) e = absurd (no_enum vs e)
+      go _ e = refl
+
+module _ (build : Build) (s : Shape) (v : Variant) (ns : List ℕ) (inside : Place) (is_inside : inside ≡ at_root_variant v) where
+  root_parts : walk_root_variant build s v ns ≡ put_before (pick_of s v [] ∷ []) (walk_content build v inside ns)
+  unfolding walk_root_variant
+  root_parts = ap (λ (place : Place). put_before (pick_of s v [] ∷ []) (walk_content build v place ns)) (sym is_inside)
+
+  pub picked : (r t : Resolved) (p : Path) → p ≡ [] → take_in r (pick_of s v p) ≡ resolved t → effect r (walk_root_variant build s v ns) ≡ effect t (walk_content build v inside ns)
+  picked r t p e h =
+      ap (effect r) root_parts
+      ∙ effect-put_before r t (pick_of s v [] ∷ []) _ (take_all-one r (pick_of s v []) ∙ ap (λ (q : Path). take_in r (pick_of s v q)) (sym e) ∙ h)
+
+  pub picked-some : IsSome (walk_root_variant build s v ns) → IsSome (walk_content build v inside ns)
+  picked-some some = put_before-some (pick_of s v [] ∷ []) _ (subst (λ (w : Walked). IsSome w) root_parts some)
+
+  pub picked-stops : (r : Resolved) (p : Path) (err : schema.SchemaError) → p ≡ [] → IsSome (walk_root_variant build s v ns) → ErrorOf (take_in r (pick_of s v p)) err → StopsBy (effect r (walk_root_variant build s v ns)) err
+  picked-stops r p err e some h =
+      subst (λ (w : Walked). StopsBy (effect r w) err) (sym root_parts)
+      (stops-put_before r (pick_of s v [] ∷ []) _ err (subst (λ (w : Walked). IsSome w) root_parts some)
+      (subst (λ (o : Outcome). ErrorOf o err) (ap (λ (q : Path). take_in r (pick_of s v q)) e ∙ sym (take_all-one r (pick_of s v []))) h))

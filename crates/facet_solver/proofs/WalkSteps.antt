@@ -1,23 +1,25 @@
--- On a checked catalogue the walk and the choices of a list of fields are their own steps.
+-- The walk, the choices and the count of fields are made of those of what is flattened into them.
 use Rattle.facet_solver.specs.Build.{Build, repr_for}
-use Rattle.std.proofs.Common.{◌⊎◌, inl, inr, ◌≡◌, ℕ, zero, suc, ◌<◌, ◌≤◌, List, [], ◌∷◌, ◌++◌, map, Option, Some, None, Bool, true, false, sym, refl, ap, ◌∙◌, slice_get, length, arith}
+use Rattle.std.proofs.Common.{◌⊎◌, inl, inr, ◌≡◌, ℕ, zero, suc, ◌<◌, List, [], ◌∷◌, ◌++◌, map, Option, Some, None, Bool, true, false, refl, ap, ◌∙◌, slice_get, length, arith, ◌*◌}
 use Rattle.std.specs.Prelude.{if◌then◌else◌}
-use Rattle.std.specs.Option.{IfSome}
 use Rattle.facet_solver_shape.specs.declared.shape.Shape.{Shape}
 use Rattle.facet_solver_shape.specs.declared.shape.Field.{Field}
 use Rattle.facet_solver_shape.specs.declared.shape.Variant.{Variant}
 use Rattle.facet_solver_shape.specs.Catalogues.{FieldsBelow, VariantsBelow, NamesEarlier}
-use Rattle.facet_solver.specs.Targets.{Catalogue, effective, effective_within, go_on, next_inside}
+use Rattle.facet_solver.specs.Content.{content_of}
 use Rattle.facet_solver.specs.Place.{choosing, further, inside_field, inside_variant}
 use Rattle.facet_solver.specs.Emissions.{emit_variant}
 use Rattle.facet_solver.specs.Walk.{Walked, Walk, put_before, and_then, emit, choose, at_chosen, walk_variant_step, walk_content_step, walk_role, walk_fields_step, walk_within, walk_fields, Walking}
 use Rattle.facet_solver.specs.Representation.{is_walked}
-use Rattle.facet_solver.specs.Roles.{Role, regular, block, alternatives, catch_all, leaf, role_of}
-use Rattle.facet_solver.specs.Content.{content_of}
+use Rattle.facet_solver.specs.Roles.{Role, regular, block, alternatives, catch_all, leaf, role_of, target_of, role_of_target, IsPlain}
 use Rattle.facet_solver.specs.Listing.{Choices, product, indexed, choices_of_variant, choices_of_role, choices_of_fields_step, choices_within, choices_of_fields}
-use Rattle.facet_solver.proofs.Descent.{RoleBelow, role_of-below, content_of-below, IsLocal, one_step, next_inside-below}
+use Rattle.facet_solver.proofs.Roles.{RoleBelow, role_of-below, content_of-below, IsLocal, one_step, role_of_target-below, same_levels}
 use Rattle.facet_solver.specs.declared.build.place.Place.{Place}
+use Rattle.std.proofs.lemmas.Option.{slice_get_within}
+use Rattle.facet_solver.specs.Count.{Count, count_role, count_fields_step, count_within, count_fields}
+use Rattle.facet_solver.proofs.Count.{count_role-same, count-local, count-step}
 
+-- ---- on a checked catalogue the walk and the choices of a list of fields are their own steps
 module _ (build : Build) (checked : NamesEarlier build.catalogue) where
   indexed-same : (k limit : ℕ) (g h : Variant → Choices) (vs : List Variant) → VariantsBelow limit vs → ((v : Variant) → FieldsBelow limit v.fields.items → g v ≡ h v) → indexed k g vs ≡ indexed k h vs
   unfolding indexed
@@ -102,46 +104,71 @@ module _ (build : Build) (checked : NamesEarlier build.catalogue) where
   unfolding walk_fields
   walk_step fs place ns b = ap (λ (w : Place → Walking). w place ns) (one_step (λ below gs. walk_fields_step below build gs) (λ n gs. walk_within n build gs) walk-step walk-local (length build.catalogue) fs b)
 
--- the effective shape is that of what is inside
-module _ (cat : Catalogue) (checked : NamesEarlier cat) where
-  next-below : (id : ℕ) → IfSome (next_inside (slice_get cat id)) (λ p. p < id)
-  next-below id = next_inside-below cat checked id (slice_get cat id) refl
+-- ---- on a checked catalogue the walk and the count of any fields are their own steps, whatever the fields name
+module _ (build : Build) (checked : NamesEarlier build.catalogue) where
+  -- a role has nothing below it, or what is below it stands before some shape
+  Within : Role → Type 0
+  Within r = IsPlain r ⊎ ((m : ℕ) × (m < length build.catalogue) × RoleBelow m r)
 
-  same_effective : (n m : ℕ) (id : ℕ) → id ≤ n → id ≤ m → effective_within n cat id ≡ effective_within m cat id
-  same_effective zero zero id p q = refl
-  same_effective zero (suc m) id p q = go (next_inside (slice_get cat id)) (next-below id)
+  role_of-within : (f : Field) → Within (role_of build.catalogue f)
+  unfolding Within
+  role_of-within f = by_flag f.flattened
     where
-      go : (o : Option ℕ) → IfSome o (λ p. p < id) → id ≡ go_on (effective_within m cat) id o
-      go None b = refl
-      go (Some next) b = absurd (omega arith)
-  same_effective (suc n) zero id p q = go (next_inside (slice_get cat id)) (next-below id)
+      by_target : (o : Option Shape) → slice_get build.catalogue (target_of build.catalogue f).shape ≡ o → Within (role_of_target (target_of build.catalogue f) o)
+      by_target None e = inl tt
+      by_target (Some s) e = inr ((target_of build.catalogue f).shape, slice_get_within build.catalogue (target_of build.catalogue f).shape s e, role_of_target-below build.catalogue checked (target_of build.catalogue f) (Some s) e)
+
+      by_flag : (b : Bool) → Within (if b then role_of_target (target_of build.catalogue f) (slice_get build.catalogue (target_of build.catalogue f).shape) else regular)
+      by_flag true = by_target (slice_get build.catalogue (target_of build.catalogue f).shape) refl
+      by_flag false = inl tt
+
+  walk_plain-same : (g h : Walk) (f : Field) (place : Place) (r : Role) (ns : List ℕ) → IsPlain r → walk_role g build f place r ns ≡ walk_role h build f place r ns
+  walk_plain-same g h f place regular ns k = refl
+  walk_plain-same g h f place (block target fs) ns k = absurd k
+  walk_plain-same g h f place (alternatives target s vs) ns k = absurd k
+  walk_plain-same g h f place (catch_all target) ns k = refl
+  walk_plain-same g h f place (leaf target) ns k = refl
+
+  -- walks that agree on what stands before the shapes agree
+  walk_fields-same : (g h : Walk) → ((m : ℕ) (gs : List Field) → m < length build.catalogue → FieldsBelow m gs → g gs ≡ h gs) → (fs : List Field) (place : Place) (ns : List ℕ) → walk_fields_step g build fs place ns ≡ walk_fields_step h build fs place ns
+  unfolding walk_fields_step Within
+  walk_fields-same g h x [] place ns = refl
+  walk_fields-same g h x (f ∷ fs) place ns =
+      ap (λ (w : Walked). and_then w (λ rest. walk_fields_step g build fs place rest)) (here (role_of-within f))
+      ∙ ap (and_then (walk_role h build f place (role_of build.catalogue f) ns)) (λ i rest. walk_fields-same g h x fs place rest i)
     where
-      go : (o : Option ℕ) → IfSome o (λ p. p < id) → go_on (effective_within n cat) id o ≡ id
-      go None b = refl
-      go (Some next) b = absurd (omega arith)
-  same_effective (suc n) (suc m) id p q = go (next_inside (slice_get cat id)) (next-below id) (λ next b. same_effective n m next (omega arith) (omega arith))
+      here : Within (role_of build.catalogue f) → walk_role g build f place (role_of build.catalogue f) ns ≡ walk_role h build f place (role_of build.catalogue f) ns
+      here (inl plain) = walk_plain-same g h f place (role_of build.catalogue f) ns plain
+      here (inr k) = walk_role-same build checked g h k.0 f place (role_of build.catalogue f) ns k.2 (λ gs below. x k.0 gs k.1 below)
+
+  pub walk-is_step : (fs : List Field) (place : Place) (ns : List ℕ) → walk_fields build fs place ns ≡ walk_fields_step (walk_fields build) build fs place ns
+  unfolding walk_fields walk_within
+  walk-is_step fs place ns =
+      walk_fields-same (walk_within (length build.catalogue) build) (walk_within (suc (length build.catalogue)) build)
+      (λ m gs lt below. same_levels (λ below gs. walk_fields_step below build gs) (λ n gs. walk_within n build gs) (walk-step build checked) (walk-local build checked) (length build.catalogue) (suc (length build.catalogue)) m gs lt (omega arith) below)
+      fs place ns
+
+  count_plain-same : (g h : Count) (r : Role) → IsPlain r → count_role g build r ≡ count_role h build r
+  count_plain-same g h regular k = refl
+  count_plain-same g h (block target fs) k = absurd k
+  count_plain-same g h (alternatives target s vs) k = absurd k
+  count_plain-same g h (catch_all target) k = refl
+  count_plain-same g h (leaf target) k = refl
+
+  count_fields-same : (g h : Count) → ((m : ℕ) (gs : List Field) → m < length build.catalogue → FieldsBelow m gs → g gs ≡ h gs) → (fs : List Field) → count_fields_step g build fs ≡ count_fields_step h build fs
+  unfolding count_fields_step Within
+  count_fields-same g h x [] = refl
+  count_fields-same g h x (f ∷ fs) =
+      ap (λ (n : ℕ). n * count_fields_step g build fs) (here (role_of-within f))
+      ∙ ap (λ (n : ℕ). count_role h build (role_of build.catalogue f) * n) (count_fields-same g h x fs)
     where
-      go : (o : Option ℕ) → IfSome o (λ p. p < id) → ((next : ℕ) → next < id → effective_within n cat next ≡ effective_within m cat next) → go_on (effective_within n cat) id o ≡ go_on (effective_within m cat) id o
-      go None b x = refl
-      go (Some next) b x = x next b
+      here : Within (role_of build.catalogue f) → count_role g build (role_of build.catalogue f) ≡ count_role h build (role_of build.catalogue f)
+      here (inl plain) = count_plain-same g h (role_of build.catalogue f) plain
+      here (inr k) = count_role-same build checked g h k.0 (role_of build.catalogue f) k.2 (λ gs below. x k.0 gs k.1 below)
 
-  past_end : (xs : List Shape) (i : ℕ) → length xs ≤ i → slice_get xs i ≡ None
-  past_end [] i h = refl
-  past_end (x ∷ xs) zero h = absurd (omega arith)
-  past_end (x ∷ xs) (suc i) h = past_end xs i (omega arith)
-
-  pub effective-step : (id : ℕ) → effective cat id ≡ go_on (effective cat) id (next_inside (slice_get cat id))
-  effective-step id = elim (le_or_lt (length cat) id) [ inl past ↦ outside past | inr inside ↦ within inside ]
-    where
-      le_or_lt : (m n : ℕ) → (m ≤ n) ⊎ (n < m)
-      le_or_lt m n = grind arith
-
-      none : (n : ℕ) → slice_get cat id ≡ None → effective_within n cat id ≡ id
-      none zero e = refl
-      none (suc n) e = ap (λ (o : Option Shape). go_on (effective_within n cat) id (next_inside o)) e
-
-      outside : length cat ≤ id → effective cat id ≡ go_on (effective cat) id (next_inside (slice_get cat id))
-      outside h = none (length cat) (past_end cat id h) ∙ sym (ap (λ (o : Option Shape). go_on (effective cat) id (next_inside o)) (past_end cat id h))
-
-      within : id < length cat → effective cat id ≡ go_on (effective cat) id (next_inside (slice_get cat id))
-      within h = same_effective (length cat) (suc (length cat)) id (omega arith) (omega arith)
+  pub count-is_step : (fs : List Field) → count_fields build fs ≡ count_fields_step (count_fields build) build fs
+  unfolding count_fields count_within
+  count-is_step fs =
+      count_fields-same (count_within (length build.catalogue) build) (count_within (suc (length build.catalogue)) build)
+      (λ m gs lt below. same_levels (λ below gs. count_fields_step below build gs) (λ n gs. count_within n build gs) (count-step build checked) (count-local build checked) (length build.catalogue) (suc (length build.catalogue)) m gs lt (omega arith) below)
+      fs

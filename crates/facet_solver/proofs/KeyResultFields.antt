@@ -1,4 +1,4 @@
--- The first field of each shape.
+-- The fields that a key means: the first of each shape.
 use Rattle.std.proofs.Common.{◌≡◌, ℕ, Bool, true, false, cond, ◌||◌, not, List, [], ◌∷◌, ◌++◌, filter, map, nat_eq, ◌&&◌, refl, ap, sym, ◌∙◌, Bor, Option, Some, None, append-nil}
 use Rattle.std.specs.List.{list_any, filter_map}
 use Rattle.std.proofs.lemmas.Bool.{eqb-true}
@@ -10,7 +10,7 @@ use Rattle.facet_solver_shape.specs.Fields.{FieldView, field_view}
 use Rattle.facet_solver_shape.specs.declared.resolution.field.FieldInfo.{FieldInfo}
 use Rattle.facet_solver_shape.proofs.Lists.{list_any-map}
 use Rattle.facet_solver.specs.KeyResult.{first_of_each_shape, score_at, scored_view, with_score}
-use Rattle.facet_solver.specs.Targets.{Catalogue}
+use Rattle.facet_solver.specs.Build.{Catalogue}
 
 -- whether one of some fields has a shape
 abbrev pub is_shape_among : ℕ → List FieldView → Bool

@@ -5,10 +5,9 @@ use Rattle.facet_solver_shape.specs.declared.shape.Field.{Field}
 use Rattle.facet_solver_shape.specs.Names.{Name, effective_name}
 use Rattle.facet_solver.specs.Representation.{Repr, flattened, externally_tagged, internally_tagged, adjacently_tagged}
 use Rattle.facet_solver_shape.specs.Resolved.{Resolved}
-use Rattle.facet_solver.specs.KeyPaths.{no_paths, behind_prefix, named}
-use Rattle.facet_solver.specs.Nested.{nested_paths, content_paths}
+use Rattle.facet_solver.specs.Nested.{no_paths, behind_prefix, named, nested_paths, content_paths}
 use Rattle.facet_solver.specs.Outcome.{take_all}
-use Rattle.facet_solver.proofs.Outcomes.{take_all-field_and_paths}
+use Rattle.facet_solver.proofs.Outcome.{take_all-field_and_paths}
 use Rattle.facet_solver.specs.Place.{Chosen}
 use Rattle.facet_solver.specs.Emissions.{some_key_paths, a_catch_all, field_and_paths, regular_field, catch_all_field, selector_field, emit_regular, emit_catch_all, emit_selector_by}
 use Rattle.facet_solver.specs.declared.build.place.Place.{Place}

@@ -1,15 +1,16 @@
--- The indices of a range that pass a test.
-use Rattle.std.proofs.Common.{◌≡◌, ℕ, zero, suc, ◌+◌, ◌<◌, ◌≤◌, Bool, true, false, cond, ◌&&◌, ◌⊎◌, inl, inr, nat_eq, List, [], ◌∷◌, ◌++◌, ◌-◌, length, not, filter, All, refl, ap, sym, ◌∙◌, arith, add-zero, zero-add, append-nil, eq-eqb, ne_eqb}
+-- Lists of rising indices: what passes a test, and how many there are.
+use Rattle.std.proofs.Common.{◌≡◌, ℕ, zero, suc, ◌+◌, ◌<◌, ◌≤◌, Bool, true, false, cond, ◌&&◌, ◌⊎◌, inl, inr, nat_eq, List, [], ◌∷◌, ◌++◌, ◌-◌, length, not, filter, All, refl, ap, sym, ◌∙◌, arith, add-zero, zero-add, append-nil, eq-eqb, ne_eqb, append_assoc}
 use Rattle.std.specs.List.{range_with_len}
 use Rattle.std.specs.List.Sorted.{IsStrictlyIncreasing}
 use Rattle.std.proofs.lemmas.Bool.{both_ways, cases_eq, cases_lt}
-use Rattle.std.proofs.lemmas.List.Elements.{All-filter, filter-append}
+use Rattle.std.proofs.lemmas.List.Elements.{All-filter, filter-append, All-contains, Contains-append_right}
 use Rattle.std.proofs.lemmas.List.Filters.{length-filter_both}
 use Rattle.std.proofs.lemmas.List.Folds.{list_any_none}
 use Rattle.std.proofs.lemmas.List.FromFn.{get_or-range_with_len, length-range_with_len}
 use Rattle.std.proofs.lemmas.List.Kept.{IsStrictlyIncreasing-filter}
-use Rattle.facet_solver.specs.IndexSet.{has, upto}
+use Rattle.facet_solver.specs.IndexSet.{has, upto, no_index, one_index, how_many}
 
+-- ---- the indices of a range that pass a test
 -- the least index from one on that passes
 pub record IsNext (p : ℕ → Bool) (from i : ℕ) : Type 0 where
   pub above : from ≤ i
@@ -163,3 +164,29 @@ filter-rises p n = IsStrictlyIncreasing-filter p (upto n) (rising-upto n)
 -- and are below the bound
 pub filter-below : (p : ℕ → Bool) (n : ℕ) → All (λ j. j < n) (filter p (upto n))
 filter-below p n = All-filter p (λ j. j < n) (upto n) (below-upto n)
+
+-- ---- loops over the members of a set, and how many of them pass a test
+-- a loop over a list, after one more item
+pub rest_more : {X : Type 0} (ys s t all : List X) (x : X) → ys ++ s ≡ all → s ≡ x ∷ t → (ys ++ x ∷ []) ++ t ≡ all
+rest_more ys s t all x e f = append_assoc ys (x ∷ []) t ∙ ap (λ k. ys ++ k) (sym f) ∙ e
+
+-- and the item is one of the list
+pub item_passes : {X : Type 0} (P : X → Type 0) (ys s t all : List X) (x : X) → ys ++ s ≡ all → s ≡ x ∷ t → All P all → P x
+item_passes P ys s t all x e f each =
+    let parts : ys ++ x ∷ t ≡ all = ap (λ k. ys ++ k) (sym f) ∙ e in
+    All-contains P (ys ++ x ∷ t) x (rw parts each) (Contains-append_right ys (x ∷ t) x (0, omega arith, refl))
+
+-- one more item is tested
+pub filter_more : {X : Type 0} (p : X → Bool) (ys : List X) (x : X) (b : Bool) → p x ≡ b → filter p (ys ++ x ∷ []) ≡ filter p ys ++ cond b (x ∷ []) []
+filter_more p ys x b e = filter-append p ys (x ∷ []) ∙ ap (λ t. filter p ys ++ cond t (x ∷ []) []) e
+
+-- there is none in the empty list alone
+pub none_of_none : (xs : List ℕ) → how_many xs ≡ no_index → xs ≡ []
+none_of_none [] e = refl
+none_of_none (i ∷ []) e = cc
+none_of_none (i ∷ j ∷ rest) e = cc
+
+-- the first that passes
+pub first_passes : (p : ℕ → Bool) (ys : List ℕ) (i : ℕ) → how_many (filter p ys) ≡ no_index → p i ≡ true → one_index i ≡ how_many (filter p (ys ++ i ∷ []))
+first_passes p ys i none passes =
+    sym (ap how_many (filter_more p ys i true passes ∙ ap (λ k. k ++ i ∷ []) (none_of_none (filter p ys) none)))

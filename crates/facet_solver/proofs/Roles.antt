@@ -1,6 +1,7 @@
--- What goes down a checked catalogue ends: definitions by levels don't depend on the levels that are left.
-use Rattle.std.proofs.Common.{◌≡◌, ℕ, zero, suc, ◌<◌, ◌≤◌, List, [], ◌∷◌, Option, Some, None, Bool, true, false, sym, refl, subst, ◌∙◌, slice_get, length, arith, string_bytes, Vec}
-use Rattle.std.specs.Prelude.{if◌then◌else◌}
+-- What a role leads to goes down a checked catalogue, and ends: definitions by levels do not depend on the
+-- levels that are left.
+use Rattle.std.proofs.Common.{◌≡◌, ℕ, zero, suc, ◌<◌, ◌≤◌, List, [], ◌∷◌, Option, Some, None, Bool, true, false, sym, refl, subst, ◌∙◌, slice_get, length, arith, string_bytes, Vec, max, get_or, ◌⊎◌, inl, inr, ap}
+use Rattle.std.specs.Prelude.{⊤, if◌then◌else◌}
 use Rattle.std.specs.Option.{IfSome, option_or}
 use Rattle.std.specs.declared.alloc.Global.{Global}
 use Rattle.std.proofs.lemmas.Option.{slice_get_within}
@@ -11,11 +12,15 @@ use Rattle.facet_solver_shape.specs.declared.shape.ShapeKind.TheVariants.{Struct
 use Rattle.facet_solver_shape.specs.declared.shape.Field.{Field}
 use Rattle.facet_solver_shape.specs.declared.shape.Variant.{Variant}
 use Rattle.facet_solver_shape.specs.Catalogues.{FieldsBelow, VariantsBelow, KindBelow, NamesEarlier}
-use Rattle.facet_solver.specs.Targets.{Catalogue, kind_of, kind_at, effective, effective_within, go_on, next_inside}
-use Rattle.facet_solver.specs.Roles.{Role, regular, block, alternatives, catch_all, leaf, target_of, target_by_kind, role_of, role_of_target, role_by_kind}
+use Rattle.facet_solver.specs.Build.{Catalogue, kind_of, kind_at}
+use Rattle.facet_solver.specs.Content.{effective, effective_within, go_on, next_inside, struct_fields, newtype_fields, content_of, content_or, is_zero}
+use Rattle.facet_solver.specs.Roles.{Role, regular, block, alternatives, catch_all, leaf, target_of, target_by_kind, role_of, role_of_target, role_by_kind, role_view, IsPlain}
 use Rattle.facet_solver.specs.declared.build.role.Target.{Target}
-use Rattle.facet_solver.specs.Content.{struct_fields, newtype_fields, content_of, content_or, is_zero}
+use Rattle.std.specs.Borrow.{Bor}
+use Rattle.facet_solver.specs.declared.build.role.Role as role
+use Rattle.facet_solver.specs.declared.build.role.Role.TheVariants.{Regular, Block, Alternatives, CatchAll, Leaf}
 
+-- ---- what goes down a checked catalogue ends: definitions by levels don't depend on the levels that are left
 -- a limit may rise
 pub FieldsBelow-mono : (m n : ℕ) (fs : List Field) → m ≤ n → FieldsBelow m fs → FieldsBelow n fs
 FieldsBelow-mono m n [] le h = tt
@@ -27,11 +32,11 @@ VariantsBelow-mono m n (v ∷ vs) le h = (FieldsBelow-mono m n v.fields.items le
 
 -- what a flattened field leads to names shapes below the limit
 abbrev pub RoleBelow : ℕ → Role → Type 0
-RoleBelow limit regular = Unit {0}
+RoleBelow limit regular = ⊤
 RoleBelow limit (block target fs) = FieldsBelow limit fs
 RoleBelow limit (alternatives target s vs) = VariantsBelow limit vs
-RoleBelow limit (catch_all target) = Unit {0}
-RoleBelow limit (leaf target) = Unit {0}
+RoleBelow limit (catch_all target) = ⊤
+RoleBelow limit (leaf target) = ⊤
 
 RoleBelow-mono : (m n : ℕ) (r : Role) → m ≤ n → RoleBelow m r → RoleBelow n r
 RoleBelow-mono m n regular le h = tt
@@ -182,3 +187,68 @@ module _ {X : Type 0} (step : (List Field → X) → List Field → X) (by_level
   one_step limit fs h =
       is_step limit fs
       ∙ local (by_level limit) (by_level (suc limit)) limit fs h (λ k gs lt b. same_levels limit (suc limit) k gs lt (omega arith) b)
+
+-- ---- the least limit below which fields name shapes: what the recursion down a catalogue lowers
+unfoldable pub limit_of : List Field → ℕ
+limit_of [] = 0
+limit_of (f ∷ fs) = max (suc f.shape) (limit_of fs)
+
+unfoldable pub limit_of_variants : List Variant → ℕ
+limit_of_variants [] = 0
+limit_of_variants (v ∷ vs) = max (limit_of v.fields.items) (limit_of_variants vs)
+
+pub limit_of-le : (limit : ℕ) (fs : List Field) → FieldsBelow limit fs → limit_of fs ≤ limit
+unfolding limit_of
+limit_of-le limit [] h = omega arith
+limit_of-le limit (f ∷ fs) h = let k = limit_of-le limit fs h.1 in omega arith
+
+pub limit_of_variants-le : (limit : ℕ) (vs : List Variant) → VariantsBelow limit vs → limit_of_variants vs ≤ limit
+unfolding limit_of_variants
+limit_of_variants-le limit [] h = omega arith
+limit_of_variants-le limit (v ∷ vs) h = let k = limit_of_variants-le limit vs h.1 in let l = limit_of-le limit v.fields.items h.0 in omega arith
+
+pub limit_of-at : (fs : List Field) (i : ℕ) (d : Field) → i < length fs → (get_or fs i d).shape < limit_of fs
+unfolding limit_of
+limit_of-at [] i d h = absurd (omega arith)
+limit_of-at (f ∷ fs) zero d h = omega arith
+limit_of-at (f ∷ fs) (suc i) d h = let k = limit_of-at fs i d (omega arith) in omega arith
+
+pub limit_of_variants-at : (vs : List Variant) (i : ℕ) (d : Variant) → i < length vs → limit_of (get_or vs i d).fields.items ≤ limit_of_variants vs
+unfolding limit_of_variants
+limit_of_variants-at [] i d h = absurd (omega arith)
+limit_of_variants-at (v ∷ vs) zero d h = omega arith
+limit_of_variants-at (v ∷ vs) (suc i) d h = let k = limit_of_variants-at vs i d (omega arith) in omega arith
+
+FieldsBelow-limit : (fs : List Field) → FieldsBelow (limit_of fs) fs
+unfolding limit_of
+FieldsBelow-limit [] = tt
+FieldsBelow-limit (f ∷ fs) = (omega arith, FieldsBelow-mono (limit_of fs) _ fs (omega arith) (FieldsBelow-limit fs))
+
+pub FieldsBelow-at : (limit : ℕ) (fs : List Field) (i : ℕ) (d : Field) → i < length fs → FieldsBelow limit fs → (get_or fs i d).shape < limit
+FieldsBelow-at limit [] i d h b = absurd (omega arith)
+FieldsBelow-at limit (f ∷ fs) zero d h b = b.0
+FieldsBelow-at limit (f ∷ fs) (suc i) d h b = FieldsBelow-at limit fs i d (omega arith) b.1
+
+pub VariantsBelow-at : (limit : ℕ) (vs : List Variant) (i : ℕ) (d : Variant) → i < length vs → VariantsBelow limit vs → FieldsBelow limit (get_or vs i d).fields.items
+VariantsBelow-at limit [] i d h b = absurd (omega arith)
+VariantsBelow-at limit (v ∷ vs) zero d h b = b.0
+VariantsBelow-at limit (v ∷ vs) (suc i) d h b = VariantsBelow-at limit vs i d (omega arith) b.1
+
+-- a variant's content names no later shapes than its fields
+pub limit_of-content : (cat : Catalogue) → NamesEarlier cat → (v : Variant) → limit_of (content_of cat v).fields ≤ limit_of v.fields.items
+limit_of-content cat checked v = limit_of-le (limit_of v.fields.items) _ (content_of-below cat checked (limit_of v.fields.items) v (FieldsBelow-limit v.fields.items))
+
+-- ---- what the code's roles say: which leave nothing to choose, and which have a target with choices
+-- a role that is regular, a catch-all or a leaf is plain
+pub plain_role : (r : role.Role) → (r ≡ Regular) ⊎ (((t : Target) × (r ≡ CatchAll t)) ⊎ ((t : Target) × (r ≡ Leaf t))) → IsPlain (role_view r)
+plain_role r (inl h) = subst (λ (r : role.Role). IsPlain (role_view r)) (sym h) tt
+plain_role r (inr (inl h)) = subst (λ (r : role.Role). IsPlain (role_view r)) (sym h.1) tt
+plain_role r (inr (inr h)) = subst (λ (r : role.Role). IsPlain (role_view r)) (sym h.1) tt
+
+-- the target in hand is that of the field's role
+pub target_in_hand : (cat : Catalogue) (f : Field) (r : role.Role) (t : Target) → role_view r ≡ role_of cat f
+    → ((fs : Bor (List Field)) × (r ≡ Block t fs)) ⊎ ((s : Bor Shape) × (vs : Bor (List Variant)) × (r ≡ Alternatives t s vs))
+    → Some t ≡ target_in (role_of cat f)
+unfolding target_in
+target_in_hand cat f r t e (inl h) = sym (ap (λ (r : role.Role). target_in (role_view r)) h.1) ∙ ap target_in e
+target_in_hand cat f r t e (inr h) = sym (ap (λ (r : role.Role). target_in (role_view r)) h.2) ∙ ap target_in e
