@@ -29,3 +29,4 @@ pub use Rattle.facet_solver_shape.specs.Resolved
 pub use Rattle.facet_solver_shape.specs.Formats
 pub use Rattle.facet_solver_shape.specs.Groups
 pub use Rattle.facet_solver_shape.specs.Scores
+pub use Rattle.facet_solver_shape.specs.Steps

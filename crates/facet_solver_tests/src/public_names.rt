@@ -5,8 +5,8 @@ use facet_solver::{
     CandidateFailure, CatalogueError, DomMark, DuplicateFieldError, EnumRepr, Field, FieldCategory,
     FieldInfo, FieldKey, FieldPath, Format, KeyPath, KeyResult, MissingFieldInfo, PathSegment,
     Resolution, ResolutionHandle, ResolutionSet, ResolutionSetIter, ScalarType, Schema,
-    SchemaError, Shape, ShapeId, ShapeKind, Shapes, Solver, SolverError, StructKind, Variant,
-    VariantFormat, VariantSelection, VariantsByFormat,
+    SchemaError, Shape, ShapeId, ShapeKind, Shapes, Solver, SolverError, Steps, StructKind,
+    Variant, VariantFormat, VariantSelection, VariantsByFormat,
 };
 use std::fmt::Debug;
 use std::hash::Hash;
@@ -26,6 +26,7 @@ pub fn public_types_have_their_derives() -> Result<(), Failure> {
     values_are_copied();
     parts_are_printed();
     wholes_are_printed();
+    steps_are_counted();
     is_compared::<FieldPath<'static>>();
     is_hashed::<ShapeId>();
     if Format::default() != Format::Flat {
@@ -66,6 +67,7 @@ fn parts_are_printed() {
 }
 
 fn wholes_are_printed() {
+    is_printed::<Steps>();
     is_printed::<VariantsByFormat<'static>>();
     is_printed::<SchemaError<'static>>();
     is_printed::<Schema<'static>>();
@@ -76,4 +78,12 @@ fn wholes_are_printed() {
     is_printed::<SolverError<'static>>();
     is_printed::<MissingFieldInfo<'static>>();
     is_printed::<CandidateFailure<'static>>();
+}
+
+// The counts themselves are for contracts alone.
+fn steps_are_counted() {
+    let mut steps = Steps::new();
+    steps.word();
+    steps.search();
+    steps.visit();
 }
