@@ -1,0 +1,4 @@
+pub mod Filters
+pub mod BitLaws
+pub mod Members
+pub mod NamedEntries

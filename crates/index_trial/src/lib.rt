@@ -1,0 +1,6 @@
+//! Indexes of resolutions by the keys of their fields.
+#![tactic(auto)]
+
+mod bits;
+pub mod index;
+pub mod set;
