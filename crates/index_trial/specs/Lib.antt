@@ -6,3 +6,4 @@ pub mod CommonView
 pub mod State
 pub mod Slots
 pub mod IndexView
+pub mod Indexed

@@ -1,5 +1,5 @@
 //! The index of a schema: which resolutions have a key.
-ghost use Rattle.std.specs.Prelude.{◌≡◌, ◌<◌, IfOk, None, OnOk, Option, Some, if◌then◌else◌};
+ghost use Rattle.std.specs.Prelude.{◌≡◌, ◌+◌, ◌<◌, IfOk, None, OnOk, Option, Some, if◌then◌else◌, length, take};
 ghost use Rattle.std.specs.Option.{option_copied};
 ghost use Rattle.facet_solver_shape.specs.Keys.{key_of};
 ghost use Rattle.facet_solver_shape.specs.Matching.{takes_any_name};
@@ -7,10 +7,11 @@ ghost use Rattle.facet_solver_shape.specs.Names.{Name};
 ghost use Rattle.facet_solver_shape.specs.PathEq.{name_eq};
 ghost use Rattle.facet_solver_shape.specs.Views.{field_view};
 ghost use Rattle.index_trial.specs.IndexView.{HasBound, added, category_of, entry_at, entry_in, entry_of_one, named_entry, with_occurrence};
+ghost use Rattle.index_trial.specs.Indexed.{IsIndexOf, fields_of_each};
 ghost use Rattle.index_trial.specs.Slots.{Slot, is_at, is_named, slot_of};
 
 use crate::set::ResolutionSet;
-use facet_solver_shape::{FieldCategory, FieldInfo, FieldKey, ShapeId};
+use facet_solver_shape::{FieldCategory, FieldInfo, FieldKey, Resolution, ShapeId};
 use std::alloc::{AllocError, Global};
 use std::collections::BTreeMap;
 
@@ -190,6 +191,44 @@ impl<'c> Index<'c> {
             tags: CategoryIndex::new(alloc),
             lists: CategoryIndex::new(alloc),
         }
+    }
+
+    /// The index of resolutions, by their own fields.
+    pub(crate) fn new(
+        alloc: Global,
+        resolutions: &[Resolution<'c>],
+    ) -> Result<Self, AllocError>
+        ensures { IfOk result (IsIndexOf (length resolutions.now) (fields_of_each resolutions.now)) }
+    {
+        let mut index = Index::empty(alloc);
+        for i in 0..resolutions.len() {
+            index.add_all(alloc, resolutions, i)?;
+        }
+        Ok(index)
+    }
+
+    // Adds the fields of the resolution of a number.
+    fn add_all(
+        &mut self,
+        alloc: Global,
+        resolutions: &[Resolution<'c>],
+        index: usize,
+    ) -> Result<(), AllocError>
+        requires within { index < length resolutions.now }
+        requires before { IsIndexOf (length resolutions.now) (fields_of_each (take index resolutions.now)) self.old }
+        ensures { OnOk result
+            (IsIndexOf (length resolutions.now) (fields_of_each (take (index + 1) resolutions.now)) self.new) }
+    {
+        let bound = resolutions.len();
+        for (key, field) in resolutions[index].fields() {
+            let at = Occurrence {
+                index,
+                bound,
+                shape: field.value_shape,
+            };
+            self.add(alloc, field, &at)?;
+        }
+        Ok(())
     }
 
     fn of_category(&self, category: FieldCategory) -> &CategoryIndex<'c>
