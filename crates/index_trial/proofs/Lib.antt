@@ -1,6 +1,10 @@
 pub mod Filters
 pub mod BitLaws
 pub mod Members
+pub mod IndexSets
 pub mod NamedEntries
 pub mod Indexing
 pub mod UnderWay
+pub mod LookUps
+pub mod Told
+pub mod Distinct

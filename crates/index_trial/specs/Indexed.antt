@@ -1,11 +1,15 @@
 -- What the entries of an index say of the resolutions.
-use Rattle.std.specs.Prelude.{◌≡◌, ◌≢◌, ℕ, Bool, List, Option, Some, None, MatchOption, filter, find, is_some, length, map, slice_get}
+use Rattle.std.specs.Prelude.{◌≡◌, ◌≢◌, ℕ, Bool, List, Option, Some, None, MatchOption, All, filter, find, is_some, length, map, slice_get}
 use Rattle.std.specs.FinMap as finite
 use Rattle.std.specs.Option.{option_and_then}
+use Rattle.facet_solver_shape.specs.declared.resolution.key.FieldCategory.{FieldCategory}
+use Rattle.facet_solver_shape.specs.declared.resolution.key.FieldCategory.TheVariants.{Flat as FlatCategory}
 use Rattle.facet_solver_shape.specs.Resolved.{FieldView, Resolved}
 use Rattle.index_trial.specs.IndexSet.{upto}
 use Rattle.index_trial.specs.IndexView.{entry_at}
 use Rattle.index_trial.specs.Slots.{Slot, is_at}
+use Rattle.index_trial.specs.declared.index.Format.{Format}
+use Rattle.index_trial.specs.declared.index.Format.TheVariants.{Flat, Dom}
 use Rattle.index_trial.specs.declared.index.Entry.{Entry}
 use Rattle.index_trial.specs.declared.index.Index.{Index}
 
@@ -51,3 +55,12 @@ fields_of_each resolutions = map (λ r. finite.values r.fields) resolutions
 -- the entry of each slot is that of the fields that stand there
 abbrev pub IsIndexOf : ℕ → List (List FieldView) → Index → Type 0
 IsIndexOf bound lists index = (slot : Slot) → IsEntryIfAny bound (first_passing (is_at slot) lists) (entry_at index slot)
+
+-- whether a field may have the category in a format: names alone have none, and in categories each field has one
+abbrev pub IsOfFormat : Format → FieldCategory → Type 0
+IsOfFormat Flat category = category ≡ FlatCategory
+IsOfFormat Dom category = category ≢ FlatCategory
+
+-- the fields of each resolution are of the format
+abbrev pub AreOfFormat : Format → List Resolved → Type 0
+AreOfFormat format resolutions = All (λ r. All (λ f. IsOfFormat format f.category) (finite.values r.fields)) resolutions

@@ -3,7 +3,12 @@ pub mod HowMany
 pub mod Bits
 pub mod WordsView
 pub mod CommonView
+pub mod Targets
+pub mod SchemaView
 pub mod State
+pub mod KeyAnswer
+pub mod SchemaCode
+pub mod KeyResultView
 pub mod Slots
 pub mod IndexView
 pub mod Indexed

@@ -3,4 +3,6 @@
 
 mod bits;
 pub mod index;
+pub mod schema;
 pub mod set;
+pub mod solver;
