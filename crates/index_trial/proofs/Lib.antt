@@ -6,5 +6,6 @@ pub mod NamedEntries
 pub mod Indexing
 pub mod UnderWay
 pub mod LookUps
+pub mod Kept
 pub mod Told
 pub mod Distinct

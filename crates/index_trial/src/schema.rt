@@ -44,7 +44,7 @@ impl<'c> Schema<'c> {
         resolutions: Vec<Resolution<'c>>,
     ) -> Result<Self, AllocError>
         requires { AreOfFormat format resolutions.items }
-        ensures { IfOk result (λ s. s ≡ record { catalogue = shapes.now; resolutions = resolutions.items }) }
+        ensures { IfOk result (λ s. s ≡ record { catalogue = shapes.now; resolutions = resolutions.entry.items }) }
     {
         let index = Index::new(alloc, &resolutions)?;
         Ok(Schema {
@@ -76,5 +76,13 @@ impl<'c> Schema<'c> {
             (field_at (key_of key.entry) self.now.resolutions) (option_copied result) }
     {
         self.index.look_up(self.format, key)
+    }
+
+    // The resolution of a number.
+    pub(crate) fn handle(&self, index: usize) -> usize
+        requires { index < length self.now.resolutions }
+        ensures { result ≡ index }
+    {
+        index
     }
 }

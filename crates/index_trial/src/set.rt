@@ -173,7 +173,8 @@ impl ResolutionSet {
     /// The members that another set has too, rising.
     pub(crate) fn common<'s>(&'s self, other: &'s ResolutionSet) -> CommonIter<'s>
         requires { self.now.bound ≡ other.now.bound }
-        ensures { result ≡ filter (has other.now.members) self.now.members }
+        ensures members { result ≡ filter (has other.now.members) self.now.members }
+        ensures within { All (λ i. i < self.now.bound) self.now.members }
     {
         CommonIter {
             words: self.words.as_slice(),
