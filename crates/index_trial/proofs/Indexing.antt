@@ -1,8 +1,8 @@
 -- An index after one more field.
-use Rattle.std.proofs.Common.{◌≡◌, ℕ, zero, suc, ◌+◌, ◌<◌, ◌≤◌, Bool, true, false, cond, ◌||◌, nat_eq, List, [], ◌∷◌, ◌++◌, Option, Some, None, MatchOption, filter, is_some, length, slice_get, ne_eqb, refl, ap, sym, ◌∙◌, subst, arith}
+use Rattle.std.proofs.Common.{◌≡◌, ℕ, zero, suc, ◌<◌, Bool, true, false, ◌||◌, nat_eq, List, [], ◌∷◌, ◌++◌, Option, Some, None, MatchOption, filter, is_some, length, ne_eqb, refl, ap, sym, ◌∙◌, subst, arith}
 use Rattle.std.specs.Prelude.{if◌then◌else◌}
 use Rattle.std.specs.List.{find}
-use Rattle.std.specs.Option.{option_or, option_and_then}
+use Rattle.std.specs.Option.{option_or}
 use Rattle.std.proofs.lemmas.Bool.{false≢true}
 use Rattle.std.proofs.lemmas.Bool.Decides.{Decides-eqb}
 use Rattle.std.proofs.lemmas.List.Folds.{find-append}
@@ -13,7 +13,6 @@ use Rattle.index_trial.specs.Indexed.{Meant, AgreesOn, Differs, IsEntry, IsEntry
 use Rattle.index_trial.specs.Slots.{Slot, is_at}
 use Rattle.index_trial.specs.declared.index.Entry.{Entry}
 use Rattle.index_trial.specs.declared.index.Index.{Index}
-use Rattle.index_trial.specs.declared.index.Occurrence.{Occurrence}
 use Rattle.index_trial.proofs.Filters.{filter_same, filter_none, has_inside}
 
 -- what is meant after one more field of a resolution, which passes or does not
@@ -114,7 +113,7 @@ set_more : (bound : ℕ) (meant : Meant) (i : ℕ) (f : FieldView) → meant i �
 set_more bound meant i f none =
     let members : List ℕ = filter (λ k. is_some (meant k)) (upto bound) in
     ap (below bound) (filter_same (λ k. nat_eq k i || has members k) (λ k. is_some (more meant i true f k)) 0 bound
-      (λ k low high. ap (λ b. nat_eq k i || b) (has_inside (λ j. is_some (meant j)) 0 bound k low high) ∙ more_members meant i f none k))
+    (λ k low high. ap (λ b. nat_eq k i || b) (has_inside (λ j. is_some (meant j)) 0 bound k low high) ∙ more_members meant i f none k))
 
 -- the shape after it
 shape_more : (meant : Meant) (i : ℕ) (f : FieldView) → meant i ≡ None → (known : Option ℕ) → MatchOption known (Differs meant) (λ shape. AgreesOn shape meant)

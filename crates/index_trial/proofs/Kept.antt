@@ -1,17 +1,17 @@
 -- What the entry of a key says of the candidates.
-use Rattle.std.proofs.Common.{◌≡◌, ℕ, ◌<◌, ◌≤◌, Bool, true, false, cond, not, nat_eq, List, [], ◌∷◌, Option, Some, None, MatchOption, All, filter, length, slice_get, refl, ap, sym, ◌∙◌, subst, arith}
+use Rattle.std.proofs.Common.{◌≡◌, ℕ, ◌<◌, ◌≤◌, Bool, true, false, cond, not, nat_eq, List, [], ◌∷◌, Option, Some, None, MatchOption, All, filter, length, refl, ap, sym, ◌∙◌, subst, arith}
 use Rattle.std.specs.List.{AllByRecursion, cons_option, filter_map}
 use Rattle.std.specs.Option.{option_and_then, is_some}
 use Rattle.std.proofs.lemmas.Bool.Decides.{Decides-eqb}
-use Rattle.std.proofs.lemmas.List.Elements.{All-filter, recursion_from_All}
+use Rattle.std.proofs.lemmas.List.Elements.{All-filter}
 use Rattle.std.proofs.lemmas.Option.{slice_get_past}
 use Rattle.facet_solver_shape.specs.Keys.{Key}
 use Rattle.facet_solver_shape.specs.Resolved.{FieldView, Resolved}
-use Rattle.index_trial.specs.HowMany.{HowMany, how_many}
-use Rattle.index_trial.specs.IndexSet.{IndexSet, has, upto}
+use Rattle.index_trial.specs.HowMany.{how_many}
+use Rattle.index_trial.specs.IndexSet.{IndexSet, has}
 use Rattle.index_trial.specs.Indexed.{AgreesOn, Differs, IsEntry}
-use Rattle.index_trial.specs.KeyAnswer.{Answer, solved, unambiguous, unknown, answer_of, by_number, by_shapes, field_at, fields_for, first_of_each_shape}
-use Rattle.index_trial.specs.State.{State, field_for, has_key, or_all, passes, passing, told}
+use Rattle.index_trial.specs.KeyAnswer.{unambiguous, unknown, answer_of, by_number, by_shapes, field_at, fields_for, first_of_each_shape}
+use Rattle.index_trial.specs.State.{State, field_for, has_key, passes, passing}
 use Rattle.index_trial.specs.Targets.{Catalogue}
 use Rattle.index_trial.specs.declared.index.Entry.{Entry}
 use Rattle.index_trial.proofs.Filters.{has_members}
@@ -93,7 +93,7 @@ pub answer_agreed : (key : Key) (rs : List Resolved) (cat : Catalogue) (entry : 
 answer_agreed key rs cat entry shape first second rest shape_is is member =
     let one : AgreesOn shape (field_at key rs) = subst (λ o. MatchOption o (Differs (field_at key rs)) (λ n. AgreesOn n (field_at key rs))) shape_is is.shape in
     sym (one_shape cat shape (filter_map (field_at key rs) (first ∷ second ∷ rest)) (all_shape (field_at key rs) shape one.all (first ∷ second ∷ rest))
-      (go (field_at key rs first) (sym (members_mean key rs entry is first) ∙ member)))
+    (go (field_at key rs first) (sym (members_mean key rs entry is first) ∙ member)))
   where
     go : (o : Option FieldView) → is_some o ≡ true → cons_option o (filter_map (field_at key rs) (second ∷ rest)) ≡ [] → ⊥
     go None e = cc

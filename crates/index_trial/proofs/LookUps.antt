@@ -1,17 +1,16 @@
 -- A key looks in the slot of the fields that it means.
-use Rattle.std.proofs.Common.{◌≡◌, ◌≢◌, ℕ, zero, suc, Bool, true, false, cond, ◌&&◌, ◌||◌, nat_eq, List, [], ◌∷◌, Option, Some, None, All, map, slice_get, refl, ap, sym, ◌∙◌, subst}
+use Rattle.std.proofs.Common.{◌≡◌, ◌≢◌, ℕ, zero, suc, Bool, true, false, cond, ◌&&◌, ◌||◌, List, [], ◌∷◌, Option, Some, None, All, slice_get, refl, ap, sym, ◌∙◌, subst}
 use Rattle.std.specs.Prelude.{if◌then◌else◌, length}
 use Rattle.std.specs.FinMap as finite
 use Rattle.std.specs.List.{AllByRecursion, find}
-use Rattle.std.specs.Option.{option_and_then, option_map, option_map_or, is_some}
+use Rattle.std.specs.Option.{option_and_then, option_map_or, is_some}
 use Rattle.std.specs.Ordering.{nat_cmp}
 use Rattle.std.proofs.lemmas.Bool.Decides.{Decides-eqb}
 use Rattle.std.proofs.lemmas.Cmp.{tied_itself, nat_cmp_total}
 use Rattle.std.proofs.lemmas.List.Elements.{recursion_from_All}
-use Rattle.std.proofs.lemmas.Option.{slice_get-map}
 use Rattle.facet_solver_shape.specs.declared.resolution.key.FieldCategory.{FieldCategory}
 use Rattle.facet_solver_shape.specs.declared.resolution.key.FieldCategory.TheVariants.{Flat as FlatCategory, Attribute, Element, Text, Tag, Elements}
-use Rattle.facet_solver_shape.specs.Keys.{Key, category_cmp, category_index}
+use Rattle.facet_solver_shape.specs.Keys.{Key, category_index}
 use Rattle.facet_solver_shape.specs.Matching.{category_eq, is_unnamed, matches, means, takes_any_name}
 use Rattle.facet_solver_shape.specs.Names.{Name}
 use Rattle.facet_solver_shape.specs.PathEq.{name_eq}
@@ -20,7 +19,7 @@ use Rattle.facet_solver_shape.proofs.KeyOrder.{category_cmp_same}
 use Rattle.index_trial.specs.Indexed.{Meant, IsEntryIfAny, IsIndexOf, IsOfFormat, AreOfFormat, first_passing, fields_of_each}
 use Rattle.index_trial.specs.IndexView.{entry_at}
 use Rattle.index_trial.specs.KeyAnswer.{field_at}
-use Rattle.index_trial.specs.Slots.{Slot, dom_slot, is_at, is_named, slot_of}
+use Rattle.index_trial.specs.Slots.{dom_slot, is_at, is_named, slot_of}
 use Rattle.index_trial.specs.State.{field_for, has_key, passes}
 use Rattle.index_trial.specs.declared.index.Format.{Format}
 use Rattle.index_trial.specs.declared.index.Format.TheVariants.{Flat, Dom}

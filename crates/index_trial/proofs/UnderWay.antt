@@ -55,7 +55,7 @@ way_start bound before fields rest index all is = record { seen = []; parts = al
 pub way_more : (bound : ℕ) (before : List (List FieldView)) (fields : List FieldView) (key : FieldKey) (f : FieldInfo) (rest : List (FieldKey × FieldInfo)) (old new : Index) (i : ℕ) → length before ≡ i → i < bound
     → IsUnderWay bound before fields ((key, f) ∷ rest) old
     → ((slot : Slot) → entry_at new slot
-      ≡ (if is_at slot (field_view f) then Some (added (entry_at old slot) (record { index = i; bound = bound; shape = f.value_shape })) else entry_at old slot))
+    ≡ (if is_at slot (field_view f) then Some (added (entry_at old slot) (record { index = i; bound = bound; shape = f.value_shape })) else entry_at old slot))
     → IsUnderWay bound before fields rest new
 way_more bound before fields key f rest old new i count within way step = record {
   seen = way.seen ++ field_view f ∷ [];

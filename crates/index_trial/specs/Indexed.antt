@@ -1,5 +1,5 @@
 -- What the entries of an index say of the resolutions.
-use Rattle.std.specs.Prelude.{◌≡◌, ◌≢◌, ℕ, Bool, List, Option, Some, None, MatchOption, All, filter, find, is_some, length, map, slice_get}
+use Rattle.std.specs.Prelude.{◌≡◌, ◌≢◌, ℕ, Bool, List, Option, Some, None, MatchOption, All, filter, find, is_some, map, slice_get}
 use Rattle.std.specs.FinMap as finite
 use Rattle.std.specs.Option.{option_and_then}
 use Rattle.facet_solver_shape.specs.declared.resolution.key.FieldCategory.{FieldCategory}

@@ -194,10 +194,7 @@ impl<'c> Index<'c> {
     }
 
     /// The index of resolutions, by their own fields.
-    pub(crate) fn new(
-        alloc: Global,
-        resolutions: &[Resolution<'c>],
-    ) -> Result<Self, AllocError>
+    pub(crate) fn new(alloc: Global, resolutions: &[Resolution<'c>]) -> Result<Self, AllocError>
         ensures { IfOk result (IsIndexOf (length resolutions.now) (fields_of_each resolutions.now)) }
     {
         let mut index = Index::empty(alloc);

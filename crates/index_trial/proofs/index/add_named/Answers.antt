@@ -1,4 +1,4 @@
-use Rattle.std.proofs.Common.{◌≡◌, Some, None, ap, sym, ◌∙◌, refl}
+use Rattle.std.proofs.Common.{ap, sym, ◌∙◌, refl}
 use Rattle.index_trial.specs.IndexView.{added, named_entry}
 use Rattle.index_trial.proofs.NamedEntries.{lent_entry, no_entry, bound_of, put_entry}
 use Rattle.index_trial.proofs.index.add_named.Goals as goal

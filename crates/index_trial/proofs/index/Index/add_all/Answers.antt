@@ -1,6 +1,6 @@
 use Rattle.std.proofs.Common.{map, take, length, ap, sym, ◌∙◌}
 use Rattle.facet_solver_shape.specs.FieldTable.{entry_view}
-use Rattle.index_trial.specs.Indexed.{IsIndexOf, fields_of_each}
+use Rattle.index_trial.specs.Indexed.{fields_of_each}
 use Rattle.index_trial.proofs.UnderWay.{each_more, count_before, fields_at, fields_at_is, way_start, way_more, way_end}
 use Rattle.index_trial.proofs.index.Index.add_all.Goals as goal
 

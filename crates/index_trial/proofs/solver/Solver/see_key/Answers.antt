@@ -1,4 +1,4 @@
-use Rattle.std.proofs.Common.{◌≡◌, ap, filter, map, refl, sym, ◌∙◌}
+use Rattle.std.proofs.Common.{◌≡◌, ap, map, refl, sym, ◌∙◌}
 use Rattle.std.proofs.lemmas.Bool.{false≢true}
 use Rattle.facet_solver_shape.specs.Keys.{key_of}
 use Rattle.index_trial.specs.IndexSet.{IndexSet}
