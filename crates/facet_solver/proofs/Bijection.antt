@@ -1,84 +1,97 @@
 -- The list of choices by parts lists the choices of the walk, each once and in order.
+use Rattle.facet_solver.specs.Build.{Build, repr_for}
 use Rattle.std.proofs.Common.{◌≡◌, ℕ, zero, suc, ◌+◌, ◌<◌, ◌⊎◌, inl, inr, List, [], ◌∷◌, ◌++◌, map, Option, Some, None, Bool, true, false, sym, refl, ap, ◌∙◌, subst, slice_get, length, get_or, append-nil, arith}
-use Rattle.std.specs.Prelude.{if◌then◌else◌, Contains, AllPairs}
+use Rattle.std.specs.Prelude.{if◌then◌else◌, Contains}
 use Rattle.facet_solver_shape.specs.declared.shape.Shape.{Shape}
 use Rattle.facet_solver_shape.specs.declared.shape.ShapeKind.{ShapeKind}
 use Rattle.facet_solver_shape.specs.declared.shape.ShapeKind.TheVariants.{Struct, Enum}
 use Rattle.facet_solver_shape.specs.declared.shape.Field.{Field}
 use Rattle.facet_solver_shape.specs.declared.shape.Variant.{Variant}
 use Rattle.facet_solver.specs.Targets.{Catalogue}
-use Rattle.facet_solver.specs.Emissions.{Path, variant_emissions, variant_path, unwrapped_at, pick_of}
-use Rattle.facet_solver.specs.Walk.{Walk, emit, walk_variant, walk_content, walk_role, walk_fields, walk_within, walk, walk_root, walk_root_shape, walk_root_kind, root_variant, walk_inside}
-use Rattle.facet_solver.specs.Representation.{Settings, is_walked, repr_for}
-use Rattle.facet_solver.specs.Roles.{Role, a_regular, a_block, some_alternatives, a_rest, a_leaf, role_of}
-use Rattle.facet_solver.specs.Listing.{Choices, no_choice, product, numbered, choices_of_variant, choices_of_role, choices_of_fields, choices_within, choices_below, choices_of_root, choices_of_root_shape, choices_of_root_kind}
-use Rattle.facet_solver.specs.Choice.{IsBefore, ListsChoices}
+use Rattle.facet_solver.specs.Place.{Path, variant_path, unwrapped_at, at_root, choosing, inside_variant}
+use Rattle.facet_solver.specs.Emissions.{emit_variant, pick_of}
+use Rattle.facet_solver.specs.Walk.{Walk, emit, walk_variant_step, walk_content_step, walk_role, walk_fields_step, walk_within, walk_fields, walk_root, walk_root_shape, walk_root_kind, walk_root_variant, walk_content}
+use Rattle.facet_solver.specs.Representation.{is_walked}
+use Rattle.facet_solver.specs.Roles.{Role, regular, block, alternatives, catch_all, leaf, role_of}
+use Rattle.facet_solver.specs.Listing.{Choices, no_choice, product, indexed, choices_of_variant, choices_of_role, choices_of_fields_step, choices_within, choices_of_fields, choices_of_root, choices_of_root_shape, choices_of_root_kind}
+use Rattle.facet_solver.specs.Choice.{ListsChoices}
 use Rattle.facet_solver.proofs.Exact.{In, In-append, In-map_from, In-product_from, IsExact, IsExact-none, IsExact-emit, IsExact-put_before, IsExact-and_then, IsExact-choose}
+use Rattle.facet_solver.specs.declared.build.place.Place.{Place}
+use Rattle.std.specs.Cmp.Lexicographic.{slice_cmp}
+use Rattle.std.specs.Ordering.{nat_cmp, ordering_then}
+use Rattle.std.specs.List.{AllByRecursion}
+use Rattle.std.specs.List.Sorted.{IsStrictlySortedBy}
+use Rattle.std.specs.Cmp.{nat_cmp_is}
+use Rattle.std.specs.declared.cmp.Ordering.{Ordering}
+use Rattle.std.specs.declared.cmp.Ordering.TheVariants.{Less, Equal}
 
 -- a walk of lists of fields, at any path and flag, agrees with the choices of each
 abbrev AllExact : Walk → (List Field → Choices) → Type 0
-AllExact below choices = (fs : List Field) (p : Path) (o : Bool) → IsExact (below fs p o) (choices fs)
+AllExact below choices = (fs : List Field) (place : Place) → IsExact (below fs place) (choices fs)
 
-module _ (settings : Settings) (cat : Catalogue) where
-  exact_content : (walked : Bool) (below : Walk) (choices : List Field → Choices) (v : Variant) (q : Path) (o : Bool) → AllExact below choices
-      → IsExact (λ ns. if walked then walk_content below cat v q o ns else emit [] ns) (choices_of_variant choices cat walked v)
-  exact_content true below choices v q o x = x _ _ o
-  exact_content false below choices v q o x = IsExact-emit []
+module _ (build : Build) where
+  exact_content : (walked : Bool) (below : Walk) (choices : List Field → Choices) (v : Variant) (place : Place) → AllExact below choices
+      → IsExact (λ ns. if walked then walk_content_step below build.catalogue v place ns else emit [] ns) (choices_of_variant choices build.catalogue walked v)
+  exact_content true below choices v place x = x _ _
+  exact_content false below choices v place x = IsExact-emit []
 
-  exact_role : (below : Walk) (choices : List Field → Choices) (f : Field) (p : Path) (o : Bool) (r : Role) → AllExact below choices
-      → IsExact (λ ns. walk_role below settings cat f p o ns r) (choices_of_role choices settings cat r)
-  exact_role below choices f p o a_regular x = IsExact-emit _
-  exact_role below choices f p o (a_block fs) x = x fs _ _
-  exact_role below choices f p o (some_alternatives s vs) x =
-      IsExact-choose (λ v rest. walk_variant below settings cat f s v p o rest) (choices_of_variant choices cat (is_walked (repr_for settings s)))
-      (λ v. IsExact-put_before (variant_emissions settings cat f s v p o) _ _ (exact_content (is_walked (repr_for settings s)) below choices v (variant_path p f v) (unwrapped_at cat f o) x)) vs
-  exact_role below choices f p o a_rest x = IsExact-emit _
-  exact_role below choices f p o a_leaf x = IsExact-emit _
+  exact_role : (below : Walk) (choices : List Field → Choices) (f : Field) (place : Place) (r : Role) → AllExact below choices
+      → IsExact (λ ns. walk_role below build f place r ns) (choices_of_role choices build r)
+  exact_role below choices f place regular x = IsExact-emit _
+  exact_role below choices f place (block target fs) x = x fs _
+  exact_role below choices f place (alternatives target s vs) x =
+      IsExact-choose (λ v rest. walk_variant_step below build (choosing f target s v) place rest) (choices_of_variant choices build.catalogue (is_walked (repr_for build s)))
+      (λ v.
+      IsExact-put_before (emit_variant build (choosing f target s v) place) _ _
+      (exact_content (is_walked (repr_for build s)) below choices v (inside_variant place (choosing f target s v)) x)) vs
+  exact_role below choices f place (catch_all target) x = IsExact-emit _
+  exact_role below choices f place (leaf target) x = IsExact-emit _
 
-  exact_fields : (below : Walk) (choices : List Field → Choices) → AllExact below choices → AllExact (walk_fields below settings cat) (choices_of_fields choices settings cat)
-  unfolding walk_fields choices_of_fields
-  exact_fields below choices x [] p o = IsExact-emit []
-  exact_fields below choices x (f ∷ fs) p o =
-      IsExact-and_then (λ ns. walk_role below settings cat f p o ns (role_of cat f)) _ _ _ (exact_role below choices f p o (role_of cat f) x) (exact_fields below choices x fs p o)
+  exact_fields : (below : Walk) (choices : List Field → Choices) → AllExact below choices → AllExact (walk_fields_step below build) (choices_of_fields_step choices build)
+  unfolding walk_fields_step choices_of_fields_step
+  exact_fields below choices x [] place = IsExact-emit []
+  exact_fields below choices x (f ∷ fs) place =
+      IsExact-and_then (λ ns. walk_role below build f place (role_of build.catalogue f) ns) _ _ _ (exact_role below choices f place (role_of build.catalogue f) x) (exact_fields below choices x fs place)
 
-  exact_within : (n : ℕ) → AllExact (walk_within n settings cat) (choices_within n settings cat)
+  exact_within : (n : ℕ) → AllExact (walk_within n build) (choices_within n build)
   unfolding walk_within choices_within
-  exact_within zero fs p o = IsExact-none
-  exact_within (suc n) fs p o = exact_fields (walk_within n settings cat) (choices_within n settings cat) (exact_within n) fs p o
+  exact_within zero fs place = IsExact-none
+  exact_within (suc n) fs place = exact_fields (walk_within n build) (choices_within n build) (exact_within n) fs place
 
-  pub exact_below : AllExact (walk settings cat) (λ fs. choices_below settings cat fs)
-  unfolding walk choices_below
-  exact_below fs p o = exact_within (suc (length cat)) fs p o
+  pub exact_below : AllExact (walk_fields build) (λ fs. choices_of_fields build fs)
+  unfolding walk_fields choices_of_fields
+  exact_below fs place = exact_within (suc (length build.catalogue)) fs place
 
-  exact_root_variant : (s : Shape) (v : Variant) → IsExact (λ ns. root_variant settings cat s v ns) (choices_of_variant (choices_below settings cat) cat true v)
-  unfolding root_variant walk_inside
-  exact_root_variant s v = IsExact-put_before (pick_of s v [] ∷ []) _ _ (exact_below _ _ false)
+  exact_root_variant : (s : Shape) (v : Variant) → IsExact (λ ns. walk_root_variant build s v ns) (choices_of_variant (choices_of_fields build) build.catalogue true v)
+  unfolding walk_root_variant walk_content
+  exact_root_variant s v = IsExact-put_before (pick_of s v [] ∷ []) _ _ (exact_below _ _)
 
-  exact_root_kind : (s : Shape) (k : ShapeKind) → IsExact (λ ns. walk_root_kind settings cat s k ns) (choices_of_root_kind settings cat k)
-  exact_root_kind s (Struct kind fs) = exact_below fs.items [] false
-  exact_root_kind s (Enum vs) = IsExact-choose (root_variant settings cat s) (choices_of_variant (choices_below settings cat) cat true) (exact_root_variant s) vs.items
+  exact_root_kind : (s : Shape) (k : ShapeKind) → IsExact (λ ns. walk_root_kind build s k ns) (choices_of_root_kind build k)
+  exact_root_kind s (Struct kind fs) = exact_below fs.items at_root
+  exact_root_kind s (Enum vs) = IsExact-choose (walk_root_variant build s) (choices_of_variant (choices_of_fields build) build.catalogue true) (exact_root_variant s) vs.items
   exact_root_kind s _ = IsExact-emit []
 
-  exact_root_shape : (s : Option Shape) → IsExact (λ ns. walk_root_shape settings cat s ns) (choices_of_root_shape settings cat s)
+  exact_root_shape : (s : Option Shape) → IsExact (λ ns. walk_root_shape build s ns) (choices_of_root_shape build s)
   exact_root_shape None = IsExact-none
   exact_root_shape (Some s) = exact_root_kind s s.kind
 
-  pub exact_root : (root : ℕ) → IsExact (walk_root settings cat root) (choices_of_root settings cat root)
+  pub exact_root : (root : ℕ) → IsExact (walk_root build root) (choices_of_root build root)
   unfolding walk_root choices_of_root
-  exact_root root = exact_root_shape (slice_get cat root)
+  exact_root root = exact_root_shape (slice_get build.catalogue root)
 
--- the first fork of two lists of numbers goes to a smaller number in the first: stronger than the
+-- the first fork of two choices goes to a smaller index in the first: stronger than the
 -- lexicographic order, for neither begins the other
 abbrev pub Forks : List ℕ → List ℕ → Type 0
 Forks [] ns = ⊥
 Forks (m ∷ ms) [] = ⊥
 Forks (m ∷ ms) (n ∷ ns) = (m < n) ⊎ ((m ≡ n) × Forks ms ns)
 
-pub before_from_forks : (ms ns : List ℕ) → Forks ms ns → IsBefore ms ns
-before_from_forks [] ns h = absurd h
-before_from_forks (m ∷ ms) [] h = h
-before_from_forks (m ∷ ms) (n ∷ ns) (inl h) = inl h
-before_from_forks (m ∷ ms) (n ∷ ns) (inr h) = inr (h.0, before_from_forks ms ns h.1)
+pub less_from_forks : (ms ns : List ℕ) → Forks ms ns → slice_cmp nat_cmp ms ns ≡ Less
+less_from_forks [] ns h = absurd h
+less_from_forks (m ∷ ms) [] h = absurd h
+less_from_forks (m ∷ ms) (n ∷ ns) (inl h) = ap (λ (o : Ordering). ordering_then o (slice_cmp nat_cmp ms ns)) (sym (nat_cmp_is m n Less h))
+less_from_forks (m ∷ ms) (n ∷ ns) (inr h) =
+    ap (λ (o : Ordering). ordering_then o (slice_cmp nat_cmp ms ns)) (sym (nat_cmp_is m n Equal h.0)) ∙ less_from_forks ms ns h.1
 
 forks_after : (c ms ns : List ℕ) → Forks ms ns → Forks (c ++ ms) (c ++ ns)
 forks_after [] ms ns h = h
@@ -129,25 +142,25 @@ Rising-before k (d ∷ ds) h = (
 )
 
 -- what is numbered from place k begins with k or more
-numbered_heads : (choices : Variant → Choices) (k : ℕ) (c : List ℕ) (vs : List Variant) → In c (numbered k choices vs) → (i : ℕ) × (d : List ℕ) × ((k + i) ∷ d ≡ c)
-unfolding numbered
-numbered_heads choices k c [] h = absurd h
-numbered_heads choices k c (v ∷ vs) h = elim (In-append c (map (λ c. k ∷ c) (choices v)) _ h) [
+indexed_heads : (choices : Variant → Choices) (k : ℕ) (c : List ℕ) (vs : List Variant) → In c (indexed k choices vs) → (i : ℕ) × (d : List ℕ) × ((k + i) ∷ d ≡ c)
+unfolding indexed
+indexed_heads choices k c [] h = absurd h
+indexed_heads choices k c (v ∷ vs) h = elim (In-append c (map (λ c. k ∷ c) (choices v)) _ h) [
   | inl a ↦ (let r = In-map_from (λ c. k ∷ c) c (choices v) a in (0, r.0, ap (λ (n : ℕ). n ∷ r.0) (omega arith) ∙ r.2))
-  | inr t ↦ (let r = numbered_heads choices (suc k) c vs t in (suc r.0, r.1, ap (λ (n : ℕ). n ∷ r.1) (omega arith) ∙ r.2))
+  | inr t ↦ (let r = indexed_heads choices (suc k) c vs t in (suc r.0, r.1, ap (λ (n : ℕ). n ∷ r.1) (omega arith) ∙ r.2))
 ]
 
 forks_by_head : (k i : ℕ) (ms ns : List ℕ) → Forks (k ∷ ms) ((suc k + i) ∷ ns)
 forks_by_head k i ms ns = inl (omega arith)
 
-Rising-numbered : (k : ℕ) (choices : Variant → Choices) → ((v : Variant) → Rising (choices v)) → (vs : List Variant) → Rising (numbered k choices vs)
-unfolding numbered
-Rising-numbered k choices h [] = tt
-Rising-numbered k choices h (v ∷ vs) =
-    Rising-append (map (λ c. k ∷ c) (choices v)) (numbered (suc k) choices vs) (Rising-before k (choices v) (h v)) (Rising-numbered (suc k) choices h vs)
+Rising-indexed : (k : ℕ) (choices : Variant → Choices) → ((v : Variant) → Rising (choices v)) → (vs : List Variant) → Rising (indexed k choices vs)
+unfolding indexed
+Rising-indexed k choices h [] = tt
+Rising-indexed k choices h (v ∷ vs) =
+    Rising-append (map (λ c. k ∷ c) (choices v)) (indexed (suc k) choices vs) (Rising-before k (choices v) (h v)) (Rising-indexed (suc k) choices h vs)
     (λ x y i j.
     let a = In-map_from (λ c. k ∷ c) x (choices v) i in
-    let b = numbered_heads choices (suc k) y vs j in
+    let b = indexed_heads choices (suc k) y vs j in
     let f = forks_by_head k b.0 a.0 b.1 in
     let g = subst (λ z. Forks z ((suc k + b.0) ∷ b.1)) a.2 f in
     subst (Forks x) b.2 g)
@@ -159,44 +172,44 @@ Rising-one = (λ d i. absurd i, tt)
 abbrev AllRise : (List Field → Choices) → Type 0
 AllRise choices = (fs : List Field) → Rising (choices fs)
 
-module _ (settings : Settings) (cat : Catalogue) where
-  rise_variant : (walked : Bool) (choices : List Field → Choices) (v : Variant) → AllRise choices → Rising (choices_of_variant choices cat walked v)
+module _ (build : Build) where
+  rise_variant : (walked : Bool) (choices : List Field → Choices) (v : Variant) → AllRise choices → Rising (choices_of_variant choices build.catalogue walked v)
   rise_variant true choices v x = x _
   rise_variant false choices v x = Rising-one
 
-  rise_role : (choices : List Field → Choices) (r : Role) → AllRise choices → Rising (choices_of_role choices settings cat r)
-  rise_role choices a_regular x = Rising-one
-  rise_role choices (a_block fs) x = x fs
-  rise_role choices (some_alternatives s vs) x = Rising-numbered 0 _ (λ v. rise_variant (is_walked (repr_for settings s)) choices v x) vs
-  rise_role choices a_rest x = Rising-one
-  rise_role choices a_leaf x = Rising-one
+  rise_role : (choices : List Field → Choices) (r : Role) → AllRise choices → Rising (choices_of_role choices build r)
+  rise_role choices regular x = Rising-one
+  rise_role choices (block target fs) x = x fs
+  rise_role choices (alternatives target s vs) x = Rising-indexed 0 _ (λ v. rise_variant (is_walked (repr_for build s)) choices v x) vs
+  rise_role choices (catch_all target) x = Rising-one
+  rise_role choices (leaf target) x = Rising-one
 
-  rise_fields : (choices : List Field → Choices) → AllRise choices → AllRise (choices_of_fields choices settings cat)
-  unfolding choices_of_fields
+  rise_fields : (choices : List Field → Choices) → AllRise choices → AllRise (choices_of_fields_step choices build)
+  unfolding choices_of_fields_step
   rise_fields choices x [] = Rising-one
-  rise_fields choices x (f ∷ fs) = Rising-product _ _ (rise_role choices (role_of cat f) x) (rise_fields choices x fs)
+  rise_fields choices x (f ∷ fs) = Rising-product _ _ (rise_role choices (role_of build.catalogue f) x) (rise_fields choices x fs)
 
-  rise_within : (n : ℕ) → AllRise (choices_within n settings cat)
+  rise_within : (n : ℕ) → AllRise (choices_within n build)
   unfolding choices_within
   rise_within zero fs = tt
-  rise_within (suc n) fs = rise_fields (choices_within n settings cat) (rise_within n) fs
+  rise_within (suc n) fs = rise_fields (choices_within n build) (rise_within n) fs
 
-  rise_below : AllRise (λ fs. choices_below settings cat fs)
-  unfolding choices_below
-  rise_below fs = rise_within (suc (length cat)) fs
+  rise_below : AllRise (λ fs. choices_of_fields build fs)
+  unfolding choices_of_fields
+  rise_below fs = rise_within (suc (length build.catalogue)) fs
 
-  rise_root_kind : (k : ShapeKind) → Rising (choices_of_root_kind settings cat k)
+  rise_root_kind : (k : ShapeKind) → Rising (choices_of_root_kind build k)
   rise_root_kind (Struct kind fs) = rise_below fs.items
-  rise_root_kind (Enum vs) = Rising-numbered 0 _ (λ v. rise_below _) vs.items
+  rise_root_kind (Enum vs) = Rising-indexed 0 _ (λ v. rise_below _) vs.items
   rise_root_kind _ = Rising-one
 
-  rise_root_shape : (s : Option Shape) → Rising (choices_of_root_shape settings cat s)
+  rise_root_shape : (s : Option Shape) → Rising (choices_of_root_shape build s)
   rise_root_shape None = tt
   rise_root_shape (Some s) = rise_root_kind s.kind
 
-  pub rise_root : (root : ℕ) → Rising (choices_of_root settings cat root)
+  pub rise_root : (root : ℕ) → Rising (choices_of_root build root)
   unfolding choices_of_root
-  rise_root root = rise_root_shape (slice_get cat root)
+  rise_root root = rise_root_shape (slice_get build.catalogue root)
 
 -- from membership by recursion to that by index, and back
 pub contains_from_In : {X : Type 0} (x : X) (xs : List X) → In x xs → Contains xs x
@@ -212,23 +225,26 @@ In-get_or (y ∷ xs) (suc k) d h = inr (In-get_or xs k d (omega arith))
 pub In_from_contains : {X : Type 0} (x : X) (xs : List X) → Contains xs x → In x xs
 In_from_contains x xs h = subst (λ y. In y xs) h.2 (In-get_or xs h.0 x h.1)
 
-pairs_from_rising : (cs : Choices) → Rising cs → AllPairs IsBefore cs
-pairs_from_rising [] h i j d a b = absurd (omega arith)
-pairs_from_rising (c ∷ cs) h i zero d a b = absurd (omega arith)
-pairs_from_rising (c ∷ cs) h zero (suc j) d a b = before_from_forks c (get_or cs j d) (h.0 (get_or cs j d) (In-get_or cs j d (omega arith)))
-pairs_from_rising (c ∷ cs) h (suc i) (suc j) d a b = pairs_from_rising cs h.1 i j d (omega arith) (omega arith)
+sorted_from_rising : (cs : Choices) → Rising cs → IsStrictlySortedBy (slice_cmp nat_cmp) cs
+unfolding IsStrictlySortedBy
+sorted_from_rising [] h = tt
+sorted_from_rising (c ∷ cs) h = (each cs (λ d i. less_from_forks c d (h.0 d i)), sorted_from_rising cs h.1)
+  where
+    each : (ds : Choices) → ((d : List ℕ) → In d ds → slice_cmp nat_cmp c d ≡ Less) → AllByRecursion (λ d. slice_cmp nat_cmp c d ≡ Less) ds
+    each [] k = tt
+    each (d ∷ ds) k = (k d (inl refl), each ds (λ x i. k x (inr i)))
 
 -- the list by parts lists the choices
-pub choices_listed : (settings : Settings) (cat : Catalogue) (root : ℕ) → ListsChoices settings cat root (choices_of_root settings cat root)
-choices_listed settings cat root =
-    let x = exact_root settings cat root in
+pub choices_listed : (build : Build) (root : ℕ) → ListsChoices build root (choices_of_root build root)
+choices_listed build root =
+    let x = exact_root build root in
     record {
       each_is = λ c h.
           let s = x.sound c (In_from_contains c _ h) in
-          (s.0, ap (walk_root settings cat root) (sym (append-nil c)) ∙ s.1 []);
+          (s.0, ap (walk_root build root) (sym (append-nil c)) ∙ s.1 []);
       complete = λ c h.
           let r = x.complete c h.0 [] h.1 in
           let same : r.0 ≡ c = sym (append-nil r.0) ∙ r.2 in
-          contains_from_In c _ (subst (λ y. In y (choices_of_root settings cat root)) same r.1);
-      in_order = pairs_from_rising _ (rise_root settings cat root);
+          contains_from_In c _ (subst (λ y. In y (choices_of_root build root)) same r.1);
+      in_order = sorted_from_rising _ (rise_root build root);
     }

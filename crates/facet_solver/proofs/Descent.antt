@@ -11,8 +11,9 @@ use Rattle.facet_solver_shape.specs.declared.shape.ShapeKind.TheVariants.{Struct
 use Rattle.facet_solver_shape.specs.declared.shape.Field.{Field}
 use Rattle.facet_solver_shape.specs.declared.shape.Variant.{Variant}
 use Rattle.facet_solver_shape.specs.Places.{FieldsBelow, VariantsBelow, KindBelow, NamesEarlier}
-use Rattle.facet_solver.specs.Targets.{Catalogue, kind_of, kind_at, target_of, or_else, option_inside, effective, effective_within, go_on, next_inside}
-use Rattle.facet_solver.specs.Roles.{Role, a_regular, a_block, some_alternatives, a_rest, a_leaf, role_of, role_of_target, role_by_kind}
+use Rattle.facet_solver.specs.Targets.{Catalogue, kind_of, kind_at, effective, effective_within, go_on, next_inside}
+use Rattle.facet_solver.specs.Roles.{Role, regular, block, alternatives, catch_all, leaf, target_of, target_by_kind, role_of, role_of_target, role_by_kind}
+use Rattle.facet_solver.specs.declared.build.role.Target.{Target}
 use Rattle.facet_solver.specs.Content.{struct_fields, newtype_fields, content_of, content_or, is_zero}
 
 -- a limit may rise
@@ -26,51 +27,84 @@ VariantsBelow-mono m n (v ∷ vs) le h = (FieldsBelow-mono m n v.fields.items le
 
 -- what a flattened field leads to names places below the limit
 abbrev pub RoleBelow : ℕ → Role → Type 0
-RoleBelow limit a_regular = Unit {0}
-RoleBelow limit (a_block fs) = FieldsBelow limit fs
-RoleBelow limit (some_alternatives s vs) = VariantsBelow limit vs
-RoleBelow limit a_rest = Unit {0}
-RoleBelow limit a_leaf = Unit {0}
+RoleBelow limit regular = Unit {0}
+RoleBelow limit (block target fs) = FieldsBelow limit fs
+RoleBelow limit (alternatives target s vs) = VariantsBelow limit vs
+RoleBelow limit (catch_all target) = Unit {0}
+RoleBelow limit (leaf target) = Unit {0}
 
 RoleBelow-mono : (m n : ℕ) (r : Role) → m ≤ n → RoleBelow m r → RoleBelow n r
-RoleBelow-mono m n a_regular le h = tt
-RoleBelow-mono m n (a_block fs) le h = FieldsBelow-mono m n fs le h
-RoleBelow-mono m n (some_alternatives s vs) le h = VariantsBelow-mono m n vs le h
-RoleBelow-mono m n a_rest le h = tt
-RoleBelow-mono m n a_leaf le h = tt
+RoleBelow-mono m n regular le h = tt
+RoleBelow-mono m n (block target fs) le h = FieldsBelow-mono m n fs le h
+RoleBelow-mono m n (alternatives target s vs) le h = VariantsBelow-mono m n vs le h
+RoleBelow-mono m n (catch_all target) le h = tt
+RoleBelow-mono m n (leaf target) le h = tt
 
-role_by_kind-below : (limit : ℕ) (s : Shape) (k : ShapeKind) → KindBelow limit k → RoleBelow limit (role_by_kind s k)
-role_by_kind-below limit s (Struct kind fs) h = h
-role_by_kind-below limit s (Enum vs) h = h
-role_by_kind-below limit s _ h = tt
+role_by_kind-below : (limit : ℕ) (target : Target) (s : Shape) (k : ShapeKind) → KindBelow limit k → RoleBelow limit (role_by_kind target s k)
+role_by_kind-below limit target s (Struct kind fs) h = h
+role_by_kind-below limit target s (Enum vs) h = h
+role_by_kind-below limit target s _ h = tt
+
+-- the target that a role carries
+unfoldable pub target_in : Role → Option Target
+target_in regular = None
+target_in (block target fs) = Some target
+target_in (alternatives target s vs) = Some target
+target_in (catch_all target) = Some target
+target_in (leaf target) = Some target
+
+target_in_kind : (target : Target) (s : Shape) (k : ShapeKind) → target_in (role_by_kind target s k) ≡ Some target
+unfolding target_in
+target_in_kind target s (Struct kind fs) = refl
+target_in_kind target s (Enum vs) = refl
+target_in_kind target s _ = refl
+
+target_in_target : (target : Target) (o : Option Shape) → target_in (role_of_target target o) ≡ Some target
+unfolding target_in
+target_in_target target None = refl
+target_in_target target (Some s) = target_in_kind target s s.kind
+
+target_in_flag : (b : Bool) (r : Role) (target other : Target) → target_in r ≡ Some target → Some other ≡ target_in (if b then r else regular) → (other ≡ target) × (b ≡ true)
+unfolding target_in
+target_in_flag true r target other h e = let same : Some other ≡ Some target = e ∙ h in (cc, refl)
+target_in_flag false r target other h e = absurd (cc)
+
+-- it is that of a flattened field
+pub target_in_role : (cat : Catalogue) (f : Field) (target : Target) → Some target ≡ target_in (role_of cat f) → (target ≡ target_of cat f) × (f.flattened ≡ true)
+target_in_role cat f target e =
+    target_in_flag f.flattened (role_of_target (target_of cat f) (slice_get cat (target_of cat f).shape)) (target_of cat f) target
+    (target_in_target (target_of cat f) (slice_get cat (target_of cat f).shape)) e
 
 module _ (cat : Catalogue) (checked : NamesEarlier cat) where
-  pub role_of_target-below : (id : ℕ) (o : Option Shape) → slice_get cat id ≡ o → RoleBelow id (role_of_target o)
-  role_of_target-below id None e = tt
-  role_of_target-below id (Some s) e = role_by_kind-below id s s.kind (checked id s e).kind
+  pub role_of_target-below : (target : Target) (o : Option Shape) → slice_get cat target.shape ≡ o → RoleBelow target.shape (role_of_target target o)
+  role_of_target-below target None e = tt
+  role_of_target-below target (Some s) e = role_by_kind-below target.shape target s s.kind (checked target.shape s e).kind
 
   -- an option's inside stands before it
-  or_else-inside-le : (limit : ℕ) (id : ℕ) (k : ShapeKind) → KindBelow limit k → limit ≤ id → or_else (option_inside k) id ≤ id
-  or_else-inside-le limit id (Struct kind fs) h le = omega arith
-  or_else-inside-le limit id (Enum vs) h le = omega arith
-  or_else-inside-le limit id _ h le = omega arith
+  target_by_kind-le : (id : ℕ) (k : ShapeKind) → KindBelow id k → (target_by_kind id k).shape ≤ id
+  target_by_kind-le id (OptionOf inside) h = omega arith
+  target_by_kind-le id _ h = omega arith
 
   pub kind_of-below : (id : ℕ) (o : Option Shape) → slice_get cat id ≡ o → KindBelow id (kind_of o)
   kind_of-below id None e = tt
   kind_of-below id (Some s) e = (checked id s e).kind
 
-  pub target_of-le : (f : Field) → (target_of cat f) ≤ f.shape
-  target_of-le f = or_else-inside-le f.shape f.shape (kind_at cat f.shape) (kind_of-below f.shape (slice_get cat f.shape) refl) (omega arith)
+  pub target_of-le : (f : Field) → (target_of cat f).shape ≤ f.shape
+  target_of-le f = target_by_kind-le f.shape (kind_at cat f.shape) (kind_of-below f.shape (slice_get cat f.shape) refl)
 
-  role_if-below : (b : Bool) (limit : ℕ) (r : Role) → RoleBelow limit r → RoleBelow limit (if b then r else a_regular)
+  pub target_in_role-le : (f : Field) (target : Target) → Some target ≡ target_in (role_of cat f) → target.shape ≤ f.shape
+  target_in_role-le f target e =
+      subst (λ (t : Target). t.shape ≤ f.shape) (sym (target_in_role cat f target e).0) (target_of-le f)
+
+  role_if-below : (b : Bool) (limit : ℕ) (r : Role) → RoleBelow limit r → RoleBelow limit (if b then r else regular)
   role_if-below true limit r h = h
   role_if-below false limit r h = tt
 
   pub role_of-below : (f : Field) → RoleBelow f.shape (role_of cat f)
   role_of-below f =
       role_if-below f.flattened f.shape _
-      (RoleBelow-mono (target_of cat f) f.shape (role_of_target (slice_get cat (target_of cat f))) (target_of-le f)
-      (role_of_target-below (target_of cat f) (slice_get cat (target_of cat f)) refl))
+      (RoleBelow-mono (target_of cat f).shape f.shape (role_of_target (target_of cat f) (slice_get cat (target_of cat f).shape)) (target_of-le f)
+      (role_of_target-below (target_of cat f) (slice_get cat (target_of cat f).shape) refl))
 
   pub next_inside-below : (id : ℕ) (o : Option Shape) → slice_get cat id ≡ o → IfSome (next_inside o) (λ p. p < id)
   next_inside-below id None e = tt

@@ -4,7 +4,7 @@ use Rattle.std.proofs.Common.{◌≡◌, ℕ, zero, suc, ◌+◌, ◌⊎◌, inl
 use Rattle.facet_solver_shape.specs.declared.shape.Variant.{Variant}
 use Rattle.facet_solver.specs.Emissions.{Emission}
 use Rattle.facet_solver.specs.Walk.{Walked, put_before, and_then, emit, choose, at_chosen}
-use Rattle.facet_solver.specs.Listing.{Choices, no_choice, product, numbered}
+use Rattle.facet_solver.specs.Listing.{Choices, no_choice, product, indexed}
 
 -- membership, by recursion
 abbrev pub In : {X : Type 0} → X → List X → Type 0
@@ -111,51 +111,51 @@ IsExact-and_then w v cs ds x y = record {
       (a.0 ++ b.0, In-product a.0 b.0 cs ds a.1 b.1, append_assoc a.0 b.0 rest ∙ ap (λ (n : List ℕ). a.0 ++ n) b.2 ∙ a.2);
 }
 
-module _ (walk : Variant → List ℕ → Walked) (choices : Variant → Choices) (each : (v : Variant) → IsExact (walk v) (choices v)) where
+module _ (go : Variant → List ℕ → Walked) (choices : Variant → Choices) (each : (v : Variant) → IsExact (go v) (choices v)) where
   -- a listed place is a variant's
-  In-numbered : (k : ℕ) (c : List ℕ) (vs : List Variant) → In c (numbered k choices vs) → (i : ℕ) × (v : Variant) × (d : List ℕ) × (slice_get vs i ≡ Some v) × (In d (choices v)) × ((k + i) ∷ d ≡ c)
-  unfolding numbered
-  In-numbered k c [] h = absurd h
-  In-numbered k c (v ∷ vs) h = elim (In-append c (map (λ c. k ∷ c) (choices v)) _ h) [
+  In-indexed : (k : ℕ) (c : List ℕ) (vs : List Variant) → In c (indexed k choices vs) → (i : ℕ) × (v : Variant) × (d : List ℕ) × (slice_get vs i ≡ Some v) × (In d (choices v)) × ((k + i) ∷ d ≡ c)
+  unfolding indexed
+  In-indexed k c [] h = absurd h
+  In-indexed k c (v ∷ vs) h = elim (In-append c (map (λ c. k ∷ c) (choices v)) _ h) [
     | inl a ↦ (let r = In-map_from (λ c. k ∷ c) c (choices v) a in (0, v, r.0, refl, r.1, ap (λ (n : ℕ). n ∷ r.0) (omega arith) ∙ r.2))
-    | inr t ↦ (let r = In-numbered (suc k) c vs t in (suc r.0, r.1, r.2, r.3, r.4, ap (λ (n : ℕ). n ∷ r.2) (omega arith) ∙ r.5))
+    | inr t ↦ (let r = In-indexed (suc k) c vs t in (suc r.0, r.1, r.2, r.3, r.4, ap (λ (n : ℕ). n ∷ r.2) (omega arith) ∙ r.5))
   ]
 
-  numbered_In : (k i : ℕ) (v : Variant) (d : List ℕ) (vs : List Variant) → slice_get vs i ≡ Some v → In d (choices v) → In ((k + i) ∷ d) (numbered k choices vs)
-  unfolding numbered
-  numbered_In k i v d [] e h = absurd (cc)
-  numbered_In k zero v d (u ∷ vs) e h =
+  indexed_In : (k i : ℕ) (v : Variant) (d : List ℕ) (vs : List Variant) → slice_get vs i ≡ Some v → In d (choices v) → In ((k + i) ∷ d) (indexed k choices vs)
+  unfolding indexed
+  indexed_In k i v d [] e h = absurd (cc)
+  indexed_In k zero v d (u ∷ vs) e h =
       let same : u ≡ v = cc in
       let P : Variant → Type 0 = λ v. In d (choices v) in
       In-left _ (map (λ c. k ∷ c) (choices u)) _ (rw add-zero (In-map (λ c. k ∷ c) d (choices u) (subst P (sym same) h)))
-  numbered_In k (suc i) v d (u ∷ vs) e h =
-      let P : ℕ → Type 0 = λ n. In (n ∷ d) (numbered (suc k) choices vs) in
-      In-right _ (map (λ c. k ∷ c) (choices u)) _ (subst P (omega arith) (numbered_In (suc k) i v d vs e h))
+  indexed_In k (suc i) v d (u ∷ vs) e h =
+      let P : ℕ → Type 0 = λ n. In (n ∷ d) (indexed (suc k) choices vs) in
+      In-right _ (map (λ c. k ∷ c) (choices u)) _ (subst P (omega arith) (indexed_In (suc k) i v d vs e h))
 
-  choose_is : (vs : List Variant) (ns : List ℕ) (es : List Emission) (rest : List ℕ) → choose vs ns walk ≡ Some (es, rest) → (i : ℕ) × (v : Variant) × (ms : List ℕ) × (slice_get vs i ≡ Some v) × (walk v ms ≡ Some (es, rest)) × (i ∷ ms ≡ ns)
+  choose_is : (vs : List Variant) (ns : List ℕ) (es : List Emission) (rest : List ℕ) → choose vs ns go ≡ Some (es, rest) → (i : ℕ) × (v : Variant) × (ms : List ℕ) × (slice_get vs i ≡ Some v) × (go v ms ≡ Some (es, rest)) × (i ∷ ms ≡ ns)
   choose_is vs [] es rest e = absurd (cc)
-  choose_is vs (i ∷ ms) es rest e = go (slice_get vs i) refl e
+  choose_is vs (i ∷ ms) es rest e = by_variant (slice_get vs i) refl e
     where
-      go : (o : Option Variant) → slice_get vs i ≡ o → at_chosen o (λ v. walk v ms) ≡ Some (es, rest) → (i' : ℕ) × (v : Variant) × (ms' : List ℕ) × (slice_get vs i' ≡ Some v) × (walk v ms' ≡ Some (es, rest)) × (i' ∷ ms' ≡ i ∷ ms)
-      go None is e = absurd (cc)
-      go (Some v) is e = (i, v, ms, is, e, refl)
+      by_variant : (o : Option Variant) → slice_get vs i ≡ o → at_chosen o (λ v. go v ms) ≡ Some (es, rest) → (i' : ℕ) × (v : Variant) × (ms' : List ℕ) × (slice_get vs i' ≡ Some v) × (go v ms' ≡ Some (es, rest)) × (i' ∷ ms' ≡ i ∷ ms)
+      by_variant None is e = absurd (cc)
+      by_variant (Some v) is e = (i, v, ms, is, e, refl)
 
   -- a choice among variants: a sum
-  pub IsExact-choose : (vs : List Variant) → IsExact (λ ns. choose vs ns walk) (numbered 0 choices vs)
+  pub IsExact-choose : (vs : List Variant) → IsExact (λ ns. choose vs ns go) (indexed 0 choices vs)
   IsExact-choose vs = record {
     sound = λ c h.
-        let p = In-numbered 0 c vs h in
+        let p = In-indexed 0 c vs h in
         let s = (each p.1).sound p.2 p.4 in (
           s.0,
           λ rest.
-              ap (λ (n : List ℕ). choose vs (n ++ rest) walk) (sym p.5)
-              ∙ ap (λ (n : ℕ). choose vs (n ∷ (p.2 ++ rest)) walk) (zero-add p.0)
-              ∙ ap (λ (o : Option Variant). at_chosen o (λ v. walk v (p.2 ++ rest))) p.3
+              ap (λ (n : List ℕ). choose vs (n ++ rest) go) (sym p.5)
+              ∙ ap (λ (n : ℕ). choose vs (n ∷ (p.2 ++ rest)) go) (zero-add p.0)
+              ∙ ap (λ (o : Option Variant). at_chosen o (λ v. go v (p.2 ++ rest))) p.3
               ∙ s.1 rest,
         );
     complete = λ ns es rest e.
         let r = choose_is vs ns es rest e in
         let a = (each r.1).complete r.2 es rest r.4 in
-        let P : ℕ → Type 0 = λ n. In (n ∷ a.0) (numbered 0 choices vs) in
-        (r.0 ∷ a.0, subst P (zero-add r.0) (numbered_In 0 r.0 r.1 a.0 vs r.3 a.1), ap (λ (n : List ℕ). r.0 ∷ n) a.2 ∙ r.5);
+        let P : ℕ → Type 0 = λ n. In (n ∷ a.0) (indexed 0 choices vs) in
+        (r.0 ∷ a.0, subst P (zero-add r.0) (indexed_In 0 r.0 r.1 a.0 vs r.3 a.1), ap (λ (n : List ℕ). r.0 ∷ n) a.2 ∙ r.5);
   }

@@ -1,4 +1,5 @@
 -- In the flat format the fields of a resolution go by their names alone.
+use Rattle.facet_solver.specs.Build.{Build, repr_for}
 use Rattle.std.proofs.Common.{◌≡◌, ℕ, zero, suc, List, [], ◌∷◌, ◌++◌, Option, Some, None, Bool, true, false, cond, sym, refl, ap, ◌∙◌, subst, slice_get, length}
 use Rattle.std.specs.Prelude.{if◌then◌else◌, string_bytes}
 use Rattle.std.specs.List.{fold}
@@ -20,15 +21,15 @@ use Rattle.facet_solver_shape.proofs.KeyOrder.{key_cmp_total, key_cmp_same}
 use Rattle.facet_solver.specs.declared.build.representation.Format.{Format}
 use Rattle.facet_solver.specs.declared.build.representation.Format.TheVariants.{Flat}
 use Rattle.facet_solver.specs.Targets.{Catalogue}
-use Rattle.facet_solver.specs.Representation.{Settings, Repr, flattened, externally_tagged, internally_tagged, adjacently_tagged, is_walked, repr_for}
-use Rattle.facet_solver.specs.Categories.{field_category, selector_category}
+use Rattle.facet_solver.specs.Representation.{Repr, flattened, externally_tagged, internally_tagged, adjacently_tagged, is_walked, field_category, selector_category}
 use Rattle.facet_solver.specs.Content.{content_of}
-use Rattle.facet_solver.specs.Roles.{Role, a_regular, a_block, some_alternatives, a_rest, a_leaf, role_of}
+use Rattle.facet_solver.specs.Roles.{Role, regular, block, alternatives, catch_all, leaf, role_of}
 use Rattle.facet_solver.specs.Nested.{KeyPath, nested_paths, content_paths}
-use Rattle.facet_solver.specs.Emissions.{Emission, a_field, a_key_path, a_pick, a_catch_all, Path, paths_behind, variant_path, unwrapped_at, field_path, pick_of, regular_field, leaf_field, selector_field, regular_emissions, rest_emissions, leaf_emissions, selector_emissions, variant_emissions}
-use Rattle.facet_solver.specs.Walk.{Walked, Walk, put_before, and_then, emit, choose, at_chosen, plain_emissions, walk_variant, walk_content, walk_role, walk_fields, walk_within, walk, walk_root, walk_root_shape, walk_root_kind, root_variant, walk_inside}
-use Rattle.facet_solver.specs.Choice.{with_emission, resolution_of, IsResolution}
-use Rattle.facet_solver.specs.FlatFields.{GoesByName}
+use Rattle.facet_solver.specs.Emissions.{Emission, a_field, a_key_path, a_pick, a_catch_all, paths_behind, pick_of, regular_field, leaf_field, selector_field, emit_regular, emit_catch_all, emit_leaf, emit_selector_by, emit_variant, emit_plain}
+use Rattle.facet_solver.specs.Place.{Path, variant_path, unwrapped_at, field_path, Chosen, at_root, at_root_variant, choosing, further, inside_field, inside_variant}
+use Rattle.facet_solver.specs.Walk.{Walked, Walk, put_before, and_then, emit, choose, at_chosen, walk_variant_step, walk_content_step, walk_role, walk_fields_step, walk_within, walk_fields, walk_root, walk_root_shape, walk_root_kind, walk_root_variant, walk_content}
+use Rattle.facet_solver.specs.Choice.{with_emission, resolution_of, IsResolution, GoesByName}
+use Rattle.facet_solver.specs.declared.build.place.Place.{Place}
 
 -- each field among emissions is of category Flat
 AllFlat : List Emission → Type 0
@@ -76,80 +77,89 @@ unfolding Emits-flat
 flat-choose vs [] go h = tt
 flat-choose vs (k ∷ ns) go h = flat-at_chosen (slice_get vs k) (λ v. go v ns) (λ v. h v ns)
 
-module _ (settings : Settings) (cat : Catalogue) (flat : settings.format ≡ Flat) where
+module _ (build : Build) (flat : build.format ≡ Flat) where
   AllWalksFlat : Walk → Type 0
-  AllWalksFlat below = (fs : List Field) (p : Path) (o : Bool) (ns : List ℕ) → Emits-flat (below fs p o ns)
+  AllWalksFlat below = (fs : List Field) (place : Place) (ns : List ℕ) → Emits-flat (below fs place ns)
 
-  flat-selector : (repr : Repr) (f : Field) (v : Variant) (q : Path) (o : Bool) → AllFlat (selector_emissions repr settings cat f v q o)
-  unfolding selector_emissions AllFlat selector_field
-  flat-selector flattened f v q o = tt
-  flat-selector externally_tagged f v q o = (ap selector_category flat, AllFlat-paths (string_bytes v.name) (content_paths cat v))
-  flat-selector (internally_tagged tag) f v q o = (ap selector_category flat, tt)
-  flat-selector (adjacently_tagged tag content) f v q o = (ap selector_category flat, AllFlat-paths content (content_paths cat v))
+  flat-selector : (repr : Repr) (chosen : Chosen) (place : Place) → AllFlat (emit_selector_by repr build chosen place)
+  unfolding emit_selector_by AllFlat selector_field
+  flat-selector flattened chosen place = tt
+  flat-selector externally_tagged chosen place =
+      (ap selector_category flat, AllFlat-paths (string_bytes chosen.variant.name) (content_paths build.catalogue chosen.variant))
+  flat-selector (internally_tagged tag) chosen place = (ap selector_category flat, tt)
+  flat-selector (adjacently_tagged tag content) chosen place =
+      (ap selector_category flat, AllFlat-paths content (content_paths build.catalogue chosen.variant))
 
-  flat-variant : (f : Field) (s : Shape) (v : Variant) (p : Path) (o : Bool) → AllFlat (variant_emissions settings cat f s v p o)
-  unfolding variant_emissions AllFlat
-  flat-variant f s v p o = flat-selector (repr_for settings s) f v (variant_path p f v) o
+  flat-variant : (chosen : Chosen) (place : Place) → AllFlat (emit_variant build chosen place)
+  unfolding emit_variant AllFlat
+  flat-variant chosen place = flat-selector (repr_for build chosen.shape) chosen place
 
-  flat-plain : (f : Field) (p : Path) (o : Bool) (r : Role) → AllFlat (plain_emissions settings cat f p o r)
-  unfolding plain_emissions regular_emissions rest_emissions leaf_emissions regular_field leaf_field AllFlat
-  flat-plain f p o a_regular = (ap (λ (format : Format). field_category format f.dom) flat, AllFlat-paths (effective_name f) (nested_paths cat f.shape))
-  flat-plain f p o (a_block fs) = tt
-  flat-plain f p o (some_alternatives s vs) = tt
-  flat-plain f p o a_rest = tt
-  flat-plain f p o a_leaf = (ap (λ (format : Format). field_category format f.dom) flat, tt)
+  flat-plain : (f : Field) (place : Place) (r : Role) → AllFlat (emit_plain build f place r)
+  unfolding emit_plain emit_regular emit_catch_all emit_leaf regular_field leaf_field AllFlat
+  flat-plain f place regular =
+      (ap (λ (format : Format). field_category format f.dom) flat, AllFlat-paths (effective_name f) (nested_paths build.catalogue f.shape))
+  flat-plain f place (block target fs) = tt
+  flat-plain f place (alternatives target s vs) = tt
+  flat-plain f place (catch_all target) = tt
+  flat-plain f place (leaf target) = (ap (λ (format : Format). field_category format f.dom) flat, tt)
 
-  flat-content : (walked : Bool) (below : Walk) (v : Variant) (q : Path) (o : Bool) (ns : List ℕ) → AllWalksFlat below → Emits-flat (if walked then walk_content below cat v q o ns else emit [] ns)
+  flat-content : (walked : Bool) (below : Walk) (v : Variant) (place : Place) (ns : List ℕ) → AllWalksFlat below
+      → Emits-flat (if walked then walk_content_step below build.catalogue v place ns else emit [] ns)
   unfolding AllWalksFlat Emits-flat AllFlat
-  flat-content true below v q o ns h = h (content_of cat v).fields (q ++ (content_of cat v).path) o ns
-  flat-content false below v q o ns h = tt
+  flat-content true below v place ns h =
+      h (content_of build.catalogue v).fields (further place (content_of build.catalogue v).path) ns
+  flat-content false below v place ns h = tt
 
-  flat-role : (below : Walk) (f : Field) (p : Path) (o : Bool) (ns : List ℕ) (r : Role) → AllWalksFlat below → Emits-flat (walk_role below settings cat f p o ns r)
+  flat-role : (below : Walk) (f : Field) (place : Place) (r : Role) (ns : List ℕ) → AllWalksFlat below → Emits-flat (walk_role below build f place r ns)
   unfolding AllWalksFlat Emits-flat
-  flat-role below f p o ns a_regular h = flat-plain f p o a_regular
-  flat-role below f p o ns (a_block fs) h = h fs (field_path p f) (unwrapped_at cat f o) ns
-  flat-role below f p o ns (some_alternatives s vs) h =
-      flat-choose vs ns (λ v rest. walk_variant below settings cat f s v p o rest)
-      (λ v rest. flat-put_before (variant_emissions settings cat f s v p o) _ (flat-variant f s v p o) (flat-content (is_walked (repr_for settings s)) below v (variant_path p f v) (unwrapped_at cat f o) rest h))
-  flat-role below f p o ns a_rest h = flat-plain f p o a_rest
-  flat-role below f p o ns a_leaf h = flat-plain f p o a_leaf
+  flat-role below f place regular ns h = flat-plain f place regular
+  flat-role below f place (block target fs) ns h = h fs (inside_field place f target) ns
+  flat-role below f place (alternatives target s vs) ns h =
+      flat-choose vs ns (λ v rest. walk_variant_step below build (choosing f target s v) place rest)
+      (λ v rest.
+      flat-put_before (emit_variant build (choosing f target s v) place) _ (flat-variant (choosing f target s v) place)
+      (flat-content (is_walked (repr_for build s)) below v (inside_variant place (choosing f target s v)) rest h))
+  flat-role below f place (catch_all target) ns h = flat-plain f place (catch_all target)
+  flat-role below f place (leaf target) ns h = flat-plain f place (leaf target)
 
-  flat-fields : (below : Walk) → AllWalksFlat below → (fs : List Field) (p : Path) (o : Bool) (ns : List ℕ) → Emits-flat (walk_fields below settings cat fs p o ns)
-  unfolding walk_fields Emits-flat AllFlat
-  flat-fields below h [] p o ns = tt
-  flat-fields below h (f ∷ fs) p o ns = flat-and_then (walk_role below settings cat f p o ns (role_of cat f)) _ (flat-role below f p o ns (role_of cat f) h) (λ rest. flat-fields below h fs p o rest)
+  flat-fields : (below : Walk) → AllWalksFlat below → (fs : List Field) (place : Place) (ns : List ℕ) → Emits-flat (walk_fields_step below build fs place ns)
+  unfolding walk_fields_step Emits-flat AllFlat
+  flat-fields below h [] place ns = tt
+  flat-fields below h (f ∷ fs) place ns =
+      flat-and_then (walk_role below build f place (role_of build.catalogue f) ns) _
+      (flat-role below f place (role_of build.catalogue f) ns h) (λ rest. flat-fields below h fs place rest)
 
-  flat-within : (n : ℕ) (fs : List Field) (p : Path) (o : Bool) (ns : List ℕ) → Emits-flat (walk_within n settings cat fs p o ns)
+  flat-within : (n : ℕ) (fs : List Field) (place : Place) (ns : List ℕ) → Emits-flat (walk_within n build fs place ns)
   unfolding walk_within Emits-flat AllWalksFlat
-  flat-within zero fs p o ns = tt
-  flat-within (suc n) fs p o ns = flat-fields (walk_within n settings cat) (flat-within n) fs p o ns
+  flat-within zero fs place ns = tt
+  flat-within (suc n) fs place ns = flat-fields (walk_within n build) (flat-within n) fs place ns
 
-  flat-walk : (fs : List Field) (p : Path) (o : Bool) (ns : List ℕ) → Emits-flat (walk settings cat fs p o ns)
-  unfolding walk
-  flat-walk fs p o ns = flat-within (suc (length cat)) fs p o ns
+  flat-walk : (fs : List Field) (place : Place) (ns : List ℕ) → Emits-flat (walk_fields build fs place ns)
+  unfolding walk_fields
+  flat-walk fs place ns = flat-within (suc (length build.catalogue)) fs place ns
 
-  flat-inside : (v : Variant) (q : Path) (o : Bool) (ns : List ℕ) → Emits-flat (walk_inside settings cat v q o ns)
-  unfolding walk_inside
-  flat-inside v q o ns = flat-walk (content_of cat v).fields (q ++ (content_of cat v).path) o ns
+  flat-inside : (v : Variant) (place : Place) (ns : List ℕ) → Emits-flat (walk_content build v place ns)
+  unfolding walk_content
+  flat-inside v place ns = flat-walk (content_of build.catalogue v).fields (further place (content_of build.catalogue v).path) ns
 
-  flat-root_variant : (s : Shape) (v : Variant) (ns : List ℕ) → Emits-flat (root_variant settings cat s v ns)
-  unfolding root_variant AllFlat
-  flat-root_variant s v ns = flat-put_before (pick_of s v [] ∷ []) (walk_inside settings cat v (by_variant [] (string_bytes v.name) ∷ []) false ns) tt (flat-inside v (by_variant [] (string_bytes v.name) ∷ []) false ns)
+  flat-root_variant : (s : Shape) (v : Variant) (ns : List ℕ) → Emits-flat (walk_root_variant build s v ns)
+  unfolding walk_root_variant AllFlat
+  flat-root_variant s v ns = flat-put_before (pick_of s v [] ∷ []) (walk_content build v (at_root_variant v) ns) tt (flat-inside v (at_root_variant v) ns)
 
-  flat-kind : (s : Shape) (k : ShapeKind) (ns : List ℕ) → Emits-flat (walk_root_kind settings cat s k ns)
+  flat-kind : (s : Shape) (k : ShapeKind) (ns : List ℕ) → Emits-flat (walk_root_kind build s k ns)
   unfolding Emits-flat AllFlat
-  flat-kind s (Struct kind fs) ns = flat-walk fs.items [] false ns
-  flat-kind s (Enum vs) ns = flat-choose vs.items ns (λ v rest. root_variant settings cat s v rest) (λ v rest. flat-root_variant s v rest)
+  flat-kind s (Struct kind fs) ns = flat-walk fs.items at_root ns
+  flat-kind s (Enum vs) ns = flat-choose vs.items ns (λ v rest. walk_root_variant build s v rest) (λ v rest. flat-root_variant s v rest)
   flat-kind s _ ns = tt
 
-  flat-shape : (o : Option Shape) (ns : List ℕ) → Emits-flat (walk_root_shape settings cat o ns)
+  flat-shape : (o : Option Shape) (ns : List ℕ) → Emits-flat (walk_root_shape build o ns)
   unfolding Emits-flat
   flat-shape None ns = tt
   flat-shape (Some s) ns = flat-kind s s.kind ns
 
-  flat-emitted : (root : ℕ) (ns : List ℕ) (es : List Emission) (rest : List ℕ) → walk_root settings cat root ns ≡ Some (es, rest) → AllFlat es
+  flat-emitted : (root : ℕ) (ns : List ℕ) (es : List Emission) (rest : List ℕ) → walk_root build root ns ≡ Some (es, rest) → AllFlat es
   unfolding walk_root Emits-flat
-  flat-emitted root ns es rest e = subst Emits-flat e (flat-shape (slice_get cat root) ns)
+  flat-emitted root ns es rest e = subst Emits-flat e (flat-shape (slice_get build.catalogue root) ns)
 
 -- fields of category Flat that were taken in are found by their names alone
 kept-by_name : (r : Resolved) (es : List Emission) → GoesByName r → AllFlat es → GoesByName (fold with_emission r es)
@@ -177,7 +187,7 @@ nothing-by_name : GoesByName nothing
 nothing-by_name k f found = absurd (let none = finite.get-empty {X = FieldView} key_cmp k in cc)
 
 -- so in the flat format no two fields of a resolution have one name
-pub flat_by_name : (settings : Settings) (cat : Catalogue) (root : ℕ) (c : List ℕ) (r : Resolved) → settings.format ≡ Flat → IsResolution settings cat root c r → GoesByName r
+pub flat_by_name : (build : Build) (root : ℕ) (c : List ℕ) (r : Resolved) → build.format ≡ Flat → IsResolution build root c r → GoesByName r
 unfolding resolution_of
-flat_by_name settings cat root c r flat h =
-    subst GoesByName (sym h.put_together) (kept-by_name nothing h.emissions nothing-by_name (flat-emitted settings cat flat root c h.emissions [] h.emitted))
+flat_by_name build root c r flat h =
+    subst GoesByName (sym h.put_together) (kept-by_name nothing h.emissions nothing-by_name (flat-emitted build flat root c h.emissions [] h.emitted))

@@ -3,9 +3,9 @@ pub mod Bijection
 pub mod Counts
 pub mod CountSteps
 pub mod CountFormats
-pub mod Tallies
+pub mod FieldCounts
 pub mod NoChoices
-pub mod TallyTables
+pub mod CountTables
 pub mod RootCounts
 pub mod Newtypes
 pub mod ChoiceLaws

@@ -7,8 +7,7 @@ use Rattle.facet_solver_shape.specs.declared.shape.Shape.{Shape}
 use Rattle.facet_solver_shape.specs.declared.shape.ShapeKind.{ShapeKind}
 use Rattle.facet_solver_shape.specs.Places.{NamesEarlier}
 use Rattle.facet_solver.specs.Targets.{Catalogue, kind_of, kind_at, effective}
-use Rattle.facet_solver.specs.Content.{struct_fields, is_zero}
-use Rattle.facet_solver.specs.Newtype.{IsNewtypeOf}
+use Rattle.facet_solver.specs.Content.{struct_fields, is_zero, IsNewtypeOf}
 use Rattle.facet_solver.proofs.Descent.{effective-le}
 
 -- a list of one element

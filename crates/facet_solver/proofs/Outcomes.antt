@@ -1,12 +1,11 @@
 -- Emissions one by one.
-use Rattle.std.proofs.Common.{◌≡◌, ℕ, List, [], ◌∷◌, ◌++◌, Option, Some, None, sym, refl, ap, ◌∙◌, IsSome}
-use Rattle.std.proofs.Common.{subst, map}
+use Rattle.std.proofs.Common.{◌≡◌, ℕ, List, [], ◌∷◌, ◌++◌, Option, Some, None, sym, refl, ap, ◌∙◌, IsSome, subst, map}
 use Rattle.std.specs.Prelude.{Result, IsErrAnd, IsSomeAnd}
 use Rattle.std.specs.FinMap as finite
 use Rattle.std.proofs.lemmas.Result.{err_from_is_err_and}
 use Rattle.facet_solver_shape.specs.declared.resolution.error.SchemaError as schema
 use Rattle.facet_solver_shape.specs.declared.resolution.error.SchemaError.TheVariants.{DuplicateField, OutOfMemory}
-use Rattle.facet_solver.specs.Filling.{Gives, ErrorOf, duplicate_view}
+use Rattle.facet_solver.specs.Outcome.{Gives, ErrorOf, duplicate_view, Outcome, Duplicate, resolved, duplicate, next, with_known, take_in, take_all, effect}
 use Rattle.facet_solver_shape.specs.Names.{Name}
 use Rattle.facet_solver.specs.Nested.{KeyPath}
 use Rattle.facet_solver.specs.KeyPaths.{with_key_paths}
@@ -14,7 +13,6 @@ use Rattle.facet_solver.specs.Emissions.{Emission, a_field, a_key_path, a_pick, 
 use Rattle.facet_solver.specs.Walk.{Walked, put_before, and_then}
 use Rattle.facet_solver_shape.specs.Resolved.{FieldView, Pick, Resolved, IsAdded, key_of_field, with_key_path, with_pick, with_catch_all}
 use Rattle.facet_solver_shape.specs.Views.{IsRefusalOf}
-use Rattle.facet_solver.specs.Outcome.{Outcome, Duplicate, resolved, duplicate, next, with_known, take_in, take_all, effect}
 
 pub take_all-one : (r : Resolved) (e : Emission) → take_all r (e ∷ []) ≡ take_in r e
 unfolding take_all
@@ -77,9 +75,6 @@ effect-and_then-stopped r d (Some w) ns go h k =
 
 -- what calls that take in emissions give
 module _ {T : Type 0} (result : Result T schema.SchemaError) (new : Resolved) where
-  pub gives-one : (r : Resolved) (e f : Emission) → e ≡ f → Gives (take_in r e) result new → Gives (take_all r (f ∷ [])) result new
-  gives-one r e f h g = subst (λ (o : Outcome). Gives o result new) (ap (take_in r) h ∙ sym (take_all-one r f)) g
-
   pub gives-next : (r s : Resolved) (e : Emission) (es : List Emission) → take_in r e ≡ resolved s → Gives (take_all s es) result new → Gives (take_all r (e ∷ es)) result new
   gives-next r s e es h g = subst (λ (o : Outcome). Gives o result new) (sym (take_all-next r s e es h)) g
 
@@ -101,10 +96,6 @@ gives-stopped result new r es fs err h k =
 
 pub take_all-both : (r s t : Resolved) (es fs : List Emission) → take_all r es ≡ resolved s → take_all s fs ≡ resolved t → take_all r (es ++ fs) ≡ resolved t
 take_all-both r s t es fs h k = take_all-append r es fs ∙ ap (λ (o : Outcome). next o (λ s. take_all s fs)) h ∙ k
-
-pub gives-append : {T : Type 0} (result : Result T schema.SchemaError) (new : Resolved) (r s : Resolved) (es fs : List Emission) → take_all r es ≡ resolved s → Gives (take_all s fs) result new → Gives (take_all r (es ++ fs)) result new
-gives-append result new r s es fs h g =
-    subst (λ (o : Outcome). Gives o result new) (sym (take_all-append r es fs ∙ ap (λ (o : Outcome). next o (λ s. take_all s fs)) h)) g
 
 -- the exit of a `?`
 pub gives-exit : {T : Type 0} (result : Result T schema.SchemaError) (new : Resolved) (o : Outcome) (err : schema.SchemaError) → IsErrAnd result (λ e. e ≡ err) → ErrorOf o err → Gives o result new
@@ -134,9 +125,9 @@ pub taken-pick : (r s : Resolved) (p : Pick) → s ≡ with_pick r p → take_in
 unfolding take_in
 taken-pick r s p h = ap resolved (sym h)
 
-pub taken-rest : (r s : Resolved) (f : FieldView) → s ≡ with_catch_all r f.category f → take_in r (a_catch_all f) ≡ resolved s
+pub taken-catch_all : (r s : Resolved) (f : FieldView) → s ≡ with_catch_all r f.category f → take_in r (a_catch_all f) ≡ resolved s
 unfolding take_in
-taken-rest r s f h = ap resolved (sym h)
+taken-catch_all r s f h = ap resolved (sym h)
 
 -- key paths one by one
 pub take_all-paths : (r : Resolved) (name : Name) (paths : List KeyPath) → take_all r (paths_behind name paths) ≡ resolved (with_key_paths r (map (λ q. name ∷ q) paths))

@@ -67,13 +67,13 @@ split done e k g h = elim (get_push done e (a_field g) h.place h.there) [
 -- a clash after one more was one before, or is with the one
 clash-split : (done : List Emission) (e : Emission) (f g : FieldView) → Clashes (done ++ e ∷ []) f g → Clashes done f g ⊎ ((e ≡ a_field g) × Emitted done (key_of_field g) f)
 clash-split done e f g k =
-    elim (get_push done e (a_field f) k.first_place k.first_is) [
-      | inl a ↦ elim (get_push done e (a_field g) k.second_place k.second_is) [
-        | inl b ↦ inl record { first_place = k.first_place; second_place = k.second_place; in_order = k.in_order; first_is = a; second_is = b; same_key = k.same_key }
-        | inr b ↦ inr (b.1, record { place = k.first_place; there = a; by_key = k.same_key })
+    elim (get_push done e (a_field f) k.first_at k.first_is) [
+      | inl a ↦ elim (get_push done e (a_field g) k.second_at k.second_is) [
+        | inl b ↦ inl record { first_at = k.first_at; second_at = k.second_at; in_order = k.in_order; first_is = a; second_is = b; same_key = k.same_key }
+        | inr b ↦ inr (b.1, record { place = k.first_at; there = a; by_key = k.same_key })
       ]
-      | inr a ↦ elim (get_push done e (a_field g) k.second_place k.second_is) [
-        | inl b ↦ (let lt = slice_get_within done k.second_place (a_field g) b in let o = k.in_order in let e = a.0 in absurd (omega arith))
+      | inr a ↦ elim (get_push done e (a_field g) k.second_at k.second_is) [
+        | inl b ↦ (let lt = slice_get_within done k.second_at (a_field g) b in let o = k.in_order in let e = a.0 in absurd (omega arith))
         | inr b ↦ (let o = k.in_order in let e = a.0 in let d = b.0 in absurd (omega arith))
       ]
     ]
@@ -192,8 +192,8 @@ clashing_from done (e ∷ es) q d x h = go (take_in q e) refl h (λ s k. clashin
           first = r.first;
           second = r.second;
           clash = record {
-            first_place = r.before.place;
-            second_place = length done;
+            first_at = r.before.place;
+            second_at = length done;
             in_order = slice_get_within done r.before.place (a_field r.first) r.before.there;
             first_is = get_left done (e ∷ es) r.before.place _ r.before.there;
             second_is = get_mid done es e ∙ ap (λ (x : Emission). Some x) r.emitted;

@@ -39,7 +39,7 @@ unknown_number cat fs several_numbers e = absurd (shapes_known cat (first_of_eac
 
 -- a key is unknown where no candidate has it
 pub none_has : (key : Key) (s : State) → answer_of key s ≡ unknown → passing (has_key key) s ≡ []
-none_has key s e = none_of_none _ (unknown_number s.schema.catalogue (fields_for key s) (how_many (passing (has_key key) s)) e)
+none_has key s e = none_of_none _ (unknown_number s.schema.build.catalogue (fields_for key s) (how_many (passing (has_key key) s)) e)
 
 or_all_some : (xs all : List ℕ) → (xs ≡ [] → ⊥) → or_all xs all ≡ xs
 or_all_some [] all some = absurd (some refl)
@@ -50,7 +50,7 @@ unknown_of_none cat fs xs e = ap (λ k. by_number cat fs (how_many k)) e
 
 -- the candidates after a key that some of them have
 pub left_known : (key : Key) (s : State) → (answer_of key s ≡ unknown → ⊥) → passing (has_key key) s ≡ (told key s).candidates
-left_known key s known = sym (or_all_some _ s.candidates (λ none. known (unknown_of_none s.schema.catalogue (fields_for key s) _ none)))
+left_known key s known = sym (or_all_some _ s.candidates (λ none. known (unknown_of_none s.schema.build.catalogue (fields_for key s) _ none)))
 
 -- and after one that none of them has
 pub left_unknown : (key : Key) (s : State) → answer_of key s ≡ unknown → s.candidates ≡ (told key s).candidates

@@ -1,4 +1,5 @@
 -- The walk part by part, and what each part makes of a resolution.
+use Rattle.facet_solver.specs.Build.{Build, repr_for}
 use Rattle.std.proofs.Common.{◌≡◌, ℕ, zero, suc, ◌+◌, ◌<◌, ◌≤◌, List, [], ◌∷◌, ◌++◌, Option, Some, None, slice_get, Bool, true, false, sym, refl, ap, ◌∙◌, subst, length, get_or, drop, append-nil, arith, IsSome}
 use Rattle.std.specs.Prelude.{if◌then◌else◌, Result, IsErrAnd, slice_index, codes}
 use Rattle.std.specs.Borrow.{Bor}
@@ -8,15 +9,14 @@ use Rattle.facet_solver_shape.specs.declared.resolution.error.SchemaError.TheVar
 use Rattle.facet_solver_shape.specs.Places.{FieldsBelow, VariantsBelow, NamesEarlier}
 use Rattle.facet_solver_shape.specs.Paths.{by_field}
 use Rattle.facet_solver_shape.specs.Resolved.{Resolved}
-use Rattle.facet_solver.specs.Filling.{ErrorOf, StopsBy, Walks, duplicate_view}
-use Rattle.facet_solver.specs.RoleView.{IsPlain}
+use Rattle.facet_solver.specs.Outcome.{ErrorOf, StopsBy, Walks, duplicate_view, Outcome, resolved, take_all, effect}
+use Rattle.facet_solver.specs.Roles.{IsPlain, Role, regular, block, alternatives, catch_all, leaf, role_of}
 use Rattle.facet_solver.specs.Targets.{Catalogue}
-use Rattle.facet_solver.specs.Representation.{Settings, is_walked, repr_for}
-use Rattle.facet_solver.specs.Roles.{Role, a_regular, a_block, some_alternatives, a_rest, a_leaf, role_of}
+use Rattle.facet_solver.specs.Representation.{is_walked}
 use Rattle.facet_solver.specs.Content.{newtype_fields, content_or}
-use Rattle.facet_solver.specs.Emissions.{Emission, Path, field_path, unwrapped_at, variant_path, variant_emissions}
-use Rattle.facet_solver.specs.Walk.{Walked, put_before, and_then, emit, choose, at_chosen, walk, walk_at, walk_chosen, walk_inside, walk_role, walk_content, walk_fields, plain_emissions, HasChoice}
-use Rattle.facet_solver.specs.Outcome.{Outcome, resolved, take_all, effect}
+use Rattle.facet_solver.specs.Emissions.{Emission, emit_variant, emit_plain}
+use Rattle.facet_solver.specs.Place.{Path, field_path, unwrapped_at, variant_path, Chosen, choosing, further, inside_field, inside_variant}
+use Rattle.facet_solver.specs.Walk.{Walked, put_before, and_then, emit, choose, at_chosen, walk_fields, walk_field, walk_variant, walk_content, walk_role, walk_content_step, walk_fields_step, HasChoice, Walk}
 use Rattle.facet_solver.proofs.Limits.{limit_of, limit_of-content}
 use Rattle.facet_solver.proofs.Descent.{content_of-below}
 use Rattle.std.proofs.lemmas.List.{drop_more}
@@ -26,10 +26,12 @@ use Rattle.facet_solver_shape.specs.declared.shape.Field.{Field}
 use Rattle.facet_solver_shape.specs.declared.shape.Variant.{Variant}
 use Rattle.facet_solver.proofs.Outcomes.{take_all-nil, effect-put_before, effect-and_then, effect-and_then-stopped, effect-stopped, put_before-some}
 use Rattle.facet_solver.proofs.Steps.{walk_step}
+use Rattle.facet_solver.specs.declared.build.place.Place.{Place}
+use Rattle.facet_solver.specs.declared.build.role.Target.{Target}
 
 -- the walk of the fields that are left
-unfoldable pub walk_left : Settings → Catalogue → List Field → Path → Bool → List ℕ → Walked
-walk_left settings cat fs p o ns = walk_fields (walk settings cat) settings cat fs p o ns
+unfoldable pub walk_left : Build → Walk
+walk_left build fs place ns = walk_fields_step (walk_fields build) build fs place ns
 
 -- what was walked has an effect, and the other way round
 pub effect-some : (r : Resolved) (w : Walked) → IsSome w → IsSome (effect r w)
@@ -45,28 +47,28 @@ pub first-some : (w : Walked) (go : List ℕ → Walked) → IsSome (and_then w 
 first-some None go h = absurd (cc)
 first-some (Some w) go h = refl
 
-module _ (settings : Settings) (cat : Catalogue) (p : Path) (o : Bool) where
-  left-nil : (ns : List ℕ) → walk_left settings cat [] p o ns ≡ Some ([], ns)
-  unfolding walk_left walk_fields
+module _ (build : Build) (place : Place) where
+  left-nil : (ns : List ℕ) → walk_left build [] place ns ≡ Some ([], ns)
+  unfolding walk_left walk_fields_step
   left-nil ns = refl
 
-  left-cons : (f : Field) (fs : List Field) (ns : List ℕ) → walk_left settings cat (f ∷ fs) p o ns ≡ and_then (walk_at settings cat f p o ns) (λ rest. walk_left settings cat fs p o rest)
-  unfolding walk_left walk_fields walk_at
+  left-cons : (f : Field) (fs : List Field) (ns : List ℕ) → walk_left build (f ∷ fs) place ns ≡ and_then (walk_field build f place ns) (λ rest. walk_left build fs place rest)
+  unfolding walk_left walk_fields_step walk_field
   left-cons f fs ns = refl
 
-  pub walk-start : (fs : List Field) (ns : List ℕ) → NamesEarlier cat → FieldsBelow (length cat) fs → walk_left settings cat fs p o ns ≡ walk settings cat fs p o ns
+  pub walk-start : (fs : List Field) (ns : List ℕ) → NamesEarlier build.catalogue → FieldsBelow (length build.catalogue) fs → walk_left build fs place ns ≡ walk_fields build fs place ns
   unfolding walk_left
-  walk-start fs ns checked b = sym (walk_step settings cat checked fs p o ns b)
+  walk-start fs ns checked b = sym (walk_step build checked fs place ns b)
 
   -- the next field and the rest
-  pub walk-more : (fs : List Field) (i : ℕ) (f : Field) (ns : List ℕ) → i < length fs → f ≡ get_or fs i f → walk_left settings cat (drop i fs) p o ns ≡ and_then (walk_at settings cat f p o ns) (λ rest. walk_left settings cat (drop (i + 1) fs) p o rest)
+  pub walk-more : (fs : List Field) (i : ℕ) (f : Field) (ns : List ℕ) → i < length fs → f ≡ get_or fs i f → walk_left build (drop i fs) place ns ≡ and_then (walk_field build f place ns) (λ rest. walk_left build (drop (i + 1) fs) place rest)
   walk-more fs i f ns h is =
-      ap (λ (gs : List Field). walk_left settings cat gs p o ns) (drop_more fs i f h)
-      ∙ ap (λ (g : Field). walk_left settings cat (g ∷ drop (i + 1) fs) p o ns) (sym is)
+      ap (λ (gs : List Field). walk_left build gs place ns) (drop_more fs i f h)
+      ∙ ap (λ (g : Field). walk_left build (g ∷ drop (i + 1) fs) place ns) (sym is)
       ∙ left-cons f (drop (i + 1) fs) ns
 
-  pub walk-end : (fs : List Field) (i : ℕ) (ns : List ℕ) → length fs ≤ i → walk_left settings cat (drop i fs) p o ns ≡ Some ([], ns)
-  walk-end fs i ns h = ap (λ (gs : List Field). walk_left settings cat gs p o ns) (drop_of_length-le fs h) ∙ left-nil ns
+  pub walk-end : (fs : List Field) (i : ℕ) (ns : List ℕ) → length fs ≤ i → walk_left build (drop i fs) place ns ≡ Some ([], ns)
+  walk-end fs i ns h = ap (λ (gs : List Field). walk_left build gs place ns) (drop_of_length-le fs h) ∙ left-nil ns
 
 -- errors that stop a part stop the whole
 pub stops-emit : (r : Resolved) (es : List Emission) (ns : List ℕ) (err : schema.SchemaError) → ErrorOf (take_all r es) err → StopsBy (effect r (Some (es, ns))) err
@@ -95,27 +97,28 @@ pub walks-same : (result : Result (Bor (List ℕ)) schema.SchemaError) (new : Re
 walks-same result new e f h k = subst (λ (x : Option (Outcome × List ℕ)). Walks x result new) (sym h) k
 
 -- the walk of a field by its role
-module _ (settings : Settings) (cat : Catalogue) (f : Field) (p : Path) (o : Bool) (ns : List ℕ) where
-  pub at-block : (fs : List Field) → a_block fs ≡ role_of cat f → walk_at settings cat f p o ns ≡ walk settings cat fs (field_path p f) (unwrapped_at cat f o) ns
-  unfolding walk_at
-  at-block fs e = ap (walk_role (walk settings cat) settings cat f p o ns) (sym e)
+module _ (build : Build) (f : Field) (place : Place) (ns : List ℕ) where
+  pub at-block : (target : Target) (fs : List Field) → block target fs ≡ role_of build.catalogue f → walk_field build f place ns ≡ walk_fields build fs (inside_field place f target) ns
+  unfolding walk_field
+  at-block target fs e = ap (λ (r : Role). walk_role (walk_fields build) build f place r ns) (sym e)
 
-  pub at-alternatives : (s : Shape) (vs : List Variant) → some_alternatives s vs ≡ role_of cat f → walk_at settings cat f p o ns ≡ choose vs ns (λ v rest. walk_chosen settings cat f s v p o rest)
-  unfolding walk_at walk_chosen
-  at-alternatives s vs e = ap (walk_role (walk settings cat) settings cat f p o ns) (sym e)
+  pub at-alternatives : (target : Target) (s : Shape) (vs : List Variant) → alternatives target s vs ≡ role_of build.catalogue f
+      → walk_field build f place ns ≡ choose vs ns (λ v rest. walk_variant build (choosing f target s v) place rest)
+  unfolding walk_field walk_variant
+  at-alternatives target s vs e = ap (λ (r : Role). walk_role (walk_fields build) build f place r ns) (sym e)
 
-  pub at-plain : (r : Role) → r ≡ role_of cat f → IsPlain r → walk_at settings cat f p o ns ≡ Some (plain_emissions settings cat f p o r, ns)
-  unfolding walk_at
-  at-plain r e h = ap (walk_role (walk settings cat) settings cat f p o ns) (sym e) ∙ go r h
+  pub at-plain : (r : Role) → r ≡ role_of build.catalogue f → IsPlain r → walk_field build f place ns ≡ Some (emit_plain build f place r, ns)
+  unfolding walk_field
+  at-plain r e h = ap (λ (r : Role). walk_role (walk_fields build) build f place r ns) (sym e) ∙ go r h
     where
-      go : (r : Role) → IsPlain r → walk_role (walk settings cat) settings cat f p o ns r ≡ Some (plain_emissions settings cat f p o r, ns)
-      go a_regular h = refl
-      go (a_block fs) h = absurd h
-      go (some_alternatives s vs) h = absurd h
-      go a_rest h = refl
-      go a_leaf h = refl
+      go : (r : Role) → IsPlain r → walk_role (walk_fields build) build f place r ns ≡ Some (emit_plain build f place r, ns)
+      go regular h = refl
+      go (block target fs) h = absurd h
+      go (alternatives target s vs) h = absurd h
+      go (catch_all target) h = refl
+      go (leaf target) h = refl
 
--- a choice that was walked has its number
+-- a choice that was walked has its index
 pub has_choice : (vs : List Variant) (ns : List ℕ) (go : Variant → List ℕ → Walked) → IsSome (choose vs ns go) → HasChoice vs ns
 has_choice vs [] go h = absurd (cc)
 has_choice vs (k ∷ ns) go h = below vs k h
@@ -135,92 +138,103 @@ VariantsBelow-get limit (w ∷ vs) zero v e b = let same : w ≡ v = cc in let P
 VariantsBelow-get limit (w ∷ vs) (suc k) v e b = VariantsBelow-get limit vs k v e b.1
 
 -- the walk of a chosen variant
-module _ (settings : Settings) (cat : Catalogue) (f : Field) (s : Shape) (v : Variant) (p : Path) (o : Bool) (ns : List ℕ) where
-  pub chosen-walked : is_walked (repr_for settings s) ≡ true → walk_chosen settings cat f s v p o ns ≡ put_before (variant_emissions settings cat f s v p o) (walk_inside settings cat v (variant_path p f v) (unwrapped_at cat f o) ns)
-  unfolding walk_chosen walk_inside
-  chosen-walked e = ap (λ (b : Bool). put_before (variant_emissions settings cat f s v p o) (if b then walk_content (walk settings cat) cat v (variant_path p f v) (unwrapped_at cat f o) ns else emit [] ns)) e
+module _ (build : Build) (chosen : Chosen) (place : Place) (ns : List ℕ) where
+  by_flag : Bool → Walked
+  by_flag walked =
+      put_before (emit_variant build chosen place)
+      (if walked then walk_content_step (walk_fields build) build.catalogue chosen.variant (inside_variant place chosen) ns else emit [] ns)
 
-  pub chosen-alone : is_walked (repr_for settings s) ≡ false → walk_chosen settings cat f s v p o ns ≡ put_before (variant_emissions settings cat f s v p o) (Some ([], ns))
-  unfolding walk_chosen
-  chosen-alone e = ap (λ (b : Bool). put_before (variant_emissions settings cat f s v p o) (if b then walk_content (walk settings cat) cat v (variant_path p f v) (unwrapped_at cat f o) ns else emit [] ns)) e
+  pub chosen-walked : is_walked (repr_for build chosen.shape) ≡ true
+      → walk_variant build chosen place ns ≡ put_before (emit_variant build chosen place) (walk_content build chosen.variant (inside_variant place chosen) ns)
+  unfolding walk_variant walk_content by_flag
+  chosen-walked e = ap by_flag e
+
+  pub chosen-alone : is_walked (repr_for build chosen.shape) ≡ false → walk_variant build chosen place ns ≡ put_before (emit_variant build chosen place) (Some ([], ns))
+  unfolding walk_variant by_flag
+  chosen-alone e = ap by_flag e
 
   -- in both cases the emissions come first
-  pub chosen-announced : (w : Walked) × (walk_chosen settings cat f s v p o ns ≡ put_before (variant_emissions settings cat f s v p o) w)
-  unfolding walk_chosen
+  pub chosen-announced : (w : Walked) × (walk_variant build chosen place ns ≡ put_before (emit_variant build chosen place) w)
+  unfolding walk_variant
   chosen-announced = (_, refl)
 
 -- the walk of a content
-module _ (settings : Settings) (cat : Catalogue) (v : Variant) (q : Path) (o : Bool) (ns : List ℕ) where
-  pub inside-newtype : (fs : List Field) → Some fs ≡ newtype_fields cat v.fields.items → walk_inside settings cat v q o ns ≡ walk settings cat fs (q ++ by_field (codes "0") ∷ []) o ns
-  unfolding walk_inside
-  inside-newtype fs e = ap (λ (x : Option (List Field)). walk settings cat (content_or v x).fields (q ++ (content_or v x).path) o ns) (sym e)
+module _ (build : Build) (v : Variant) (place : Place) (ns : List ℕ) where
+  by_content : Option (List Field) → Walked
+  by_content o = walk_fields build (content_or v o).fields (further place (content_or v o).path) ns
 
-  pub inside-own : None ≡ newtype_fields cat v.fields.items → walk_inside settings cat v q o ns ≡ walk settings cat v.fields.items q o ns
-  unfolding walk_inside
+  pub inside-newtype : (fs : List Field) → Some fs ≡ newtype_fields build.catalogue v.fields.items
+      → walk_content build v place ns ≡ walk_fields build fs (further place (by_field (codes "0") ∷ [])) ns
+  unfolding walk_content by_content
+  inside-newtype fs e = ap by_content (sym e)
+
+  pub inside-own : None ≡ newtype_fields build.catalogue v.fields.items → walk_content build v place ns ≡ walk_fields build v.fields.items place ns
+  unfolding walk_content by_content
   inside-own e =
-      ap (λ (x : Option (List Field)). walk settings cat (content_or v x).fields (q ++ (content_or v x).path) o ns) (sym e)
-      ∙ ap (λ (q : Path). walk settings cat v.fields.items q o ns) (append-nil q)
+      ap by_content (sym e)
+      ∙ ap (λ (path : Path). walk_fields build v.fields.items record { path = path; unwrapped = place.unwrapped } ns) (append-nil place.path)
 
-  newtype-below : (limit : ℕ) → NamesEarlier cat → (fs : List Field) → Some fs ≡ newtype_fields cat v.fields.items → FieldsBelow limit v.fields.items → FieldsBelow limit fs
+  newtype-below : (limit : ℕ) → NamesEarlier build.catalogue → (fs : List Field) → Some fs ≡ newtype_fields build.catalogue v.fields.items → FieldsBelow limit v.fields.items → FieldsBelow limit fs
   newtype-below limit checked fs e b =
-      subst (λ (x : Option (List Field)). FieldsBelow limit (content_or v x).fields) (sym e) (content_of-below cat checked limit v b)
+      subst (λ (x : Option (List Field)). FieldsBelow limit (content_or v x).fields) (sym e) (content_of-below build.catalogue checked limit v b)
 
-  pub newtype-limits : NamesEarlier cat → (fs : List Field) → Some fs ≡ newtype_fields cat v.fields.items → FieldsBelow (length cat) v.fields.items → (limit_of fs ≤ limit_of v.fields.items) × FieldsBelow (length cat) fs
+  pub newtype-limits : NamesEarlier build.catalogue → (fs : List Field) → Some fs ≡ newtype_fields build.catalogue v.fields.items → FieldsBelow (length build.catalogue) v.fields.items → (limit_of fs ≤ limit_of v.fields.items) × FieldsBelow (length build.catalogue) fs
   newtype-limits checked fs e b = (
-    subst (λ (x : Option (List Field)). limit_of (content_or v x).fields ≤ limit_of v.fields.items) (sym e) (limit_of-content cat checked v),
-    newtype-below (length cat) checked fs e b,
+    subst (λ (x : Option (List Field)). limit_of (content_or v x).fields ≤ limit_of v.fields.items) (sym e) (limit_of-content build.catalogue checked v),
+    newtype-below (length build.catalogue) checked fs e b,
   )
 
 -- one turn of the loop over fields: what is left has the effect of the whole
-module _ (settings : Settings) (cat : Catalogue) (p : Path) (o : Bool) (fs : List Field) (i : ℕ) (ns : List ℕ) (r r0 : Resolved) (whole : Walked) (walked : IsSome whole)
-    (left : effect r (walk_left settings cat (drop i fs) p o ns) ≡ effect r0 whole) where
+module _ (build : Build) (place : Place) (fs : List Field) (i : ℕ) (ns : List ℕ) (r r0 : Resolved) (whole : Walked) (walked : IsSome whole)
+    (left : effect r (walk_left build (drop i fs) place ns) ≡ effect r0 whole) where
   module _ (f : Field) (here : i < length fs) (is : f ≡ get_or fs i f) where
-    parts : walk_left settings cat (drop i fs) p o ns ≡ and_then (walk_at settings cat f p o ns) (λ rest. walk_left settings cat (drop (i + 1) fs) p o rest)
-    parts = walk-more settings cat p o fs i f ns here is
+    parts : walk_left build (drop i fs) place ns ≡ and_then (walk_field build f place ns) (λ rest. walk_left build (drop (i + 1) fs) place rest)
+    parts = walk-more build place fs i f ns here is
 
-    both-some : IsSome (and_then (walk_at settings cat f p o ns) (λ rest. walk_left settings cat (drop (i + 1) fs) p o rest))
+    both-some : IsSome (and_then (walk_field build f place ns) (λ rest. walk_left build (drop (i + 1) fs) place rest))
     both-some =
         some-effect r _ (subst (λ (e : Option (Outcome × List ℕ)). IsSome e) (sym left ∙ ap (effect r) parts) (effect-some r0 whole walked))
 
-    pub turn-walked : IsSome (walk_at settings cat f p o ns)
+    pub turn-walked : IsSome (walk_field build f place ns)
     turn-walked = first-some _ _ both-some
 
-    pub turn-left : (s : Resolved) (rest : List ℕ) → effect r (walk_at settings cat f p o ns) ≡ Some (resolved s, rest) → effect s (walk_left settings cat (drop (i + 1) fs) p o rest) ≡ effect r0 whole
+    pub turn-left : (s : Resolved) (rest : List ℕ) → effect r (walk_field build f place ns) ≡ Some (resolved s, rest) → effect s (walk_left build (drop (i + 1) fs) place rest) ≡ effect r0 whole
     turn-left s rest e =
-        sym (effect-and_then r s (walk_at settings cat f p o ns) rest (λ rest. walk_left settings cat (drop (i + 1) fs) p o rest) e)
+        sym (effect-and_then r s (walk_field build f place ns) rest (λ rest. walk_left build (drop (i + 1) fs) place rest) e)
         ∙ ap (effect r) (sym parts) ∙ left
 
-    pub turn-stops : (err : schema.SchemaError) → StopsBy (effect r (walk_at settings cat f p o ns)) err → StopsBy (effect r0 whole) err
+    pub turn-stops : (err : schema.SchemaError) → StopsBy (effect r (walk_field build f place ns)) err → StopsBy (effect r0 whole) err
     turn-stops err h =
         subst (λ (e : Option (Outcome × List ℕ)). StopsBy e err) (ap (effect r) (sym parts) ∙ left)
-        (stops-and_then r (walk_at settings cat f p o ns) (λ rest. walk_left settings cat (drop (i + 1) fs) p o rest) err both-some h)
+        (stops-and_then r (walk_field build f place ns) (λ rest. walk_left build (drop (i + 1) fs) place rest) err both-some h)
 
   pub turns-done : length fs ≤ i → effect r0 whole ≡ Some (resolved r, ns)
   turns-done h =
-      sym left ∙ ap (effect r) (walk-end settings cat p o fs i ns h) ∙ ap (λ (o : Outcome). Some (o, ns)) (take_all-nil r)
+      sym left ∙ ap (effect r) (walk-end build place fs i ns h) ∙ ap (λ (o : Outcome). Some (o, ns)) (take_all-nil r)
 
 -- a chosen variant, as the code goes through it
-module _ (settings : Settings) (cat : Catalogue) (f : Field) (s : Shape) (v : Variant) (p : Path) (o : Bool) (ns : List ℕ) where
-  module _ (r t : Resolved) (done : take_all r (variant_emissions settings cat f s v p o) ≡ resolved t) where
-    pub then-inside : (at : Path) (optional : Bool) → at ≡ variant_path p f v → optional ≡ unwrapped_at cat f o → is_walked (repr_for settings s) ≡ true → effect r (walk_chosen settings cat f s v p o ns) ≡ effect t (walk_inside settings cat v at optional ns)
-    then-inside at optional is_at is_optional walked =
-        ap (effect r) (chosen-walked settings cat f s v p o ns walked)
+module _ (build : Build) (chosen : Chosen) (place : Place) (ns : List ℕ) where
+  module _ (r t : Resolved) (done : take_all r (emit_variant build chosen place) ≡ resolved t) where
+    pub then-inside : (inside : Place) → inside ≡ inside_variant place chosen → is_walked (repr_for build chosen.shape) ≡ true
+        → effect r (walk_variant build chosen place ns) ≡ effect t (walk_content build chosen.variant inside ns)
+    then-inside inside is_inside walked =
+        ap (effect r) (chosen-walked build chosen place ns walked)
         ∙ effect-put_before r t _ _ done
-        ∙ ap (λ (q : Path). effect t (walk_inside settings cat v q (unwrapped_at cat f o) ns)) (sym is_at)
-        ∙ ap (λ (b : Bool). effect t (walk_inside settings cat v at b ns)) (sym is_optional)
+        ∙ ap (λ (place : Place). effect t (walk_content build chosen.variant place ns)) (sym is_inside)
 
-    pub then-alone : is_walked (repr_for settings s) ≡ false → effect r (walk_chosen settings cat f s v p o ns) ≡ Some (resolved t, ns)
+    pub then-alone : is_walked (repr_for build chosen.shape) ≡ false → effect r (walk_variant build chosen place ns) ≡ Some (resolved t, ns)
     then-alone alone =
-        ap (effect r) (chosen-alone settings cat f s v p o ns alone)
-        ∙ effect-put_before r t (variant_emissions settings cat f s v p o) (Some ([], ns)) done
+        ap (effect r) (chosen-alone build chosen place ns alone)
+        ∙ effect-put_before r t (emit_variant build chosen place) (Some ([], ns)) done
         ∙ ap (λ (o : Outcome). Some (o, ns)) (take_all-nil t)
 
-    pub inside-some : (at : Path) (optional : Bool) → at ≡ variant_path p f v → optional ≡ unwrapped_at cat f o → is_walked (repr_for settings s) ≡ true → IsSome (walk_chosen settings cat f s v p o ns) → IsSome (walk_inside settings cat v at optional ns)
-    inside-some at optional is_at is_optional walked h =
-        some-effect t _ (subst (λ (e : Option (Outcome × List ℕ)). IsSome e) (then-inside at optional is_at is_optional walked) (effect-some r _ h))
+    pub inside-some : (inside : Place) → inside ≡ inside_variant place chosen → is_walked (repr_for build chosen.shape) ≡ true
+        → IsSome (walk_variant build chosen place ns) → IsSome (walk_content build chosen.variant inside ns)
+    inside-some inside is_inside walked h =
+        some-effect t _ (subst (λ (e : Option (Outcome × List ℕ)). IsSome e) (then-inside inside is_inside walked) (effect-some r _ h))
 
-  pub stops-chosen : (r : Resolved) (err : schema.SchemaError) → IsSome (walk_chosen settings cat f s v p o ns) → ErrorOf (take_all r (variant_emissions settings cat f s v p o)) err → StopsBy (effect r (walk_chosen settings cat f s v p o ns)) err
+  pub stops-chosen : (r : Resolved) (err : schema.SchemaError) → IsSome (walk_variant build chosen place ns) → ErrorOf (take_all r (emit_variant build chosen place)) err → StopsBy (effect r (walk_variant build chosen place ns)) err
   stops-chosen r err h k =
-      let a = chosen-announced settings cat f s v p o ns in
+      let a = chosen-announced build chosen place ns in
       subst (λ (w : Walked). StopsBy (effect r w) err) (sym a.1)
       (stops-put_before r _ a.0 err (subst (λ (w : Walked). IsSome w) a.1 h) k)

@@ -1,41 +1,42 @@
 -- The choices of variants of a root, their order, and what each resolves to.
-use Rattle.std.specs.Prelude.{◌≡◌, ℕ, ◌<◌, ◌⊎◌, List, [], ◌∷◌, Some, Contains, AllPairs, slice_get, fold}
+use Rattle.facet_solver.specs.Build.{Build}
+use Rattle.std.specs.Prelude.{◌≡◌, ℕ, ◌<◌, List, [], ◌∷◌, Some, Contains, slice_get, fold, ⊤, None}
 use Rattle.facet_solver_shape.specs.Names.{Name}
-use Rattle.facet_solver_shape.specs.Paths.{Step}
 use Rattle.facet_solver_shape.specs.Resolved.{FieldView, Resolved, nothing, key_of_field, with_field, with_key_path, with_pick, with_catch_all}
 use Rattle.facet_solver.specs.Targets.{Catalogue}
-use Rattle.facet_solver.specs.Representation.{Settings}
 use Rattle.facet_solver.specs.Emissions.{Emission, a_field, a_key_path, a_pick, a_catch_all}
 use Rattle.facet_solver.specs.Walk.{walk_root}
+use Rattle.facet_solver_shape.specs.declared.resolution.error.SchemaError.{SchemaError}
+use Rattle.facet_solver_shape.specs.declared.resolution.error.SchemaError.TheVariants.{DuplicateField, OutOfMemory}
+use Rattle.std.specs.FinMap as map
+use Rattle.facet_solver_shape.specs.Keys.{Key}
+use Rattle.std.specs.Cmp.Lexicographic.{slice_cmp}
+use Rattle.std.specs.Ordering.{nat_cmp}
+use Rattle.std.specs.List.{AllZip}
+use Rattle.std.specs.List.Sorted.{IsStrictlySortedBy}
+use Rattle.facet_solver.specs.Place.{Path}
 
--- the walk of the root uses the numbers up exactly, and emits these
-abbrev pub Emits : Settings → Catalogue → ℕ → List ℕ → List Emission → Type 0
-Emits settings cat root choice es = walk_root settings cat root choice ≡ Some (es, [])
+-- the walk of the root uses the indices up exactly, and emits these
+abbrev pub Emits : Build → ℕ → List ℕ → List Emission → Type 0
+Emits build root choice es = walk_root build root choice ≡ Some (es, [])
 
--- a choice: numbers that the walk of the root uses up exactly
-abbrev pub IsChoice : Settings → Catalogue → ℕ → List ℕ → Type 0
-IsChoice settings cat root choice = (es : List Emission) × Emits settings cat root choice es
+-- a choice: indices of variants that the walk of the root uses up exactly
+abbrev pub IsChoice : Build → ℕ → List ℕ → Type 0
+IsChoice build root choice = (es : List Emission) × Emits build root choice es
 
--- the lexicographic order
-abbrev pub IsBefore : List ℕ → List ℕ → Type 0
-IsBefore [] [] = ⊥
-IsBefore [] (n ∷ ns) = Unit {0}
-IsBefore (m ∷ ms) [] = ⊥
-IsBefore (m ∷ ms) (n ∷ ns) = (m < n) ⊎ ((m ≡ n) × IsBefore ms ns)
+-- all choices, each once and in lexicographic order
+pub record ListsChoices (build : Build) (root : ℕ) (choices : List (List ℕ)) : Type 0 where
+  pub each_is : (c : List ℕ) → Contains choices c → IsChoice build root c
+  pub complete : (c : List ℕ) → IsChoice build root c → Contains choices c
+  pub in_order : IsStrictlySortedBy (slice_cmp nat_cmp) choices
 
--- all choices, each once and in order
-pub record ListsChoices (settings : Settings) (cat : Catalogue) (root : ℕ) (choices : List (List ℕ)) : Type 0 where
-  pub each_is : (c : List ℕ) → Contains choices c → IsChoice settings cat root c
-  pub complete : (c : List ℕ) → IsChoice settings cat root c → Contains choices c
-  pub in_order : AllPairs IsBefore choices
-
--- two fields emitted at different places of one walk, the first before the second, with one stored key
+-- two fields that one walk emits, the first before the second, with one stored key
 pub record Clashes (es : List Emission) (first second : FieldView) : Type 0 where
-  pub first_place : ℕ
-  pub second_place : ℕ
-  pub in_order : first_place < second_place
-  pub first_is : slice_get es first_place ≡ Some (a_field first)
-  pub second_is : slice_get es second_place ≡ Some (a_field second)
+  pub first_at : ℕ
+  pub second_at : ℕ
+  pub in_order : first_at < second_at
+  pub first_is : slice_get es first_at ≡ Some (a_field first)
+  pub second_is : slice_get es second_at ≡ Some (a_field second)
   pub same_key : key_of_field first ≡ key_of_field second
 
 -- no two fields have one stored key
@@ -54,17 +55,18 @@ unfoldable pub resolution_of : List Emission → Resolved
 resolution_of es = fold with_emission nothing es
 
 -- the resolution of a choice without clash
-pub record IsResolution (settings : Settings) (cat : Catalogue) (root : ℕ) (choice : List ℕ) (r : Resolved) : Type 0 where
+pub record IsResolution (build : Build) (root : ℕ) (choice : List ℕ) (r : Resolved) : Type 0 where
   pub emissions : List Emission
-  pub emitted : Emits settings cat root choice emissions
+  pub emitted : Emits build root choice emissions
   pub put_together : r ≡ resolution_of emissions
   pub no_clash : HasNoClash emissions
 
 -- a name and two paths that are those of a clash of a choice, the field emitted first first
-pub record IsClash (settings : Settings) (cat : Catalogue) (root : ℕ) (name : Name) (first_path second_path : List Step) : Type 0 where
+pub record IsClash (build : Build) (root : ℕ) (name : Name)
+    (first_path second_path : Path) : Type 0 where
   pub choice : List ℕ
   pub emissions : List Emission
-  pub emitted : Emits settings cat root choice emissions
+  pub emitted : Emits build root choice emissions
   pub first : FieldView
   pub second : FieldView
   pub clash : Clashes emissions first second
@@ -72,15 +74,20 @@ pub record IsClash (settings : Settings) (cat : Catalogue) (root : ℕ) (name : 
   pub first_is : first_path ≡ first.path
   pub second_is : second_path ≡ second.path
 
--- one resolution for each of the choices
-abbrev pub ResolvesEach : Settings → Catalogue → ℕ → List (List ℕ) → List Resolved → Type 0
-ResolvesEach settings cat root [] [] = Unit {0}
-ResolvesEach settings cat root [] (r ∷ rs) = ⊥
-ResolvesEach settings cat root (c ∷ cs) [] = ⊥
-ResolvesEach settings cat root (c ∷ cs) (r ∷ rs) = IsResolution settings cat root c r × ResolvesEach settings cat root cs rs
-
 -- exactly one resolution for each choice, in order
-pub record Enumerates (settings : Settings) (cat : Catalogue) (root : ℕ) (resolutions : List Resolved) : Type 0 where
+pub record Enumerates (build : Build) (root : ℕ) (resolutions : List Resolved) : Type 0 where
   pub choices : List (List ℕ)
-  pub listed : ListsChoices settings cat root choices
-  pub resolved : ResolvesEach settings cat root choices resolutions
+  pub listed : ListsChoices build root choices
+  pub resolved : AllZip (IsResolution build root) choices resolutions
+
+-- a duplicate names a clash of some choice, and want of memory comes at any time
+abbrev pub IsRefusal : Build → ℕ → SchemaError → Type 0
+IsRefusal build root (DuplicateField d) =
+    IsClash build root d.field_name.now d.first_path d.second_path
+IsRefusal build root OutOfMemory = ⊤
+
+-- each field stands under its name without category, so that no two have one name
+abbrev pub GoesByName : Resolved → Type 0
+GoesByName r =
+    (k : Key) (f : FieldView) → map.get r.fields k ≡ Some f → k
+    ≡ record { dom = None; name = f.name }

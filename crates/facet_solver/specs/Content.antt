@@ -1,5 +1,5 @@
 -- The content of a variant.
-use Rattle.std.specs.Prelude.{Bool, false, if◌then◌else◌, List, [], ◌∷◌, Option, Some, None, string_bytes, codes, nat_eq}
+use Rattle.std.specs.Prelude.{Bool, if◌then◌else◌, List, [], ◌∷◌, Option, Some, None, string_bytes, codes, ◌≡◌, ℕ, ◌<◌, IsSome}
 use Rattle.facet_solver_shape.specs.declared.shape.Field.{Field}
 use Rattle.facet_solver_shape.specs.declared.shape.Variant.{Variant}
 use Rattle.facet_solver_shape.specs.declared.shape.ShapeKind.{ShapeKind}
@@ -7,6 +7,8 @@ use Rattle.facet_solver_shape.specs.declared.shape.ShapeKind.TheVariants.{Struct
 use Rattle.facet_solver_shape.specs.Names.{Name}
 use Rattle.facet_solver_shape.specs.Paths.{Step, by_field}
 use Rattle.facet_solver.specs.Targets.{Catalogue, kind_at, effective}
+use Rattle.facet_solver_shape.specs.Places.{FieldsBelow}
+use Rattle.std.specs.Str.{bytes_eq}
 
 -- the fields of a struct
 abbrev pub struct_fields : ShapeKind → Option (List Field)
@@ -15,15 +17,14 @@ struct_fields _ = None
 
 -- whether a name is `0`, as that of a newtype's only field is
 abbrev pub is_zero : Name → Bool
-is_zero [] = false
-is_zero (c ∷ []) = nat_eq c 48
-is_zero (c ∷ d ∷ cs) = false
+is_zero name = bytes_eq name (codes "0")
 
 -- the fields of the struct that is the effective shape of a single field `0`
 abbrev pub newtype_fields : Catalogue → List Field → Option (List Field)
 newtype_fields cat [] = None
 newtype_fields cat (f ∷ []) =
-    if is_zero (string_bytes f.name) then struct_fields (kind_at cat (effective cat f.shape)) else None
+    if is_zero (string_bytes f.name) then struct_fields (kind_at cat (effective cat f.shape))
+        else None
 newtype_fields cat (f ∷ g ∷ fs) = None
 
 -- fields, and what their path has more than the variant's
@@ -39,3 +40,10 @@ content_or v (Some fs) = record { fields = fs; path = by_field (codes "0") ∷ [
 -- the content of a variant
 abbrev pub content_of : Catalogue → Variant → Content
 content_of cat v = content_or v (newtype_fields cat v.fields.items)
+
+-- fields are a single field `0`, and the struct behind it stands at a place, which is earlier than
+-- what they name
+pub record IsNewtypeOf (cat : Catalogue) (fs : List Field) (id : ℕ) : Type 0 where
+  pub is_struct : IsSome (struct_fields (kind_at cat id))
+  pub same_fields : newtype_fields cat fs ≡ struct_fields (kind_at cat id)
+  pub earlier : (limit : ℕ) → FieldsBelow limit fs → id < limit

@@ -1,14 +1,16 @@
 -- The number of choices, by cases on the shapes alone.
-use Rattle.std.specs.Prelude.{ℕ, zero, suc, ◌*◌, List, [], ◌∷◌, Bool, true, if◌then◌else◌, Option, Some, None, slice_get, length, sum_by}
+use Rattle.facet_solver.specs.Build.{Build, repr_for}
+use Rattle.std.specs.Prelude.{ℕ, zero, suc, ◌*◌, List, [], ◌∷◌, Bool, true, if◌then◌else◌, Option, Some, None, slice_get, length, sum_by, ◌≡◌, ◌^◌, nat_lt}
 use Rattle.facet_solver_shape.specs.declared.shape.Shape.{Shape}
 use Rattle.facet_solver_shape.specs.declared.shape.Field.{Field}
 use Rattle.facet_solver_shape.specs.declared.shape.Variant.{Variant}
 use Rattle.facet_solver_shape.specs.declared.shape.ShapeKind.{ShapeKind}
 use Rattle.facet_solver_shape.specs.declared.shape.ShapeKind.TheVariants.{Struct, Enum}
 use Rattle.facet_solver.specs.Targets.{Catalogue}
-use Rattle.facet_solver.specs.Representation.{Settings, repr_for, is_walked}
+use Rattle.facet_solver.specs.Representation.{is_walked, Repr}
 use Rattle.facet_solver.specs.Content.{content_of}
-use Rattle.facet_solver.specs.Roles.{Role, a_regular, a_block, some_alternatives, a_rest, a_leaf, role_of}
+use Rattle.facet_solver.specs.Roles.{Role, regular, block, alternatives, catch_all, leaf, role_of}
+use Rattle.facet_solver.specs.declared.build.representation.Format.{Format}
 
 -- how the choices below fields are counted
 abbrev pub Count : Type 0
@@ -19,38 +21,70 @@ abbrev pub count_variant : Count → Catalogue → Bool → Variant → ℕ
 count_variant below cat walked v = if walked then below (content_of cat v).fields else 1
 
 -- one field, by its role: an enum is the sum over its variants, and what takes no number counts one
-abbrev pub count_role : Count → Settings → Catalogue → Role → ℕ
-count_role below settings cat (a_block fs) = below fs
-count_role below settings cat (some_alternatives s vs) = sum_by (count_variant below cat (is_walked (repr_for settings s))) vs
-count_role below settings cat a_regular = 1
-count_role below settings cat a_rest = 1
-count_role below settings cat a_leaf = 1
+abbrev pub count_role : Count → Build → Role → ℕ
+count_role below build (block target fs) = below fs
+count_role below build (alternatives target s vs) =
+    sum_by (count_variant below build.catalogue (is_walked (repr_for build s))) vs
+count_role below build regular = 1
+count_role below build (catch_all target) = 1
+count_role below build (leaf target) = 1
 
 -- fields: the product
-unfoldable pub count_fields : Count → Settings → Catalogue → Count
-count_fields below settings cat [] = 1
-count_fields below settings cat (f ∷ fs) = count_role below settings cat (role_of cat f) * count_fields below settings cat fs
+unfoldable pub count_fields_step : Count → Build → Count
+count_fields_step below build [] = 1
+count_fields_step below build (f ∷ fs) =
+    count_role below build (role_of build.catalogue f) * count_fields_step below build fs
 
 -- fields, down to n levels of what is flattened
-unfoldable pub count_within : ℕ → Settings → Catalogue → Count
-count_within zero settings cat fs = 0
-count_within (suc n) settings cat fs = count_fields (count_within n settings cat) settings cat fs
+unfoldable pub count_within : ℕ → Build → Count
+count_within zero build fs = 0
+count_within (suc n) build fs = count_fields_step (count_within n build) build fs
 
 -- fields of a checked catalogue, of which no level lies deeper than its length
-unfoldable pub count_below : Settings → Catalogue → Count
-count_below settings cat = count_within (suc (length cat)) settings cat
+unfoldable pub count_fields : Build → Count
+count_fields build = count_within (suc (length build.catalogue)) build
 
--- a root by its kind: an enum is the sum over its variants' contents, whatever its representation
-abbrev pub count_of_kind : Settings → Catalogue → ShapeKind → ℕ
-count_of_kind settings cat (Struct kind fields) = count_below settings cat fields.items
-count_of_kind settings cat (Enum variants) = sum_by (count_variant (count_below settings cat) cat true) variants.items
-count_of_kind settings cat _ = 1
+-- one field
+abbrev pub count_field : Build → Field → ℕ
+count_field build f = count_role (count_fields build) build (role_of build.catalogue f)
 
--- a root that may be absent
-abbrev pub count_of_shape : Settings → Catalogue → Option Shape → ℕ
-count_of_shape settings cat None = 0
-count_of_shape settings cat (Some s) = count_of_kind settings cat s.kind
+-- the content of a variant
+abbrev pub count_content : Build → Variant → ℕ
+count_content build v = count_fields build (content_of build.catalogue v).fields
+
+-- variants whose contents are walked or not: the sum
+abbrev pub count_variants : Build → Bool → List Variant → ℕ
+count_variants build walked vs =
+    sum_by (count_variant (count_fields build) build.catalogue walked) vs
+
+-- a shape by its kind, the contents of whose variants are walked or not
+abbrev pub count_kind : Build → Bool → ShapeKind → ℕ
+count_kind build walked (Struct kind fields) = count_fields build fields.items
+count_kind build walked (Enum variants) = count_variants build walked variants.items
+count_kind build walked _ = 1
+
+-- a flattened field whose target is the shape
+abbrev pub count_shape : Build → Shape → ℕ
+count_shape build s = count_kind build (is_walked (repr_for build s)) s.kind
+
+-- a root that may be absent: the contents of an enum's variants are walked, whatever its
+-- representation
+abbrev pub count_of_shape : Build → Option Shape → ℕ
+count_of_shape build None = 0
+count_of_shape build (Some s) = count_kind build true s.kind
 
 -- the number of choices of a root
-unfoldable pub count_of_root : Settings → Catalogue → ℕ → ℕ
-count_of_root settings cat root = count_of_shape settings cat (slice_get cat root)
+unfoldable pub count_of_root : Build → ℕ → ℕ
+count_of_root build root = count_of_shape build (slice_get build.catalogue root)
+
+-- a number where it is below 2^64
+abbrev pub below_2_64 : ℕ → Option ℕ
+below_2_64 n = if nat_lt n (2 ^ 64) then Some n else None
+
+-- the number of choices of a root where it is below 2^64, whatever the kind of document
+abbrev pub IsCountOf : Catalogue → ℕ → Option Repr → Option ℕ → Type 0
+IsCountOf cat root representation answer =
+    (format : Format)
+    → let build : Build =
+        record { catalogue = cat; representation = representation; format = format } in
+    answer ≡ below_2_64 (count_of_root build root)

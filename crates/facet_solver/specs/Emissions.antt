@@ -1,14 +1,17 @@
 -- What the walk of one choice emits, one thing after another.
-use Rattle.std.specs.Prelude.{List, [], ◌∷◌, ◌++◌, map, Bool, false, ◌||◌, ◌&&◌, not, string_bytes}
+use Rattle.std.specs.Prelude.{List, [], ◌∷◌, map, false, ◌&&◌, not, string_bytes}
 use Rattle.facet_solver_shape.specs.declared.shape.Shape.{Shape}
 use Rattle.facet_solver_shape.specs.declared.shape.Field.{Field}
 use Rattle.facet_solver_shape.specs.declared.shape.Variant.{Variant}
 use Rattle.facet_solver_shape.specs.Names.{Name, effective_name}
-use Rattle.facet_solver_shape.specs.Paths.{Step, by_field, by_variant}
 use Rattle.facet_solver_shape.specs.Resolved.{FieldView, Pick}
-use Rattle.facet_solver.specs.Targets.{Catalogue, target_of, is_option}
-use Rattle.facet_solver.specs.Representation.{Repr, flattened, externally_tagged, internally_tagged, adjacently_tagged, Settings, repr_for}
-use Rattle.facet_solver.specs.Categories.{field_category, selector_category, rest_category}
+use Rattle.facet_solver.specs.declared.build.place.Place.{Place}
+use Rattle.facet_solver.specs.declared.build.role.Target.{Target}
+use Rattle.facet_solver.specs.Build.{Build, repr_for}
+use Rattle.facet_solver.specs.Targets.{is_option}
+use Rattle.facet_solver.specs.Place.{Path, Chosen, field_path, variant_path, unwrapped_at}
+use Rattle.facet_solver.specs.Roles.{Role, regular, block, alternatives, catch_all, leaf}
+use Rattle.facet_solver.specs.Representation.{Repr, flattened, externally_tagged, internally_tagged, adjacently_tagged, field_category, selector_category, catch_all_category}
 use Rattle.facet_solver.specs.Nested.{KeyPath, nested_paths, content_paths}
 
 -- a field, a key path, a pick or a catch-all
@@ -18,68 +21,52 @@ pub data Emission : Type 0 where
   a_pick : Pick → Emission
   a_catch_all : FieldView → Emission
 
--- where something stands
-abbrev pub Path : Type 0
-Path = List Step
-
--- the path of a field at a path
-abbrev pub field_path : Path → Field → Path
-field_path p f = p ++ by_field (string_bytes f.name) ∷ []
-
--- the path of a variant's alternative, behind its field's
-abbrev pub behind : Path → Field → Variant → Path
-behind p f v = p ++ by_variant (string_bytes f.name) (string_bytes v.name) ∷ []
-
--- the path of a variant's alternative
-abbrev pub variant_path : Path → Field → Variant → Path
-variant_path p f v = behind (field_path p f) f v
-
--- whether an option was unwrapped at this field or further out
-abbrev pub unwrapped_at : Catalogue → Field → Bool → Bool
-unwrapped_at cat f o = o || is_option cat f.shape
-
--- a regular field, with its own shape: required without default, unless it is an option or under one
-unfoldable pub regular_field : Settings → Catalogue → Field → Path → Bool → FieldView
-regular_field settings cat f p o = record {
+-- a regular field, with its own shape: required without default, unless it is an option or under
+-- one
+unfoldable pub regular_field : Build → Field → Place → FieldView
+regular_field build f place = record {
   name = effective_name f;
-  path = field_path p f;
-  is_required = not o && not f.has_default && not (is_option cat f.shape);
+  path = field_path place f;
+  is_required = not place.unwrapped && not f.has_default && not (is_option build.catalogue f.shape);
   shape = f.shape;
   field = f;
-  category = field_category settings.format f.dom;
+  category = field_category build.format f.dom;
 }
 
 -- a flattened map or dynamic value: never required
-unfoldable pub rest_field : Settings → Catalogue → Field → Path → FieldView
-rest_field settings cat f p = record {
+unfoldable pub catch_all_field : Build → Field → Target → Place → FieldView
+catch_all_field build f target place = record {
   name = effective_name f;
-  path = field_path p f;
+  path = field_path place f;
   is_required = false;
-  shape = target_of cat f;
+  shape = target.shape;
   field = f;
-  category = rest_category settings.format f.dom;
+  category = catch_all_category build.format f.dom;
 }
 
 -- any other flattened field, with its target as its shape
-unfoldable pub leaf_field : Settings → Catalogue → Field → Path → Bool → FieldView
-leaf_field settings cat f p o = record {
+unfoldable pub leaf_field : Build → Field → Target → Place → FieldView
+leaf_field build f target place = record {
   name = effective_name f;
-  path = field_path p f;
-  is_required = not (unwrapped_at cat f o) && not f.has_default && not (is_option cat (target_of cat f));
-  shape = target_of cat f;
+  path = field_path place f;
+  is_required =
+      not (unwrapped_at place target)
+      && not f.has_default
+      && not (is_option build.catalogue target.shape);
+  shape = target.shape;
   field = f;
-  category = field_category settings.format f.dom;
+  category = field_category build.format f.dom;
 }
 
 -- the field by which a reader of an enum learns the variant: required unless under an option
-unfoldable pub selector_field : Name → Settings → Catalogue → Field → Path → Bool → FieldView
-selector_field name settings cat f q o = record {
+unfoldable pub selector_field : Build → Name → Chosen → Place → FieldView
+selector_field build name chosen place = record {
   name = name;
-  path = q;
-  is_required = not (unwrapped_at cat f o);
-  shape = target_of cat f;
-  field = f;
-  category = selector_category settings.format;
+  path = variant_path place chosen;
+  is_required = not (unwrapped_at place chosen.target);
+  shape = chosen.target.shape;
+  field = chosen.field;
+  category = selector_category build.format;
 }
 
 -- a field, the key path of its name, and further emissions
@@ -91,32 +78,54 @@ abbrev pub paths_behind : Name → List KeyPath → List Emission
 paths_behind name paths = map (λ q. a_key_path (name ∷ q)) paths
 
 -- a regular field emits itself, and the key paths under it
-unfoldable pub regular_emissions : Settings → Catalogue → Field → Path → Bool → List Emission
-regular_emissions settings cat f p o =
-    field_and_path (regular_field settings cat f p o) (paths_behind (effective_name f) (nested_paths cat f.shape))
+unfoldable pub emit_regular : Build → Field → Place → List Emission
+emit_regular build f place =
+    field_and_path (regular_field build f place)
+    (paths_behind (effective_name f) (nested_paths build.catalogue f.shape))
 
 -- a flattened map or dynamic value emits a catch-all
-unfoldable pub rest_emissions : Settings → Catalogue → Field → Path → List Emission
-rest_emissions settings cat f p = a_catch_all (rest_field settings cat f p) ∷ []
+unfoldable pub emit_catch_all : Build → Field → Target → Place → List Emission
+emit_catch_all build f target place = a_catch_all (catch_all_field build f target place) ∷ []
 
 -- any other flattened field emits itself
-unfoldable pub leaf_emissions : Settings → Catalogue → Field → Path → Bool → List Emission
-leaf_emissions settings cat f p o = field_and_path (leaf_field settings cat f p o) []
+unfoldable pub emit_leaf : Build → Field → Target → Place → List Emission
+emit_leaf build f target place = field_and_path (leaf_field build f target place) []
 
--- the selector of a variant and its key paths, by the representation
-unfoldable pub selector_emissions : Repr → Settings → Catalogue → Field → Variant → Path → Bool → List Emission
-selector_emissions flattened settings cat f v q o = []
-selector_emissions externally_tagged settings cat f v q o =
-    field_and_path (selector_field (string_bytes v.name) settings cat f q o) (paths_behind (string_bytes v.name) (content_paths cat v))
-selector_emissions (internally_tagged tag) settings cat f v q o = field_and_path (selector_field tag settings cat f q o) []
-selector_emissions (adjacently_tagged tag content) settings cat f v q o =
-    field_and_path (selector_field tag settings cat f q o) (a_key_path (content ∷ []) ∷ paths_behind content (content_paths cat v))
+-- what a field emits by its role, where it takes no variant and has nothing below it
+unfoldable pub emit_plain : Build → Field → Place → Role → List Emission
+emit_plain build f place regular = emit_regular build f place
+emit_plain build f place (block target fs) = []
+emit_plain build f place (alternatives target s vs) = []
+emit_plain build f place (catch_all target) = emit_catch_all build f target place
+emit_plain build f place (leaf target) = emit_leaf build f target place
+
+-- the selector of a variant and its key paths, by a representation
+unfoldable pub emit_selector_by : Repr → Build → Chosen → Place → List Emission
+emit_selector_by flattened build chosen place = []
+emit_selector_by externally_tagged build chosen place =
+    field_and_path (selector_field build (string_bytes chosen.variant.name) chosen place)
+    (paths_behind (string_bytes chosen.variant.name) (content_paths build.catalogue chosen.variant))
+emit_selector_by (internally_tagged tag) build chosen place =
+    field_and_path (selector_field build tag chosen place) []
+emit_selector_by (adjacently_tagged tag content) build chosen place =
+    field_and_path (selector_field build tag chosen place)
+    (a_key_path (content ∷ [])
+        ∷ paths_behind content (content_paths build.catalogue chosen.variant))
+
+-- the selector of a variant and its key paths
+abbrev pub emit_selector : Build → Chosen → Place → List Emission
+emit_selector build chosen place = emit_selector_by (repr_for build chosen.shape) build chosen place
 
 -- the pick of a variant
 abbrev pub pick_of : Shape → Variant → Path → Emission
-pick_of s v p = a_pick record { path = p; enum_name = string_bytes s.type_identifier; variant_name = string_bytes v.name }
+pick_of s v p = a_pick record {
+  path = p;
+  enum_name = string_bytes s.type_identifier;
+  variant_name = string_bytes v.name;
+}
 
 -- what a flattened enum emits before the content of the chosen variant: the pick and the selector
-unfoldable pub variant_emissions : Settings → Catalogue → Field → Shape → Variant → Path → Bool → List Emission
-variant_emissions settings cat f s v p o =
-    pick_of s v (field_path p f) ∷ selector_emissions (repr_for settings s) settings cat f v (variant_path p f v) o
+unfoldable pub emit_variant : Build → Chosen → Place → List Emission
+emit_variant build chosen place =
+    pick_of chosen.shape chosen.variant (field_path place chosen.field)
+        ∷ emit_selector build chosen place

@@ -53,4 +53,4 @@ by_number cat fs several_numbers = by_shapes cat (first_of_each_shape fs)
 
 -- the answer to a key
 abbrev pub answer_of : Key → State → Answer
-answer_of key s = by_number s.schema.catalogue (fields_for key s) (how_many (passing (has_key key) s))
+answer_of key s = by_number s.schema.build.catalogue (fields_for key s) (how_many (passing (has_key key) s))

@@ -1,15 +1,18 @@
--- The choices as a list, by parts: a product over fields, a sum over variants. No public clause speaks of it: those say
+-- The choices as a list, by parts: a product over fields, a sum over variants. No public clause
+-- speaks of it: those say
 -- what a list of all choices is.
-use Rattle.std.specs.Prelude.{ℕ, zero, suc, List, [], ◌∷◌, ◌++◌, map, flat_map, Bool, true, if◌then◌else◌, Option, Some, None, slice_get, length}
+use Rattle.facet_solver.specs.Build.{Build, repr_for}
+use Rattle.std.specs.Prelude.{ℕ, zero, suc, List, [], ◌∷◌, ◌++◌, map, flat_map, Bool, true, if◌then◌else◌, Option, Some, None, slice_get, length, Vec}
 use Rattle.facet_solver_shape.specs.declared.shape.Shape.{Shape}
 use Rattle.facet_solver_shape.specs.declared.shape.Field.{Field}
 use Rattle.facet_solver_shape.specs.declared.shape.Variant.{Variant}
 use Rattle.facet_solver_shape.specs.declared.shape.ShapeKind.{ShapeKind}
 use Rattle.facet_solver_shape.specs.declared.shape.ShapeKind.TheVariants.{Struct, Enum}
 use Rattle.facet_solver.specs.Targets.{Catalogue}
-use Rattle.facet_solver.specs.Representation.{Settings, repr_for, is_walked}
+use Rattle.facet_solver.specs.Representation.{is_walked}
 use Rattle.facet_solver.specs.Content.{content_of}
-use Rattle.facet_solver.specs.Roles.{Role, a_regular, a_block, some_alternatives, a_rest, a_leaf, role_of}
+use Rattle.facet_solver.specs.Roles.{Role, regular, block, alternatives, catch_all, leaf, role_of}
+use Rattle.std.specs.declared.alloc.Global.{Global}
 
 -- lists of places of variants
 abbrev pub Choices : Type 0
@@ -24,55 +27,66 @@ unfoldable pub product : Choices → Choices → Choices
 product cs ds = flat_map (λ c. map (λ d. c ++ d) ds) cs
 
 -- each variant's place, from k on, before its own choices
-unfoldable pub numbered : ℕ → (Variant → Choices) → List Variant → Choices
-numbered k choices [] = []
-numbered k choices (v ∷ vs) = map (λ c. k ∷ c) (choices v) ++ numbered (suc k) choices vs
+unfoldable pub indexed : ℕ → (Variant → Choices) → List Variant → Choices
+indexed k choices [] = []
+indexed k choices (v ∷ vs) = map (λ c. k ∷ c) (choices v) ++ indexed (suc k) choices vs
 
 -- those of a variant, whose content is walked or not
 abbrev pub choices_of_variant : (List Field → Choices) → Catalogue → Bool → Variant → Choices
-choices_of_variant below cat walked v = if walked then below (content_of cat v).fields else no_choice
+choices_of_variant below cat walked v =
+    if walked then below (content_of cat v).fields else no_choice
 
 -- those of a field by its role
-abbrev pub choices_of_role : (List Field → Choices) → Settings → Catalogue → Role → Choices
-choices_of_role below settings cat a_regular = no_choice
-choices_of_role below settings cat (a_block fs) = below fs
-choices_of_role below settings cat (some_alternatives s vs) = numbered 0 (choices_of_variant below cat (is_walked (repr_for settings s))) vs
-choices_of_role below settings cat a_rest = no_choice
-choices_of_role below settings cat a_leaf = no_choice
+abbrev pub choices_of_role : (List Field → Choices) → Build → Role → Choices
+choices_of_role below build regular = no_choice
+choices_of_role below build (block target fs) = below fs
+choices_of_role below build (alternatives target s vs) =
+    indexed 0 (choices_of_variant below build.catalogue (is_walked (repr_for build s))) vs
+choices_of_role below build (catch_all target) = no_choice
+choices_of_role below build (leaf target) = no_choice
 
 -- those of fields
-unfoldable pub choices_of_fields : (List Field → Choices) → Settings → Catalogue → List Field → Choices
-choices_of_fields below settings cat [] = no_choice
-choices_of_fields below settings cat (f ∷ fs) = product (choices_of_role below settings cat (role_of cat f)) (choices_of_fields below settings cat fs)
+unfoldable pub choices_of_fields_step : (List Field → Choices) → Build → List Field → Choices
+choices_of_fields_step below build [] = no_choice
+choices_of_fields_step below build (f ∷ fs) =
+    product (choices_of_role below build (role_of build.catalogue f))
+    (choices_of_fields_step below build fs)
 
 -- those of fields down to n levels
-unfoldable pub choices_within : ℕ → Settings → Catalogue → List Field → Choices
-choices_within zero settings cat fs = []
-choices_within (suc n) settings cat fs = choices_of_fields (choices_within n settings cat) settings cat fs
+unfoldable pub choices_within : ℕ → Build → List Field → Choices
+choices_within zero build fs = []
+choices_within (suc n) build fs = choices_of_fields_step (choices_within n build) build fs
 
 -- those below fields of a checked catalogue
-unfoldable pub choices_below : Settings → Catalogue → List Field → Choices
-choices_below settings cat = choices_within (suc (length cat)) settings cat
+unfoldable pub choices_of_fields : Build → List Field → Choices
+choices_of_fields build = choices_within (suc (length build.catalogue)) build
 
 -- those of a root by its kind
-abbrev pub choices_of_root_kind : Settings → Catalogue → ShapeKind → Choices
-choices_of_root_kind settings cat (Struct kind fields) = choices_below settings cat fields.items
-choices_of_root_kind settings cat (Enum variants) = numbered 0 (choices_of_variant (choices_below settings cat) cat true) variants.items
-choices_of_root_kind settings cat _ = no_choice
+abbrev pub choices_of_root_kind : Build → ShapeKind → Choices
+choices_of_root_kind build (Struct kind fields) = choices_of_fields build fields.items
+choices_of_root_kind build (Enum variants) =
+    indexed 0 (choices_of_variant (choices_of_fields build) build.catalogue true) variants.items
+choices_of_root_kind build _ = no_choice
 
 -- those of a root that may be absent
-abbrev pub choices_of_root_shape : Settings → Catalogue → Option Shape → Choices
-choices_of_root_shape settings cat None = []
-choices_of_root_shape settings cat (Some s) = choices_of_root_kind settings cat s.kind
+abbrev pub choices_of_root_shape : Build → Option Shape → Choices
+choices_of_root_shape build None = []
+choices_of_root_shape build (Some s) = choices_of_root_kind build s.kind
 
 -- those of a root
-unfoldable pub choices_of_root : Settings → Catalogue → ℕ → Choices
-choices_of_root settings cat root = choices_of_root_shape settings cat (slice_get cat root)
+unfoldable pub choices_of_root : Build → ℕ → Choices
+choices_of_root build root = choices_of_root_shape build (slice_get build.catalogue root)
 
 -- those at one field
-unfoldable pub choices_at : Settings → Catalogue → Field → Choices
-choices_at settings cat f = choices_of_role (choices_below settings cat) settings cat (role_of cat f)
+unfoldable pub choices_of_field : Build → Field → Choices
+choices_of_field build f =
+    choices_of_role (choices_of_fields build) build (role_of build.catalogue f)
 
 -- those among variants whose contents are walked or not
-unfoldable pub choices_among : Settings → Catalogue → Bool → List Variant → Choices
-choices_among settings cat walked vs = numbered 0 (choices_of_variant (choices_below settings cat) cat walked) vs
+unfoldable pub choices_of_variants : Build → Bool → List Variant → Choices
+choices_of_variants build walked vs =
+    indexed 0 (choices_of_variant (choices_of_fields build) build.catalogue walked) vs
+
+-- lists of numbers, wherever they lie
+abbrev pub lists : List (Vec ℕ Global) → List (List ℕ)
+lists vs = map (λ v. v.items) vs

@@ -1,10 +1,16 @@
--- What emissions, taken in one by one, make of a resolution: more of it, or a clash. No public clause speaks of it.
-use Rattle.std.specs.Prelude.{ℕ, List, [], ◌∷◌, Option, Some, None}
+-- What emissions, taken in one by one, make of a resolution: more of it, or a clash. No public
+-- clause speaks of it.
+use Rattle.std.specs.Prelude.{ℕ, List, [], ◌∷◌, Option, Some, None, ◌≡◌, Result, MatchResult}
 use Rattle.std.specs.FinMap as map
 use Rattle.facet_solver_shape.specs.Names.{Name}
 use Rattle.facet_solver_shape.specs.Resolved.{FieldView, Resolved, key_of_field, with_field, with_key_path, with_pick, with_catch_all}
-use Rattle.facet_solver.specs.Emissions.{Path, Emission, a_field, a_key_path, a_pick, a_catch_all}
+use Rattle.facet_solver.specs.Place.{Path}
+use Rattle.facet_solver.specs.Emissions.{Emission, a_field, a_key_path, a_pick, a_catch_all}
 use Rattle.facet_solver.specs.Walk.{Walked}
+use Rattle.std.specs.Borrow.{Bor}
+use Rattle.facet_solver_shape.specs.declared.resolution.error.DuplicateFieldError.{DuplicateFieldError}
+use Rattle.facet_solver_shape.specs.declared.resolution.error.SchemaError.{SchemaError}
+use Rattle.facet_solver_shape.specs.declared.resolution.error.SchemaError.TheVariants.{DuplicateField, OutOfMemory}
 
 -- two fields of one stored key, the first emitted first
 pub record Duplicate : Type 0 where
@@ -25,7 +31,8 @@ next (duplicate d) go = duplicate d
 -- one more field, where its key is free
 abbrev pub with_known : Option FieldView → Resolved → FieldView → Outcome
 with_known None r f = resolved (with_field r f)
-with_known (Some g) r f = duplicate record { name = f.name; first_path = g.path; second_path = f.path }
+with_known (Some g) r f =
+    duplicate record { name = f.name; first_path = g.path; second_path = f.path }
 
 -- one emission
 unfoldable pub take_in : Resolved → Emission → Outcome
@@ -43,3 +50,28 @@ take_all r (e ∷ es) = next (take_in r e) (λ s. take_all s es)
 abbrev pub effect : Resolved → Walked → Option (Outcome × List ℕ)
 effect r None = None
 effect r (Some w) = Some (take_all r w.0, w.1)
+
+-- what a refusal as duplicate says
+abbrev pub duplicate_view : DuplicateFieldError → Duplicate
+duplicate_view d =
+    record { name = d.field_name.now; first_path = d.first_path; second_path = d.second_path }
+
+-- what an error says of an outcome: a duplicate is that of the outcome, and want of memory says
+-- nothing
+abbrev pub ErrorOf : Outcome → SchemaError → Type 0
+ErrorOf o (DuplicateField d) = o ≡ duplicate (duplicate_view d)
+ErrorOf o OutOfMemory = Unit {0}
+
+-- the result of a call that leaves the resolution that an outcome says, or fails as it says
+abbrev pub Gives : {T : Type 0} → Outcome → Result T SchemaError → Resolved → Type 0
+Gives o result r = MatchResult result (λ _. o ≡ resolved r) (λ e. ErrorOf o e)
+
+-- what an error says of the effect of a walk
+abbrev pub StopsBy : Option (Outcome × List ℕ) → SchemaError → Type 0
+StopsBy e (DuplicateField d) = (rest : List ℕ) × (e ≡ Some (duplicate (duplicate_view d), rest))
+StopsBy e OutOfMemory = Unit {0}
+
+-- the result of a walk that hands on the numbers that it leaves
+abbrev pub Walks : Option (Outcome × List ℕ) → Result (Bor (List ℕ)) SchemaError → Resolved → Type 0
+Walks e result r =
+    MatchResult result (λ rest. e ≡ Some (resolved r, rest.now)) (λ err. StopsBy e err)

@@ -8,6 +8,11 @@ use Rattle.facet_solver_shape.specs.Names.{Name}
 use Rattle.facet_solver.specs.declared.build.representation.EnumRepr.{EnumRepr}
 use Rattle.facet_solver.specs.declared.build.representation.EnumRepr.TheVariants.{Flattened, ExternallyTagged, InternallyTagged, AdjacentlyTagged}
 use Rattle.facet_solver.specs.declared.build.representation.Format.{Format}
+use Rattle.facet_solver_shape.specs.declared.shape.DomMark.{DomMark}
+use Rattle.facet_solver_shape.specs.declared.shape.DomMark.TheVariants.{None as NoMark, Attribute as AttributeMark, Element as ElementMark, Text as TextMark, Tag as TagMark, Elements as ElementsMark}
+use Rattle.facet_solver_shape.specs.declared.resolution.key.FieldCategory.{FieldCategory}
+use Rattle.facet_solver_shape.specs.declared.resolution.key.FieldCategory.TheVariants.{Flat as FlatCategory, Attribute, Element, Text, Tag, Elements}
+use Rattle.facet_solver.specs.declared.build.representation.Format.TheVariants.{Flat, Dom}
 
 -- a representation, wherever its names lie
 pub data Repr : Type 0 where
@@ -38,23 +43,38 @@ tagged (Some tag) (Some content) = adjacently_tagged (string_bytes tag) (string_
 abbrev pub repr_of_shape : Shape → Repr
 repr_of_shape s = if s.untagged then flattened else tagged s.tag s.content
 
--- how a schema is built: one representation for all enums or each enum's own, and the format
-pub record Settings : Type 0 where
-  pub representation : Option Repr
-  pub format : Format
-
--- the one representation, or else the enum's own
-abbrev pub repr_or : Option Repr → Shape → Repr
-repr_or None s = repr_of_shape s
-repr_or (Some repr) s = repr
-
--- the representation of an enum
-abbrev pub repr_for : Settings → Shape → Repr
-repr_for settings s = repr_or settings.representation s
-
 -- whether a variant's content is walked at the enum's own level
 abbrev pub is_walked : Repr → Bool
 is_walked flattened = true
 is_walked externally_tagged = false
 is_walked (internally_tagged tag) = true
 is_walked (adjacently_tagged tag content) = false
+
+-- the category of a mark: without one a field is an element
+abbrev pub category_of_mark : DomMark → FieldCategory
+category_of_mark NoMark = Element
+category_of_mark AttributeMark = Attribute
+category_of_mark ElementMark = Element
+category_of_mark TextMark = Text
+category_of_mark TagMark = Tag
+category_of_mark ElementsMark = Elements
+
+-- the category of a field
+abbrev pub field_category : Format → DomMark → FieldCategory
+field_category Flat mark = FlatCategory
+field_category Dom mark = category_of_mark mark
+
+-- the category of a selector
+abbrev pub selector_category : Format → FieldCategory
+selector_category Flat = FlatCategory
+selector_category Dom = Element
+
+-- a catch-all takes attributes or else elements
+abbrev pub catch_all_category_of_mark : DomMark → FieldCategory
+catch_all_category_of_mark AttributeMark = Attribute
+catch_all_category_of_mark _ = Element
+
+-- the category of a catch-all
+abbrev pub catch_all_category : Format → DomMark → FieldCategory
+catch_all_category Flat mark = FlatCategory
+catch_all_category Dom mark = catch_all_category_of_mark mark

@@ -1,33 +1,64 @@
 -- What a field is to the fields that it stands among.
-use Rattle.std.specs.Prelude.{if◌then◌else◌, List, Option, Some, None, slice_get}
+use Rattle.std.specs.Prelude.{⊤, Bool, true, false, if◌then◌else◌, ℕ, List, Option, Some, None, slice_get}
 use Rattle.facet_solver_shape.specs.declared.shape.Shape.{Shape}
 use Rattle.facet_solver_shape.specs.declared.shape.Field.{Field}
 use Rattle.facet_solver_shape.specs.declared.shape.Variant.{Variant}
 use Rattle.facet_solver_shape.specs.declared.shape.ShapeKind.{ShapeKind}
-use Rattle.facet_solver_shape.specs.declared.shape.ShapeKind.TheVariants.{Struct, Enum, Map, DynamicValue}
-use Rattle.facet_solver.specs.Targets.{Catalogue, target_of}
+use Rattle.facet_solver_shape.specs.declared.shape.ShapeKind.TheVariants.{Struct, Enum, Map, DynamicValue, Option as OptionOf}
+use Rattle.facet_solver.specs.declared.build.role.Role as code
+use Rattle.facet_solver.specs.declared.build.role.Role.TheVariants.{Regular, Block, Alternatives, CatchAll, Leaf}
+use Rattle.facet_solver.specs.declared.build.role.Target.{Target}
+use Rattle.facet_solver.specs.Targets.{Catalogue, kind_at}
 
--- regular; or flattened: a block of fields, alternatives of an enum, a rest that takes what no field takes, or a leaf
+-- the target of a field whose shape is of a kind: the inside of an option, else the shape itself
+abbrev pub target_by_kind : ℕ → ShapeKind → Target
+target_by_kind id (OptionOf inside) = record { shape = inside; optional = true }
+target_by_kind id _ = record { shape = id; optional = false }
+
+-- the target of a flattened field
+abbrev pub target_of : Catalogue → Field → Target
+target_of cat f = target_by_kind f.shape (kind_at cat f.shape)
+
+-- regular; or flattened: a block of fields, alternatives of an enum, a catch-all for what no field
+-- takes, or a leaf
 pub data Role : Type 0 where
-  a_regular : Role
-  a_block : List Field → Role
-  some_alternatives : Shape → List Variant → Role
-  a_rest : Role
-  a_leaf : Role
+  regular : Role
+  block : Target → List Field → Role
+  alternatives : Target → Shape → List Variant → Role
+  catch_all : Target → Role
+  leaf : Target → Role
 
 -- a flattened field's role by the kind of its target
-abbrev pub role_by_kind : Shape → ShapeKind → Role
-role_by_kind s (Struct kind fields) = a_block fields.items
-role_by_kind s (Enum variants) = some_alternatives s variants.items
-role_by_kind s (Map key value) = a_rest
-role_by_kind s DynamicValue = a_rest
-role_by_kind s _ = a_leaf
+abbrev pub role_by_kind : Target → Shape → ShapeKind → Role
+role_by_kind target s (Struct kind fields) = block target fields.items
+role_by_kind target s (Enum variants) = alternatives target s variants.items
+role_by_kind target s (Map key value) = catch_all target
+role_by_kind target s DynamicValue = catch_all target
+role_by_kind target s _ = leaf target
 
--- a flattened field's role by its target
-abbrev pub role_of_target : Option Shape → Role
-role_of_target None = a_leaf
-role_of_target (Some s) = role_by_kind s s.kind
+-- a flattened field's role by the shape of its target
+abbrev pub role_of_target : Target → Option Shape → Role
+role_of_target target None = leaf target
+role_of_target target (Some s) = role_by_kind target s s.kind
 
 -- a field's role
 abbrev pub role_of : Catalogue → Field → Role
-role_of cat f = if f.flattened then role_of_target (slice_get cat (target_of cat f)) else a_regular
+role_of cat f =
+    if f.flattened then role_of_target (target_of cat f) (slice_get cat (target_of cat f).shape)
+        else regular
+
+-- a role, wherever its fields and variants lie
+abbrev pub role_view : code.Role → Role
+role_view Regular = regular
+role_view (Block target fs) = block target fs.now
+role_view (Alternatives target s vs) = alternatives target s.now vs.now
+role_view (CatchAll target) = catch_all target
+role_view (Leaf target) = leaf target
+
+-- a role that takes no variant and has nothing below it
+abbrev pub IsPlain : Role → Type 0
+IsPlain regular = ⊤
+IsPlain (block target fs) = ⊥
+IsPlain (alternatives target s vs) = ⊥
+IsPlain (catch_all target) = ⊤
+IsPlain (leaf target) = ⊤

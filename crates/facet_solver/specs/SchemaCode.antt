@@ -8,7 +8,8 @@ use Rattle.facet_solver_shape.specs.ResolvedCode.{key_code, resolved_code}
 use Rattle.facet_solver_shape.specs.contracts.shape.Shape as shape
 use Rattle.facet_solver.specs.contracts.build.representation.Format as format
 use Rattle.facet_solver.specs.declared.build.representation.Format.{Format}
-use Rattle.facet_solver.specs.Representation.{Repr, Settings, flattened, externally_tagged, internally_tagged, adjacently_tagged}
+use Rattle.facet_solver.specs.Representation.{Repr, flattened, externally_tagged, internally_tagged, adjacently_tagged}
+use Rattle.facet_solver.specs.Build.{Build}
 use Rattle.facet_solver.specs.SchemaView.{SchemaView}
 use Rattle.facet_solver.specs.State.{State}
 use Rattle.facet_solver.specs.Targets.{Catalogue}
@@ -42,21 +43,21 @@ repr_code =
     (λ p. repr_numbered p.1.0 p.1.1 p.0)
     repr_back
 
--- settings
-abbrev pub settings_code : Coded Settings
-settings_code =
-    code_by (Option Repr × Format) (coded× (coded_option repr_code) format.the_row.coded)
-    (λ s. (s.representation, s.format))
-    (λ p. record { representation = p.0; format = p.1 })
+-- what a build goes by
+abbrev pub build_code : Coded Build
+build_code =
+    code_by (Catalogue × (Option Repr × Format))
+    (coded× (coded_list shape.the_row.coded) (coded× (coded_option repr_code) format.the_row.coded))
+    (λ b. (b.catalogue, (b.representation, b.format)))
+    (λ p. record { catalogue = p.0; representation = p.1.0; format = p.1.1 })
     (λ _. refl)
 
 -- a schema as the tuple of its parts
 abbrev pub schema_code : Coded SchemaView
 schema_code =
-    code_by ((Catalogue × ℕ) × (Settings × List Resolved))
-    (coded× (coded× (coded_list shape.the_row.coded) coded_ℕ) (coded× settings_code (coded_list resolved_code)))
-    (λ s. ((s.catalogue, s.root), (s.settings, s.resolutions)))
-    (λ p. record { catalogue = p.0.0; root = p.0.1; settings = p.1.0; resolutions = p.1.1 })
+    code_by (Build × (ℕ × List Resolved)) (coded× build_code (coded× coded_ℕ (coded_list resolved_code)))
+    (λ s. (s.build, (s.root, s.resolutions)))
+    (λ p. record { build = p.0; root = p.1.0; resolutions = p.1.1 })
     (λ _. refl)
 
 -- a state as the tuple of its parts

@@ -5,54 +5,57 @@ ghost use Rattle.facet_solver_shape.specs.Names.{Name};
 ghost use Rattle.facet_solver_shape.specs.Resolved.{Resolved};
 ghost use Rattle.facet_solver_shape.specs.declared.shape.Field.{Field};
 ghost use Rattle.facet_solver_shape.specs.declared.shape.Variant.{Variant};
-ghost use Rattle.facet_solver.specs.Choice.{IsChoice, IsClash, IsResolution, ListsChoices, Enumerates};
-ghost use Rattle.facet_solver.specs.Count.{count_below, count_fields, count_of_root};
-ghost use Rattle.facet_solver.specs.Emissions.{Path};
-ghost use Rattle.facet_solver.specs.FlatFields.{GoesByName};
+ghost use Rattle.facet_solver.specs.Choice.{IsChoice, IsClash, IsResolution, ListsChoices, Enumerates, GoesByName};
+ghost use Rattle.facet_solver.specs.Count.{count_fields, count_fields_step, count_of_root};
+ghost use Rattle.facet_solver.specs.Place.{Path};
+ghost use Rattle.facet_solver.specs.declared.build.place.Place.{Place};
 ghost use Rattle.facet_solver.specs.declared.build.representation.Format.TheVariants.{Flat};
 ghost use Rattle.facet_solver.specs.Nested.{nested_paths, content_paths};
 ghost use Rattle.facet_solver.specs.NestedLaws.{FollowsKinds, EndsByLength, HasNoGaps};
-ghost use Rattle.facet_solver.specs.Representation.{Settings};
+ghost use Rattle.facet_solver.specs.Build.{Build};
 ghost use Rattle.facet_solver.specs.Targets.{Catalogue, effective, go_on, next_inside};
-ghost use Rattle.facet_solver.specs.Walk.{walk, walk_fields};
+ghost use Rattle.facet_solver.specs.Walk.{walk_fields, walk_fields_step};
 
 /// A root has one list of all choices, and at most one list of resolutions.
 pub fn lists_are_the_only_ones()
-    ensures choices { (settings : Settings) (cat : Catalogue) (root : ℕ) (cs ds : List (List ℕ))
-        → ListsChoices settings cat root cs → ListsChoices settings cat root ds → cs ≡ ds }
-    ensures resolutions { (settings : Settings) (cat : Catalogue) (root : ℕ) (rs ss : List Resolved)
-        → Enumerates settings cat root rs → Enumerates settings cat root ss → rs ≡ ss }
+    ensures choices { (build : Build) (root : ℕ) (cs ds : List (List ℕ))
+        → ListsChoices build root cs → ListsChoices build root ds → cs ≡ ds }
+    ensures resolutions { (build : Build) (root : ℕ) (rs ss : List Resolved)
+        → Enumerates build root rs → Enumerates build root ss → rs ≡ ss }
 {}
 
 /// No choice begins another.
 pub fn no_choice_begins_another()
-    ensures { (settings : Settings) (cat : Catalogue) (root : ℕ) (c d : List ℕ)
-        → IsChoice settings cat root c → IsChoice settings cat root (c ++ d) → d ≡ [] }
+    ensures { (build : Build) (root : ℕ) (c d : List ℕ)
+        → IsChoice build root c → IsChoice build root (c ++ d) → d ≡ [] }
 {}
 
 /// A root that has a list of resolutions has no clash.
 pub fn resolutions_exclude_clashes()
-    ensures { (settings : Settings) (cat : Catalogue) (root : ℕ) (rs : List Resolved)
-        → Enumerates settings cat root rs → (name : Name) (first second : Path) → ¬ IsClash settings cat root name first second }
+    ensures { (build : Build) (root : ℕ) (rs : List Resolved)
+        → Enumerates build root rs
+        → (name : Name) (first second : Path) → ¬ IsClash build root name first second }
 {}
 
 /// The list of all choices is as long as the number of choices.
 pub fn all_choices_are_counted()
-    ensures { (settings : Settings) (cat : Catalogue) (root : ℕ) (cs : List (List ℕ))
-        → ListsChoices settings cat root cs → length cs ≡ count_of_root settings cat root }
+    ensures { (build : Build) (root : ℕ) (cs : List (List ℕ))
+        → ListsChoices build root cs → length cs ≡ count_of_root build root }
 {}
 
 /// The walk of fields is made of the walks of what is flattened into them: no level of a catalogue lies too deep for it.
 pub fn walks_follow_their_fields()
-    ensures { (settings : Settings) (cat : Catalogue) → IsChecked cat
-        → (fields : List Field) (path : Path) (unwrapped : Bool) (numbers : List ℕ)
-        → walk settings cat fields path unwrapped numbers ≡ walk_fields (walk settings cat) settings cat fields path unwrapped numbers }
+    ensures { (build : Build) → IsChecked build.catalogue
+        → (fields : List Field) (place : Place) (indices : List ℕ)
+        → walk_fields build fields place indices
+        ≡ walk_fields_step (walk_fields build) build fields place indices }
 {}
 
 /// The number of choices at fields is made of the numbers at what is flattened into them.
 pub fn counts_follow_their_fields()
-    ensures { (settings : Settings) (cat : Catalogue) → IsChecked cat
-        → (fields : List Field) → count_below settings cat fields ≡ count_fields (count_below settings cat) settings cat fields }
+    ensures { (build : Build) → IsChecked build.catalogue
+        → (fields : List Field)
+        → count_fields build fields ≡ count_fields_step (count_fields build) build fields }
 {}
 
 /// The effective shape is that of `inner`, or else of `proxy`, or else the shape itself.
@@ -70,11 +73,12 @@ pub fn nested_paths_follow_kinds()
 /// No nested key path is empty, and each that a longer one goes through is one too.
 pub fn nested_paths_have_no_gaps()
     ensures nested { (cat : Catalogue) (id : ℕ) → HasNoGaps (nested_paths cat id) }
-    ensures content { (cat : Catalogue) (variant : Variant) → HasNoGaps (content_paths cat variant) }
+    ensures content { (cat : Catalogue) (variant : Variant)
+        → HasNoGaps (content_paths cat variant) }
 {}
 
 /// In the flat format the fields of a resolution stand under their names alone, so that no two have one name.
 pub fn flat_fields_go_by_name()
-    ensures { (settings : Settings) (cat : Catalogue) (root : ℕ) (choice : List ℕ) (r : Resolved)
-        → settings.format ≡ Flat → IsResolution settings cat root choice r → GoesByName r }
+    ensures { (build : Build) (root : ℕ) (choice : List ℕ) (r : Resolved)
+        → build.format ≡ Flat → IsResolution build root choice r → GoesByName r }
 {}

@@ -1,12 +1,12 @@
 //! A solver that tells from the keys of a document which variants of flattened and untagged enums it means.
 #![tactic(auto)]
 
-pub mod build;
-pub mod error;
+mod build;
+mod error;
 pub mod laws;
-pub mod schema;
-pub mod set;
-pub mod solver;
+mod schema;
+mod set;
+mod solver;
 
 pub use build::representation::{EnumRepr, Format};
 pub use error::{CandidateFailure, MissingFieldInfo, SolverError};

@@ -1,14 +1,14 @@
 //! All resolutions of a type.
 ghost use Rattle.std.specs.Prelude.{◌≡◌, ◌<◌, IfErr, IfOk, None, Some, length};
 ghost use Rattle.std.specs.Cmp.{partial_equiv_from_equiv};
-ghost use Rattle.facet_solver.specs.CountAnswer.{IsCountOf};
-ghost use Rattle.facet_solver.specs.PlanView.{settings_of};
-ghost use Rattle.facet_solver.specs.Refusal.{IsRefusal};
+ghost use Rattle.facet_solver.specs.Count.{IsCountOf};
+ghost use Rattle.facet_solver.specs.Build.{build_of};
+ghost use Rattle.facet_solver.specs.Choice.{IsRefusal};
 ghost use Rattle.facet_solver.specs.Representation.{asked_view, externally_tagged, flattened, repr_view};
-ghost use Rattle.facet_solver.specs.SchemaView.{IsBuilt, flat_settings};
+ghost use Rattle.facet_solver.specs.SchemaView.{IsBuilt, flat_build};
 
 use crate::build::count::count_of_root;
-use crate::build::plan::Plan;
+use crate::build::Build;
 use crate::build::representation::{EnumRepr, Format};
 use crate::build::resolve::resolutions;
 use facet_solver_shape::{Resolution, SchemaError, ShapeId, Shapes};
@@ -35,9 +35,12 @@ impl<'c> Model for Schema<'c> {
     ghost coded = { schema_code };
 
     ghost view = { λ s. record {
-      catalogue = s.shapes.now;
+      build = record {
+        catalogue = s.shapes.now;
+        representation = asked_view s.representation;
+        format = s.format;
+      };
       root = s.root;
-      settings = record { representation = asked_view s.representation; format = s.format };
       resolutions = s.resolutions.items;
     } };
 }
@@ -52,8 +55,8 @@ impl<'c> Schema<'c> {
         root: ShapeId,
     ) -> Result<Schema<'c>, SchemaError<'c>>
         requires { root < length shapes.now }
-        ensures built { IfOk result (IsBuilt (flat_settings (Some flattened)) shapes.now root) }
-        ensures refused { IfErr result (IsRefusal (flat_settings (Some flattened)) shapes.now root) }
+        ensures built { IfOk result (IsBuilt (flat_build shapes.now (Some flattened)) root) }
+        ensures refused { IfErr result (IsRefusal (flat_build shapes.now (Some flattened)) root) }
     {
         Schema::build_with_repr(alloc, shapes, root, EnumRepr::Flattened)
     }
@@ -67,8 +70,10 @@ impl<'c> Schema<'c> {
         root: ShapeId,
     ) -> Result<Schema<'c>, SchemaError<'c>>
         requires { root < length shapes.now }
-        ensures built { IfOk result (IsBuilt (flat_settings (Some externally_tagged)) shapes.now root) }
-        ensures refused { IfErr result (IsRefusal (flat_settings (Some externally_tagged)) shapes.now root) }
+        ensures built { IfOk result
+            (IsBuilt (flat_build shapes.now (Some externally_tagged)) root) }
+        ensures refused { IfErr result
+            (IsRefusal (flat_build shapes.now (Some externally_tagged)) root) }
     {
         Schema::build_with_repr(alloc, shapes, root, EnumRepr::ExternallyTagged)
     }
@@ -83,16 +88,18 @@ impl<'c> Schema<'c> {
         representation: EnumRepr<'c>,
     ) -> Result<Schema<'c>, SchemaError<'c>>
         requires { root < length shapes.now }
-        ensures built { IfOk result (IsBuilt (flat_settings (Some (repr_view representation.entry))) shapes.now root) }
-        ensures refused { IfErr result (IsRefusal (flat_settings (Some (repr_view representation.entry))) shapes.now root) }
+        ensures built { IfOk result
+            (IsBuilt (flat_build shapes.now (Some (repr_view representation.entry))) root) }
+        ensures refused { IfErr result
+            (IsRefusal (flat_build shapes.now (Some (repr_view representation.entry))) root) }
     {
-        let plan = Plan {
+        let build = Build {
             alloc,
             shapes,
             representation: Some(representation),
             format: Format::Flat,
         };
-        Schema::of_plan(plan, root)
+        Schema::of_build(build, root)
     }
 
     /// The schema of a root, with the representation of each flattened enum that its own attributes ask for.
@@ -104,16 +111,16 @@ impl<'c> Schema<'c> {
         root: ShapeId,
     ) -> Result<Schema<'c>, SchemaError<'c>>
         requires { root < length shapes.now }
-        ensures built { IfOk result (IsBuilt (flat_settings None) shapes.now root) }
-        ensures refused { IfErr result (IsRefusal (flat_settings None) shapes.now root) }
+        ensures built { IfOk result (IsBuilt (flat_build shapes.now None) root) }
+        ensures refused { IfErr result (IsRefusal (flat_build shapes.now None) root) }
     {
-        let plan = Plan {
+        let build = Build {
             alloc,
             shapes,
             representation: None,
             format: Format::Flat,
         };
-        Schema::of_plan(plan, root)
+        Schema::of_build(build, root)
     }
 
     /// The number of resolutions that a schema of the root has, without building one: None from 2^64 on.
@@ -129,27 +136,28 @@ impl<'c> Schema<'c> {
         requires { root < length shapes.now }
         ensures { IfOk result (IsCountOf shapes.now root (asked_view representation.entry)) }
     {
-        let plan = Plan {
+        let build = Build {
             alloc,
             shapes,
             representation,
             format: Format::Flat,
         };
-        count_of_root(plan, root)
+        count_of_root(build, root)
     }
 
-    // The schema that a plan makes.
-    pub(crate) fn of_plan(plan: Plan<'c>, root: ShapeId) -> Result<Schema<'c>, SchemaError<'c>>
-        requires { root < length plan.shapes.now }
-        ensures built { IfOk result (IsBuilt (settings_of plan.entry) plan.entry.shapes.now root) }
-        ensures refused { IfErr result (IsRefusal (settings_of plan.entry) plan.entry.shapes.now root) }
+    // The schema of a root, by what a build goes by.
+    pub(crate) fn of_build(build: Build<'c>, root: ShapeId) -> Result<Schema<'c>, SchemaError<'c>>
+        requires { root < length build.shapes.now }
+        ensures built { IfOk result (IsBuilt (build_of build.entry) root) }
+        ensures refused { IfErr result (IsRefusal (build_of build.entry) root) }
     {
+        let made = resolutions(build, root)?;
         Ok(Schema {
-            shapes: plan.shapes,
+            shapes: build.shapes,
             root,
-            representation: plan.representation,
-            format: plan.format,
-            resolutions: resolutions(plan, root)?,
+            representation: build.representation,
+            format: build.format,
+            resolutions: made,
         })
     }
 
@@ -162,14 +170,14 @@ impl<'c> Schema<'c> {
 
     /// What kind of document the schema is for.
     pub fn format(&self) -> Format
-        ensures { result ≡ self.now.settings.format }
+        ensures { result ≡ self.now.build.format }
     {
         self.format
     }
 
     /// The catalogue.
     pub fn shapes(&self) -> &'c Shapes
-        ensures { result.now ≡ self.now.catalogue }
+        ensures { result.now ≡ self.now.build.catalogue }
     {
         self.shapes
     }

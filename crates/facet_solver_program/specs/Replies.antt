@@ -10,9 +10,9 @@ use Rattle.facet_solver.specs.Keys.{flat_key}
 use Rattle.facet_solver.specs.Names.{Name}
 use Rattle.facet_solver.specs.Resolved.{Resolved}
 use Rattle.facet_solver.specs.Choice.{IsClash}
-use Rattle.facet_solver.specs.Emissions.{Path}
+use Rattle.facet_solver.specs.Place.{Path}
 use Rattle.facet_solver.specs.Representation.{flattened}
-use Rattle.facet_solver.specs.SchemaView.{SchemaView, IsBuilt, flat_settings}
+use Rattle.facet_solver.specs.SchemaView.{SchemaView, IsBuilt, flat_build}
 use Rattle.facet_solver.specs.State.{State, at_first, told}
 use Rattle.facet_solver.specs.Targets.{Catalogue}
 use Rattle.facet_solver.specs.Verdict.{viable}
@@ -60,8 +60,8 @@ IsVerdict schema names _ = ⊥
 -- else the root has a schema, of which the rest is said
 abbrev pub IsEnding : Catalogue → ℕ → List Name → Ending → Type 0
 IsEnding shapes root names (bad_catalogue fault) = IsFirstFault shapes fault
-IsEnding shapes root names duplicate_field = (name : Name) × (first : Path) × (second : Path) × IsClash (flat_settings (Some flattened)) shapes root name first second
-IsEnding shapes root names o = (schema : SchemaView) × IsBuilt (flat_settings (Some flattened)) shapes root schema × IsVerdict schema names o
+IsEnding shapes root names duplicate_field = (name : Name) × (first : Path) × (second : Path) × IsClash (flat_build shapes (Some flattened)) root name first second
+IsEnding shapes root names o = (schema : SchemaView) × IsBuilt (flat_build shapes (Some flattened)) root schema × IsVerdict schema names o
 
 -- the end that an error of the solver is
 abbrev pub IsErrorAs : SolverError → Ending → Type 0

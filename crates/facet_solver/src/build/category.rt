@@ -1,6 +1,6 @@
 //! The category of what a build adds to a resolution.
 ghost use Rattle.std.specs.Prelude.{◌≡◌};
-ghost use Rattle.facet_solver.specs.Categories as categories;
+ghost use Rattle.facet_solver.specs.Representation as categories;
 
 use crate::build::representation::Format;
 use facet_solver_shape::{DomMark, FieldCategory};
@@ -31,8 +31,8 @@ impl Format {
     }
 
     /// The category of a field with a mark that takes what no other field takes.
-    pub(crate) fn rest_category(self, mark: DomMark) -> FieldCategory
-        ensures { result ≡ categories.rest_category self mark }
+    pub(crate) fn catch_all_category(self, mark: DomMark) -> FieldCategory
+        ensures { result ≡ categories.catch_all_category self mark }
     {
         match (self, mark) {
             (Format::Flat, _) => FieldCategory::Flat,

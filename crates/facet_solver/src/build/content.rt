@@ -4,7 +4,7 @@ ghost use Rattle.std.specs.Option.{option_copied, option_map};
 ghost use Rattle.facet_solver_shape.specs.Places.{NamesEarlier};
 ghost use Rattle.facet_solver.specs.Targets as targets;
 ghost use Rattle.facet_solver.specs.Content as content;
-ghost use Rattle.facet_solver.specs.Newtype.{IsNewtypeOf};
+ghost use Rattle.facet_solver.specs.Content.{IsNewtypeOf};
 
 use facet_solver_shape::{Field, ShapeId, ShapeKind, Shapes, Variant};
 
@@ -26,7 +26,8 @@ pub(crate) fn effective(shapes: &Shapes, id: ShapeId) -> ShapeId
 /// The place of the struct behind a single field `0`.
 pub(crate) fn newtype_struct(shapes: &Shapes, fields: &[Field]) -> Option<ShapeId>
     requires { NamesEarlier shapes.now }
-    ensures { MatchOption result (content.newtype_fields shapes.now fields.now ≡ None) (IsNewtypeOf shapes.now fields.now) }
+    ensures { let found = content.newtype_fields shapes.now fields.now in
+        MatchOption result (found ≡ None) (IsNewtypeOf shapes.now fields.now) }
 {
     let [field] = fields else {
         return None;

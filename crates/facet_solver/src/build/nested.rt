@@ -7,7 +7,7 @@ ghost use Rattle.facet_solver.specs.Nested as nested;
 ghost use Rattle.facet_solver.specs.KeyPaths.{with_key_paths, with_paths_behind};
 ghost use Rattle.facet_solver.specs.EnteredView.{entered_view};
 
-use crate::build::plan::Plan;
+use crate::build::Build;
 use facet_solver_shape::{Field, KeyPath, Resolution, ShapeId, ShapeKind, Shapes, Variant};
 use std::alloc::{AllocError, Global};
 
@@ -36,7 +36,7 @@ impl Entered {
 
 /// Adds the key paths under the shape of a regular field, behind the field's name.
 pub(crate) fn add_nested_paths<'c>(
-    plan: Plan<'c>,
+    plan: Build<'c>,
     name: &'c str,
     id: ShapeId,
     resolution: &mut Resolution<'c>,
@@ -50,7 +50,7 @@ pub(crate) fn add_nested_paths<'c>(
 /// Adds the key paths under the content of a variant that is written apart from its enum's siblings, behind the name
 /// that holds the content.
 pub(crate) fn add_content_paths<'c>(
-    plan: Plan<'c>,
+    plan: Build<'c>,
     name: &'c str,
     variant: &'c Variant,
     resolution: &mut Resolution<'c>,
@@ -64,7 +64,7 @@ pub(crate) fn add_content_paths<'c>(
 /// Adds the key paths under a shape where it is entered, each behind the prefix.
 #[cycle(nested)]
 fn add_if_entered<'c>(
-    plan: Plan<'c>,
+    plan: Build<'c>,
     entered: Entered,
     id: ShapeId,
     prefix: &[&'c str],
@@ -84,7 +84,7 @@ fn add_if_entered<'c>(
 /// Adds those under a shape, entered or not.
 #[cycle(nested)]
 fn add_under_shape<'c>(
-    plan: Plan<'c>,
+    plan: Build<'c>,
     entered: Entered,
     id: ShapeId,
     prefix: &[&'c str],
@@ -111,7 +111,7 @@ fn add_under_shape<'c>(
 /// Adds those under variants, one after another.
 #[cycle(nested)]
 fn add_under_variants<'c>(
-    plan: Plan<'c>,
+    plan: Build<'c>,
     entered: Entered,
     variants: &'c [Variant],
     prefix: &[&'c str],
@@ -130,7 +130,7 @@ fn add_under_variants<'c>(
 /// Adds those under a variant.
 #[cycle(nested)]
 fn add_under_variant<'c>(
-    plan: Plan<'c>,
+    plan: Build<'c>,
     entered: Entered,
     variant: &'c Variant,
     prefix: &[&'c str],
@@ -153,7 +153,7 @@ fn add_under_variant<'c>(
 /// Adds those through fields, one after another.
 #[cycle(nested)]
 fn add_through_fields<'c>(
-    plan: Plan<'c>,
+    plan: Build<'c>,
     entered: Entered,
     fields: &'c [Field],
     prefix: &[&'c str],
@@ -172,7 +172,7 @@ fn add_through_fields<'c>(
 /// Adds those through a field.
 #[cycle(nested)]
 fn add_through_field<'c>(
-    plan: Plan<'c>,
+    plan: Build<'c>,
     entered: Entered,
     field: &'c Field,
     prefix: &[&'c str],

@@ -1,12 +1,12 @@
 //! Where the walk of one choice stands, and what was chosen there.
-ghost use Rattle.std.specs.Prelude.{◌≡◌, ◌++◌, ◌∷◌, [], codes, false, string_bytes, IfOk};
-ghost use Rattle.facet_solver_shape.specs.Paths.{by_field, by_variant};
-ghost use Rattle.facet_solver.specs.Emissions as emissions;
+ghost use Rattle.std.specs.Prelude.{◌≡◌, ◌∷◌, [], codes, IfOk};
+ghost use Rattle.facet_solver_shape.specs.Paths.{by_field};
+ghost use Rattle.facet_solver.specs.Place as places;
+ghost use Rattle.facet_solver.specs.Place.{chosen_of};
 
-use crate::build::plan::Plan;
-use crate::build::role::is_option;
+use crate::build::role::Target;
 use facet_solver_shape::{Field, FieldPath, Shape, Variant};
-use std::alloc::AllocError;
+use std::alloc::{AllocError, Global};
 
 /// Where fields stand.
 #[derive(Drop)]
@@ -21,105 +21,104 @@ pub(crate) struct Place<'c> {
 #[derive(Clone, Copy)]
 pub(crate) struct Chosen<'c> {
     pub(crate) field: &'c Field,
+    pub(crate) target: Target,
     pub(crate) shape: &'c Shape,
     pub(crate) variant: &'c Variant,
 }
 
 impl<'c> Place<'c> {
     /// Where the fields of a root struct stand.
-    pub(crate) fn root(plan: Plan<'c>) -> Place<'c>
-        ensures path { result.path ≡ [] }
-        ensures unwrapped { result.unwrapped ≡ false }
+    pub(crate) fn root(alloc: Global) -> Place<'c>
+        ensures { result ≡ places.at_root }
     {
         Place {
-            path: FieldPath::empty(plan.alloc),
+            path: FieldPath::empty(alloc),
             unwrapped: false,
         }
     }
 
     /// Where the fields of a root enum's variant stand.
     pub(crate) fn root_variant(
-        plan: Plan<'c>,
+        alloc: Global,
         variant: &'c Variant,
     ) -> Result<Place<'c>, AllocError>
-        ensures path { IfOk result (λ inside. inside.path ≡ by_variant [] (string_bytes variant.now.name) ∷ []) }
-        ensures unwrapped { IfOk result (λ inside. inside.unwrapped ≡ false) }
+        ensures { IfOk result (λ inside. inside ≡ places.at_root_variant variant.now) }
     {
-        let path = FieldPath::empty(plan.alloc);
+        let path = FieldPath::empty(alloc);
         Ok(Place {
-            path: path.push_variant(plan.alloc, "", &variant.name)?,
+            path: path.push_variant(alloc, "", &variant.name)?,
             unwrapped: false,
         })
     }
 
-    /// Whether an option was unwrapped at a field here or further out.
-    pub(crate) fn unwrapped_at(&self, plan: Plan<'c>, field: &'c Field) -> bool
-        ensures { result ≡ emissions.unwrapped_at plan.entry.shapes.now field.now self.now.unwrapped }
+    /// Whether an option was unwrapped at a flattened field or further out.
+    pub(crate) fn unwrapped_at(&self, target: Target) -> bool
+        ensures { result ≡ places.unwrapped_at self.now target }
     {
-        self.unwrapped || is_option(plan.shapes, field.shape)
+        self.unwrapped || target.optional
     }
 
     /// The path of a field here.
     pub(crate) fn field_path(
         &self,
-        plan: Plan<'c>,
+        alloc: Global,
         field: &'c Field,
     ) -> Result<FieldPath<'c>, AllocError>
-        ensures { IfOk result (λ path. path ≡ emissions.field_path self.now.path field.now) }
+        ensures { IfOk result (λ path. path ≡ places.field_path self.now field.now) }
     {
-        self.path.push_field(plan.alloc, &field.name)
+        self.path.push_field(alloc, &field.name)
     }
 
     /// The path of a chosen variant's alternative.
     pub(crate) fn variant_path(
         &self,
-        plan: Plan<'c>,
-        chosen: Chosen<'c>,
+        alloc: Global,
+        chosen: &Chosen<'c>,
     ) -> Result<FieldPath<'c>, AllocError>
-        ensures { IfOk result (λ path. path ≡ emissions.variant_path self.now.path chosen.entry.field.now chosen.entry.variant.now) }
+        ensures { IfOk result (λ path. path ≡ places.variant_path self.now (chosen_of chosen.now)) }
     {
         let field = chosen.field;
-        self.field_path(plan, field)?
-            .push_variant(plan.alloc, &field.name, &chosen.variant.name)
+        self.field_path(alloc, field)?
+            .push_variant(alloc, &field.name, &chosen.variant.name)
     }
 
     /// Where the fields stand that a field here flattens.
     pub(crate) fn inside_field(
         &self,
-        plan: Plan<'c>,
+        alloc: Global,
         field: &'c Field,
+        target: Target,
     ) -> Result<Place<'c>, AllocError>
-        ensures path { IfOk result (λ inside. inside.path ≡ emissions.field_path self.now.path field.now) }
-        ensures unwrapped { IfOk result (λ inside. inside.unwrapped ≡ emissions.unwrapped_at plan.entry.shapes.now field.now self.now.unwrapped) }
+        ensures { IfOk result (λ inside. inside ≡ places.inside_field self.now field.now target) }
     {
         Ok(Place {
-            path: self.field_path(plan, field)?,
-            unwrapped: self.unwrapped_at(plan, field),
+            path: self.field_path(alloc, field)?,
+            unwrapped: self.unwrapped_at(target),
         })
     }
 
     /// Where the fields of a chosen variant stand.
     pub(crate) fn inside_variant(
         &self,
-        plan: Plan<'c>,
-        chosen: Chosen<'c>,
+        alloc: Global,
+        chosen: &Chosen<'c>,
     ) -> Result<Place<'c>, AllocError>
-        ensures path { IfOk result (λ inside. inside.path ≡ emissions.variant_path self.now.path chosen.entry.field.now chosen.entry.variant.now) }
-        ensures unwrapped { IfOk result (λ inside. inside.unwrapped ≡ emissions.unwrapped_at plan.entry.shapes.now chosen.entry.field.now self.now.unwrapped) }
+        ensures { IfOk result
+            (λ inside. inside ≡ places.inside_variant self.now (chosen_of chosen.now)) }
     {
         Ok(Place {
-            path: self.variant_path(plan, chosen)?,
-            unwrapped: self.unwrapped_at(plan, chosen.field),
+            path: self.variant_path(alloc, chosen)?,
+            unwrapped: self.unwrapped_at(chosen.target),
         })
     }
 
     /// Where the fields of the struct stand that is the only field, `0`, of a variant here.
-    pub(crate) fn inside_newtype(&self, plan: Plan<'c>) -> Result<Place<'c>, AllocError>
-        ensures path { IfOk result (λ inside. inside.path ≡ self.now.path ++ by_field (codes "0") ∷ []) }
-        ensures unwrapped { IfOk result (λ inside. inside.unwrapped ≡ self.now.unwrapped) }
+    pub(crate) fn inside_newtype(&self, alloc: Global) -> Result<Place<'c>, AllocError>
+        ensures { IfOk result
+            (λ inside. inside ≡ places.further self.now (by_field (codes "0") ∷ [])) }
     {
         Ok(Place {
-            path: self.path.push_field(plan.alloc, "0")?,
+            path: self.path.push_field(alloc, "0")?,
             unwrapped: self.unwrapped,
         })
     }

@@ -1,11 +1,18 @@
 //! What a field is to the fields that it stands among, by the kind of its target.
 ghost use Rattle.std.specs.Prelude.{◌≡◌, slice_get};
-ghost use Rattle.std.specs.Option.{option_copied};
 ghost use Rattle.facet_solver.specs.Targets as targets;
 ghost use Rattle.facet_solver.specs.Roles as roles;
-ghost use Rattle.facet_solver.specs.RoleView.{role_view};
+ghost use Rattle.facet_solver.specs.Roles.{role_view};
 
 use facet_solver_shape::{Field, Shape, ShapeId, ShapeKind, Shapes, Variant};
+
+/// What a flattened field leads to: the inside of its shape where that is an option, else its shape.
+#[derive(Clone, Copy)]
+pub(crate) struct Target {
+    pub(crate) shape: ShapeId,
+    /// Whether the field's shape is an option.
+    pub(crate) optional: bool,
+}
 
 /// What a field is to the fields that it stands among.
 #[derive(Clone, Copy)]
@@ -13,25 +20,31 @@ pub(crate) enum Role<'c> {
     /// A field of its own.
     Regular,
     /// Flattened: the fields of a struct.
-    Block(&'c [Field]),
+    Block(Target, &'c [Field]),
     /// Flattened: the variants of an enum.
-    Alternatives(&'c Shape, &'c [Variant]),
+    Alternatives(Target, &'c Shape, &'c [Variant]),
     /// Flattened: a map or dynamic value, which takes what no field takes.
-    Rest,
+    CatchAll(Target),
     /// Flattened: any other shape.
-    Leaf,
+    Leaf(Target),
 }
 
-/// The target of a field: the inside of its shape where that is an option, else its shape.
-pub(crate) fn target_of(shapes: &Shapes, field: &Field) -> ShapeId
-    ensures { result ≡ targets.target_of shapes.now field.now }
+/// The target of a flattened field.
+fn target_of(shapes: &Shapes, field: &Field) -> Target
+    ensures { result ≡ roles.target_of shapes.now field.now }
 {
     if let Some(shape) = shapes.get(field.shape)
         && let ShapeKind::Option(inside) = &shape.kind
     {
-        return *inside;
+        return Target {
+            shape: *inside,
+            optional: true,
+        };
     }
-    field.shape
+    Target {
+        shape: field.shape,
+        optional: false,
+    }
 }
 
 /// Whether a shape is an option.
@@ -44,20 +57,21 @@ pub(crate) fn is_option(shapes: &Shapes, id: ShapeId) -> bool
     }
 }
 
-/// The role of a field.
+/// The role of a field. Whether an option is unwrapped is decided here alone.
 pub(crate) fn role_of<'c>(shapes: &'c Shapes, field: &'c Field) -> Role<'c>
     ensures { role_view result ≡ roles.role_of shapes.now field.now }
 {
     if !field.flattened {
         return Role::Regular;
     }
-    let Some(shape) = shapes.get(target_of(shapes, field)) else {
-        return Role::Leaf;
+    let target = target_of(shapes, field);
+    let Some(shape) = shapes.get(target.shape) else {
+        return Role::Leaf(target);
     };
     match &shape.kind {
-        ShapeKind::Struct { fields, .. } => Role::Block(fields.as_slice()),
-        ShapeKind::Enum { variants } => Role::Alternatives(shape, variants.as_slice()),
-        ShapeKind::Map(_, _) | ShapeKind::DynamicValue => Role::Rest,
-        _ => Role::Leaf,
+        ShapeKind::Struct { fields, .. } => Role::Block(target, fields.as_slice()),
+        ShapeKind::Enum { variants } => Role::Alternatives(target, shape, variants.as_slice()),
+        ShapeKind::Map(_, _) | ShapeKind::DynamicValue => Role::CatchAll(target),
+        _ => Role::Leaf(target),
     }
 }

@@ -1,47 +1,49 @@
 //! The walk of one choice, which fills one resolution.
 ghost use Rattle.std.specs.Prelude.{◌≡◌, ◌<◌, ◌∷◌, IsSome, length, slice_get, slice_index};
 ghost use Rattle.facet_solver_shape.specs.Places.{NamesEarlier, FieldsBelow};
-ghost use Rattle.facet_solver.specs.Filling.{Walks};
-ghost use Rattle.facet_solver.specs.Outcome.{effect};
-ghost use Rattle.facet_solver.specs.PlanView.{settings_of};
+ghost use Rattle.facet_solver.specs.Outcome.{Walks, effect};
+ghost use Rattle.facet_solver.specs.Build.{build_of};
+ghost use Rattle.facet_solver.specs.Place.{chosen_of};
 ghost use Rattle.facet_solver.specs.Walk as walk;
 
 use crate::build::content::newtype_fields;
 use crate::build::emit::{emit_plain, emit_variant};
 use crate::build::place::{Chosen, Place};
-use crate::build::plan::Plan;
+use crate::build::Build;
 use crate::build::role::{Role, role_of};
 use facet_solver_shape::{Field, Resolution, SchemaError, Variant};
 
-/// The variant that the next number names, and the numbers behind it.
+/// The variant that the next index names, and the indices behind it.
 pub(crate) fn next_variant<'c, 'n>(
     variants: &'c [Variant],
-    numbers: &'n [usize],
+    indices: &'n [usize],
 ) -> (&'c Variant, &'n [usize])
-    requires { walk.HasChoice variants.now numbers.now }
-    ensures variant { slice_get variants.now (slice_index numbers.now 0) ≡ Some result.0.now }
-    ensures rest { numbers.now ≡ slice_index numbers.now 0 ∷ result.1.now }
+    requires { walk.HasChoice variants.now indices.now }
+    ensures variant { slice_get variants.now (slice_index indices.now 0) ≡ Some result.0.now }
+    ensures rest { indices.now ≡ slice_index indices.now 0 ∷ result.1.now }
 {
-    (&variants[numbers[0]], &numbers[1..])
+    (&variants[indices[0]], &indices[1..])
 }
 
-/// Walks fields in order, each with the numbers that the one before it left, and answers those that the last one left.
+/// Walks fields in order, each with the indices that the one before it left, and answers those that the last one left.
 #[cycle(walk)]
 pub(crate) fn walk_fields<'c, 'n>(
-    plan: Plan<'c>,
+    build: Build<'c>,
     fields: &'c [Field],
     place: &Place<'c>,
-    numbers: &'n [usize],
+    indices: &'n [usize],
     resolution: &mut Resolution<'c>,
 ) -> Result<&'n [usize], SchemaError<'c>>
-    requires checked { NamesEarlier plan.shapes.now }
-    requires below { FieldsBelow (length plan.shapes.now) fields.now }
-    requires walked { IsSome (walk.walk (settings_of plan) plan.shapes.now fields.now place.now.path place.now.unwrapped numbers.now) }
-    ensures { Walks (effect resolution.old (walk.walk (settings_of plan.entry) plan.entry.shapes.now fields.now place.now.path place.now.unwrapped numbers.now)) result resolution.new }
+    requires checked { NamesEarlier build.shapes.now }
+    requires below { FieldsBelow (length build.shapes.now) fields.now }
+    requires walked { IsSome (walk.walk_fields (build_of build) fields.now place.now indices.now) }
+    ensures { let walked =
+        walk.walk_fields (build_of build.entry) fields.now place.now indices.now in
+        Walks (effect resolution.old walked) result resolution.new }
 {
-    let mut rest = numbers;
+    let mut rest = indices;
     for field in fields {
-        rest = walk_field(plan, field, place, rest, resolution)?;
+        rest = walk_field(build, field, place, rest, resolution)?;
     }
     Ok(rest)
 }
@@ -49,35 +51,37 @@ pub(crate) fn walk_fields<'c, 'n>(
 /// Walks one field.
 #[cycle(walk)]
 fn walk_field<'c, 'n>(
-    plan: Plan<'c>,
+    build: Build<'c>,
     field: &'c Field,
     place: &Place<'c>,
-    numbers: &'n [usize],
+    indices: &'n [usize],
     resolution: &mut Resolution<'c>,
 ) -> Result<&'n [usize], SchemaError<'c>>
-    requires checked { NamesEarlier plan.shapes.now }
-    requires below { field.now.shape < length plan.shapes.now }
-    requires walked { IsSome (walk.walk_at (settings_of plan) plan.shapes.now field.now place.now.path place.now.unwrapped numbers.now) }
-    ensures { Walks (effect resolution.old (walk.walk_at (settings_of plan.entry) plan.entry.shapes.now field.now place.now.path place.now.unwrapped numbers.now)) result resolution.new }
+    requires checked { NamesEarlier build.shapes.now }
+    requires below { field.now.shape < length build.shapes.now }
+    requires walked { IsSome (walk.walk_field (build_of build) field.now place.now indices.now) }
+    ensures { let walked = walk.walk_field (build_of build.entry) field.now place.now indices.now in
+        Walks (effect resolution.old walked) result resolution.new }
 {
-    let role = role_of(plan.shapes, field);
+    let role = role_of(build.shapes, field);
     match role {
-        Role::Block(fields) => {
-            let inside = place.inside_field(plan, field)?;
-            walk_fields(plan, fields, &inside, numbers, resolution)
+        Role::Block(target, fields) => {
+            let inside = place.inside_field(build.alloc, field, target)?;
+            walk_fields(build, fields, &inside, indices, resolution)
         }
-        Role::Alternatives(shape, variants) => {
-            let (variant, rest) = next_variant(variants, numbers);
+        Role::Alternatives(target, shape, variants) => {
+            let (variant, rest) = next_variant(variants, indices);
             let chosen = Chosen {
                 field,
+                target,
                 shape,
                 variant,
             };
-            walk_variant(plan, chosen, place, rest, resolution)
+            walk_variant(build, &chosen, place, rest, resolution)
         }
-        Role::Regular | Role::Rest | Role::Leaf => {
-            emit_plain(plan, role, field, place, resolution)?;
-            Ok(numbers)
+        Role::Regular | Role::CatchAll(_) | Role::Leaf(_) => {
+            emit_plain(build, &role, field, place, resolution)?;
+            Ok(indices)
         }
     }
 }
@@ -85,46 +89,51 @@ fn walk_field<'c, 'n>(
 /// Walks a flattened enum at a chosen variant: the pick, the selector, and the content where it stands at this level.
 #[cycle(walk)]
 fn walk_variant<'c, 'n>(
-    plan: Plan<'c>,
-    chosen: Chosen<'c>,
+    build: Build<'c>,
+    chosen: &Chosen<'c>,
     place: &Place<'c>,
-    numbers: &'n [usize],
+    indices: &'n [usize],
     resolution: &mut Resolution<'c>,
 ) -> Result<&'n [usize], SchemaError<'c>>
-    requires checked { NamesEarlier plan.shapes.now }
-    requires below { FieldsBelow (length plan.shapes.now) chosen.variant.now.fields.items }
-    requires walked { IsSome (walk.walk_chosen (settings_of plan) plan.shapes.now chosen.field.now chosen.shape.now chosen.variant.now place.now.path place.now.unwrapped numbers.now) }
-    ensures { Walks (effect resolution.old (walk.walk_chosen (settings_of plan.entry) plan.entry.shapes.now chosen.entry.field.now chosen.entry.shape.now chosen.entry.variant.now
-        place.now.path place.now.unwrapped numbers.now)) result resolution.new }
+    requires checked { NamesEarlier build.shapes.now }
+    requires below { FieldsBelow (length build.shapes.now) chosen.now.variant.now.fields.items }
+    requires walked { IsSome
+        (walk.walk_variant (build_of build) (chosen_of chosen.now) place.now indices.now) }
+    ensures { let walked =
+        walk.walk_variant (build_of build.entry) (chosen_of chosen.now) place.now indices.now in
+        Walks (effect resolution.old walked) result resolution.new }
 {
-    emit_variant(plan, chosen, place, resolution)?;
-    if plan.walks_content(chosen.shape) {
-        let inside = place.inside_variant(plan, chosen)?;
-        walk_content(plan, chosen.variant, &inside, numbers, resolution)
+    emit_variant(build, chosen, place, resolution)?;
+    if build.walks_content(chosen.shape) {
+        let inside = place.inside_variant(build.alloc, chosen)?;
+        walk_content(build, chosen.variant, &inside, indices, resolution)
     } else {
-        Ok(numbers)
+        Ok(indices)
     }
 }
 
 /// Walks the content of a variant.
 #[cycle(walk)]
 pub(crate) fn walk_content<'c, 'n>(
-    plan: Plan<'c>,
+    build: Build<'c>,
     variant: &'c Variant,
     place: &Place<'c>,
-    numbers: &'n [usize],
+    indices: &'n [usize],
     resolution: &mut Resolution<'c>,
 ) -> Result<&'n [usize], SchemaError<'c>>
-    requires checked { NamesEarlier plan.shapes.now }
-    requires below { FieldsBelow (length plan.shapes.now) variant.now.fields.items }
-    requires walked { IsSome (walk.walk_inside (settings_of plan) plan.shapes.now variant.now place.now.path place.now.unwrapped numbers.now) }
-    ensures { Walks (effect resolution.old (walk.walk_inside (settings_of plan.entry) plan.entry.shapes.now variant.now place.now.path place.now.unwrapped numbers.now)) result resolution.new }
+    requires checked { NamesEarlier build.shapes.now }
+    requires below { FieldsBelow (length build.shapes.now) variant.now.fields.items }
+    requires walked { IsSome
+        (walk.walk_content (build_of build) variant.now place.now indices.now) }
+    ensures { let walked =
+        walk.walk_content (build_of build.entry) variant.now place.now indices.now in
+        Walks (effect resolution.old walked) result resolution.new }
 {
-    match newtype_fields(plan.shapes, &variant.fields) {
+    match newtype_fields(build.shapes, &variant.fields) {
         Some(fields) => {
-            let inside = place.inside_newtype(plan)?;
-            walk_fields(plan, fields, &inside, numbers, resolution)
+            let inside = place.inside_newtype(build.alloc)?;
+            walk_fields(build, fields, &inside, indices, resolution)
         }
-        None => walk_fields(plan, &variant.fields, place, numbers, resolution),
+        None => walk_fields(build, &variant.fields, place, indices, resolution),
     }
 }

@@ -3,4 +3,4 @@ use Rattle.facet_solver.proofs.OwnSteps.{walk-is_step}
 use Rattle.facet_solver.proofs.laws.walks_follow_their_fields.Goals as goal
 
 pub returns : goal.returns
-returns c = λ settings cat checked. walk-is_step cat (names_earlier cat checked) settings
+returns c = λ build checked. walk-is_step build (names_earlier build.catalogue checked)

@@ -7,7 +7,7 @@ use Rattle.facet_solver.specs.declared.error.SolverError.{SolverError}
 use Rattle.facet_solver.specs.declared.error.SolverError.TheVariants.{NoMatch, Ambiguous, OutOfMemory}
 use Rattle.facet_solver.specs.Report.{IsReportOn}
 use Rattle.facet_solver.specs.Representation.{flattened}
-use Rattle.facet_solver.specs.SchemaView.{SchemaView, IsBuilt, flat_settings}
+use Rattle.facet_solver.specs.SchemaView.{SchemaView, IsBuilt, flat_build}
 use Rattle.facet_solver.specs.State.{State, at_first, told}
 use Rattle.facet_solver.specs.Targets.{Catalogue}
 use Rattle.facet_solver.specs.Verdict.{viable}
@@ -32,7 +32,7 @@ module _ (schema : SchemaView) (names : List Name) (first last : State) (first_i
   kept = ap (λ s. s.schema) at_last ∙ told_names-schema (at_first schema) names
 
   -- what an error of the solver says of the root
-  ended : (shapes : Catalogue) (root : ℕ) → IsBuilt (flat_settings (Some flattened)) shapes root schema
+  ended : (shapes : Catalogue) (root : ℕ) → IsBuilt (flat_build shapes (Some flattened)) root schema
       → (error : SolverError) (o : Ending) → IsReportOn last error → IsErrorAs error o → IsEnding shapes root names o
   ended shapes root built (NoMatch _ _ _ _ _ _) o report is = subst (IsEnding shapes root names) (sym is) (schema, built, sym left ∙ report)
   ended shapes root built (Ambiguous _ _) o report is = subst (IsEnding shapes root names) (sym is) (schema, built, subst (λ is. 1 < length is) left report.0)

@@ -1,7 +1,6 @@
 use Rattle.std.proofs.Common.{◌≡◌, ◌++◌, drop, ◌+◌, ◌*◌}
-use Rattle.facet_solver.specs.Listing.{product, numbered, choices_below, choices_of_variant, choices_among}
-use Rattle.facet_solver.specs.ChoiceLists.{lists}
-use Rattle.facet_solver.specs.PlanView.{settings_of}
+use Rattle.facet_solver.specs.Listing.{product, indexed, choices_of_fields, choices_of_variant, choices_of_variants, lists}
+use Rattle.facet_solver.specs.Build.{build_of}
 use Rattle.facet_solver.proofs.Limits.{limit_of, limit_of_variants}
 use Rattle.facet_solver.proofs.Products.{choices_left}
 use Rattle.facet_solver.proofs.build.choices.+choices.Given as goal
@@ -17,10 +16,10 @@ decreases-choices_of_variants l = 3 * limit_of_variants l.variants.now + 2
 
 abbrev pub invariant-choices_of_fields-loop-field : goal.invariant-choices_of_fields-loop-field
 invariant-choices_of_fields-loop-field l =
-    product (lists l.found.items) (choices_left (settings_of l.plan) l.plan.shapes.now (drop l.field-index l.fields))
-    ≡ choices_below (settings_of l.plan) l.plan.shapes.now l.fields
+    product (lists l.found.items) (choices_left (build_of l.build) (drop l.field-index l.fields))
+    ≡ choices_of_fields (build_of l.build) l.fields
 
-abbrev pub invariant-choices_of_variants-loop-place : goal.invariant-choices_of_variants-loop-place
-invariant-choices_of_variants-loop-place l =
-    lists l.found.items ++ numbered l.place (choices_of_variant (choices_below (settings_of l.plan) l.plan.shapes.now) l.plan.shapes.now l.walked) (drop l.place l.variants)
-    ≡ choices_among (settings_of l.plan) l.plan.shapes.now l.walked l.variants
+abbrev pub invariant-choices_of_variants-loop-index : goal.invariant-choices_of_variants-loop-index
+invariant-choices_of_variants-loop-index l =
+    lists l.found.items ++ indexed l.index (choices_of_variant (choices_of_fields (build_of l.build)) l.build.shapes.now l.walked) (drop l.index l.variants)
+    ≡ choices_of_variants (build_of l.build) l.walked l.variants

@@ -1,5 +1,5 @@
 use Rattle.std.proofs.Common.{◌≡◌, ◌++◌, map, drop}
-use Rattle.facet_solver.specs.ChoiceLists.{lists}
+use Rattle.facet_solver.specs.Listing.{lists}
 use Rattle.facet_solver.proofs.build.choices.append_each.Given as goal
 
 abbrev pub invariant-loop-second : goal.invariant-loop-second

@@ -1,5 +1,5 @@
 use Rattle.std.proofs.Common.{◌≡◌, ◌++◌, drop}
-use Rattle.facet_solver.specs.ChoiceLists.{lists}
+use Rattle.facet_solver.specs.Listing.{lists}
 use Rattle.facet_solver.specs.Listing as choices
 use Rattle.facet_solver.proofs.build.choices.product.Given as goal
 

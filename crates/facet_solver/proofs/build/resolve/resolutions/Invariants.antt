@@ -1,9 +1,10 @@
 use Rattle.std.proofs.Common.{take}
-use Rattle.facet_solver.specs.Choice.{ResolvesEach}
-use Rattle.facet_solver.specs.ChoiceLists.{lists}
-use Rattle.facet_solver.specs.PlanView.{settings_of}
+use Rattle.facet_solver.specs.Choice.{IsResolution}
+use Rattle.facet_solver.specs.Listing.{lists}
+use Rattle.facet_solver.specs.Build.{build_of}
 use Rattle.facet_solver.proofs.build.resolve.resolutions.Given as goal
+use Rattle.std.specs.List.{AllZip}
 
 abbrev pub invariant-loop-choice : goal.invariant-loop-choice
 invariant-loop-choice l =
-    ResolvesEach (settings_of l.plan) l.plan.shapes.now l.root (lists (take l.choice-index l.choice-items)) l.resolutions.items
+    AllZip (IsResolution (build_of l.build) l.root) (lists (take l.choice-index l.choice-items)) l.resolutions.items

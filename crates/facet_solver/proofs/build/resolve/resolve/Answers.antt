@@ -2,28 +2,25 @@ use Rattle.std.proofs.Common.{ap, ◌∙◌, sym, subst}
 use Rattle.std.proofs.lemmas.Result.{err_from_is_err_and}
 use Rattle.facet_solver.specs.Walk.{walk_root}
 use Rattle.facet_solver_shape.specs.Resolved.{Resolved}
-use Rattle.facet_solver.specs.Outcome.{effect}
-use Rattle.facet_solver.specs.Filling.{StopsBy}
-use Rattle.facet_solver.specs.PlanView.{settings_of}
+use Rattle.facet_solver.specs.Outcome.{effect, StopsBy}
+use Rattle.facet_solver.specs.Build.{build_of}
 use Rattle.facet_solver.proofs.Enumerations.{choice-walked, resolution-is, stops-clash}
 use Rattle.facet_solver.proofs.build.resolve.resolve.Goals as goal
 
 pub walk_root-requires-clause-walked : goal.walk_root-requires-clause-walked
 walk_root-requires-clause-walked c =
-    choice-walked (settings_of c.args.plan) c.args.plan.shapes.now c.args.root c.args.choice.now c.requires.choice
+    choice-walked (build_of c.args.build) c.args.root c.args.choice.now c.requires.choice
 
 pub returns-in_err-walk_root-clause-refused : goal.returns-in_err-walk_root-clause-refused
 returns-in_err-walk_root-clause-refused c =
-    let settings = settings_of c.args.plan in
-    let cat = c.args.plan.shapes.now in
+    let build = build_of c.args.build in
     let p = err_from_is_err_and c.from_residual.result c.from_residual.ensures.1 in
     rw (p.1, p.2)
-    (stops-clash settings cat c.args.root c.args.choice.now _ c.requires.choice
-    (subst (λ (r : Resolved). StopsBy (effect r (walk_root settings cat c.args.root c.args.choice.now)) c.in_err-walk_root.field-0.0) c.new-resolution.ensures c.in_err-walk_root.ensures))
+    (stops-clash build c.args.root c.args.choice.now _ c.requires.choice
+    (subst (λ (r : Resolved). StopsBy (effect r (walk_root build c.args.root c.args.choice.now)) c.in_err-walk_root.field-0.0) c.new-resolution.ensures c.in_err-walk_root.ensures))
 
 pub returns-clause-resolved : goal.returns-clause-resolved
 returns-clause-resolved c =
-    let settings = settings_of c.args.plan in
-    let cat = c.args.plan.shapes.now in
-    resolution-is settings cat c.args.root c.args.choice.now c.in_ok-walk_root.field-0.now _ c.requires.choice
-    (ap (λ (r : Resolved). effect r (walk_root settings cat c.args.root c.args.choice.now)) (sym c.new-resolution.ensures) ∙ c.in_ok-walk_root.ensures)
+    let build = build_of c.args.build in
+    resolution-is build c.args.root c.args.choice.now c.in_ok-walk_root.field-0.now _ c.requires.choice
+    (ap (λ (r : Resolved). effect r (walk_root build c.args.root c.args.choice.now)) (sym c.new-resolution.ensures) ∙ c.in_ok-walk_root.ensures)

@@ -1,13 +1,13 @@
-use Rattle.std.proofs.Common.{◌≡◌, List, length, ap, sym, ◌∙◌, subst, arith, IsSome}
+use Rattle.std.proofs.Common.{◌≡◌, List, length, ap, sym, ◌∙◌, subst, arith, IsSome, Some, None, Bool}
 use Rattle.facet_solver_shape.specs.declared.shape.Field.{Field}
 use Rattle.facet_solver_shape.specs.Places.{FieldsBelow}
-use Rattle.facet_solver.specs.Walk.{Walked, walk}
-use Rattle.facet_solver.specs.Emissions.{Path}
+use Rattle.facet_solver.specs.Walk.{Walked, walk_fields}
+use Rattle.facet_solver.specs.Place.{chosen_of}
+use Rattle.facet_solver.specs.declared.build.place.Place.{Place}
 use Rattle.facet_solver.specs.Content.{newtype_fields}
 use Rattle.facet_solver.specs.Outcome.{effect}
-use Rattle.facet_solver.specs.PlanView.{settings_of}
-use Rattle.facet_solver.specs.RoleView.{role_view}
-use Rattle.std.proofs.Common.{Some, None, Bool}
+use Rattle.facet_solver.specs.Build.{build_of}
+use Rattle.facet_solver.specs.Roles.{role_view}
 use Rattle.facet_solver.proofs.RoleViews.{plain_role}
 use Rattle.facet_solver.proofs.Descent.{FieldsBelow-mono}
 use Rattle.facet_solver.proofs.Limits.{limit_of, limit_of-le, limit_of-at, FieldsBelow-at}
@@ -18,11 +18,11 @@ use Rattle.facet_solver.proofs.build.walk.+walk.Goals as goal
 pub walk_fields-loop-field-init : goal.walk_fields-loop-field-init
 walk_fields-loop-field-init t c =
     ap (effect c.args.resolution.now)
-    (walk-start (settings_of c.args.plan) c.args.plan.shapes.now c.args.place.now.path c.args.place.now.unwrapped c.args.fields.now c.args.numbers.now c.requires.checked c.requires.below)
+    (walk-start (build_of c.args.build) c.args.place.now c.args.fields.now c.args.indices.now c.requires.checked c.requires.below)
 
 pub walk_fields-walk_field-requires : goal.walk_fields-walk_field-requires
 walk_fields-walk_field-requires t c =
-    let cat = c.args.plan.shapes.now in
+    let cat = c.args.build.shapes.now in
     let fs = c.args.fields.now in
     let i = c.loop-field.field-index in
     let f = c.field-item.result in
@@ -34,39 +34,39 @@ walk_fields-walk_field-requires t c =
         c.requires.checked,
         (
           omega arith,
-          turn-walked (settings_of c.args.plan) cat c.args.place.now.path c.args.place.now.unwrapped fs i c.loop-field.rest.now c.loop-field.resolution c.args.resolution.now _ c.requires.walked c.loop-field.invariant f c.loop-field-test.true c.field-item.is,
+          turn-walked (build_of c.args.build) c.args.place.now fs i c.loop-field.rest.now c.loop-field.resolution c.args.resolution.now _ c.requires.walked c.loop-field.invariant f c.loop-field-test.true c.field-item.is,
         ),
       ),
     )
 
 pub walk_fields-loop-field-preserved : goal.walk_fields-loop-field-preserved
 walk_fields-loop-field-preserved t c =
-    turn-left (settings_of c.args.plan) c.args.plan.shapes.now c.args.place.now.path c.args.place.now.unwrapped c.args.fields.now c.loop-field.field-index c.loop-field.rest.now c.loop-field.resolution c.args.resolution.now _ c.requires.walked c.loop-field.invariant c.field-item.result c.loop-field-test.true c.field-item.is
+    turn-left (build_of c.args.build) c.args.place.now c.args.fields.now c.loop-field.field-index c.loop-field.rest.now c.loop-field.resolution c.args.resolution.now _ c.requires.walked c.loop-field.invariant c.field-item.result c.loop-field-test.true c.field-item.is
     c.walk_field.new.resolution c.in_ok-rest.rest.now c.in_ok-rest.ensures
 
 pub walk_fields-returns-in_err-rest : goal.walk_fields-returns-in_err-rest
 walk_fields-returns-in_err-rest t c =
     walks-exit c.from_residual.result c.walk_field.new.resolution _ _ c.from_residual.ensures.1
-    (turn-stops (settings_of c.args.plan) c.args.plan.shapes.now c.args.place.now.path c.args.place.now.unwrapped c.args.fields.now c.loop-field.field-index c.loop-field.rest.now c.loop-field.resolution c.args.resolution.now _ c.requires.walked c.loop-field.invariant c.field-item.result c.loop-field-test.true c.field-item.is
+    (turn-stops (build_of c.args.build) c.args.place.now c.args.fields.now c.loop-field.field-index c.loop-field.rest.now c.loop-field.resolution c.args.resolution.now _ c.requires.walked c.loop-field.invariant c.field-item.result c.loop-field-test.true c.field-item.is
     _ c.in_err-rest.ensures)
 
 pub walk_fields-returns : goal.walk_fields-returns
 walk_fields-returns t c =
-    turns-done (settings_of c.args.plan) c.args.plan.shapes.now c.args.place.now.path c.args.place.now.unwrapped c.args.fields.now c.loop-field.field-index c.loop-field.rest.now c.loop-field.resolution c.args.resolution.now _ c.requires.walked c.loop-field.invariant c.loop-field-test.false
+    turns-done (build_of c.args.build) c.args.place.now c.args.fields.now c.loop-field.field-index c.loop-field.rest.now c.loop-field.resolution c.args.resolution.now _ c.requires.walked c.loop-field.invariant c.loop-field-test.false
 
 pub walk_field-walk_fields-requires : goal.walk_field-walk_fields-requires
 walk_field-walk_fields-requires t c =
-    let cat = c.args.plan.shapes.now in
+    let cat = c.args.build.shapes.now in
     let f = c.args.field.now in
     let fs = c.in-Block.fields.now in
-    let b = block-below cat c.requires.checked f fs c.in-Block.ensures in
+    let b = block-below cat c.requires.checked f c.in-Block.target fs c.in-Block.ensures in
     let l = limit_of-le f.shape fs b in (
       omega arith,
       (
         c.requires.checked,
         (
           FieldsBelow-mono f.shape (length cat) fs (omega (arith, c.requires.below)) b,
-          rw (c.in_ok-inside-in-Block.ensures.path, c.in_ok-inside-in-Block.ensures.unwrapped, ← at-block (settings_of c.args.plan) cat f c.args.place.now.path c.args.place.now.unwrapped c.args.numbers.now fs c.in-Block.ensures) c.requires.walked,
+          rw (c.in_ok-inside-in-Block.ensures, ← at-block (build_of c.args.build) f c.args.place.now c.args.indices.now c.in-Block.target fs c.in-Block.ensures) c.requires.walked,
         ),
       ),
     )
@@ -75,28 +75,26 @@ pub walk_field-returns-in_ok-inside-in-Block : goal.walk_field-returns-in_ok-ins
 walk_field-returns-in_ok-inside-in-Block t c =
     let fs = c.in-Block.fields.now in
     rw (
-      at-block (settings_of c.args.plan) c.args.plan.shapes.now c.args.field.now c.args.place.now.path c.args.place.now.unwrapped c.args.numbers.now fs c.in-Block.ensures,
-      ← c.in_ok-inside-in-Block.ensures.path,
-      ← c.in_ok-inside-in-Block.ensures.unwrapped,
+      at-block (build_of c.args.build) c.args.field.now c.args.place.now c.args.indices.now c.in-Block.target fs c.in-Block.ensures,
+      ← c.in_ok-inside-in-Block.ensures,
     ) c.walk_fields.ensures
 
 pub walk_field-next_variant-requires : goal.walk_field-next_variant-requires
 walk_field-next_variant-requires t c =
-    has_choice c.in-Alternatives.variants.now c.args.numbers.now _
-    (rw (at-alternatives (settings_of c.args.plan) c.args.plan.shapes.now c.args.field.now c.args.place.now.path c.args.place.now.unwrapped c.args.numbers.now c.in-Alternatives.shape.now c.in-Alternatives.variants.now c.in-Alternatives.ensures) at c.requires.walked)
+    has_choice c.in-Alternatives.variants.now c.args.indices.now _
+    (rw (at-alternatives (build_of c.args.build) c.args.field.now c.args.place.now c.args.indices.now c.in-Alternatives.target c.in-Alternatives.shape.now c.in-Alternatives.variants.now c.in-Alternatives.ensures) at c.requires.walked)
 
 pub walk_field-walk_variant-requires : goal.walk_field-walk_variant-requires
 walk_field-walk_variant-requires t c =
-    let settings = settings_of c.args.plan in
-    let cat = c.args.plan.shapes.now in
+    let build = build_of c.args.build in
+    let cat = c.args.build.shapes.now in
     let f = c.args.field.now in
     let s = c.in-Alternatives.shape.now in
     let vs = c.in-Alternatives.variants.now in
     let v = c.next_variant.result.0.now in
-    let p = c.args.place.now.path in
-    let b = VariantsBelow-get f.shape vs _ v c.next_variant.ensures.variant (alternatives-below cat c.requires.checked f s vs c.in-Alternatives.ensures) in
+    let b = VariantsBelow-get f.shape vs _ v c.next_variant.ensures.variant (alternatives-below cat c.requires.checked f c.in-Alternatives.target s vs c.in-Alternatives.ensures) in
     let l = limit_of-le f.shape v.fields.items b in
-    let e = at-alternatives settings cat f p c.args.place.now.unwrapped c.args.numbers.now s vs c.in-Alternatives.ensures ∙ choose-is vs c.args.numbers.now _ v c.next_variant.result.1.now c.next_variant.ensures.variant c.next_variant.ensures.rest in (
+    let e = at-alternatives build f c.args.place.now c.args.indices.now c.in-Alternatives.target s vs c.in-Alternatives.ensures ∙ choose-is vs c.args.indices.now _ v c.next_variant.result.1.now c.next_variant.ensures.variant c.next_variant.ensures.rest in (
       omega arith,
       (
         c.requires.checked,
@@ -109,36 +107,32 @@ walk_field-walk_variant-requires t c =
 
 pub walk_field-returns-in-Alternatives : goal.walk_field-returns-in-Alternatives
 walk_field-returns-in-Alternatives t c =
-    let settings = settings_of c.args.plan in
-    let cat = c.args.plan.shapes.now in
+    let build = build_of c.args.build in
     let f = c.args.field.now in
     let s = c.in-Alternatives.shape.now in
     let vs = c.in-Alternatives.variants.now in
     let v = c.next_variant.result.0.now in
-    let p = c.args.place.now.path in
-    let e = at-alternatives settings cat f p c.args.place.now.unwrapped c.args.numbers.now s vs c.in-Alternatives.ensures ∙ choose-is vs c.args.numbers.now _ v c.next_variant.result.1.now c.next_variant.ensures.variant c.next_variant.ensures.rest in
+    let e = at-alternatives build f c.args.place.now c.args.indices.now c.in-Alternatives.target s vs c.in-Alternatives.ensures ∙ choose-is vs c.args.indices.now _ v c.next_variant.result.1.now c.next_variant.ensures.variant c.next_variant.ensures.rest in
     walks-same c.walk_variant.result c.walk_variant.new.resolution _ _ (ap (effect c.args.resolution.now) e) c.walk_variant.ensures
 
 pub walk_field-returns-in_err-emit_plain-in-Regular : goal.walk_field-returns-in_err-emit_plain-in-Regular
 walk_field-returns-in_err-emit_plain-in-Regular t c =
-    let p = c.args.place.now.path in
     let r = c.args.resolution.now in
-    let e = at-plain (settings_of c.args.plan) c.args.plan.shapes.now c.args.field.now p c.args.place.now.unwrapped c.args.numbers.now (role_view c.role_of-role.result) c.role_of-role.ensures (plain_role c.role_of-role.result c.in-Regular.is) in
+    let e = at-plain (build_of c.args.build) c.args.field.now c.args.place.now c.args.indices.now (role_view c.role_of-role.result) c.role_of-role.ensures (plain_role c.role_of-role.result c.in-Regular.is) in
     walks-same _ c.emit_plain.new.resolution _ _ (ap (effect r) e)
     (walks-exit c.from_residual-in_err-emit_plain-in-Regular.result c.emit_plain.new.resolution _ _ c.from_residual-in_err-emit_plain-in-Regular.ensures.1
-    (stops-emit r _ c.args.numbers.now _ c.in_err-emit_plain-in-Regular.ensures))
+    (stops-emit r _ c.args.indices.now _ c.in_err-emit_plain-in-Regular.ensures))
 
 pub walk_field-returns-in_ok-emit_plain-in-Regular : goal.walk_field-returns-in_ok-emit_plain-in-Regular
 walk_field-returns-in_ok-emit_plain-in-Regular t c =
-    let p = c.args.place.now.path in
     let r = c.args.resolution.now in
-    let e = at-plain (settings_of c.args.plan) c.args.plan.shapes.now c.args.field.now p c.args.place.now.unwrapped c.args.numbers.now (role_view c.role_of-role.result) c.role_of-role.ensures (plain_role c.role_of-role.result c.in-Regular.is) in
-    emit-done r c.emit_plain.new.resolution _ _ c.args.numbers.now e c.in_ok-emit_plain-in-Regular.ensures
+    let e = at-plain (build_of c.args.build) c.args.field.now c.args.place.now c.args.indices.now (role_view c.role_of-role.result) c.role_of-role.ensures (plain_role c.role_of-role.result c.in-Regular.is) in
+    emit-done r c.emit_plain.new.resolution _ _ c.args.indices.now e c.in_ok-emit_plain-in-Regular.ensures
 
 pub walk_variant-returns-in_err-emit_variant : goal.walk_variant-returns-in_err-emit_variant
 walk_variant-returns-in_err-emit_variant t c =
     walks-exit c.from_residual.result c.emit_variant.new.resolution _ _ c.from_residual.ensures.1
-    (stops-chosen (settings_of c.args.plan) c.args.plan.shapes.now c.args.chosen.field.now c.args.chosen.shape.now c.args.chosen.variant.now c.args.place.now.path c.args.place.now.unwrapped c.args.numbers.now
+    (stops-chosen (build_of c.args.build) (chosen_of c.args.chosen.now) c.args.place.now c.args.indices.now
     c.args.resolution.now _ c.requires.walked c.in_err-emit_variant.ensures)
 
 pub walk_variant-walk_content-requires : goal.walk_variant-walk_content-requires
@@ -148,8 +142,8 @@ walk_variant-walk_content-requires t c = (
     c.requires.checked,
     (
       c.requires.below,
-      inside-some (settings_of c.args.plan) c.args.plan.shapes.now c.args.chosen.field.now c.args.chosen.shape.now c.args.chosen.variant.now c.args.place.now.path c.args.place.now.unwrapped c.args.numbers.now
-          c.args.resolution.now c.emit_variant.new.resolution c.in_ok-emit_variant.ensures c.in_ok-inside.inside.path c.in_ok-inside.inside.unwrapped c.in_ok-inside.ensures.path c.in_ok-inside.ensures.unwrapped (sym c.walks_content.ensures ∙ c.if-walks_content.true) c.requires.walked,
+      inside-some (build_of c.args.build) (chosen_of c.args.chosen.now) c.args.place.now c.args.indices.now
+          c.args.resolution.now c.emit_variant.new.resolution c.in_ok-emit_variant.ensures c.in_ok-inside.inside c.in_ok-inside.ensures (sym c.walks_content.ensures ∙ c.if-walks_content.true) c.requires.walked,
     ),
   ),
 )
@@ -157,31 +151,30 @@ walk_variant-walk_content-requires t c = (
 pub walk_variant-returns-in_ok-inside : goal.walk_variant-returns-in_ok-inside
 walk_variant-returns-in_ok-inside t c =
     walks-same c.walk_content.result c.walk_content.new.resolution _ _
-    (then-inside (settings_of c.args.plan) c.args.plan.shapes.now c.args.chosen.field.now c.args.chosen.shape.now c.args.chosen.variant.now c.args.place.now.path c.args.place.now.unwrapped c.args.numbers.now
-    c.args.resolution.now c.emit_variant.new.resolution c.in_ok-emit_variant.ensures c.in_ok-inside.inside.path c.in_ok-inside.inside.unwrapped c.in_ok-inside.ensures.path c.in_ok-inside.ensures.unwrapped (sym c.walks_content.ensures ∙ c.if-walks_content.true))
+    (then-inside (build_of c.args.build) (chosen_of c.args.chosen.now) c.args.place.now c.args.indices.now
+    c.args.resolution.now c.emit_variant.new.resolution c.in_ok-emit_variant.ensures c.in_ok-inside.inside c.in_ok-inside.ensures (sym c.walks_content.ensures ∙ c.if-walks_content.true))
     c.walk_content.ensures
 
 pub walk_variant-returns-else-walks_content : goal.walk_variant-returns-else-walks_content
 walk_variant-returns-else-walks_content t c =
-    then-alone (settings_of c.args.plan) c.args.plan.shapes.now c.args.chosen.field.now c.args.chosen.shape.now c.args.chosen.variant.now c.args.place.now.path c.args.place.now.unwrapped c.args.numbers.now
+    then-alone (build_of c.args.build) (chosen_of c.args.chosen.now) c.args.place.now c.args.indices.now
     c.args.resolution.now c.emit_variant.new.resolution c.in_ok-emit_variant.ensures (sym c.walks_content.ensures ∙ c.if-walks_content.false)
 
 pub walk_content-walk_fields-requires : goal.walk_content-walk_fields-requires
 walk_content-walk_fields-requires t c =
-    let settings = settings_of c.args.plan in
-    let cat = c.args.plan.shapes.now in
+    let build = build_of c.args.build in
+    let cat = c.args.build.shapes.now in
     let v = c.args.variant.now in
-    let p = c.args.place.now.path in
     let fs = c.in-Some.fields.now in
     let e : Some fs ≡ newtype_fields cat v.fields.items = c.in-Some.ensures ∙ ap (newtype_fields cat) c.deref.ensures.value in
-    let l = newtype-limits settings cat v p c.args.place.now.unwrapped c.args.numbers.now c.requires.checked fs e c.requires.below in (
+    let l = newtype-limits build v c.args.place.now c.args.indices.now c.requires.checked fs e c.requires.below in (
       omega arith,
       (
         c.requires.checked,
         (
           l.1,
           subst (λ (w : Walked). IsSome w)
-              (inside-newtype settings cat v p c.args.place.now.unwrapped c.args.numbers.now fs e ∙ ap (λ (q : Path). walk settings cat fs q c.args.place.now.unwrapped c.args.numbers.now) (sym c.in_ok-inside-in-Some.ensures.path) ∙ ap (λ (o : Bool). walk settings cat fs c.in_ok-inside-in-Some.inside.path o c.args.numbers.now) (sym c.in_ok-inside-in-Some.ensures.unwrapped))
+              (inside-newtype build v c.args.place.now c.args.indices.now fs e ∙ ap (λ (place : Place). walk_fields build fs place c.args.indices.now) (sym c.in_ok-inside-in-Some.ensures))
               c.requires.walked,
         ),
       ),
@@ -189,22 +182,20 @@ walk_content-walk_fields-requires t c =
 
 pub walk_content-returns-in_ok-inside-in-Some : goal.walk_content-returns-in_ok-inside-in-Some
 walk_content-returns-in_ok-inside-in-Some t c =
-    let settings = settings_of c.args.plan in
-    let cat = c.args.plan.shapes.now in
+    let build = build_of c.args.build in
+    let cat = c.args.build.shapes.now in
     let v = c.args.variant.now in
-    let p = c.args.place.now.path in
     let fs = c.in-Some.fields.now in
     let e : Some fs ≡ newtype_fields cat v.fields.items = c.in-Some.ensures ∙ ap (newtype_fields cat) c.deref.ensures.value in
     walks-same c.walk_fields.result c.walk_fields.new.resolution _ _
-    (ap (effect c.args.resolution.now) (inside-newtype settings cat v p c.args.place.now.unwrapped c.args.numbers.now fs e ∙ ap (λ (q : Path). walk settings cat fs q c.args.place.now.unwrapped c.args.numbers.now) (sym c.in_ok-inside-in-Some.ensures.path) ∙ ap (λ (o : Bool). walk settings cat fs c.in_ok-inside-in-Some.inside.path o c.args.numbers.now) (sym c.in_ok-inside-in-Some.ensures.unwrapped)))
+    (ap (effect c.args.resolution.now) (inside-newtype build v c.args.place.now c.args.indices.now fs e ∙ ap (λ (place : Place). walk_fields build fs place c.args.indices.now) (sym c.in_ok-inside-in-Some.ensures)))
     c.walk_fields.ensures
 
 pub walk_content-walk_fields-requires-in-None : goal.walk_content-walk_fields-requires-in-None
 walk_content-walk_fields-requires-in-None t c =
-    let settings = settings_of c.args.plan in
-    let cat = c.args.plan.shapes.now in
+    let build = build_of c.args.build in
+    let cat = c.args.build.shapes.now in
     let v = c.args.variant.now in
-    let p = c.args.place.now.path in
     let e : None ≡ newtype_fields cat v.fields.items = c.in-None.ensures ∙ ap (newtype_fields cat) c.deref.ensures.value in
     let d = c.deref-in-None.ensures.value in
     let l = ap limit_of d in (
@@ -214,7 +205,7 @@ walk_content-walk_fields-requires-in-None t c =
         (
           subst (FieldsBelow (length cat)) (sym d) c.requires.below,
           subst (λ (w : Walked). IsSome w)
-              (inside-own settings cat v p c.args.place.now.unwrapped c.args.numbers.now e ∙ ap (λ (fs : List Field). walk settings cat fs p c.args.place.now.unwrapped c.args.numbers.now) (sym d))
+              (inside-own build v c.args.place.now c.args.indices.now e ∙ ap (λ (fs : List Field). walk_fields build fs c.args.place.now c.args.indices.now) (sym d))
               c.requires.walked,
         ),
       ),
@@ -222,12 +213,11 @@ walk_content-walk_fields-requires-in-None t c =
 
 pub walk_content-returns-in-None : goal.walk_content-returns-in-None
 walk_content-returns-in-None t c =
-    let settings = settings_of c.args.plan in
-    let cat = c.args.plan.shapes.now in
+    let build = build_of c.args.build in
+    let cat = c.args.build.shapes.now in
     let v = c.args.variant.now in
-    let p = c.args.place.now.path in
     let e : None ≡ newtype_fields cat v.fields.items = c.in-None.ensures ∙ ap (newtype_fields cat) c.deref.ensures.value in
     let d = c.deref-in-None.ensures.value in
     walks-same c.walk_fields-in-None.result c.walk_fields-in-None.new.resolution _ _
-    (ap (effect c.args.resolution.now) (inside-own settings cat v p c.args.place.now.unwrapped c.args.numbers.now e ∙ ap (λ (fs : List Field). walk settings cat fs p c.args.place.now.unwrapped c.args.numbers.now) (sym d)))
+    (ap (effect c.args.resolution.now) (inside-own build v c.args.place.now c.args.indices.now e ∙ ap (λ (fs : List Field). walk_fields build fs c.args.place.now c.args.indices.now) (sym d)))
     c.walk_fields-in-None.ensures

@@ -1,7 +1,7 @@
 use Rattle.std.proofs.Common.{◌≡◌, drop, ◌+◌, ◌*◌}
-use Rattle.facet_solver.specs.Walk.{walk}
+use Rattle.facet_solver.specs.Walk.{walk_fields}
 use Rattle.facet_solver.specs.Outcome.{effect}
-use Rattle.facet_solver.specs.PlanView.{settings_of}
+use Rattle.facet_solver.specs.Build.{build_of}
 use Rattle.facet_solver.proofs.Limits.{limit_of}
 use Rattle.facet_solver.proofs.Walking.{walk_left}
 use Rattle.facet_solver.proofs.build.walk.+walk.Given as goal
@@ -13,12 +13,12 @@ abbrev pub decreases-walk_fields : goal.decreases-walk_fields
 decreases-walk_fields l = 4 * limit_of l.fields.now + 1
 
 abbrev pub decreases-walk_variant : goal.decreases-walk_variant
-decreases-walk_variant l = 4 * limit_of l.chosen.variant.now.fields.items + 3
+decreases-walk_variant l = 4 * limit_of l.chosen.now.variant.now.fields.items + 3
 
 abbrev pub decreases-walk_content : goal.decreases-walk_content
 decreases-walk_content l = 4 * limit_of l.variant.now.fields.items + 2
 
 abbrev pub invariant-walk_fields-loop-field : goal.invariant-walk_fields-loop-field
 invariant-walk_fields-loop-field l =
-    effect l.resolution (walk_left (settings_of l.plan) l.plan.shapes.now (drop l.field-index l.fields) l.place.path l.place.unwrapped l.rest)
-    ≡ effect l.fn.resolution (walk (settings_of l.plan) l.plan.shapes.now l.fields l.place.path l.place.unwrapped l.fn.numbers)
+    effect l.resolution (walk_left (build_of l.build) (drop l.field-index l.fields) l.place l.rest)
+    ≡ effect l.fn.resolution (walk_fields (build_of l.build) l.fields l.place l.fn.indices)

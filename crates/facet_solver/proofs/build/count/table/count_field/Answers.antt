@@ -1,23 +1,29 @@
-use Rattle.std.proofs.Common.{◌<◌, ◌∙◌, length, arith}
-use Rattle.facet_solver.specs.PlanView.{settings_of}
-use Rattle.facet_solver.proofs.Descent.{target_of-le}
-use Rattle.facet_solver.proofs.Tallies.{told_field}
+use Rattle.std.proofs.Common.{◌<◌, length, arith}
+use Rattle.facet_solver.specs.Build.{build_of}
+use Rattle.facet_solver.proofs.Descent.{target_in_role-le}
+use Rattle.facet_solver.proofs.FieldCounts.{field_counted}
+use Rattle.facet_solver.proofs.RoleViews.{target_in_hand}
 use Rattle.facet_solver.proofs.build.count.table.count_field.Goals as goal
 
-pub returns-then-field : goal.returns-then-field
-returns-then-field c =
-    told_field (settings_of c.args.plan) c.args.plan.shapes.now c.args.tallies.now c.args.field.now c.index.result _
-    c.requires.checked c.requires.counted c.requires.below c.if-field.true (c.index.ensures ∙ c.target_of.ensures)
-
--- the target's place is not past the field's
-within : (c : goal.After-index) → c.index.result < length c.args.tallies.now
+-- the target stands no later than the field's shape
+within : (c : goal.After-index) → c.index.result < length c.args.counts.now
 within c =
-    omega (arith, target_of-le c.args.plan.shapes.now c.requires.checked c.args.field.now, c.requires.below, c.index.ensures, c.target_of.ensures)
+    let cat = c.args.build.shapes.now in
+    let f = c.args.field.now in
+    let target = target_in_hand cat f c.role_of.result c.in-Block.target c.role_of.ensures c.in-Block.is in
+    omega (arith, target_in_role-le cat c.requires.checked f c.in-Block.target target, c.requires.below, c.index.ensures)
 
-pub bounds-tallies-index : goal.bounds-tallies-index
-bounds-tallies-index c = within c
+pub bounds-counts-index : goal.bounds-counts-index
+bounds-counts-index c = within c
 
-pub offset_bounds-tallies-index : goal.offset_bounds-tallies-index
-offset_bounds-tallies-index c =
+pub offset_bounds-counts-index : goal.offset_bounds-counts-index
+offset_bounds-counts-index c =
     let at = within c in
     omega arith
+
+pub returns-in-Block : goal.returns-in-Block
+returns-in-Block c =
+    let f = c.args.field.now in
+    rw c.index.ensures
+    (field_counted (build_of c.args.build) c.args.counts.now f c.in-Block.target _ c.requires.checked c.requires.counted c.requires.below
+    (target_in_hand c.args.build.shapes.now f c.role_of.result c.in-Block.target c.role_of.ensures c.in-Block.is))

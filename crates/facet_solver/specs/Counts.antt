@@ -1,0 +1,37 @@
+-- What the code's numbers of choices tell. Only private contracts and proofs speak of it.
+use Rattle.facet_solver.specs.Build.{Build}
+use Rattle.std.specs.Prelude.{◌≡◌, ℕ, ◌^◌, ◌≤◌, List, Bool, Option, Some, None, slice_get, length, sum_by}
+use Rattle.facet_solver.specs.declared.build.count.saturating.SaturatingCount.{SaturatingCount}
+use Rattle.facet_solver.specs.declared.build.count.saturating.SaturatingCount.TheVariants.{Exact, Larger}
+use Rattle.facet_solver_shape.specs.declared.shape.Field.{Field}
+use Rattle.facet_solver_shape.specs.declared.shape.Variant.{Variant}
+use Rattle.facet_solver.specs.Targets.{Catalogue}
+use Rattle.facet_solver.specs.Content.{content_of}
+use Rattle.facet_solver.specs.Roles.{role_of, role_of_target}
+use Rattle.std.specs.Option.{option_map_or}
+use Rattle.facet_solver.specs.Count.{count_shape}
+
+-- what a saturating count says of a number without bound: the number, or that it is 2^64 or more
+abbrev pub CountsTo : SaturatingCount → ℕ → Type 0
+CountsTo (Exact k) n = n ≡ k
+CountsTo Larger n = 2 ^ 64 ≤ n
+
+-- the saturating count of a number that is None from 2^64 on
+abbrev pub saturating_of : Option ℕ → SaturatingCount
+saturating_of (Some k) = Exact k
+saturating_of None = Larger
+
+-- the number of choices at a flattened field whose target stands at an index
+unfoldable pub count_at : Build → ℕ → ℕ
+count_at build id = option_map_or (count_shape build) (slice_get build.catalogue id) 1
+
+-- the counts at the first indices of a catalogue
+pub record AreFirstCounts (build : Build) (counts : List SaturatingCount) : Type 0 where
+  pub within : length counts ≤ length build.catalogue
+  pub each : (id : ℕ) (t : SaturatingCount) → slice_get counts id ≡ Some t
+      → CountsTo t (count_at build id)
+
+-- the counts at all indices of a catalogue
+pub record AreCounts (build : Build) (counts : List SaturatingCount) : Type 0 where
+  pub all : length counts ≡ length build.catalogue
+  pub first : AreFirstCounts build counts
