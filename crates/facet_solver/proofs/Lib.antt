@@ -29,4 +29,4 @@ pub mod Nested
 pub mod Selectors
 pub mod NestedLaws
 pub mod OwnSteps
-pub mod FlatFields
+pub mod FieldCategories

@@ -24,7 +24,7 @@ abbrev pub newtype_fields : Catalogue → List Field → Option (List Field)
 newtype_fields cat [] = None
 newtype_fields cat (f ∷ []) =
     if is_zero (string_bytes f.name) then struct_fields (kind_at cat (effective cat f.shape))
-        else None
+    else None
 newtype_fields cat (f ∷ g ∷ fs) = None
 
 -- fields, and what their path has more than the variant's

@@ -86,5 +86,5 @@ abbrev pub IsCountOf : Catalogue → ℕ → Option Repr → Option ℕ → Type
 IsCountOf cat root representation answer =
     (format : Format)
     → let build : Build =
-        record { catalogue = cat; representation = representation; format = format } in
+    record { catalogue = cat; representation = representation; format = format } in
     answer ≡ below_2_64 (count_of_root build root)

@@ -110,7 +110,7 @@ emit_selector_by (internally_tagged tag) build chosen place =
 emit_selector_by (adjacently_tagged tag content) build chosen place =
     field_and_path (selector_field build tag chosen place)
     (a_key_path (content ∷ [])
-        ∷ paths_behind content (content_paths build.catalogue chosen.variant))
+    ∷ paths_behind content (content_paths build.catalogue chosen.variant))
 
 -- the selector of a variant and its key paths
 abbrev pub emit_selector : Build → Chosen → Place → List Emission
@@ -128,4 +128,4 @@ pick_of s v p = a_pick record {
 unfoldable pub emit_variant : Build → Chosen → Place → List Emission
 emit_variant build chosen place =
     pick_of chosen.shape chosen.variant (field_path place chosen.field)
-        ∷ emit_selector build chosen place
+    ∷ emit_selector build chosen place

@@ -45,7 +45,7 @@ role_of_target target (Some s) = role_by_kind target s s.kind
 abbrev pub role_of : Catalogue → Field → Role
 role_of cat f =
     if f.flattened then role_of_target (target_of cat f) (slice_get cat (target_of cat f).shape)
-        else regular
+    else regular
 
 -- a role, wherever its fields and variants lie
 abbrev pub role_view : code.Role → Role

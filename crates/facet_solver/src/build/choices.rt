@@ -8,9 +8,9 @@ ghost use Rattle.facet_solver.specs.Count.{count_of_root};
 ghost use Rattle.facet_solver.specs.Counts.{AreCounts};
 ghost use Rattle.facet_solver.specs.Build.{build_of};
 
+use crate::build::Build;
 use crate::build::content::content_fields;
 use crate::build::count::Counts;
-use crate::build::Build;
 use crate::build::role::{Role, role_of};
 use facet_solver_shape::{Field, ShapeId, ShapeKind, Variant};
 use std::alloc::{AllocError, Global};
@@ -133,7 +133,10 @@ fn choices_of_variants<'c>(
 }
 
 /// All choices of variants of a root, each once and in lexicographic order.
-pub(crate) fn choices_of_root<'c>(build: Build<'c>, root: ShapeId) -> Result<Vec<Choice>, AllocError>
+pub(crate) fn choices_of_root<'c>(
+    build: Build<'c>,
+    root: ShapeId,
+) -> Result<Vec<Choice>, AllocError>
     requires { root < length build.shapes.now }
     ensures listed { IfOk result (λ v. ListsChoices (build_of build.entry) root (lists v.items)) }
     ensures counted { IfOk result

@@ -6,14 +6,12 @@ ghost use Rattle.facet_solver.specs.Count.{below_2_64};
 ghost use Rattle.facet_solver.specs.Counts.{CountsTo, AreCounts};
 ghost use Rattle.facet_solver.specs.Build.{build_of};
 
-pub(crate) mod table;
 pub(crate) mod saturating;
+pub(crate) mod table;
 
-use crate::build::count::table::{
-    count_fields, count_shape, count_variants,
-};
-use crate::build::count::saturating::SaturatingCount;
 use crate::build::Build;
+use crate::build::count::saturating::SaturatingCount;
+use crate::build::count::table::{count_fields, count_shape, count_variants};
 use facet_solver_shape::{Field, ShapeId, ShapeKind};
 use std::alloc::AllocError;
 use std::marker::Model;

@@ -10,10 +10,10 @@ ghost use Rattle.facet_solver.specs.Outcome.{take_in, take_all, resolved, Gives}
 ghost use Rattle.facet_solver.specs.Build.{build_of};
 ghost use Rattle.facet_solver.specs.Roles.{role_view, IsPlain};
 
-use crate::build::field::{leaf_field, regular_field, catch_all_field, selector_field};
+use crate::build::Build;
+use crate::build::field::{catch_all_field, leaf_field, regular_field, selector_field};
 use crate::build::nested::{add_content_paths, add_nested_paths};
 use crate::build::place::{Chosen, Place};
-use crate::build::Build;
 use crate::build::representation::EnumRepr;
 use crate::build::role::{Role, Target};
 use facet_solver_shape::{
@@ -159,7 +159,7 @@ fn add_content<'c>(
     ensures { let paths =
         emissions.paths_behind name.now (content_paths build.entry.shapes.now variant.now) in
         OnOk result (take_all resolution.old (a_key_path (name.now ∷ []) ∷ paths)
-            ≡ resolved resolution.new) }
+        ≡ resolved resolution.new) }
 {
     resolution.add_key_path(key_path(build.alloc, name)?)?;
     add_content_paths(build, name, variant, resolution)?;

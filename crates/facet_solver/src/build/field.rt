@@ -5,8 +5,8 @@ ghost use Rattle.facet_solver.specs.Emissions as emissions;
 ghost use Rattle.facet_solver.specs.Place.{chosen_of};
 ghost use Rattle.facet_solver.specs.Build.{build_of};
 
-use crate::build::place::{Chosen, Place};
 use crate::build::Build;
+use crate::build::place::{Chosen, Place};
 use crate::build::role::{Target, is_option};
 use facet_solver_shape::{Field, FieldInfo};
 use std::alloc::AllocError;
@@ -88,7 +88,7 @@ pub(crate) fn selector_field<'c>(
 ) -> Result<FieldInfo<'c>, AllocError>
     ensures { let chosen = chosen_of chosen.now in
         IfOk result (λ info. field_view info
-            ≡ emissions.selector_field (build_of build.entry) name.now chosen place.now) }
+        ≡ emissions.selector_field (build_of build.entry) name.now chosen place.now) }
 {
     Ok(FieldInfo {
         serialized_name: name,

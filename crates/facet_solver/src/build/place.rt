@@ -38,10 +38,7 @@ impl<'c> Place<'c> {
     }
 
     /// Where the fields of a root enum's variant stand.
-    pub(crate) fn root_variant(
-        alloc: Global,
-        variant: &'c Variant,
-    ) -> Result<Place<'c>, AllocError>
+    pub(crate) fn root_variant(alloc: Global, variant: &'c Variant) -> Result<Place<'c>, AllocError>
         ensures { IfOk result (λ inside. inside ≡ places.at_root_variant variant.now) }
     {
         let path = FieldPath::empty(alloc);

@@ -7,10 +7,10 @@ ghost use Rattle.facet_solver.specs.Outcome.{Walks, effect};
 ghost use Rattle.facet_solver.specs.Build.{build_of};
 ghost use Rattle.facet_solver.specs.Walk as walk;
 
+use crate::build::Build;
 use crate::build::choices::choices_of_root;
 use crate::build::emit::add_pick;
 use crate::build::place::Place;
-use crate::build::Build;
 use crate::build::walk::{next_variant, walk_content, walk_fields};
 use facet_solver_shape::{FieldPath, Resolution, SchemaError, Shape, ShapeId, ShapeKind, Variant};
 

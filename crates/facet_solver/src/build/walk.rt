@@ -6,10 +6,10 @@ ghost use Rattle.facet_solver.specs.Build.{build_of};
 ghost use Rattle.facet_solver.specs.Place.{chosen_of};
 ghost use Rattle.facet_solver.specs.Walk as walk;
 
+use crate::build::Build;
 use crate::build::content::newtype_fields;
 use crate::build::emit::{emit_plain, emit_variant};
 use crate::build::place::{Chosen, Place};
-use crate::build::Build;
 use crate::build::role::{Role, role_of};
 use facet_solver_shape::{Field, Resolution, SchemaError, Variant};
 

@@ -23,7 +23,9 @@ impl SaturatingCount {
         ensures { (m n : ℕ) → CountsTo self m → CountsTo other n → CountsTo result (m + n) }
     {
         match (self, other) {
-            (SaturatingCount::Exact(a), SaturatingCount::Exact(b)) => SaturatingCount::from_checked(a.checked_add(b)),
+            (SaturatingCount::Exact(a), SaturatingCount::Exact(b)) => SaturatingCount::from_checked(
+                a.checked_add(b),
+            ),
             _ => SaturatingCount::Larger,
         }
     }
@@ -33,8 +35,11 @@ impl SaturatingCount {
         ensures { (m n : ℕ) → CountsTo self m → CountsTo other n → CountsTo result (m * n) }
     {
         match (self, other) {
-            (SaturatingCount::Exact(0), _) | (_, SaturatingCount::Exact(0)) => SaturatingCount::Exact(0),
-            (SaturatingCount::Exact(a), SaturatingCount::Exact(b)) => SaturatingCount::from_checked(a.checked_mul(b)),
+            (SaturatingCount::Exact(0), _) | (_, SaturatingCount::Exact(0)) =>
+                SaturatingCount::Exact(0),
+            (SaturatingCount::Exact(a), SaturatingCount::Exact(b)) => SaturatingCount::from_checked(
+                a.checked_mul(b),
+            ),
             _ => SaturatingCount::Larger,
         }
     }

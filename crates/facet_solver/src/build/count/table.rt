@@ -5,14 +5,18 @@ ghost use Rattle.facet_solver.specs.Count as count;
 ghost use Rattle.facet_solver.specs.Counts.{CountsTo, AreFirstCounts};
 ghost use Rattle.facet_solver.specs.Build.{build_of};
 
+use crate::build::Build;
 use crate::build::content::newtype_struct;
 use crate::build::count::saturating::SaturatingCount;
-use crate::build::Build;
 use crate::build::role::{Role, role_of};
 use facet_solver_shape::{Field, Shape, ShapeKind, Variant};
 
 /// The choices at one field.
-pub(crate) fn count_field(build: Build, counts: &[SaturatingCount], field: &Field) -> SaturatingCount
+pub(crate) fn count_field(
+    build: Build,
+    counts: &[SaturatingCount],
+    field: &Field,
+) -> SaturatingCount
     requires checked { NamesEarlier build.shapes.now }
     requires counted { AreFirstCounts (build_of build) counts.now }
     requires below { field.now.shape < length counts.now }
@@ -25,7 +29,11 @@ pub(crate) fn count_field(build: Build, counts: &[SaturatingCount], field: &Fiel
 }
 
 /// The choices below fields: the product.
-pub(crate) fn count_fields(build: Build, counts: &[SaturatingCount], fields: &[Field]) -> SaturatingCount
+pub(crate) fn count_fields(
+    build: Build,
+    counts: &[SaturatingCount],
+    fields: &[Field],
+) -> SaturatingCount
     requires checked { NamesEarlier build.shapes.now }
     requires counted { AreFirstCounts (build_of build) counts.now }
     requires below { FieldsBelow (length counts.now) fields.now }
@@ -39,7 +47,11 @@ pub(crate) fn count_fields(build: Build, counts: &[SaturatingCount], fields: &[F
 }
 
 /// The choices below the content of a variant.
-pub(crate) fn count_content(build: Build, counts: &[SaturatingCount], variant: &Variant) -> SaturatingCount
+pub(crate) fn count_content(
+    build: Build,
+    counts: &[SaturatingCount],
+    variant: &Variant,
+) -> SaturatingCount
     requires checked { NamesEarlier build.shapes.now }
     requires counted { AreFirstCounts (build_of build) counts.now }
     requires below { FieldsBelow (length counts.now) variant.now.fields.items }
@@ -76,7 +88,11 @@ pub(crate) fn count_variants(
 }
 
 /// The choices at a flattened field whose target is a shape.
-pub(crate) fn count_shape(build: Build, counts: &[SaturatingCount], shape: &Shape) -> SaturatingCount
+pub(crate) fn count_shape(
+    build: Build,
+    counts: &[SaturatingCount],
+    shape: &Shape,
+) -> SaturatingCount
     requires checked { NamesEarlier build.shapes.now }
     requires counted { AreFirstCounts (build_of build) counts.now }
     requires below { KindBelow (length counts.now) shape.now.kind }
