@@ -10,7 +10,7 @@ use Rattle.std.specs.Prelude.{bit_and, bit_or}
 use Rattle.std.specs.Int.{bit_at, trailing_zeros}
 use Rattle.index_trial.specs.IndexSet.{upto}
 use Rattle.index_trial.proofs.Filters.{filter_split}
-use Rattle.index_trial.specs.Bits.{bit_of, has_bit, common_bit, full_word, IsFull, IsClearFrom, IsNext}
+use Rattle.index_trial.specs.Bits.{bit_of, has_bit, common_bit, full_word, IsFull, IsClearFrom, IsNext, IsNextShared, NoneBetween}
 
 -- the test of a bit by a shift
 pub is_set_tests : (words : List ℕ) (i : ℕ) → nat_eq (bit_and (get_or words (i / 64) 0 / 2 ^ (i % 64)) 1) 1 ≡ has_bit words i
@@ -106,6 +106,17 @@ bit_of_and f g h i each =
 bit_at-shr : (word r j : ℕ) → bit_at (word / 2 ^ r) j ≡ bit_at word (r + j)
 bit_at-shr word r j = ap (λ x. x % 2) (shr-shr word r j)
 
+-- the lowest bit from a place on lies in the word
+pub lowest_within : (word r : ℕ) → word < 2 ^ 64 → 0 < word / 2 ^ r → r + trailing_zeros w64 (word / 2 ^ r) < 64
+lowest_within word r fits some =
+    let low = bit_at-trailing_zeros w64 (word / 2 ^ r) some (let small = shr_le word r in omega arith) in
+    let tz : ℕ = trailing_zeros w64 (word / 2 ^ r) in
+    let set : bit_at word (r + tz) ≡ 1 = sym (bit_at-shr word r tz) ∙ low.1 in
+    elim (cases_lt (r + tz) 64) [
+      | inl small ↦ small
+      | inr large ↦ absurd (let none : bit_at word (r + tz) ≡ 0 = bit_at_above word 64 (r + tz) fits large in omega arith)
+    ]
+
 -- the word that has the number: its lowest bit from there on
 pub next_in_word : (f : ℕ → ℕ) (from : ℕ) → f (from / 64) < 2 ^ 64 → 0 < f (from / 64) / 2 ^ (from % 64)
     → IsNext (bit_of f) from (from + trailing_zeros w64 (f (from / 64) / 2 ^ (from % 64)))
@@ -168,6 +179,35 @@ next_in_later f from k fits some above before =
                 rw (at, clear) refl
           ];
     }
+
+-- words that are 0 have no bit
+pub none_between : (f : ℕ → ℕ) (place k : ℕ) → ((m : ℕ) → place ≤ m → m < k → f m ≡ 0) → NoneBetween (bit_of f) (place * 64) (k * 64)
+unfolding bit_of
+none_between f place k none i high below =
+    let word : f (i / 64) ≡ 0 = none (i / 64) (omega arith) (omega arith) in
+    rw (word, bit_at-zero (i % 64)) refl
+
+-- the next number lies in a word further on
+pub next_by_words : (f : ℕ → ℕ) (from place below : ℕ) (found : ℕ × ℕ) → from ≤ place * 64 → NoneBetween (bit_of f) from (place * 64) → IsNextShared f place below found
+    → IsNext (bit_of f) from (found.0 * 64 + trailing_zeros w64 found.1)
+next_by_words f from place below found low before next =
+    let above : place ≤ found.0 = next.above in
+    let some : 0 < f found.0 = rw (sym next.is) next.some in
+    let small : f found.0 < 2 ^ 64 = rw (sym next.is) next.fits in
+    rw next.is (next_in_later f from found.0 small some (omega arith)
+      (λ i high early.
+      elim (cases_lt i (place * 64)) [
+        | inl first ↦ before i high first
+        | inr later ↦ none_between f place found.0 next.skipped i later early
+      ]))
+
+-- or there is none
+pub none_by_words : (f : ℕ → ℕ) (from place : ℕ) → NoneBetween (bit_of f) from (place * 64) → ((k : ℕ) → place ≤ k → f k ≡ 0) → (i : ℕ) → from ≤ i → bit_of f i ≡ false
+none_by_words f from place before none i high =
+    elim (cases_lt i (place * 64)) [
+      | inl first ↦ before i high first
+      | inr later ↦ none_between f place (i / 64 + 1) (λ m low _. none m low) i later (omega arith)
+    ]
 
 -- a word further on that has none
 pub none_in_later : (f : ℕ → ℕ) (from k : ℕ) → f k ≡ 0

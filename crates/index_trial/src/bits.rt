@@ -1,7 +1,7 @@
 //! Numbers as bits of words, 64 a word.
-ghost use Rattle.std.specs.Prelude.{◌≡◌, ℕ, ◌+◌, ◌-◌, ◌*◌, ◌/◌, ◌^◌, ◌<◌, ◌≤◌, ◌↔◌, ◌||◌, IfOk, ◌%◌, IsTrue, MatchOption, bit_and, bit_or, false, filter, length, nat_eq, replicate, slice_index, vec_len};
+ghost use Rattle.std.specs.Prelude.{◌≡◌, ℕ, ◌+◌, ◌-◌, ◌*◌, ◌/◌, ◌^◌, ◌<◌, ◌≤◌, ◌↔◌, ◌||◌, IfOk, IfSome, ◌%◌, IsTrue, MatchOption, bit_and, bit_or, false, filter, length, nat_eq, replicate, slice_index, vec_len};
 ghost use Rattle.index_trial.specs.IndexSet.{upto};
-ghost use Rattle.index_trial.specs.Bits.{IsClearFrom, IsFull, IsNext, NoneFrom, common_bit, has_bit, word_count};
+ghost use Rattle.index_trial.specs.Bits.{IsClearFrom, IsFull, IsNext, IsNextShared, NoneBetween, NoneFrom, bit_of, common_word, has_bit, word_count};
 
 use std::alloc::{AllocError, Global};
 
@@ -95,24 +95,36 @@ pub(crate) fn next_bit(words: &[u64], from: usize) -> Option<usize>
     None
 }
 
-/// The least number from one on whose bit is set in both.
-pub(crate) fn next_common(words: &[u64], others: &[u64], from: usize) -> Option<usize>
-    requires len { length words.now ≡ length others.now }
-    requires clear { IsClearFrom words.now (2 ^ 64) }
-    ensures { MatchOption result (NoneFrom (common_bit words.now others.now) from) (λ k. IsNext (common_bit words.now others.now) from k) }
+/// The least number from one on whose bit is set in the word of a place, where the number lies in it or ends it.
+pub(crate) fn next_in_word(word: u64, place: usize, from: usize) -> Option<usize>
+    requires fits { (place + 1) * 64 ≤ 2 ^ 64 }
+    requires above { place * 64 ≤ from }
+    ensures next { MatchOption result
+        ((f : ℕ → ℕ) → f place ≡ word → NoneBetween (bit_of f) from ((place + 1) * 64))
+        (λ k. (f : ℕ → ℕ) → f place ≡ word → IsNext (bit_of f) from k) }
+    ensures within { IfSome result (λ k. k < (place + 1) * 64) }
 {
-    let place = from / 64;
-    if place >= words.len() {
+    if from / 64 != place {
         return None;
     }
-    let rest = (words[place] & others[place]) >> (from % 64);
-    if rest != 0 {
-        return Some(from + rest.trailing_zeros() as usize);
+    let rest = word >> (from % 64);
+    if rest == 0 {
+        return None;
     }
-    for k in place + 1..words.len() {
-        let word = words[k] & others[k];
+    Some(from + rest.trailing_zeros() as usize)
+}
+
+/// The first place from one on whose words share a bit, and what they share.
+pub(crate) fn next_shared(words: &[u64], others: &[u64], from: usize) -> Option<(usize, u64)>
+    requires { length words.now ≡ length others.now }
+    ensures { MatchOption result
+        ((k : ℕ) → from ≤ k → common_word words.now others.now k ≡ 0)
+        (IsNextShared (common_word words.now others.now) from (length words.now)) }
+{
+    for place in from..words.len() {
+        let word = words[place] & others[place];
         if word != 0 {
-            return Some(k * 64 + word.trailing_zeros() as usize);
+            return Some((place, word));
         }
     }
     None

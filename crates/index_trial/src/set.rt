@@ -10,7 +10,7 @@ ghost use Rattle.index_trial.specs.WordsView.{words_of};
 
 use crate::bits::{
     count_bits, empty_words, full_words, is_clear, is_set, keep_words, low_ones, next_bit,
-    next_common,
+    next_in_word, next_shared,
 };
 use std::alloc::{AllocError, Global};
 use std::marker::Model;
@@ -176,11 +176,16 @@ impl ResolutionSet {
         ensures members { result ≡ filter (has other.now.members) self.now.members }
         ensures within { All (λ i. i < self.now.bound) self.now.members }
     {
+        let words = self.words.as_slice();
+        let others = other.words.as_slice();
+        let word = words[0] & others[0];
         CommonIter {
-            words: self.words.as_slice(),
-            others: other.words.as_slice(),
+            words,
+            others,
             bound: self.bound,
             next: 0,
+            place: 0,
+            word,
         }
     }
 
@@ -254,25 +259,33 @@ impl<'s> Iterator for ResolutionSetIter<'s> {
     }
 }
 
-/// The numbers that two sets share and that are still to come, rising.
+/// The numbers that two sets share and that are still to come, rising. Each word of the sets is read once.
 #[derive(Debug, Drop)]
 pub(crate) struct CommonIter<'s> {
     words: &'s [u64],
     others: &'s [u64],
     bound: usize,
+    // The first number that may come.
     next: usize,
+    // The place that was read last, and what the words there share.
+    place: usize,
+    word: u64,
 }
 
 impl<'s> Model for CommonIter<'s> {
-    ghost use Rattle.std.specs.Prelude.{List, ℕ, ◌≡◌, ◌≤◌, ◌-◌, filter, length};
+    ghost use Rattle.std.specs.Prelude.{List, ℕ, ◌≡◌, ◌≤◌, ◌<◌, ◌+◌, ◌*◌, ◌^◌, ◌-◌, filter, length};
     ghost use Rattle.std.specs.List.{range_with_len};
-    ghost use Rattle.index_trial.specs.Bits.{IsClearFrom, common_bit};
+    ghost use Rattle.index_trial.specs.Bits.{IsClearFrom, common_bit, common_word, word_count};
 
     ghost Value = { List ℕ };
 
     ghost view = { λ a. filter (common_bit a.words.now a.others.now) (range_with_len a.next (a.bound - a.next)) };
 
-    ghost invariant = { λ a. IsClearFrom a.words.now a.bound × (a.next ≤ a.bound) × (length a.words.now ≡ length a.others.now) };
+    ghost invariant = { λ a. IsClearFrom a.words.now a.bound × (a.next ≤ a.bound)
+        × (length a.words.now ≡ length a.others.now) × (a.bound < 2 ^ 64)
+        × (length a.words.now ≡ word_count a.bound) × (a.place < word_count a.bound)
+        × (a.place * 64 ≤ a.next) × (a.next ≤ (a.place + 1) * 64)
+        × (common_word a.words.now a.others.now a.place ≡ a.word) };
 }
 
 impl<'s> Iterator for CommonIter<'s> {
@@ -283,8 +296,15 @@ impl<'s> Iterator for CommonIter<'s> {
     ghost remaining = { item_count (λ s. s) };
 
     fn next(&mut self) -> Option<usize> {
-        match next_common(self.words, self.others, self.next) {
-            Some(index) => {
+        if let Some(index) = next_in_word(self.word, self.place, self.next) {
+            self.next = index + 1;
+            return Some(index);
+        }
+        match next_shared(self.words, self.others, self.place + 1) {
+            Some((place, word)) => {
+                let index = place * 64 + word.trailing_zeros() as usize;
+                self.place = place;
+                self.word = word;
                 self.next = index + 1;
                 Some(index)
             }

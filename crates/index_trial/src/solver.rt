@@ -3,11 +3,13 @@ ghost use Rattle.std.specs.Prelude.{◌≡◌, ◌↔◌, ◌++◌, ◌∷◌, [
 ghost use Rattle.std.specs.List.{filter_map, list_any};
 ghost use Rattle.std.specs.Option.{option_map};
 ghost use Rattle.facet_solver_shape.specs.Keys.{key_of};
+ghost use Rattle.facet_solver_shape.specs.Resolved.{FieldView};
 ghost use Rattle.facet_solver_shape.specs.Views.{field_view};
 ghost use Rattle.index_trial.specs.Indexed.{IsEntry};
-ghost use Rattle.index_trial.specs.KeyAnswer.{answer_of, by_shapes, field_at, first_of_each_shape, score_of_shape, unknown};
-ghost use Rattle.index_trial.specs.KeyResultView.{ShowsFirsts, answer_view};
+ghost use Rattle.index_trial.specs.KeyAnswer.{answer_of, by_shapes, field_at, score_of_shape, unknown, with_score};
+ghost use Rattle.index_trial.specs.KeyResultView.{ShowsFirsts, answer_view, scored_view};
 ghost use Rattle.index_trial.specs.State.{told};
+ghost use Rattle.index_trial.specs.Targets.{Catalogue};
 
 use crate::index::Entry;
 use crate::schema::Schema;
@@ -90,27 +92,21 @@ fn answer_to<'s, 'c>(
         resolutions: schema.resolutions(),
         key,
     };
-    answer_by_shapes(alloc, schema.shapes(), search, first, second, holders)
+    let fields = distinct_fields(alloc, schema.shapes(), search, first, second, holders)?;
+    Ok(answer_by_shapes(fields))
 }
 
-// The answer by the shapes of the fields that a key means in resolutions of some numbers.
-fn answer_by_shapes<'s, 'c>(
-    alloc: Global,
-    shapes: &Shapes,
-    search: KeySearch<'s, 'c, '_>,
-    first: usize,
-    second: usize,
-    rest: CommonIter<'_>,
-) -> Result<KeyResult<'s, 'c>, AllocError>
-    ensures { IfOk result (λ answer. answer_view answer ≡ by_shapes shapes.now
-        (first_of_each_shape (filter_map (field_at (key_of search.entry.key) search.entry.resolutions.now) (first ∷ second ∷ rest.entry)))) }
+// The answer by the first fields of the shapes.
+fn answer_by_shapes<'s, 'c>(fields: Vec<(&'s FieldInfo<'c>, u64)>) -> KeyResult<'s, 'c>
+    ensures { (cat : Catalogue) (firsts : List FieldView)
+        → map scored_view fields.entry.items ≡ map (with_score cat) firsts
+        → answer_view result ≡ by_shapes cat firsts }
 {
-    let fields = distinct_fields(alloc, shapes, search, first, second, rest)?;
     match fields.as_slice() {
-        [(field, _)] => Ok(KeyResult::Unambiguous {
+        [(field, _)] => KeyResult::Unambiguous {
             shape: field.value_shape,
-        }),
-        _ => Ok(KeyResult::Ambiguous { fields }),
+        },
+        _ => KeyResult::Ambiguous { fields },
     }
 }
 

@@ -43,10 +43,7 @@ returns c =
     let first = c.in-Some.first in
     let numbers : List ℕ = first ∷ c.in-Some-next.second ∷ c.next-2.new.self in
     let key = key_of c.args.key in
-    IfOk-weaker c.answer_by_shapes.result _ _
-    (λ answer is.
-    is
+    c.answer_by_shapes.ensures c.shapes.result.now (first_of_each_shape (filter_map (field_at key c.resolutions.result.now) numbers)) c.in_ok-fields.ensures
     ∙ (λ j. by_shapes (c.shapes.ensures j) (first_of_each_shape (filter_map (field_at key (c.resolutions.ensures j)) numbers)))
     ∙ answer_by key s c.args.entry.now c.requires.entry numbers
-    (ap (λ rest. first ∷ rest) (sym c.in-Some-next.ensures.steps) ∙ sym c.in-Some.ensures.steps ∙ c.common-holders.ensures.members))
-    c.answer_by_shapes.ensures
+    (ap (λ rest. first ∷ rest) (sym c.in-Some-next.ensures.steps) ∙ sym c.in-Some.ensures.steps ∙ c.common-holders.ensures.members)

@@ -1,36 +1,84 @@
-use Rattle.std.proofs.Common.{◌≡◌, ℕ, List, [], ◌-◌, ◌<◌, length, ap, sym, ◌∙◌, arith, rules}
-use Rattle.index_trial.specs.Bits.{IsClearFrom, IsNext, common_bit}
-use Rattle.index_trial.proofs.BitLaws.{common_clear}
+use Rattle.std.proofs.Common.{◌≡◌, ℕ, List, [], ◌+◌, ◌-◌, ◌*◌, ◌<◌, ◌≤◌, length, ap, sym, ◌∙◌, arith, rules, w64}
+use Rattle.std.specs.Int.{trailing_zeros}
+use Rattle.std.proofs.lemmas.Nat.Bits.{bit_at-trailing_zeros}
+use Rattle.index_trial.specs.Bits.{common_bit, common_word}
+use Rattle.index_trial.proofs.BitLaws.{common_clear, next_by_words, none_by_words}
 use Rattle.index_trial.proofs.Filters.{filter_none}
 use Rattle.index_trial.proofs.Members.{yields_next, next_below}
 use Rattle.index_trial.proofs.set.CommonIterIterator.next.Goals as goal
 
-below : (words others : List ℕ) (from k bound : ℕ) → IsClearFrom words bound → IsNext (common_bit words others) from k → k < bound
-below words others from k bound clear next = next_below (common_bit words others) from k bound (common_clear words others bound clear) next
-
 pub returns-in-Some-clause-steps : goal.returns-in-Some-clause-steps
 returns-in-Some-clause-steps c =
-    sym c.self.view_is
-    ∙ yields_next (common_bit c.self.inside.words.now c.self.inside.others.now) c.self.inside.next c.in-Some.index c.self.inside.bound c.self.invariant.1 (common_clear c.self.inside.words.now c.self.inside.others.now c.self.inside.bound c.self.invariant.0) c.in-Some.ensures
+    let s = c.self.inside in
+    let inv = c.self.invariant in
+    let next = c.in-Some.ensures.next (common_word s.words.now s.others.now) inv.8 in
+    sym c.self.view_is ∙ yields_next (common_bit s.words.now s.others.now) s.next c.in-Some.index s.bound inv.1 (common_clear s.words.now s.others.now s.bound inv.0) next
 
 pub returns-in-Some-clause-goes : goal.returns-in-Some-clause-goes
 returns-in-Some-clause-goes c =
     let step = returns-in-Some-clause-steps c in
     record { on = λ _. (search rules, search rules, (let fewer = ap length step in omega arith)); keeps = search rules; rests = λ _. search rules }
 
-pub returns-in-None-clause-steps : goal.returns-in-None-clause-steps
-returns-in-None-clause-steps c =
-    let none : c.args.self.now ≡ [] =
-    sym c.self.view_is
-    ∙ filter_none (common_bit c.self.inside.words.now c.self.inside.others.now) c.self.inside.next (c.self.inside.bound - c.self.inside.next) (λ i low _. c.in-None.ensures i low) in
-    (none, none)
-
 pub overflow_add-self : goal.overflow_add-self
 overflow_add-self c =
-    let low : c.in-Some.index < c.self.inside.bound = below c.self.inside.words.now c.self.inside.others.now c.self.inside.next c.in-Some.index c.self.inside.bound c.self.invariant.0 c.in-Some.ensures in
+    let s = c.self.inside in
+    let inv = c.self.invariant in
+    let next = c.in-Some.ensures.next (common_word s.words.now s.others.now) inv.8 in
+    let low : c.in-Some.index < s.bound = next_below (common_bit s.words.now s.others.now) s.next c.in-Some.index s.bound (common_clear s.words.now s.others.now s.bound inv.0) next in
     omega arith
 
 pub invariant_of-self : goal.invariant_of-self
 invariant_of-self c =
-    let low : c.in-Some.index < c.self.inside.bound = below c.self.inside.words.now c.self.inside.others.now c.self.inside.next c.in-Some.index c.self.inside.bound c.self.invariant.0 c.in-Some.ensures in
-    (c.self.invariant.0, omega arith, c.self.invariant.2)
+    let s = c.self.inside in
+    let inv = c.self.invariant in
+    let next = c.in-Some.ensures.next (common_word s.words.now s.others.now) inv.8 in
+    let low : c.in-Some.index < s.bound = next_below (common_bit s.words.now s.others.now) s.next c.in-Some.index s.bound (common_clear s.words.now s.others.now s.bound inv.0) next in
+    let above : s.next ≤ c.in-Some.index = next.above in
+    let at : s.place * 64 ≤ s.next = inv.6 in
+    let within : c.in-Some.index < (s.place + 1) * 64 = c.in-Some.ensures.within in
+    (inv.0, omega arith, inv.2, inv.3, inv.4, inv.5, omega arith, omega arith, inv.8)
+
+pub returns-in-Some-next_shared-clause-steps : goal.returns-in-Some-next_shared-clause-steps
+returns-in-Some-next_shared-clause-steps c =
+    let s = c.self.inside in
+    let inv = c.self.invariant in
+    let f : ℕ → ℕ = common_word s.words.now s.others.now in
+    let next = next_by_words f s.next (s.place + 1) (length s.words.now) (c.in-Some-next_shared.place, c.in-Some-next_shared.word) inv.7 (c.in_default.ensures.next f inv.8) c.in-Some-next_shared.ensures in
+    sym c.self.view_is ∙ yields_next (common_bit s.words.now s.others.now) s.next _ s.bound inv.1 (common_clear s.words.now s.others.now s.bound inv.0) next
+
+pub returns-in-Some-next_shared-clause-goes : goal.returns-in-Some-next_shared-clause-goes
+returns-in-Some-next_shared-clause-goes c =
+    let step = returns-in-Some-next_shared-clause-steps c in
+    record { on = λ _. (search rules, search rules, (let fewer = ap length step in omega arith)); keeps = search rules; rests = λ _. search rules }
+
+pub overflow_add-self-in-Some-next_shared : goal.overflow_add-self-in-Some-next_shared
+overflow_add-self-in-Some-next_shared c =
+    let s = c.self.inside in
+    let inv = c.self.invariant in
+    let f : ℕ → ℕ = common_word s.words.now s.others.now in
+    let next = next_by_words f s.next (s.place + 1) (length s.words.now) (c.in-Some-next_shared.place, c.in-Some-next_shared.word) inv.7 (c.in_default.ensures.next f inv.8) c.in-Some-next_shared.ensures in
+    let low : c.in-Some-next_shared.place * 64 + trailing_zeros w64 c.in-Some-next_shared.word < s.bound =
+    next_below (common_bit s.words.now s.others.now) s.next _ s.bound (common_clear s.words.now s.others.now s.bound inv.0) next in
+    omega arith
+
+pub invariant_of-self-in-Some-next_shared : goal.invariant_of-self-in-Some-next_shared
+invariant_of-self-in-Some-next_shared c =
+    let s = c.self.inside in
+    let inv = c.self.invariant in
+    let f : ℕ → ℕ = common_word s.words.now s.others.now in
+    let shared = c.in-Some-next_shared.ensures in
+    let next = next_by_words f s.next (s.place + 1) (length s.words.now) (c.in-Some-next_shared.place, c.in-Some-next_shared.word) inv.7 (c.in_default.ensures.next f inv.8) shared in
+    let low : c.in-Some-next_shared.place * 64 + trailing_zeros w64 c.in-Some-next_shared.word < s.bound =
+    next_below (common_bit s.words.now s.others.now) s.next _ s.bound (common_clear s.words.now s.others.now s.bound inv.0) next in
+    let word : trailing_zeros w64 c.in-Some-next_shared.word < 64 = (bit_at-trailing_zeros w64 c.in-Some-next_shared.word shared.some shared.fits).0 in
+    (inv.0, omega arith, inv.2, inv.3, inv.4, rw (sym inv.4) shared.within, omega arith, omega arith, sym shared.is)
+
+pub returns-in-None-clause-steps : goal.returns-in-None-clause-steps
+returns-in-None-clause-steps c =
+    let s = c.self.inside in
+    let inv = c.self.invariant in
+    let f : ℕ → ℕ = common_word s.words.now s.others.now in
+    let rest = none_by_words f s.next (s.place + 1) (c.in_default.ensures.next f inv.8) c.in-None.ensures in
+    let none : c.args.self.now ≡ [] =
+    sym c.self.view_is ∙ filter_none (common_bit s.words.now s.others.now) s.next (s.bound - s.next) (λ i low _. rest i low) in
+    (none, none)

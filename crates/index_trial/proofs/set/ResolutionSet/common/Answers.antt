@@ -16,7 +16,7 @@ returns-clause-members c =
     members_common (has_bit words) (has_bit others) (common_bit words others) c.self.inside.bound c.other.inside.bound c.other.invariant.1 (common_is words others) in
     let Q : IndexSet → Type 0 = λ s. made ≡ filter (has (filter (has_bit others) (upto c.other.inside.bound))) s.members in
     let R : IndexSet → Type 0 = λ o. made ≡ filter (has o.members) c.args.self.now.members in
-    rw (c.as_slice.ensures, c.as_slice-2.ensures, sub-zero) (subst R c.other.view_is (subst Q c.self.view_is first))
+    rw (c.as_slice-words.ensures, c.as_slice-others.ensures, sub-zero) (subst R c.other.view_is (subst Q c.self.view_is first))
 
 pub returns-clause-within : goal.returns-clause-within
 returns-clause-within c =
