@@ -14,6 +14,9 @@ pub mod Limits
 pub mod Steps
 pub mod Products
 pub mod IndexSets
+pub mod Filters
+pub mod Bits
+pub mod Members
 pub mod Viability
 pub mod Distinct
 pub mod Verdicts

@@ -14,7 +14,7 @@ pub mod Outcome
 pub mod Build
 pub mod IndexSet
 pub mod HowMany
-pub mod MatchesView
+pub mod Words
 pub mod SchemaView
 pub mod Handle
 pub mod State

@@ -1,6 +1,5 @@
 use Rattle.std.proofs.Common.{◌≡◌, ◌++◌, filter}
-use Rattle.facet_solver.specs.HowMany.{how_many}
-use Rattle.facet_solver.specs.MatchesView.{IsWithin, matches_view}
+use Rattle.facet_solver.specs.HowMany.{IsWithin, how_many, matches_view}
 use Rattle.facet_solver.proofs.set.ResolutionSet.matching.Given as goal
 
 abbrev pub invariant-loop-index : goal.invariant-loop-index

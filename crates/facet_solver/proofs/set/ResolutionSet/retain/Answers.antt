@@ -1,10 +1,14 @@
-use Rattle.std.proofs.Common.{◌<◌}
-use Rattle.std.proofs.lemmas.List.Elements.{All-filter}
-use Rattle.std.proofs.lemmas.List.Kept.{IsStrictlyIncreasing-filter}
+use Rattle.std.proofs.Common.{◌≡◌, List, ℕ, filter, ap, subst}
+use Rattle.facet_solver.specs.IndexSet.{IndexSet}
+use Rattle.facet_solver.specs.Words.{members_of, words_of}
+use Rattle.facet_solver.proofs.Members.{members_kept}
 use Rattle.facet_solver.proofs.set.ResolutionSet.retain.Goals as goal
 
-pub invariant_of-self : goal.invariant_of-self
-invariant_of-self g c =
-    let keep = g.C.Condition.holds c.args.condition.now in
-    rw c.retain_all.ensures
-    (All-filter keep (λ i. i < c.self.inside.bound) _ c.self.invariant.0, IsStrictlyIncreasing-filter keep _ c.self.invariant.1)
+pub returns : goal.returns
+returns g c =
+    let holds = g.C.Condition.holds c.args.condition.now in
+    let after : List ℕ = members_of (words_of c.retain.new.self) in
+    let with_members : List ℕ → IndexSet = λ members. record { bound = c.self.inside.bound; members = members } in
+    let Q : IndexSet → Type 0 = λ s. with_members after ≡ record { bound = s.bound; members = filter holds s.members } in
+    subst Q c.self.view_is
+    (ap with_members (members_kept (words_of c.self.inside.words) (words_of c.retain.new.self) holds c.retain.ensures.count c.retain.ensures.kept))

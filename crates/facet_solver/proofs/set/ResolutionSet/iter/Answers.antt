@@ -1,0 +1,16 @@
+use Rattle.std.proofs.Common.{◌<◌, All, subst}
+use Rattle.std.specs.List.Sorted.{IsStrictlyIncreasing}
+use Rattle.facet_solver.specs.IndexSet.{IndexSet}
+use Rattle.facet_solver.specs.Words.{words_of}
+use Rattle.facet_solver.proofs.Members.{members_rise, members_within}
+use Rattle.facet_solver.proofs.set.ResolutionSet.iter.Goals as goal
+
+pub returns-clause-rising : goal.returns-clause-rising
+returns-clause-rising c =
+    let P : IndexSet → Type 0 = λ s. IsStrictlyIncreasing s.members in
+    subst P c.self.view_is (members_rise (words_of c.self.inside.words))
+
+pub returns-clause-within : goal.returns-clause-within
+returns-clause-within c =
+    let P : IndexSet → Type 0 = λ s. All (λ i. i < s.bound) s.members in
+    subst P c.self.view_is (members_within (words_of c.self.inside.words) c.self.inside.bound c.self.invariant)

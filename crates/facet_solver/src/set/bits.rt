@@ -1,0 +1,129 @@
+//! Indices as bits of words, 64 a word.
+ghost use Rattle.std.specs.Prelude.{◌≡◌, ℕ, ◌∷◌, [], ◌+◌, ◌-◌, ◌^◌, ◌<◌, ◌≤◌, ◌↔◌, ◌&&◌, IfOk, IfSome, IsTrue, MatchOption, length, nat_eq, vec_len};
+ghost use Rattle.std.specs.Int.{bit_at};
+ghost use Rattle.facet_solver.specs.IndexSet.{has};
+ghost use Rattle.facet_solver.specs.Words.{IsClearFrom, IsFull, KeepsBits, has_bit, members_from, members_of, word_count};
+
+use crate::set::condition::Condition;
+use std::alloc::{AllocError, Global};
+
+/// A word whose lowest bits are set.
+pub(crate) fn low_ones(count: usize) -> u64
+    requires { count ≤ 64 }
+    ensures { result ≡ 2 ^ count - 1 }
+{
+    if count == 64 {
+        u64::MAX
+    } else {
+        (1u64 << count) - 1
+    }
+}
+
+/// The words of all indices below a bound.
+pub(crate) fn full_words(alloc: Global, bound: usize) -> Result<Vec<u64>, AllocError>
+    requires { 0 < bound }
+    ensures count { IfOk result (λ words. vec_len words ≡ word_count bound) }
+    ensures full { IfOk result (λ words. IsFull bound words.items) }
+{
+    let count = (bound - 1) / 64 + 1;
+    let mut words = Vec::with_capacity(alloc, count)?;
+    for k in 0..count {
+        let left = bound - k * 64;
+        let word = low_ones(if left < 64 { left } else { 64 });
+        words.push(word)?;
+    }
+    Ok(words)
+}
+
+/// Whether a bit of a word is set.
+fn is_bit_set(word: u64, bit: usize) -> bool
+    requires { bit < 64 }
+    ensures { result ≡ nat_eq (bit_at word bit) 1 }
+{
+    (word >> bit) & 1 == 1
+}
+
+/// Whether the bit of an index is set.
+pub(crate) fn is_set(words: &[u64], index: usize) -> bool
+    ensures { result ≡ has (members_of words.now) index }
+{
+    let place = index / 64;
+    place < words.len() && is_bit_set(words[place], index % 64)
+}
+
+/// Whether no bit is set.
+pub(crate) fn is_clear(words: &[u64]) -> bool
+    ensures { IsTrue result ↔ (members_of words.now ≡ []) }
+{
+    for word in words {
+        if *word != 0 {
+            return false;
+        }
+    }
+    true
+}
+
+/// How many bits are set.
+pub(crate) fn count_bits(words: &[u64]) -> usize
+    requires { IsClearFrom words.now (2 ^ 64 - 1) }
+    ensures { result ≡ length (members_of words.now) }
+{
+    let mut total = 0;
+    for word in words {
+        total += word.count_ones() as usize;
+    }
+    total
+}
+
+/// The least index from one on whose bit is set.
+pub(crate) fn next_bit(words: &[u64], from: usize) -> Option<usize>
+    requires { IsClearFrom words.now (2 ^ 64 - 1) }
+    ensures next { MatchOption result (members_from words.now from ≡ [])
+        (λ i. members_from words.now from ≡ i ∷ members_from words.now (i + 1)) }
+    ensures fits { IfSome result (λ i. i < 2 ^ 64 - 1) }
+{
+    let place = from / 64;
+    if place >= words.len() {
+        return None;
+    }
+    let rest = words[place] >> (from % 64);
+    if rest != 0 {
+        return Some(from + rest.trailing_zeros() as usize);
+    }
+    for k in place + 1..words.len() {
+        let word = words[k];
+        if word != 0 {
+            return Some(k * 64 + word.trailing_zeros() as usize);
+        }
+    }
+    None
+}
+
+/// The bits of a word, which stand for the indices from one on, that meet a condition. It is asked of set bits alone.
+pub(crate) fn kept_bits<C: Condition>(word: u64, first: usize, condition: &C) -> u64
+    requires { first + 63 < 2 ^ 64 }
+    ensures { KeepsBits (λ bit. C.holds condition.now (first + bit)) word result }
+{
+    if word == 0 {
+        return 0;
+    }
+    let mut kept = word;
+    for bit in 0..64 {
+        if is_bit_set(word, bit) && !condition.holds(first + bit) {
+            kept &= !(1u64 << bit);
+        }
+    }
+    kept
+}
+
+/// Clears the bits of indices that do not meet a condition.
+pub(crate) fn retain_bits<C: Condition>(words: &mut [u64], condition: &C)
+    requires { length words.old ≤ 2 ^ 58 }
+    ensures count { length words.new ≡ length words.old }
+    ensures kept { (i : ℕ) → has_bit words.new i
+        ≡ (has_bit words.old i && C.holds condition.now i) }
+{
+    for k in 0..words.len() {
+        words[k] = kept_bits(words[k], k * 64, condition);
+    }
+}
