@@ -195,11 +195,11 @@ next_by_words f from place below found low before next =
     let some : 0 < f found.0 = rw (sym next.is) next.some in
     let small : f found.0 < 2 ^ 64 = rw (sym next.is) next.fits in
     rw next.is (next_in_later f from found.0 small some (omega arith)
-      (λ i high early.
-      elim (cases_lt i (place * 64)) [
-        | inl first ↦ before i high first
-        | inr later ↦ none_between f place found.0 next.skipped i later early
-      ]))
+    (λ i high early.
+    elim (cases_lt i (place * 64)) [
+      | inl first ↦ before i high first
+      | inr later ↦ none_between f place found.0 next.skipped i later early
+    ]))
 
 -- or there is none
 pub none_by_words : (f : ℕ → ℕ) (from place : ℕ) → NoneBetween (bit_of f) from (place * 64) → ((k : ℕ) → place ≤ k → f k ≡ 0) → (i : ℕ) → from ≤ i → bit_of f i ≡ false

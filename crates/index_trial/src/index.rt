@@ -107,7 +107,8 @@ impl<'c> CategoryIndex<'c> {
     fn add_to_all(&mut self, alloc: Global, at: &Occurrence) -> Result<(), AllocError>
         requires index { at.now.index < at.now.bound }
         requires bound { HasBound at.now.bound self.old.all }
-        ensures { OnOk result (self.new ≡ record self.old { all = Some (added self.old.all at.now) }) }
+        ensures { OnOk result
+            (self.new ≡ record self.old { all = Some (added self.old.all at.now) }) }
     {
         match &mut self.all {
             Some(entry) => entry.add(at),
@@ -126,7 +127,9 @@ impl<'c> CategoryIndex<'c> {
         requires index { at.now.index < at.now.bound }
         requires bounds { (name : Option Name) → HasBound at.now.bound (entry_in self.old name) }
         ensures { OnOk result ((name : Option Name) → entry_in self.new name
-            ≡ (if is_named name (field_view field.now) then Some (added (entry_in self.old name) at.now) else entry_in self.old name)) }
+            ≡ (if is_named name (field_view field.now)
+            then Some (added (entry_in self.old name) at.now)
+            else entry_in self.old name)) }
     {
         add_named(&mut self.named, alloc, field.serialized_name, at)?;
         if takes_any_name(field.category) {
@@ -156,7 +159,9 @@ fn add_named<'c>(
     requires index { at.now.index < at.now.bound }
     requires bounds { (n : Name) → HasBound at.now.bound (named_entry named.old n) }
     ensures { OnOk result ((n : Name) → named_entry named.new n
-        ≡ (if name_eq n name.now then Some (added (named_entry named.old n) at.now) else named_entry named.old n)) }
+        ≡ (if name_eq n name.now
+        then Some (added (named_entry named.old n) at.now)
+        else named_entry named.old n)) }
 {
     match named.get_mut(name) {
         Some(entry) => entry.add(at),
@@ -195,7 +200,8 @@ impl<'c> Index<'c> {
 
     /// The index of resolutions, by their own fields.
     pub(crate) fn new(alloc: Global, resolutions: &[Resolution<'c>]) -> Result<Self, AllocError>
-        ensures { IfOk result (IsIndexOf (length resolutions.now) (fields_of_each resolutions.now)) }
+        ensures { IfOk result
+            (IsIndexOf (length resolutions.now) (fields_of_each resolutions.now)) }
     {
         let mut index = Index::empty(alloc);
         for i in 0..resolutions.len() {
@@ -212,9 +218,10 @@ impl<'c> Index<'c> {
         index: usize,
     ) -> Result<(), AllocError>
         requires within { index < length resolutions.now }
-        requires before { IsIndexOf (length resolutions.now) (fields_of_each (take index resolutions.now)) self.old }
-        ensures { OnOk result
-            (IsIndexOf (length resolutions.now) (fields_of_each (take (index + 1) resolutions.now)) self.new) }
+        requires before { IsIndexOf (length resolutions.now)
+            (fields_of_each (take index resolutions.now)) self.old }
+        ensures { OnOk result (IsIndexOf (length resolutions.now)
+            (fields_of_each (take (index + 1) resolutions.now)) self.new) }
     {
         let bound = resolutions.len();
         for (key, field) in resolutions[index].fields() {
@@ -269,7 +276,9 @@ impl<'c> Index<'c> {
         requires index { at.now.index < at.now.bound }
         requires bounds { (slot : Slot) → HasBound at.now.bound (entry_at self.old slot) }
         ensures { OnOk result ((slot : Slot) → entry_at self.new slot
-            ≡ (if is_at slot (field_view field.now) then Some (added (entry_at self.old slot) at.now) else entry_at self.old slot)) }
+            ≡ (if is_at slot (field_view field.now)
+            then Some (added (entry_at self.old slot) at.now)
+            else entry_at self.old slot)) }
     {
         match field.category {
             FieldCategory::Flat => self.flat.add(alloc, field, at),

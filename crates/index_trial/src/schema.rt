@@ -44,7 +44,8 @@ impl<'c> Schema<'c> {
         resolutions: Vec<Resolution<'c>>,
     ) -> Result<Self, AllocError>
         requires { AreOfFormat format resolutions.items }
-        ensures { IfOk result (λ s. s ≡ record { catalogue = shapes.now; resolutions = resolutions.entry.items }) }
+        ensures { IfOk result (λ s. s
+            ≡ record { catalogue = shapes.now; resolutions = resolutions.entry.items }) }
     {
         let index = Index::new(alloc, &resolutions)?;
         Ok(Schema {

@@ -120,7 +120,8 @@ fn distinct_fields<'s, 'c>(
     rest: CommonIter<'_>,
 ) -> Result<Vec<(&'s FieldInfo<'c>, u64)>, AllocError>
     ensures { IfOk result (λ fields. ShowsFirsts shapes.now
-        (field_at (key_of search.entry.key) search.entry.resolutions.now) (first ∷ second ∷ rest.entry) fields.items) }
+        (field_at (key_of search.entry.key) search.entry.resolutions.now)
+        (first ∷ second ∷ rest.entry) fields.items) }
 {
     let mut fields = Vec::new(alloc);
     add_if_new(&mut fields, shapes, search, first)?;
@@ -138,9 +139,9 @@ fn add_if_new<'s, 'c>(
     search: KeySearch<'s, 'c, '_>,
     index: usize,
 ) -> Result<(), AllocError>
-    ensures { OnOk result ((seen : List ℕ)
-        → ShowsFirsts shapes.now (field_at (key_of search.entry.key) search.entry.resolutions.now) seen fields.old.items
-        → ShowsFirsts shapes.now (field_at (key_of search.entry.key) search.entry.resolutions.now) (seen ++ index ∷ []) fields.new.items) }
+    ensures { let field_of = field_at (key_of search.entry.key) search.entry.resolutions.now in
+        OnOk result ((seen : List ℕ) → ShowsFirsts shapes.now field_of seen fields.old.items
+        → ShowsFirsts shapes.now field_of (seen ++ index ∷ []) fields.new.items) }
 {
     let Some(field) = search.field_at(index) else {
         return Ok(());
@@ -208,7 +209,8 @@ impl<'s, 'c, 'a> Solver<'s, 'c, 'a> {
         alloc: Global,
         key: FieldKey<'a>,
     ) -> Result<KeyResult<'s, 'c>, AllocError>
-        ensures answer { IfOk result (λ answer. answer_view answer ≡ answer_of (key_of key.entry) self.old) }
+        ensures answer { IfOk result
+            (λ answer. answer_view answer ≡ answer_of (key_of key.entry) self.old) }
         ensures ok { OnOk result (self.new ≡ told (key_of key.entry) self.old) }
         ensures err { OnErr result (self.new ≡ self.old) }
     {

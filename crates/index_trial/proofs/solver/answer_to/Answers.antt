@@ -1,6 +1,5 @@
 use Rattle.std.proofs.Common.{ℕ, List, [], ◌∷◌, ap, sym, ◌∙◌}
 use Rattle.std.specs.List.{filter_map}
-use Rattle.std.proofs.lemmas.Result.{IfOk-weaker}
 use Rattle.facet_solver_shape.specs.Keys.{key_of}
 use Rattle.index_trial.specs.IndexSet.{has}
 use Rattle.index_trial.specs.KeyAnswer.{solved, by_shapes, field_at, first_of_each_shape}
