@@ -17,6 +17,7 @@ pub mod IndexSets
 pub mod Filters
 pub mod Bits
 pub mod Members
+pub mod SharedBits
 pub mod Viability
 pub mod Distinct
 pub mod Verdicts

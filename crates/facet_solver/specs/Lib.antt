@@ -15,6 +15,7 @@ pub mod Build
 pub mod IndexSet
 pub mod HowMany
 pub mod Words
+pub mod SharedBits
 pub mod SchemaView
 pub mod Handle
 pub mod State
