@@ -34,3 +34,7 @@ pub mod Selectors
 pub mod NestedLaws
 pub mod OwnSteps
 pub mod FieldCategories
+pub mod NamedEntries
+pub mod Indexing
+pub mod UnderWay
+pub mod LookUps

@@ -45,3 +45,6 @@ pub use Rattle.facet_solver_shape.specs.Formats
 pub use Rattle.facet_solver_shape.specs.Groups
 pub use Rattle.facet_solver_shape.specs.Partition
 pub use Rattle.facet_solver_shape.specs.Scores
+pub mod Slots
+pub mod IndexEntries
+pub mod Indexed
