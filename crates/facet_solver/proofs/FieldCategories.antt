@@ -18,7 +18,6 @@ use Rattle.facet_solver_shape.specs.declared.shape.ShapeKind.TheVariants.{Struct
 use Rattle.facet_solver_shape.specs.declared.resolution.key.FieldCategory.{FieldCategory}
 use Rattle.facet_solver_shape.specs.declared.resolution.key.FieldCategory.TheVariants.{Flat as FlatCategory}
 use Rattle.facet_solver_shape.specs.Names.{Name, effective_name}
-use Rattle.facet_solver_shape.specs.Paths.{by_variant}
 use Rattle.facet_solver_shape.specs.Keys.{Key, key_cmp, stored_key}
 use Rattle.facet_solver_shape.specs.Resolved.{FieldView, Resolved, nothing, key_of_field}
 use Rattle.facet_solver_shape.proofs.Finite.{equal, none_is_some}
@@ -26,13 +25,12 @@ use Rattle.facet_solver_shape.proofs.Merging.{first_part, none_above, second_par
 use Rattle.facet_solver_shape.proofs.KeyOrder.{key_cmp_total, key_cmp_same}
 use Rattle.facet_solver.specs.declared.build.representation.Format.{Format}
 use Rattle.facet_solver.specs.declared.build.representation.Format.TheVariants.{Flat, Dom}
-use Rattle.facet_solver.specs.Targets.{Catalogue}
 use Rattle.facet_solver.specs.Representation.{category_of_mark, Repr, flattened, externally_tagged, internally_tagged, adjacently_tagged, is_walked, field_category, selector_category}
 use Rattle.facet_solver.specs.Content.{content_of}
 use Rattle.facet_solver.specs.Roles.{Role, regular, block, alternatives, catch_all, leaf, role_of}
 use Rattle.facet_solver.specs.Nested.{KeyPath, nested_paths, content_paths}
 use Rattle.facet_solver.specs.Emissions.{Emission, a_field, a_key_path, a_pick, a_catch_all, paths_behind, pick_of, regular_field, leaf_field, selector_field, emit_regular, emit_catch_all, emit_leaf, emit_selector_by, emit_variant, emit_plain}
-use Rattle.facet_solver.specs.Place.{Path, variant_path, unwrapped_at, field_path, Chosen, at_root, at_root_variant, choosing, further, inside_field, inside_variant}
+use Rattle.facet_solver.specs.Place.{Chosen, at_root, at_root_variant, choosing, further, inside_field, inside_variant}
 use Rattle.facet_solver.specs.Walk.{Walked, Walk, put_before, and_then, emit, choose, at_chosen, walk_variant_step, walk_content_step, walk_role, walk_fields_step, walk_within, walk_fields, walk_root, walk_root_shape, walk_root_kind, walk_root_variant, walk_content}
 use Rattle.facet_solver.specs.Choice.{with_emission, resolution_of, IsResolution, GoesByName}
 use Rattle.facet_solver.specs.declared.build.place.Place.{Place}

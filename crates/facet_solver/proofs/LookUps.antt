@@ -1,9 +1,8 @@
 -- A key looks in the slot of the fields that it means.
-use Rattle.std.proofs.Common.{◌≡◌, ◌≢◌, ℕ, zero, suc, Bool, true, false, cond, ◌&&◌, ◌||◌, List, [], ◌∷◌, Option, Some, None, All, slice_get, refl, ap, sym, ◌∙◌, subst}
+use Rattle.std.proofs.Common.{◌≡◌, ◌≢◌, ℕ, zero, suc, Bool, true, false, cond, ◌&&◌, ◌||◌, List, [], ◌∷◌, Option, Some, None, All, refl, ap, sym, ◌∙◌, subst}
 use Rattle.std.specs.Prelude.{if◌then◌else◌, length}
 use Rattle.std.specs.FinMap as finite
 use Rattle.std.specs.List.{AllByRecursion, find}
-use Rattle.std.specs.Option.{option_and_then, option_map_or, is_some}
 use Rattle.std.specs.Ordering.{nat_cmp}
 use Rattle.std.proofs.lemmas.Bool.Decides.{Decides-eqb}
 use Rattle.std.proofs.lemmas.Cmp.{tied_itself, nat_cmp_total}

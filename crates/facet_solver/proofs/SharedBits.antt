@@ -1,6 +1,5 @@
 -- What two sets share, as bits of their words.
-use Rattle.std.proofs.Common.{◌≡◌, ℕ, zero, suc, ◌+◌, ◌-◌, ◌*◌, ◌/◌, ◌%◌, ◌^◌, ◌<◌, ◌≤◌, min, Bool, true, false, ◌&&◌, ◌||◌, inl, inr, nat_eq, List, [], ◌∷◌, filter, length, get_or, set, refl, ap, sym, ◌∙◌, arith, eq-eqb, ne_eqb, replicate, w64, get_or-set_other, get_or-set_same}
-use Rattle.std.proofs.Math.Nat.{sub-zero}
+use Rattle.std.proofs.Common.{◌≡◌, ℕ, zero, suc, ◌+◌, ◌-◌, ◌*◌, ◌/◌, ◌%◌, ◌^◌, ◌<◌, ◌≤◌, min, false, ◌&&◌, ◌||◌, inl, inr, nat_eq, List, [], ◌∷◌, filter, length, get_or, set, refl, ap, sym, ◌∙◌, arith, eq-eqb, ne_eqb, replicate, w64, get_or-set_other, get_or-set_same}
 use Rattle.std.proofs.lemmas.Bool.{and_left, cases_eq, cases_lt}
 use Rattle.std.proofs.lemmas.List.{get_or_past, get_or-replicate, length-replicate}
 use Rattle.std.proofs.lemmas.Nat.Bits.{bit_at_and, bit_at-zero, bit_at-lt, bit_at_set_same, bit_at_set_other, bit_at_above, bit_at-trailing_zeros}
@@ -9,7 +8,7 @@ use Rattle.std.specs.Int.{bit_at, trailing_zeros}
 use Rattle.std.specs.List.{range_with_len}
 use Rattle.std.specs.Prelude.{bit_and, bit_or}
 use Rattle.facet_solver.specs.IndexSet.{has, upto}
-use Rattle.facet_solver.specs.SharedBits.{IsNext, IsNextShared, NoneBetween, common_bit, common_from, common_word}
+use Rattle.facet_solver.specs.SharedBits.{IsNext, IsNextShared, NoneBetween, common_bit, common_from}
 use Rattle.facet_solver.specs.Words.{HoldBelow, IsClearFrom, bit_of, has_bit, members_of}
 use Rattle.facet_solver.proofs.Bits.{bit_at-shr, clear_of_zeros, clear_past, next_in_later, not_set}
 use Rattle.facet_solver.proofs.Filters.{filter-next, filter_filter, filter_none, filter_same}
