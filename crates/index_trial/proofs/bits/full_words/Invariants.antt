@@ -1,9 +1,0 @@
-use Rattle.std.proofs.Common.{◌≡◌, ℕ, ◌<◌, get_or, vec_len}
-use Rattle.index_trial.specs.Bits.{full_word}
-use Rattle.index_trial.proofs.bits.full_words.Given as goal
-
-abbrev pub invariant-loop-k : goal.invariant-loop-k
-invariant-loop-k l = record {
-  len : vec_len l.words ≡ l.k;
-  each : (j : ℕ) → j < l.k → get_or l.words.items j 0 ≡ full_word l.bound j;
-}

@@ -1,6 +1,0 @@
-use Rattle.std.proofs.Common.{◌≡◌, ℕ, ◌*◌, ◌<◌, ◌≤◌, false}
-use Rattle.index_trial.specs.Bits.{has_bit}
-use Rattle.index_trial.proofs.bits.next_bit.Given as goal
-
-abbrev pub invariant-loop-k : goal.invariant-loop-k
-invariant-loop-k l = (i : ℕ) → l.from ≤ i → i < l.k * 64 → has_bit l.words i ≡ false

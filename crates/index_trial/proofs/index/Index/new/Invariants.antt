@@ -1,6 +1,0 @@
-use Rattle.std.proofs.Common.{length, take}
-use Rattle.index_trial.specs.Indexed.{IsIndexOf, fields_of_each}
-use Rattle.index_trial.proofs.index.Index.new.Given as goal
-
-abbrev pub invariant-loop-i : goal.invariant-loop-i
-invariant-loop-i l = IsIndexOf (length l.resolutions) (fields_of_each (take l.i l.resolutions)) l.index
