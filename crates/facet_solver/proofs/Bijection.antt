@@ -7,8 +7,7 @@ use Rattle.facet_solver_shape.specs.declared.shape.ShapeKind.{ShapeKind}
 use Rattle.facet_solver_shape.specs.declared.shape.ShapeKind.TheVariants.{Struct, Enum}
 use Rattle.facet_solver_shape.specs.declared.shape.Field.{Field}
 use Rattle.facet_solver_shape.specs.declared.shape.Variant.{Variant}
-use Rattle.facet_solver.specs.Targets.{Catalogue}
-use Rattle.facet_solver.specs.Place.{Path, variant_path, unwrapped_at, at_root, choosing, inside_variant}
+use Rattle.facet_solver.specs.Place.{at_root, choosing, inside_variant}
 use Rattle.facet_solver.specs.Emissions.{emit_variant, pick_of}
 use Rattle.facet_solver.specs.Walk.{Walk, emit, walk_variant_step, walk_content_step, walk_role, walk_fields_step, walk_within, walk_fields, walk_root, walk_root_shape, walk_root_kind, walk_root_variant, walk_content}
 use Rattle.facet_solver.specs.Representation.{is_walked}
@@ -141,7 +140,7 @@ Rising-before k (d ∷ ds) h = (
   Rising-before k ds h.1,
 )
 
--- what is numbered from place k begins with k or more
+-- what is indexed from k on begins with k or more
 indexed_heads : (choices : Variant → Choices) (k : ℕ) (c : List ℕ) (vs : List Variant) → In c (indexed k choices vs) → (i : ℕ) × (d : List ℕ) × ((k + i) ∷ d ≡ c)
 unfolding indexed
 indexed_heads choices k c [] h = absurd h

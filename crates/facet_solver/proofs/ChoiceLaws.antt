@@ -2,7 +2,6 @@
 use Rattle.facet_solver.specs.Build.{Build}
 use Rattle.std.proofs.Common.{◌≡◌, ◌⊎◌, inl, inr, ℕ, suc, ◌<◌, List, [], ◌∷◌, ◌++◌, Some, sym, refl, ap, ◌∙◌, subst, length, get_or, append-nil, arith}
 use Rattle.std.specs.Prelude.{Contains}
-use Rattle.facet_solver.specs.Targets.{Catalogue}
 use Rattle.facet_solver.specs.Emissions.{Emission}
 use Rattle.facet_solver.specs.Place.{Path}
 use Rattle.facet_solver.specs.Walk.{walk_root}

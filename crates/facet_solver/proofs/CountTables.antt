@@ -4,9 +4,7 @@ use Rattle.std.proofs.Common.{◌≡◌, ◌⊎◌, inl, inr, ℕ, zero, suc, �
 use Rattle.std.proofs.lemmas.List.{length_push}
 use Rattle.facet_solver_shape.specs.declared.shape.Shape.{Shape}
 use Rattle.facet_solver.specs.declared.build.count.saturating.SaturatingCount.{SaturatingCount}
-use Rattle.facet_solver.specs.Targets.{Catalogue}
-use Rattle.facet_solver.specs.Roles.{role_of_target, role_by_kind}
-use Rattle.facet_solver.specs.Count.{count_role, count_fields, count_shape}
+use Rattle.facet_solver.specs.Count.{count_shape}
 use Rattle.facet_solver.specs.Counts.{CountsTo, count_at, AreFirstCounts, AreCounts}
 use Rattle.std.specs.Option.{option_map_or}
 

@@ -25,7 +25,7 @@ pub VariantsBelow-mono : (m n : ℕ) (vs : List Variant) → m ≤ n → Variant
 VariantsBelow-mono m n [] le h = tt
 VariantsBelow-mono m n (v ∷ vs) le h = (FieldsBelow-mono m n v.fields.items le h.0, VariantsBelow-mono m n vs le h.1)
 
--- what a flattened field leads to names places below the limit
+-- what a flattened field leads to names shapes below the limit
 abbrev pub RoleBelow : ℕ → Role → Type 0
 RoleBelow limit regular = Unit {0}
 RoleBelow limit (block target fs) = FieldsBelow limit fs
@@ -152,7 +152,7 @@ module _ (cat : Catalogue) (checked : NamesEarlier cat) where
       go (f ∷ []) b = by_name (is_zero (string_bytes f.name)) f b.0
       go (f ∷ g ∷ fs) b = h
 
--- what the shape at a place names as fields is of the catalogue
+-- what the shape at an index names as fields is of the catalogue
 module _ (cat : Catalogue) (checked : NamesEarlier cat) (root : ℕ) (s : Shape) (is : slice_get cat root ≡ Some s) where
   inside : root < length cat
   inside = slice_get_within cat root s is
@@ -163,7 +163,7 @@ module _ (cat : Catalogue) (checked : NamesEarlier cat) (root : ℕ) (s : Shape)
   pub enum-below : (vs : Vec Variant Global) → s.kind ≡ Enum vs → VariantsBelow (length cat) vs.items
   enum-below vs e = VariantsBelow-mono root (length cat) vs.items (omega (arith, inside)) (subst (KindBelow root) e (checked root s is).kind)
 
--- a step of a definition by levels looks only at fields that name smaller places
+-- a step of a definition by levels looks only at fields that name earlier shapes
 abbrev pub IsLocal : {X : Type 0} → ((List Field → X) → List Field → X) → Type 0
 IsLocal {X} step = (g h : List Field → X) (limit : ℕ) (fs : List Field) → FieldsBelow limit fs → ((m : ℕ) (gs : List Field) → m < limit → FieldsBelow m gs → g gs ≡ h gs) → step g fs ≡ step h fs
 

@@ -3,7 +3,7 @@
 use Rattle.std.proofs.Common.{◌≡◌, ℕ, zero, suc, ◌+◌, ◌⊎◌, inl, inr, List, [], ◌∷◌, ◌++◌, map, Option, Some, None, sym, refl, ap, ◌∙◌, subst, append_assoc, slice_get, add-zero, zero-add, arith}
 use Rattle.facet_solver_shape.specs.declared.shape.Variant.{Variant}
 use Rattle.facet_solver.specs.Emissions.{Emission}
-use Rattle.facet_solver.specs.Walk.{Walked, put_before, and_then, emit, choose, at_chosen}
+use Rattle.facet_solver.specs.Walk.{Walking, Walked, put_before, and_then, emit, choose, at_chosen}
 use Rattle.facet_solver.specs.Listing.{Choices, no_choice, product, indexed}
 
 -- membership, by recursion
@@ -49,10 +49,6 @@ In-product_from x (b ∷ cs) ds h = elim (In-append x (map (λ d. b ++ d) ds) _ 
   | inr t ↦ (let r = In-product_from x cs ds t in (r.0, r.1, inr r.2, r.3, r.4))
 ]
 
--- a way to walk numbers
-abbrev pub Walking : Type 0
-Walking = List ℕ → Walked
-
 pub record IsExact (w : Walking) (cs : Choices) : Type 0 where
   pub sound : (c : List ℕ) → In c cs → (es : List Emission) × ((rest : List ℕ) → w (c ++ rest) ≡ Some (es, rest))
   pub complete : (ns : List ℕ) (es : List Emission) (rest : List ℕ) → w ns ≡ Some (es, rest) → (c : List ℕ) × (In c cs) × (c ++ rest ≡ ns)
@@ -68,7 +64,7 @@ second w = w.1
 pub IsExact-none : IsExact (λ _. None) []
 IsExact-none = record { sound = λ c h. absurd h; complete = λ ns es rest e. absurd (cc) }
 
--- no number is taken
+-- no index is taken
 pub IsExact-emit : (es : List Emission) → IsExact (emit es) no_choice
 IsExact-emit es = record {
   sound = λ c h. elim h [ inl e ↦ (es, λ rest. ap (λ (c : List ℕ). emit es (c ++ rest)) (sym e)) | inr f ↦ absurd f ];
@@ -79,7 +75,7 @@ put_before_is : (es : List Emission) (w : Walked) (fs : List Emission) (rest : L
 put_before_is es None fs rest e = absurd (cc)
 put_before_is es (Some w) fs rest e = (w.0, ap (λ (r : List ℕ). Some (w.0, r)) (ap second (walked_is (es ++ w.0, w.1) (fs, rest) e)))
 
--- emissions before a walk take no number
+-- emissions before a walk take no index
 pub IsExact-put_before : (es : List Emission) (w : Walking) (cs : Choices) → IsExact w cs → IsExact (λ ns. put_before es (w ns)) cs
 IsExact-put_before es w cs x = record {
   sound = λ c h. let s = x.sound c h in (es ++ s.0, λ rest. ap (put_before es) (s.1 rest));
@@ -112,7 +108,7 @@ IsExact-and_then w v cs ds x y = record {
 }
 
 module _ (go : Variant → List ℕ → Walked) (choices : Variant → Choices) (each : (v : Variant) → IsExact (go v) (choices v)) where
-  -- a listed place is a variant's
+  -- a listed index is a variant's
   In-indexed : (k : ℕ) (c : List ℕ) (vs : List Variant) → In c (indexed k choices vs) → (i : ℕ) × (v : Variant) × (d : List ℕ) × (slice_get vs i ≡ Some v) × (In d (choices v)) × ((k + i) ∷ d ≡ c)
   unfolding indexed
   In-indexed k c [] h = absurd h

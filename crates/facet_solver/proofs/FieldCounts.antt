@@ -13,7 +13,7 @@ use Rattle.facet_solver_shape.specs.declared.shape.Variant.{Variant}
 use Rattle.facet_solver_shape.specs.Places.{FieldsBelow, NamesEarlier}
 use Rattle.facet_solver.specs.declared.build.count.saturating.SaturatingCount.{SaturatingCount}
 use Rattle.facet_solver.specs.declared.build.count.saturating.SaturatingCount.TheVariants.{Exact}
-use Rattle.facet_solver.specs.Targets.{Catalogue, kind_of}
+use Rattle.facet_solver.specs.Targets.{kind_of}
 use Rattle.facet_solver.specs.Roles.{target_of, role_of, role_of_target, role_by_kind, regular}
 use Rattle.facet_solver.specs.declared.build.role.Target.{Target}
 use Rattle.std.specs.Option.{option_map_or}

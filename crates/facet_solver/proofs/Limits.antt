@@ -1,4 +1,4 @@
--- The least limit below which fields name places: what the recursion down a catalogue lowers.
+-- The least limit below which fields name shapes: what the recursion down a catalogue lowers.
 use Rattle.std.proofs.Common.{ℕ, zero, suc, ◌<◌, ◌≤◌, max, List, [], ◌∷◌, length, get_or, arith}
 use Rattle.facet_solver_shape.specs.declared.shape.Field.{Field}
 use Rattle.facet_solver_shape.specs.declared.shape.Variant.{Variant}
@@ -52,6 +52,6 @@ VariantsBelow-at limit [] i d h b = absurd (omega arith)
 VariantsBelow-at limit (v ∷ vs) zero d h b = b.0
 VariantsBelow-at limit (v ∷ vs) (suc i) d h b = VariantsBelow-at limit vs i d (omega arith) b.1
 
--- a variant's content names no later places than its fields
+-- a variant's content names no later shapes than its fields
 pub limit_of-content : (cat : Catalogue) → NamesEarlier cat → (v : Variant) → limit_of (content_of cat v).fields ≤ limit_of v.fields.items
 limit_of-content cat checked v = limit_of-le (limit_of v.fields.items) _ (content_of-below cat checked (limit_of v.fields.items) v (FieldsBelow-limit v.fields.items))

@@ -1,13 +1,10 @@
 -- Where the count is 0 there is no choice.
 use Rattle.facet_solver.specs.Build.{Build}
-use Rattle.std.proofs.Common.{◌≡◌, List, [], ◌∷◌, Bool, refl, ◌∙◌, length, arith}
+use Rattle.std.proofs.Common.{◌≡◌, List, [], ◌∷◌, refl, ◌∙◌, length, arith}
 use Rattle.facet_solver_shape.specs.declared.shape.Field.{Field}
-use Rattle.facet_solver_shape.specs.declared.shape.Variant.{Variant}
-use Rattle.facet_solver.specs.Targets.{Catalogue}
-use Rattle.facet_solver.specs.Roles.{role_of}
-use Rattle.facet_solver.specs.Listing.{Choices, choices_of_fields, choices_of_field, choices_of_variants}
-use Rattle.facet_solver.specs.Count.{count_fields, count_field, count_variants}
-use Rattle.facet_solver.proofs.Counts.{below_count, role_count, among_count}
+use Rattle.facet_solver.specs.Listing.{Choices, choices_of_fields}
+use Rattle.facet_solver.specs.Count.{count_fields}
+use Rattle.facet_solver.proofs.Counts.{below_count}
 
 empty : (cs : Choices) → length cs ≡ 0 → cs ≡ []
 empty [] e = refl

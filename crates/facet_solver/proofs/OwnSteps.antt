@@ -6,9 +6,7 @@ use Rattle.facet_solver_shape.specs.declared.shape.Shape.{Shape}
 use Rattle.facet_solver_shape.specs.declared.shape.Field.{Field}
 use Rattle.facet_solver_shape.specs.Places.{FieldsBelow, NamesEarlier}
 use Rattle.facet_solver.specs.Build.{Build}
-use Rattle.facet_solver.specs.Targets.{Catalogue}
 use Rattle.facet_solver.specs.Roles.{target_of, Role, regular, block, alternatives, catch_all, leaf, role_of, role_of_target, IsPlain}
-use Rattle.facet_solver.specs.Place.{Path}
 use Rattle.facet_solver.specs.Walk.{Walked, Walk, and_then, walk_role, walk_fields_step, walk_within, walk_fields}
 use Rattle.facet_solver.specs.Count.{Count, count_role, count_fields_step, count_within, count_fields}
 use Rattle.facet_solver.proofs.Descent.{RoleBelow, role_of_target-below, same_levels}

@@ -93,7 +93,7 @@ module _ (build : Build) where
       ∙ ap (product found) left-nil
       ∙ product-one_right found
 
--- the numbered choices of the variants from place i on
+-- the indexed choices of the variants from index i on
 module _ (choices : Variant → Choices) where
   pub indexed-more : (k : ℕ) (vs : List Variant) (i : ℕ) (d : Variant) → i < length vs → indexed k choices (drop i vs) ≡ map (λ c. k ∷ c) (choices (get_or vs i d)) ++ indexed (suc k) choices (drop (i + 1) vs)
   unfolding indexed

@@ -30,10 +30,10 @@ get_push [] x y (suc k) h = absurd (cc)
 get_push (z ∷ xs) x y zero h = inl h
 get_push (z ∷ xs) x y (suc k) h = elim (get_push xs x y k h) [ inl e ↦ inl e | inr e ↦ inr (ap suc e.0, e.1) ]
 
--- a field was emitted at some place with this key
+-- a field was emitted with this key
 record Emitted (es : List Emission) (k : Key) (g : FieldView) : Type 0 where
-  place : ℕ
-  there : slice_get es place ≡ Some (a_field g)
+  index : ℕ
+  there : slice_get es index ≡ Some (a_field g)
   by_key : key_of_field g ≡ k
 
 -- r is what the emissions put together, and no two of them clash
@@ -55,12 +55,12 @@ nothing_done = record {
 }
 
 later : (done : List Emission) (e : Emission) (k : Key) (g : FieldView) → Emitted done k g → Emitted (done ++ e ∷ []) k g
-later done e k g h = record { place = h.place; there = get_left done (e ∷ []) h.place _ h.there; by_key = h.by_key }
+later done e k g h = record { index = h.index; there = get_left done (e ∷ []) h.index _ h.there; by_key = h.by_key }
 
 -- what was emitted after one more was emitted before, or is the one
 split : (done : List Emission) (e : Emission) (k : Key) (g : FieldView) → Emitted (done ++ e ∷ []) k g → Emitted done k g ⊎ (e ≡ a_field g)
-split done e k g h = elim (get_push done e (a_field g) h.place h.there) [
-  | inl a ↦ inl record { place = h.place; there = a; by_key = h.by_key }
+split done e k g h = elim (get_push done e (a_field g) h.index h.there) [
+  | inl a ↦ inl record { index = h.index; there = a; by_key = h.by_key }
   | inr a ↦ inr a.1
 ]
 
@@ -70,7 +70,7 @@ clash-split done e f g k =
     elim (get_push done e (a_field f) k.first_at k.first_is) [
       | inl a ↦ elim (get_push done e (a_field g) k.second_at k.second_is) [
         | inl b ↦ inl record { first_at = k.first_at; second_at = k.second_at; in_order = k.in_order; first_is = a; second_is = b; same_key = k.same_key }
-        | inr b ↦ inr (b.1, record { place = k.first_at; there = a; by_key = k.same_key })
+        | inr b ↦ inr (b.1, record { index = k.first_at; there = a; by_key = k.same_key })
       ]
       | inr a ↦ elim (get_push done e (a_field g) k.second_at k.second_is) [
         | inl b ↦ (let lt = slice_get_within done k.second_at (a_field g) b in let o = k.in_order in let e = a.0 in absurd (omega arith))
@@ -105,7 +105,7 @@ done-field done r f d fresh = record {
     found : (k : Key) (g : FieldView) (b : Bool) → eq_by_cmp key_cmp k (key_of_field f) ≡ b → cond b (Some f) (map.get r.fields k) ≡ Some g → Emitted (done ++ a_field f ∷ []) k g
     found k g true e h =
         let same : f ≡ g = cc in record {
-          place = length done;
+          index = length done;
           there = get_mid done [] (a_field f) ∙ ap (λ (x : FieldView). Some (a_field x)) same;
           by_key = ap key_of_field (sym same) ∙ sym (key_cmp_same k (key_of_field f) (equal (key_cmp k (key_of_field f)) e));
         }
@@ -192,10 +192,10 @@ clashing_from done (e ∷ es) q d x h = go (take_in q e) refl h (λ s k. clashin
           first = r.first;
           second = r.second;
           clash = record {
-            first_at = r.before.place;
+            first_at = r.before.index;
             second_at = length done;
-            in_order = slice_get_within done r.before.place (a_field r.first) r.before.there;
-            first_is = get_left done (e ∷ es) r.before.place _ r.before.there;
+            in_order = slice_get_within done r.before.index (a_field r.first) r.before.there;
+            first_is = get_left done (e ∷ es) r.before.index _ r.before.there;
             second_is = get_mid done es e ∙ ap (λ (x : Emission). Some x) r.emitted;
             same_key = r.before.by_key;
           };

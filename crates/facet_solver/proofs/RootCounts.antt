@@ -6,9 +6,7 @@ use Rattle.facet_solver_shape.specs.declared.shape.Shape.{Shape}
 use Rattle.facet_solver_shape.specs.declared.shape.ShapeKind.{ShapeKind}
 use Rattle.facet_solver_shape.specs.declared.shape.ShapeKind.TheVariants.{Enum}
 use Rattle.facet_solver_shape.specs.declared.shape.Variant.{Variant}
-use Rattle.facet_solver.specs.Targets.{Catalogue}
-use Rattle.facet_solver.specs.Roles.{role_of_target, role_by_kind}
-use Rattle.facet_solver.specs.Count.{count_role, count_fields, count_of_root, count_of_shape, count_kind, count_variants, count_shape}
+use Rattle.facet_solver.specs.Count.{count_of_root, count_of_shape, count_kind, count_variants, count_shape}
 use Rattle.facet_solver.specs.Counts.{count_at}
 use Rattle.facet_solver.specs.Representation.{is_walked}
 use Rattle.std.specs.Option.{option_map_or}

@@ -1,6 +1,6 @@
 -- The walk of a root by its kind.
 use Rattle.facet_solver.specs.Build.{Build}
-use Rattle.std.proofs.Common.{◌≡◌, ℕ, List, [], ◌∷◌, Option, Some, Bool, false, sym, refl, ap, ◌∙◌, subst, slice_get, IsSome, string_bytes}
+use Rattle.std.proofs.Common.{◌≡◌, ℕ, List, [], ◌∷◌, Option, Some, sym, refl, ap, ◌∙◌, subst, slice_get, IsSome}
 use Rattle.std.specs.Prelude.{Vec}
 use Rattle.std.specs.declared.alloc.Global.{Global}
 use Rattle.facet_solver_shape.specs.declared.shape.Shape.{Shape}
@@ -10,11 +10,9 @@ use Rattle.facet_solver_shape.specs.declared.shape.ShapeKind.TheVariants.{Struct
 use Rattle.facet_solver_shape.specs.declared.shape.Field.{Field}
 use Rattle.facet_solver_shape.specs.declared.shape.Variant.{Variant}
 use Rattle.facet_solver_shape.specs.declared.resolution.error.SchemaError as schema
-use Rattle.facet_solver.specs.Targets.{Catalogue}
 use Rattle.facet_solver.specs.Walk.{Walked, put_before, choose, walk_fields, walk_root, walk_root_shape, walk_root_kind, walk_root_variant, walk_content}
 use Rattle.facet_solver.specs.Place.{Path, at_root, at_root_variant}
 use Rattle.facet_solver.specs.Emissions.{pick_of}
-use Rattle.facet_solver_shape.specs.Paths.{by_variant}
 use Rattle.facet_solver_shape.specs.Resolved.{Resolved}
 use Rattle.facet_solver.specs.Outcome.{Outcome, resolved, take_in, effect, ErrorOf, StopsBy}
 use Rattle.facet_solver.proofs.Outcomes.{take_all-one, effect-put_before, put_before-some}

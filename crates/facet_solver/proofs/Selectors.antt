@@ -1,13 +1,11 @@
 -- What a field or a selector emits, by parts.
 use Rattle.facet_solver.specs.Build.{Build}
-use Rattle.std.proofs.Common.{◌≡◌, [], ◌∷◌, ◌++◌, Bool, string_bytes, refl, sym, ap, ◌∙◌}
+use Rattle.std.proofs.Common.{◌≡◌, [], ◌∷◌, ◌++◌, string_bytes, refl, sym, ap, ◌∙◌}
 use Rattle.facet_solver_shape.specs.declared.shape.Field.{Field}
-use Rattle.facet_solver_shape.specs.declared.shape.Variant.{Variant}
 use Rattle.facet_solver_shape.specs.Names.{Name, effective_name}
-use Rattle.facet_solver.specs.Targets.{Catalogue}
 use Rattle.facet_solver.specs.Representation.{Repr, flattened, externally_tagged, internally_tagged, adjacently_tagged}
 use Rattle.facet_solver.specs.Nested.{nested_paths, content_paths}
-use Rattle.facet_solver.specs.Place.{Path, Chosen}
+use Rattle.facet_solver.specs.Place.{Chosen}
 use Rattle.facet_solver.specs.Emissions.{a_key_path, a_catch_all, field_and_path, paths_behind, regular_field, catch_all_field, selector_field, emit_regular, emit_catch_all, emit_selector_by}
 use Rattle.facet_solver.specs.declared.build.place.Place.{Place}
 use Rattle.facet_solver.specs.declared.build.role.Target.{Target}

@@ -8,7 +8,7 @@ use Rattle.facet_solver_shape.specs.declared.shape.Field.{Field}
 use Rattle.facet_solver_shape.specs.declared.shape.Variant.{Variant}
 use Rattle.facet_solver_shape.specs.Places.{FieldsBelow, VariantsBelow, NamesEarlier}
 use Rattle.facet_solver.specs.Targets.{Catalogue, effective, effective_within, go_on, next_inside}
-use Rattle.facet_solver.specs.Place.{Path, variant_path, unwrapped_at, field_path, choosing, further, inside_field, inside_variant}
+use Rattle.facet_solver.specs.Place.{choosing, further, inside_field, inside_variant}
 use Rattle.facet_solver.specs.Emissions.{emit_variant}
 use Rattle.facet_solver.specs.Walk.{Walked, Walk, put_before, and_then, emit, choose, at_chosen, walk_variant_step, walk_content_step, walk_role, walk_fields_step, walk_within, walk_fields, Walking}
 use Rattle.facet_solver.specs.Representation.{is_walked}

@@ -1,6 +1,6 @@
 -- The walk part by part, and what each part makes of a resolution.
 use Rattle.facet_solver.specs.Build.{Build, repr_for}
-use Rattle.std.proofs.Common.{◌≡◌, ℕ, zero, suc, ◌+◌, ◌<◌, ◌≤◌, List, [], ◌∷◌, ◌++◌, Option, Some, None, slice_get, Bool, true, false, sym, refl, ap, ◌∙◌, subst, length, get_or, drop, append-nil, arith, IsSome}
+use Rattle.std.proofs.Common.{◌≡◌, ℕ, zero, suc, ◌+◌, ◌<◌, ◌≤◌, List, [], ◌∷◌, Option, Some, None, slice_get, Bool, true, false, sym, refl, ap, ◌∙◌, subst, length, get_or, drop, append-nil, arith, IsSome}
 use Rattle.std.specs.Prelude.{if◌then◌else◌, Result, IsErrAnd, slice_index, codes}
 use Rattle.std.specs.Borrow.{Bor}
 use Rattle.std.proofs.lemmas.Result.{err_from_is_err_and}
@@ -11,11 +11,10 @@ use Rattle.facet_solver_shape.specs.Paths.{by_field}
 use Rattle.facet_solver_shape.specs.Resolved.{Resolved}
 use Rattle.facet_solver.specs.Outcome.{ErrorOf, StopsBy, Walks, duplicate_view, Outcome, resolved, take_all, effect}
 use Rattle.facet_solver.specs.Roles.{IsPlain, Role, regular, block, alternatives, catch_all, leaf, role_of}
-use Rattle.facet_solver.specs.Targets.{Catalogue}
 use Rattle.facet_solver.specs.Representation.{is_walked}
 use Rattle.facet_solver.specs.Content.{newtype_fields, content_or}
 use Rattle.facet_solver.specs.Emissions.{Emission, emit_variant, emit_plain}
-use Rattle.facet_solver.specs.Place.{Path, field_path, unwrapped_at, variant_path, Chosen, choosing, further, inside_field, inside_variant}
+use Rattle.facet_solver.specs.Place.{Path, Chosen, choosing, further, inside_field, inside_variant}
 use Rattle.facet_solver.specs.Walk.{Walked, put_before, and_then, emit, choose, at_chosen, walk_fields, walk_field, walk_variant, walk_content, walk_role, walk_content_step, walk_fields_step, HasChoice, Walk}
 use Rattle.facet_solver.proofs.Limits.{limit_of, limit_of-content}
 use Rattle.facet_solver.proofs.Descent.{content_of-below}

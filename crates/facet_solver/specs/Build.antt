@@ -14,6 +14,11 @@ pub record Build : Type 0 where
   pub representation : Option Repr
   pub format : Format
 
+-- a build of these parts
+abbrev pub build_with : Catalogue → Option Repr → Format → Build
+build_with cat repr format =
+    record { catalogue = cat; representation = repr; format = format }
+
 -- what the code's build goes by
 abbrev pub build_of : code.Build → Build
 build_of build = record {

@@ -41,7 +41,7 @@ content_or v (Some fs) = record { fields = fs; path = by_field (codes "0") ∷ [
 abbrev pub content_of : Catalogue → Variant → Content
 content_of cat v = content_or v (newtype_fields cat v.fields.items)
 
--- fields are a single field `0`, and the struct behind it stands at a place, which is earlier than
+-- fields are a single field `0`, and the struct behind it stands at an index, which is earlier than
 -- what they name
 pub record IsNewtypeOf (cat : Catalogue) (fs : List Field) (id : ℕ) : Type 0 where
   pub is_struct : IsSome (struct_fields (kind_at cat id))

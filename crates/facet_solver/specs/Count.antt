@@ -1,5 +1,5 @@
 -- The number of choices, by cases on the shapes alone.
-use Rattle.facet_solver.specs.Build.{Build, repr_for}
+use Rattle.facet_solver.specs.Build.{Build, build_with, repr_for}
 use Rattle.std.specs.Prelude.{ℕ, zero, suc, ◌*◌, List, [], ◌∷◌, Bool, true, if◌then◌else◌, Option, Some, None, slice_get, length, sum_by, ◌≡◌, ◌^◌, nat_lt}
 use Rattle.facet_solver_shape.specs.declared.shape.Shape.{Shape}
 use Rattle.facet_solver_shape.specs.declared.shape.Field.{Field}
@@ -20,7 +20,7 @@ Count = List Field → ℕ
 abbrev pub count_variant : Count → Catalogue → Bool → Variant → ℕ
 count_variant below cat walked v = if walked then below (content_of cat v).fields else 1
 
--- one field, by its role: an enum is the sum over its variants, and what takes no number counts one
+-- one field, by its role: an enum is the sum over its variants, and without variants it is one
 abbrev pub count_role : Count → Build → Role → ℕ
 count_role below build (block target fs) = below fs
 count_role below build (alternatives target s vs) =
@@ -85,6 +85,4 @@ below_2_64 n = if nat_lt n (2 ^ 64) then Some n else None
 abbrev pub IsCountOf : Catalogue → ℕ → Option Repr → Option ℕ → Type 0
 IsCountOf cat root representation answer =
     (format : Format)
-    → let build : Build =
-    record { catalogue = cat; representation = representation; format = format } in
-    answer ≡ below_2_64 (count_of_root build root)
+    → answer ≡ below_2_64 (count_of_root (build_with cat representation format) root)

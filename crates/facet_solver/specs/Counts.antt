@@ -1,13 +1,8 @@
--- What the code's numbers of choices tell. Only private contracts and proofs speak of it.
+-- What saturating counts say, and a table of them. Only private contracts and proofs speak of it.
 use Rattle.facet_solver.specs.Build.{Build}
-use Rattle.std.specs.Prelude.{◌≡◌, ℕ, ◌^◌, ◌≤◌, List, Bool, Option, Some, None, slice_get, length, sum_by}
+use Rattle.std.specs.Prelude.{◌≡◌, ℕ, ◌^◌, ◌≤◌, List, Option, Some, None, slice_get, length}
 use Rattle.facet_solver.specs.declared.build.count.saturating.SaturatingCount.{SaturatingCount}
 use Rattle.facet_solver.specs.declared.build.count.saturating.SaturatingCount.TheVariants.{Exact, Larger}
-use Rattle.facet_solver_shape.specs.declared.shape.Field.{Field}
-use Rattle.facet_solver_shape.specs.declared.shape.Variant.{Variant}
-use Rattle.facet_solver.specs.Targets.{Catalogue}
-use Rattle.facet_solver.specs.Content.{content_of}
-use Rattle.facet_solver.specs.Roles.{role_of, role_of_target}
 use Rattle.std.specs.Option.{option_map_or}
 use Rattle.facet_solver.specs.Count.{count_shape}
 

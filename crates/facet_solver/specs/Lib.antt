@@ -27,6 +27,7 @@ pub mod SchemaCode
 pub mod EnteredView
 pub mod NestedLaws
 pub mod Counts
+pub mod Walker
 pub use Rattle.facet_solver_shape.specs.Names
 pub use Rattle.facet_solver_shape.specs.Scalars
 pub use Rattle.facet_solver_shape.specs.Places

@@ -14,7 +14,7 @@ use Rattle.facet_solver.specs.Content.{content_of}
 use Rattle.facet_solver.specs.Roles.{Role, regular, block, alternatives, catch_all, leaf, role_of}
 use Rattle.std.specs.declared.alloc.Global.{Global}
 
--- lists of places of variants
+-- lists of choices
 abbrev pub Choices : Type 0
 Choices = List (List ℕ)
 
@@ -26,7 +26,7 @@ no_choice = [] ∷ []
 unfoldable pub product : Choices → Choices → Choices
 product cs ds = flat_map (λ c. map (λ d. c ++ d) ds) cs
 
--- each variant's place, from k on, before its own choices
+-- each variant's index, from k on, before its own choices
 unfoldable pub indexed : ℕ → (Variant → Choices) → List Variant → Choices
 indexed k choices [] = []
 indexed k choices (v ∷ vs) = map (λ c. k ∷ c) (choices v) ++ indexed (suc k) choices vs
@@ -87,6 +87,6 @@ unfoldable pub choices_of_variants : Build → Bool → List Variant → Choices
 choices_of_variants build walked vs =
     indexed 0 (choices_of_variant (choices_of_fields build) build.catalogue walked) vs
 
--- lists of numbers, wherever they lie
+-- choices, wherever they lie
 abbrev pub lists : List (Vec ℕ Global) → List (List ℕ)
 lists vs = map (λ v. v.items) vs

@@ -46,7 +46,7 @@ unfoldable pub take_all : Resolved → List Emission → Outcome
 take_all r [] = resolved r
 take_all r (e ∷ es) = next (take_in r e) (λ s. take_all s es)
 
--- what a walk makes of a resolution, and the numbers that it leaves
+-- what a walk makes of a resolution, and the indices that it leaves
 abbrev pub effect : Resolved → Walked → Option (Outcome × List ℕ)
 effect r None = None
 effect r (Some w) = Some (take_all r w.0, w.1)
@@ -71,7 +71,7 @@ abbrev pub StopsBy : Option (Outcome × List ℕ) → SchemaError → Type 0
 StopsBy e (DuplicateField d) = (rest : List ℕ) × (e ≡ Some (duplicate (duplicate_view d), rest))
 StopsBy e OutOfMemory = Unit {0}
 
--- the result of a walk that hands on the numbers that it leaves
+-- the result of a walk that hands on the indices that it leaves
 abbrev pub Walks : Option (Outcome × List ℕ) → Result (Bor (List ℕ)) SchemaError → Resolved → Type 0
 Walks e result r =
     MatchResult result (λ rest. e ≡ Some (resolved r, rest.now)) (λ err. StopsBy e err)

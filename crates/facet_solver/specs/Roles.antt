@@ -1,5 +1,5 @@
 -- What a field is to the fields that it stands among.
-use Rattle.std.specs.Prelude.{⊤, Bool, true, false, if◌then◌else◌, ℕ, List, Option, Some, None, slice_get}
+use Rattle.std.specs.Prelude.{⊤, true, false, if◌then◌else◌, ℕ, List, Option, Some, None, slice_get}
 use Rattle.facet_solver_shape.specs.declared.shape.Shape.{Shape}
 use Rattle.facet_solver_shape.specs.declared.shape.Field.{Field}
 use Rattle.facet_solver_shape.specs.declared.shape.Variant.{Variant}

@@ -1,7 +1,7 @@
 -- What a schema says.
 use Rattle.std.specs.Prelude.{◌≡◌, ℕ, List, Option, length}
 use Rattle.facet_solver_shape.specs.Resolved.{Resolved}
-use Rattle.facet_solver.specs.Build.{Build}
+use Rattle.facet_solver.specs.Build.{Build, build_with}
 use Rattle.facet_solver.specs.Targets.{Catalogue}
 use Rattle.facet_solver.specs.Representation.{Repr}
 use Rattle.facet_solver.specs.declared.build.representation.Format.TheVariants.{Flat}
@@ -16,7 +16,7 @@ pub record SchemaView : Type 0 where
 
 -- a build for documents whose keys are names
 abbrev pub flat_build : Catalogue → Option Repr → Build
-flat_build cat repr = record { catalogue = cat; representation = repr; format = Flat }
+flat_build cat repr = build_with cat repr Flat
 
 -- a schema of the root, made by the build: exactly one resolution for each choice, in order
 pub record IsBuilt (build : Build) (root : ℕ) (schema : SchemaView) : Type 0 where

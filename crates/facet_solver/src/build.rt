@@ -17,6 +17,7 @@ pub mod representation;
 pub(crate) mod resolve;
 pub(crate) mod role;
 pub(crate) mod walk;
+pub(crate) mod walker;
 
 use crate::build::representation::{EnumRepr, Format};
 use facet_solver_shape::{Shape, ShapeId, Shapes};

@@ -1,17 +1,16 @@
 //! The choices of variants of a root, as lists of the indices of variants.
 ghost use Rattle.std.specs.Prelude.{◌≡◌, ◌++◌, ◌<◌, map, length, IfOk, OnOk};
-ghost use Rattle.facet_solver_shape.specs.Places.{NamesEarlier, FieldsBelow, VariantsBelow};
+ghost use Rattle.facet_solver_shape.specs.Places.{FieldsBelow, VariantsBelow};
 ghost use Rattle.facet_solver.specs.Listing as listing;
 ghost use Rattle.facet_solver.specs.Choice.{ListsChoices};
 ghost use Rattle.facet_solver.specs.Listing.{lists};
 ghost use Rattle.facet_solver.specs.Count.{count_of_root};
-ghost use Rattle.facet_solver.specs.Counts.{AreCounts};
+ghost use Rattle.facet_solver.specs.Walker.{IsReady};
 ghost use Rattle.facet_solver.specs.Build.{build_of};
 
-use crate::build::Build;
 use crate::build::content::content_fields;
-use crate::build::count::Counts;
 use crate::build::role::{Role, role_of};
+use crate::build::walker::Walker;
 use facet_solver_shape::{Field, ShapeId, ShapeKind, Variant};
 use std::alloc::{AllocError, Global};
 
@@ -62,91 +61,83 @@ fn no_choice(alloc: Global) -> Result<Vec<Choice>, AllocError>
 /// none, the others are not gone through.
 #[cycle(choices)]
 fn choices_of_fields<'c>(
-    build: Build<'c>,
-    counts: &Counts,
+    walker: &Walker<'c>,
     fields: &'c [Field],
 ) -> Result<Vec<Choice>, AllocError>
-    requires checked { NamesEarlier build.shapes.now }
-    requires counted { AreCounts (build_of build) counts.now }
-    requires below { FieldsBelow (length build.shapes.now) fields.now }
+    requires ready { IsReady walker.now }
+    requires below { FieldsBelow (length walker.now.build.shapes.now) fields.now }
     ensures { IfOk result
-        (λ v. lists v.items ≡ listing.choices_of_fields (build_of build.entry) fields.now) }
+        (λ v. lists v.items ≡ listing.choices_of_fields (build_of walker.now.build) fields.now) }
 {
-    if counts.of_fields(build, fields).is_zero() {
-        return Ok(Vec::new(build.alloc));
+    if walker.counts.of_fields(walker.build, fields).is_zero() {
+        return Ok(Vec::new(walker.build.alloc));
     }
-    let mut found = no_choice(build.alloc)?;
+    let mut found = no_choice(walker.build.alloc)?;
     for field in fields {
-        let alternatives = choices_of_field(build, counts, field)?;
-        found = product(build.alloc, &found, &alternatives)?;
+        let alternatives = choices_of_field(walker, field)?;
+        found = product(walker.build.alloc, &found, &alternatives)?;
     }
     Ok(found)
 }
 
 /// The choices at one field.
 #[cycle(choices)]
-fn choices_of_field<'c>(
-    build: Build<'c>,
-    counts: &Counts,
-    field: &'c Field,
-) -> Result<Vec<Choice>, AllocError>
-    requires checked { NamesEarlier build.shapes.now }
-    requires counted { AreCounts (build_of build) counts.now }
-    requires below { field.now.shape < length build.shapes.now }
+fn choices_of_field<'c>(walker: &Walker<'c>, field: &'c Field) -> Result<Vec<Choice>, AllocError>
+    requires ready { IsReady walker.now }
+    requires below { field.now.shape < length walker.now.build.shapes.now }
     ensures { IfOk result
-        (λ v. lists v.items ≡ listing.choices_of_field (build_of build.entry) field.now) }
+        (λ v. lists v.items ≡ listing.choices_of_field (build_of walker.now.build) field.now) }
 {
-    match role_of(build.shapes, field) {
-        Role::Block(_, fields) => choices_of_fields(build, counts, fields),
+    match role_of(walker.build.shapes, field) {
+        Role::Block(_, fields) => choices_of_fields(walker, fields),
         Role::Alternatives(_, shape, variants) => {
-            choices_of_variants(build, counts, build.walks_content(shape), variants)
+            choices_of_variants(walker, walker.build.walks_content(shape), variants)
         }
-        Role::Regular | Role::CatchAll(_) | Role::Leaf(_) => no_choice(build.alloc),
+        Role::Regular | Role::CatchAll(_) | Role::Leaf(_) => no_choice(walker.build.alloc),
     }
 }
 
 /// Each variant's index before the choices of its content, where that is walked.
 #[cycle(choices)]
 fn choices_of_variants<'c>(
-    build: Build<'c>,
-    counts: &Counts,
+    walker: &Walker<'c>,
     walked: bool,
     variants: &'c [Variant],
 ) -> Result<Vec<Choice>, AllocError>
-    requires checked { NamesEarlier build.shapes.now }
-    requires counted { AreCounts (build_of build) counts.now }
-    requires below { VariantsBelow (length build.shapes.now) variants.now }
+    requires ready { IsReady walker.now }
+    requires below { VariantsBelow (length walker.now.build.shapes.now) variants.now }
     ensures { IfOk result
         (λ v. lists v.items
-        ≡ listing.choices_of_variants (build_of build.entry) walked variants.now) }
+        ≡ listing.choices_of_variants (build_of walker.now.build) walked variants.now) }
 {
-    let mut found = Vec::new(build.alloc);
+    let mut found = Vec::new(walker.build.alloc);
     for (index, variant) in variants.iter().enumerate() {
         let contents = if walked {
-            choices_of_fields(build, counts, content_fields(build.shapes, variant))?
+            choices_of_fields(walker, content_fields(walker.build.shapes, variant))?
         } else {
-            no_choice(build.alloc)?
+            no_choice(walker.build.alloc)?
         };
-        append_each(build.alloc, &mut found, &[index], &contents)?;
+        append_each(walker.build.alloc, &mut found, &[index], &contents)?;
     }
     Ok(found)
 }
 
 /// All choices of variants of a root, each once and in lexicographic order.
 pub(crate) fn choices_of_root<'c>(
-    build: Build<'c>,
+    walker: &Walker<'c>,
     root: ShapeId,
 ) -> Result<Vec<Choice>, AllocError>
-    requires { root < length build.shapes.now }
-    ensures listed { IfOk result (λ v. ListsChoices (build_of build.entry) root (lists v.items)) }
+    requires ready { IsReady walker.now }
+    requires has { root < length walker.now.build.shapes.now }
+    ensures listed { IfOk result
+        (λ v. ListsChoices (build_of walker.now.build) root (lists v.items)) }
     ensures counted { IfOk result
-        (λ v. length (lists v.items) ≡ count_of_root (build_of build.entry) root) }
+        (λ v. length (lists v.items) ≡ count_of_root (build_of walker.now.build) root) }
 {
-    let shape = build.shape(root);
-    let counts = Counts::new(build)?;
+    let shape = walker.build.shape(root);
     match &shape.kind {
-        ShapeKind::Struct { fields, .. } => choices_of_fields(build, &counts, fields),
-        ShapeKind::Enum { variants } => choices_of_variants(build, &counts, true, variants),
-        _ => no_choice(build.alloc),
+        ShapeKind::Struct { fields, .. } => choices_of_fields(walker, fields),
+        ShapeKind::Enum { variants } => choices_of_variants(walker, true, variants),
+        _ => no_choice(walker.build.alloc),
     }
 }

@@ -23,7 +23,7 @@ pub(crate) fn effective(shapes: &Shapes, id: ShapeId) -> ShapeId
     id
 }
 
-/// The place of the struct behind a single field `0`.
+/// The struct behind a single field `0`.
 pub(crate) fn newtype_struct(shapes: &Shapes, fields: &[Field]) -> Option<ShapeId>
     requires { NamesEarlier shapes.now }
     ensures { let found = content.newtype_fields shapes.now fields.now in

@@ -34,7 +34,8 @@ impl Model for Counts {
 impl Counts {
     /// Counts each shape once, in order: a shape names earlier ones alone.
     pub(crate) fn new(build: Build) -> Result<Counts, AllocError>
-        ensures { IfOk result (AreCounts (build_of build.entry)) }
+        ensures checked { IfOk result (λ _. NamesEarlier build.entry.shapes.now) }
+        ensures counted { IfOk result (AreCounts (build_of build.entry)) }
     {
         let mut by_index = Vec::new(build.alloc);
         while let Some(shape) = build.shapes.get(ShapeId::new(by_index.len())) {

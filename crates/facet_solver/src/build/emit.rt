@@ -1,7 +1,6 @@
 //! What a walk emits, taken into a resolution.
 ghost use Rattle.std.specs.Prelude.{◌≡◌, ◌∷◌, [], map, IfOk, OnOk};
 ghost use Rattle.facet_solver_shape.specs.Views.{field_view};
-ghost use Rattle.facet_solver_shape.specs.Places.{NamesEarlier};
 ghost use Rattle.facet_solver.specs.Emissions as emissions;
 ghost use Rattle.facet_solver.specs.Emissions.{a_key_path};
 ghost use Rattle.facet_solver.specs.Nested.{content_paths};
@@ -9,13 +8,14 @@ ghost use Rattle.facet_solver.specs.Place.{chosen_of};
 ghost use Rattle.facet_solver.specs.Outcome.{take_in, take_all, resolved, Gives};
 ghost use Rattle.facet_solver.specs.Build.{build_of};
 ghost use Rattle.facet_solver.specs.Roles.{role_view, IsPlain};
+ghost use Rattle.facet_solver.specs.Walker.{IsReady};
 
-use crate::build::Build;
 use crate::build::field::{catch_all_field, leaf_field, regular_field, selector_field};
 use crate::build::nested::{add_content_paths, add_nested_paths};
 use crate::build::place::{Chosen, Place};
 use crate::build::representation::EnumRepr;
 use crate::build::role::{Role, Target};
+use crate::build::walker::Walker;
 use facet_solver_shape::{
     Field, FieldInfo, FieldPath, KeyPath, Resolution, SchemaError, Shape, Variant,
 };
@@ -32,14 +32,14 @@ fn key_path<'c>(alloc: Global, name: &'c str) -> Result<KeyPath<'c>, AllocError>
 
 /// Adds a field and the key path of its name.
 fn add_with_path<'c>(
-    build: Build<'c>,
+    walker: &Walker<'c>,
     info: FieldInfo<'c>,
     resolution: &mut Resolution<'c>,
 ) -> Result<(), SchemaError<'c>>
     ensures { let emitted = emissions.field_and_path (field_view info.entry) [] in
         Gives (take_all resolution.old emitted) result resolution.new }
 {
-    let path = key_path(build.alloc, info.serialized_name)?;
+    let path = key_path(walker.build.alloc, info.serialized_name)?;
     resolution.add_field(info)?;
     resolution.add_key_path(path)?;
     Ok(())
@@ -47,34 +47,40 @@ fn add_with_path<'c>(
 
 /// What a regular field emits.
 fn emit_regular<'c>(
-    build: Build<'c>,
+    walker: &Walker<'c>,
     field: &'c Field,
     place: &Place<'c>,
     resolution: &mut Resolution<'c>,
 ) -> Result<(), SchemaError<'c>>
-    requires checked { NamesEarlier build.shapes.now }
-    ensures { let emitted = emissions.emit_regular (build_of build.entry) field.now place.now in
+    requires ready { IsReady walker.now }
+    ensures { let emitted =
+        emissions.emit_regular (build_of walker.now.build) field.now place.now in
         Gives (take_all resolution.old emitted) result resolution.new }
 {
-    let info = regular_field(build, field, place)?;
-    add_with_path(build, info, resolution)?;
-    add_nested_paths(build, field.effective_name(), field.shape, resolution)?;
+    let info = regular_field(walker.build, field, place)?;
+    add_with_path(walker, info, resolution)?;
+    add_nested_paths(
+        walker.build,
+        field.effective_name(),
+        field.shape,
+        resolution,
+    )?;
     Ok(())
 }
 
 /// What a flattened map or dynamic value emits.
 fn emit_catch_all<'c>(
-    build: Build<'c>,
+    walker: &Walker<'c>,
     field: &'c Field,
     target: Target,
     place: &Place<'c>,
     resolution: &mut Resolution<'c>,
 ) -> Result<(), SchemaError<'c>>
     ensures { let emitted =
-        emissions.emit_catch_all (build_of build.entry) field.now target place.now in
+        emissions.emit_catch_all (build_of walker.now.build) field.now target place.now in
         Gives (take_all resolution.old emitted) result resolution.new }
 {
-    let info = catch_all_field(build, field, target, place)?;
+    let info = catch_all_field(walker.build, field, target, place)?;
     resolution.set_catch_all_map(info.category, info)?;
     Ok(())
 }
@@ -82,38 +88,39 @@ fn emit_catch_all<'c>(
 /// What a flattened field emits that is no struct, enum, map or dynamic value.
 #[tactic(auto, unfolding(crate::specs::Emissions::emit_leaf))]
 fn emit_leaf<'c>(
-    build: Build<'c>,
+    walker: &Walker<'c>,
     field: &'c Field,
     target: Target,
     place: &Place<'c>,
     resolution: &mut Resolution<'c>,
 ) -> Result<(), SchemaError<'c>>
-    ensures { let emitted = emissions.emit_leaf (build_of build.entry) field.now target place.now in
+    ensures { let emitted =
+        emissions.emit_leaf (build_of walker.now.build) field.now target place.now in
         Gives (take_all resolution.old emitted) result resolution.new }
 {
-    let info = leaf_field(build, field, target, place)?;
-    add_with_path(build, info, resolution)
+    let info = leaf_field(walker.build, field, target, place)?;
+    add_with_path(walker, info, resolution)
 }
 
 /// What a field emits that takes no variant and has nothing below it.
 #[tactic(auto, unfolding(crate::specs::Emissions::emit_plain))]
 pub(crate) fn emit_plain<'c>(
-    build: Build<'c>,
+    walker: &Walker<'c>,
     role: &Role<'c>,
     field: &'c Field,
     place: &Place<'c>,
     resolution: &mut Resolution<'c>,
 ) -> Result<(), SchemaError<'c>>
-    requires checked { NamesEarlier build.shapes.now }
+    requires ready { IsReady walker.now }
     requires plain { IsPlain (role_view role.now) }
     ensures { let emitted =
-        emissions.emit_plain (build_of build.entry) field.now place.now (role_view role.now) in
+        emissions.emit_plain (build_of walker.now.build) field.now place.now (role_view role.now) in
         Gives (take_all resolution.old emitted) result resolution.new }
 {
     match role {
-        Role::Regular => emit_regular(build, field, place, resolution),
-        Role::CatchAll(target) => emit_catch_all(build, field, *target, place, resolution),
-        Role::Leaf(target) => emit_leaf(build, field, *target, place, resolution),
+        Role::Regular => emit_regular(walker, field, place, resolution),
+        Role::CatchAll(target) => emit_catch_all(walker, field, *target, place, resolution),
+        Role::Leaf(target) => emit_leaf(walker, field, *target, place, resolution),
         Role::Block(_, _) | Role::Alternatives(_, _, _) => unreachable!(),
     }
 }
@@ -134,62 +141,63 @@ pub(crate) fn add_pick<'c>(
 
 /// Adds the selector of a chosen variant under a name, and the key path of the name.
 fn add_selector<'c>(
-    build: Build<'c>,
+    walker: &Walker<'c>,
     name: &'c str,
     chosen: &Chosen<'c>,
     place: &Place<'c>,
     resolution: &mut Resolution<'c>,
 ) -> Result<(), SchemaError<'c>>
     ensures { let field =
-        emissions.selector_field (build_of build.entry) name.now (chosen_of chosen.now) place.now in
+        emissions.selector_field (build_of walker.now.build) name.now
+        (chosen_of chosen.now) place.now in
         Gives (take_all resolution.old (emissions.field_and_path field [])) result resolution.new }
 {
-    let info = selector_field(build, name, chosen, place)?;
-    add_with_path(build, info, resolution)
+    let info = selector_field(walker.build, name, chosen, place)?;
+    add_with_path(walker, info, resolution)
 }
 
 /// Adds the key path of the name that holds a variant's content, and those under the content.
 fn add_content<'c>(
-    build: Build<'c>,
+    walker: &Walker<'c>,
     name: &'c str,
     variant: &'c Variant,
     resolution: &mut Resolution<'c>,
 ) -> Result<(), AllocError>
-    requires checked { NamesEarlier build.shapes.now }
+    requires ready { IsReady walker.now }
     ensures { let paths =
-        emissions.paths_behind name.now (content_paths build.entry.shapes.now variant.now) in
+        emissions.paths_behind name.now (content_paths walker.now.build.shapes.now variant.now) in
         OnOk result (take_all resolution.old (a_key_path (name.now ∷ []) ∷ paths)
         ≡ resolved resolution.new) }
 {
-    resolution.add_key_path(key_path(build.alloc, name)?)?;
-    add_content_paths(build, name, variant, resolution)?;
+    resolution.add_key_path(key_path(walker.build.alloc, name)?)?;
+    add_content_paths(walker.build, name, variant, resolution)?;
     Ok(())
 }
 
 /// Adds the selector of a chosen variant and its key paths, by the enum's representation.
 fn emit_selector<'c>(
-    build: Build<'c>,
+    walker: &Walker<'c>,
     chosen: &Chosen<'c>,
     place: &Place<'c>,
     resolution: &mut Resolution<'c>,
 ) -> Result<(), SchemaError<'c>>
-    requires checked { NamesEarlier build.shapes.now }
+    requires ready { IsReady walker.now }
     ensures { let emitted =
-        emissions.emit_selector (build_of build.entry) (chosen_of chosen.now) place.now in
+        emissions.emit_selector (build_of walker.now.build) (chosen_of chosen.now) place.now in
         Gives (take_all resolution.old emitted) result resolution.new }
 {
     let variant = chosen.variant;
-    match build.repr_for(chosen.shape) {
+    match walker.build.repr_for(chosen.shape) {
         EnumRepr::Flattened => Ok(()),
         EnumRepr::ExternallyTagged => {
-            add_selector(build, &variant.name, chosen, place, resolution)?;
-            add_content_paths(build, &variant.name, variant, resolution)?;
+            add_selector(walker, &variant.name, chosen, place, resolution)?;
+            add_content_paths(walker.build, &variant.name, variant, resolution)?;
             Ok(())
         }
-        EnumRepr::InternallyTagged { tag } => add_selector(build, tag, chosen, place, resolution),
+        EnumRepr::InternallyTagged { tag } => add_selector(walker, tag, chosen, place, resolution),
         EnumRepr::AdjacentlyTagged { tag, content } => {
-            add_selector(build, tag, chosen, place, resolution)?;
-            add_content(build, content, variant, resolution)?;
+            add_selector(walker, tag, chosen, place, resolution)?;
+            add_content(walker, content, variant, resolution)?;
             Ok(())
         }
     }
@@ -197,17 +205,17 @@ fn emit_selector<'c>(
 
 /// What a flattened enum emits at a chosen variant, before the variant's content: the pick and the selector.
 pub(crate) fn emit_variant<'c>(
-    build: Build<'c>,
+    walker: &Walker<'c>,
     chosen: &Chosen<'c>,
     place: &Place<'c>,
     resolution: &mut Resolution<'c>,
 ) -> Result<(), SchemaError<'c>>
-    requires checked { NamesEarlier build.shapes.now }
+    requires ready { IsReady walker.now }
     ensures { let emitted =
-        emissions.emit_variant (build_of build.entry) (chosen_of chosen.now) place.now in
+        emissions.emit_variant (build_of walker.now.build) (chosen_of chosen.now) place.now in
         Gives (take_all resolution.old emitted) result resolution.new }
 {
-    let path = place.field_path(build.alloc, chosen.field)?;
+    let path = place.field_path(walker.build.alloc, chosen.field)?;
     add_pick(path, chosen.shape, chosen.variant, resolution)?;
-    emit_selector(build, chosen, place, resolution)
+    emit_selector(walker, chosen, place, resolution)
 }

@@ -1,17 +1,20 @@
 //! The resolutions of a root.
 ghost use Rattle.std.specs.Prelude.{◌≡◌, ◌<◌, ◌∷◌, [], IsSome, IfOk, IfErr, length};
-ghost use Rattle.facet_solver_shape.specs.Places.{NamesEarlier, FieldsBelow};
+ghost use Rattle.facet_solver_shape.specs.Places.{FieldsBelow};
 ghost use Rattle.facet_solver.specs.Choice.{IsChoice, IsResolution, Enumerates, IsRefusal};
 ghost use Rattle.facet_solver.specs.Count.{count_of_root};
 ghost use Rattle.facet_solver.specs.Outcome.{Walks, effect};
 ghost use Rattle.facet_solver.specs.Build.{build_of};
 ghost use Rattle.facet_solver.specs.Walk as walk;
+ghost use Rattle.facet_solver.specs.Walker.{IsReady};
 
 use crate::build::Build;
 use crate::build::choices::choices_of_root;
+use crate::build::count::Counts;
 use crate::build::emit::add_pick;
 use crate::build::place::Place;
 use crate::build::walk::{next_variant, walk_content, walk_fields};
+use crate::build::walker::Walker;
 use facet_solver_shape::{FieldPath, Resolution, SchemaError, Shape, ShapeId, ShapeKind, Variant};
 
 /// Exactly one resolution for each choice of variants of the root, in lexicographic order of the choices. Where two
@@ -26,10 +29,12 @@ pub(crate) fn resolutions<'c>(
         (λ v. length v.items ≡ count_of_root (build_of build.entry) root) }
     ensures refused { IfErr result (IsRefusal (build_of build.entry) root) }
 {
-    let choices = choices_of_root(build, root)?;
+    let counts = Counts::new(build)?;
+    let walker = Walker { build, counts };
+    let choices = choices_of_root(&walker, root)?;
     let mut resolutions = Vec::new(build.alloc);
     for choice in &choices {
-        let resolution = resolve(build, root, choice)?;
+        let resolution = resolve(&walker, root, choice)?;
         resolutions.push(resolution)?;
     }
     Ok(resolutions)
@@ -37,41 +42,43 @@ pub(crate) fn resolutions<'c>(
 
 /// The resolution of one choice.
 fn resolve<'c>(
-    build: Build<'c>,
+    walker: &Walker<'c>,
     root: ShapeId,
     choice: &[usize],
 ) -> Result<Resolution<'c>, SchemaError<'c>>
-    requires has { root < length build.shapes.now }
-    requires choice { IsChoice (build_of build) root choice.now }
-    ensures resolved { IfOk result (IsResolution (build_of build.entry) root choice.now) }
-    ensures refused { IfErr result (IsRefusal (build_of build.entry) root) }
+    requires ready { IsReady walker.now }
+    requires has { root < length walker.now.build.shapes.now }
+    requires choice { IsChoice (build_of walker.now.build) root choice.now }
+    ensures resolved { IfOk result (IsResolution (build_of walker.now.build) root choice.now) }
+    ensures refused { IfErr result (IsRefusal (build_of walker.now.build) root) }
 {
-    let mut resolution = Resolution::new(build.alloc);
-    walk_root(build, root, choice, &mut resolution)?;
+    let mut resolution = Resolution::new(walker.build.alloc);
+    walk_root(walker, root, choice, &mut resolution)?;
     Ok(resolution)
 }
 
 /// Walks the root.
 fn walk_root<'c, 'n>(
-    build: Build<'c>,
+    walker: &Walker<'c>,
     root: ShapeId,
     indices: &'n [usize],
     resolution: &mut Resolution<'c>,
 ) -> Result<&'n [usize], SchemaError<'c>>
-    requires has { root < length build.shapes.now }
-    requires walked { IsSome (walk.walk_root (build_of build) root indices.now) }
-    ensures { let walked = walk.walk_root (build_of build.entry) root indices.now in
+    requires ready { IsReady walker.now }
+    requires has { root < length walker.now.build.shapes.now }
+    requires walked { IsSome (walk.walk_root (build_of walker.now.build) root indices.now) }
+    ensures { let walked = walk.walk_root (build_of walker.now.build) root indices.now in
         Walks (effect resolution.old walked) result resolution.new }
 {
-    let shape = build.shape(root);
+    let shape = walker.build.shape(root);
     match &shape.kind {
         ShapeKind::Struct { fields, .. } => {
-            let place = Place::root(build.alloc);
-            walk_fields(build, fields, &place, indices, resolution)
+            let place = Place::root(walker.build.alloc);
+            walk_fields(walker, fields, &place, indices, resolution)
         }
         ShapeKind::Enum { variants } => {
             let (variant, rest) = next_variant(variants, indices);
-            walk_root_variant(build, shape, variant, rest, resolution)
+            walk_root_variant(walker, shape, variant, rest, resolution)
         }
         _ => Ok(indices),
     }
@@ -79,21 +86,26 @@ fn walk_root<'c, 'n>(
 
 /// Walks a root enum at a variant.
 fn walk_root_variant<'c, 'n>(
-    build: Build<'c>,
+    walker: &Walker<'c>,
     shape: &'c Shape,
     variant: &'c Variant,
     indices: &'n [usize],
     resolution: &mut Resolution<'c>,
 ) -> Result<&'n [usize], SchemaError<'c>>
-    requires checked { NamesEarlier build.shapes.now }
-    requires below { FieldsBelow (length build.shapes.now) variant.now.fields.items }
+    requires ready { IsReady walker.now }
+    requires below { FieldsBelow (length walker.now.build.shapes.now) variant.now.fields.items }
     requires walked { IsSome
-        (walk.walk_root_variant (build_of build) shape.now variant.now indices.now) }
+        (walk.walk_root_variant (build_of walker.now.build) shape.now variant.now indices.now) }
     ensures { let walked =
-        walk.walk_root_variant (build_of build.entry) shape.now variant.now indices.now in
+        walk.walk_root_variant (build_of walker.now.build) shape.now variant.now indices.now in
         Walks (effect resolution.old walked) result resolution.new }
 {
-    let inside = Place::root_variant(build.alloc, variant)?;
-    add_pick(FieldPath::empty(build.alloc), shape, variant, resolution)?;
-    walk_content(build, variant, &inside, indices, resolution)
+    let inside = Place::root_variant(walker.build.alloc, variant)?;
+    add_pick(
+        FieldPath::empty(walker.build.alloc),
+        shape,
+        variant,
+        resolution,
+    )?;
+    walk_content(walker, variant, &inside, indices, resolution)
 }

@@ -1,16 +1,17 @@
 //! The walk of one choice, which fills one resolution.
 ghost use Rattle.std.specs.Prelude.{◌≡◌, ◌<◌, ◌∷◌, IsSome, length, slice_get, slice_index};
-ghost use Rattle.facet_solver_shape.specs.Places.{NamesEarlier, FieldsBelow};
+ghost use Rattle.facet_solver_shape.specs.Places.{FieldsBelow};
 ghost use Rattle.facet_solver.specs.Outcome.{Walks, effect};
 ghost use Rattle.facet_solver.specs.Build.{build_of};
 ghost use Rattle.facet_solver.specs.Place.{chosen_of};
 ghost use Rattle.facet_solver.specs.Walk as walk;
+ghost use Rattle.facet_solver.specs.Walker.{IsReady};
 
-use crate::build::Build;
 use crate::build::content::newtype_fields;
 use crate::build::emit::{emit_plain, emit_variant};
 use crate::build::place::{Chosen, Place};
 use crate::build::role::{Role, role_of};
+use crate::build::walker::Walker;
 use facet_solver_shape::{Field, Resolution, SchemaError, Variant};
 
 /// The variant that the next index names, and the indices behind it.
@@ -28,22 +29,23 @@ pub(crate) fn next_variant<'c, 'n>(
 /// Walks fields in order, each with the indices that the one before it left, and answers those that the last one left.
 #[cycle(walk)]
 pub(crate) fn walk_fields<'c, 'n>(
-    build: Build<'c>,
+    walker: &Walker<'c>,
     fields: &'c [Field],
     place: &Place<'c>,
     indices: &'n [usize],
     resolution: &mut Resolution<'c>,
 ) -> Result<&'n [usize], SchemaError<'c>>
-    requires checked { NamesEarlier build.shapes.now }
-    requires below { FieldsBelow (length build.shapes.now) fields.now }
-    requires walked { IsSome (walk.walk_fields (build_of build) fields.now place.now indices.now) }
+    requires ready { IsReady walker.now }
+    requires below { FieldsBelow (length walker.now.build.shapes.now) fields.now }
+    requires walked { IsSome
+        (walk.walk_fields (build_of walker.now.build) fields.now place.now indices.now) }
     ensures { let walked =
-        walk.walk_fields (build_of build.entry) fields.now place.now indices.now in
+        walk.walk_fields (build_of walker.now.build) fields.now place.now indices.now in
         Walks (effect resolution.old walked) result resolution.new }
 {
     let mut rest = indices;
     for field in fields {
-        rest = walk_field(build, field, place, rest, resolution)?;
+        rest = walk_field(walker, field, place, rest, resolution)?;
     }
     Ok(rest)
 }
@@ -51,23 +53,25 @@ pub(crate) fn walk_fields<'c, 'n>(
 /// Walks one field.
 #[cycle(walk)]
 fn walk_field<'c, 'n>(
-    build: Build<'c>,
+    walker: &Walker<'c>,
     field: &'c Field,
     place: &Place<'c>,
     indices: &'n [usize],
     resolution: &mut Resolution<'c>,
 ) -> Result<&'n [usize], SchemaError<'c>>
-    requires checked { NamesEarlier build.shapes.now }
-    requires below { field.now.shape < length build.shapes.now }
-    requires walked { IsSome (walk.walk_field (build_of build) field.now place.now indices.now) }
-    ensures { let walked = walk.walk_field (build_of build.entry) field.now place.now indices.now in
+    requires ready { IsReady walker.now }
+    requires below { field.now.shape < length walker.now.build.shapes.now }
+    requires walked { IsSome
+        (walk.walk_field (build_of walker.now.build) field.now place.now indices.now) }
+    ensures { let walked =
+        walk.walk_field (build_of walker.now.build) field.now place.now indices.now in
         Walks (effect resolution.old walked) result resolution.new }
 {
-    let role = role_of(build.shapes, field);
+    let role = role_of(walker.build.shapes, field);
     match role {
         Role::Block(target, fields) => {
-            let inside = place.inside_field(build.alloc, field, target)?;
-            walk_fields(build, fields, &inside, indices, resolution)
+            let inside = place.inside_field(walker.build.alloc, field, target)?;
+            walk_fields(walker, fields, &inside, indices, resolution)
         }
         Role::Alternatives(target, shape, variants) => {
             let (variant, rest) = next_variant(variants, indices);
@@ -77,10 +81,10 @@ fn walk_field<'c, 'n>(
                 shape,
                 variant,
             };
-            walk_variant(build, &chosen, place, rest, resolution)
+            walk_variant(walker, &chosen, place, rest, resolution)
         }
         Role::Regular | Role::CatchAll(_) | Role::Leaf(_) => {
-            emit_plain(build, &role, field, place, resolution)?;
+            emit_plain(walker, &role, field, place, resolution)?;
             Ok(indices)
         }
     }
@@ -89,24 +93,27 @@ fn walk_field<'c, 'n>(
 /// Walks a flattened enum at a chosen variant: the pick, the selector, and the content where it stands at this level.
 #[cycle(walk)]
 fn walk_variant<'c, 'n>(
-    build: Build<'c>,
+    walker: &Walker<'c>,
     chosen: &Chosen<'c>,
     place: &Place<'c>,
     indices: &'n [usize],
     resolution: &mut Resolution<'c>,
 ) -> Result<&'n [usize], SchemaError<'c>>
-    requires checked { NamesEarlier build.shapes.now }
-    requires below { FieldsBelow (length build.shapes.now) chosen.now.variant.now.fields.items }
+    requires ready { IsReady walker.now }
+    requires below { FieldsBelow
+        (length walker.now.build.shapes.now) chosen.now.variant.now.fields.items }
     requires walked { IsSome
-        (walk.walk_variant (build_of build) (chosen_of chosen.now) place.now indices.now) }
+        (walk.walk_variant (build_of walker.now.build)
+        (chosen_of chosen.now) place.now indices.now) }
     ensures { let walked =
-        walk.walk_variant (build_of build.entry) (chosen_of chosen.now) place.now indices.now in
+        walk.walk_variant (build_of walker.now.build)
+        (chosen_of chosen.now) place.now indices.now in
         Walks (effect resolution.old walked) result resolution.new }
 {
-    emit_variant(build, chosen, place, resolution)?;
-    if build.walks_content(chosen.shape) {
-        let inside = place.inside_variant(build.alloc, chosen)?;
-        walk_content(build, chosen.variant, &inside, indices, resolution)
+    emit_variant(walker, chosen, place, resolution)?;
+    if walker.build.walks_content(chosen.shape) {
+        let inside = place.inside_variant(walker.build.alloc, chosen)?;
+        walk_content(walker, chosen.variant, &inside, indices, resolution)
     } else {
         Ok(indices)
     }
@@ -115,25 +122,25 @@ fn walk_variant<'c, 'n>(
 /// Walks the content of a variant.
 #[cycle(walk)]
 pub(crate) fn walk_content<'c, 'n>(
-    build: Build<'c>,
+    walker: &Walker<'c>,
     variant: &'c Variant,
     place: &Place<'c>,
     indices: &'n [usize],
     resolution: &mut Resolution<'c>,
 ) -> Result<&'n [usize], SchemaError<'c>>
-    requires checked { NamesEarlier build.shapes.now }
-    requires below { FieldsBelow (length build.shapes.now) variant.now.fields.items }
+    requires ready { IsReady walker.now }
+    requires below { FieldsBelow (length walker.now.build.shapes.now) variant.now.fields.items }
     requires walked { IsSome
-        (walk.walk_content (build_of build) variant.now place.now indices.now) }
+        (walk.walk_content (build_of walker.now.build) variant.now place.now indices.now) }
     ensures { let walked =
-        walk.walk_content (build_of build.entry) variant.now place.now indices.now in
+        walk.walk_content (build_of walker.now.build) variant.now place.now indices.now in
         Walks (effect resolution.old walked) result resolution.new }
 {
-    match newtype_fields(build.shapes, &variant.fields) {
+    match newtype_fields(walker.build.shapes, &variant.fields) {
         Some(fields) => {
-            let inside = place.inside_newtype(build.alloc)?;
-            walk_fields(build, fields, &inside, indices, resolution)
+            let inside = place.inside_newtype(walker.build.alloc)?;
+            walk_fields(walker, fields, &inside, indices, resolution)
         }
-        None => walk_fields(build, &variant.fields, place, indices, resolution),
+        None => walk_fields(walker, &variant.fields, place, indices, resolution),
     }
 }

@@ -15,7 +15,7 @@ impl SaturatingCount {
     pub(crate) fn is_zero(self) -> bool
         ensures { (n : ℕ) → CountsTo self n → (IsTrue result ↔ (n ≡ 0)) }
     {
-        matches!(self, SaturatingCount::Exact(0))
+        matches!(self, Self::Exact(0))
     }
 
     /// The sum.
@@ -23,10 +23,8 @@ impl SaturatingCount {
         ensures { (m n : ℕ) → CountsTo self m → CountsTo other n → CountsTo result (m + n) }
     {
         match (self, other) {
-            (SaturatingCount::Exact(a), SaturatingCount::Exact(b)) => SaturatingCount::from_checked(
-                a.checked_add(b),
-            ),
-            _ => SaturatingCount::Larger,
+            (Self::Exact(a), Self::Exact(b)) => Self::from_checked(a.checked_add(b)),
+            _ => Self::Larger,
         }
     }
 
@@ -35,12 +33,9 @@ impl SaturatingCount {
         ensures { (m n : ℕ) → CountsTo self m → CountsTo other n → CountsTo result (m * n) }
     {
         match (self, other) {
-            (SaturatingCount::Exact(0), _) | (_, SaturatingCount::Exact(0)) =>
-                SaturatingCount::Exact(0),
-            (SaturatingCount::Exact(a), SaturatingCount::Exact(b)) => SaturatingCount::from_checked(
-                a.checked_mul(b),
-            ),
-            _ => SaturatingCount::Larger,
+            (Self::Exact(0), _) | (_, Self::Exact(0)) => Self::Exact(0),
+            (Self::Exact(a), Self::Exact(b)) => Self::from_checked(a.checked_mul(b)),
+            _ => Self::Larger,
         }
     }
 
@@ -49,8 +44,8 @@ impl SaturatingCount {
         ensures { (n : ℕ) → CountsTo self n → result ≡ below_2_64 n }
     {
         match self {
-            SaturatingCount::Exact(number) => Some(number),
-            SaturatingCount::Larger => None,
+            Self::Exact(number) => Some(number),
+            Self::Larger => None,
         }
     }
 
@@ -59,8 +54,8 @@ impl SaturatingCount {
         ensures { result ≡ saturating_of number }
     {
         match number {
-            Some(number) => SaturatingCount::Exact(number),
-            None => SaturatingCount::Larger,
+            Some(number) => Self::Exact(number),
+            None => Self::Larger,
         }
     }
 }

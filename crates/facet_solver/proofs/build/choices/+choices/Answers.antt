@@ -19,42 +19,42 @@ use Rattle.facet_solver.proofs.build.choices.+choices.Goals.{choices_of_variants
 pub choices_of_field-choices_of_fields-requires : goal.choices_of_field-choices_of_fields-requires
 choices_of_field-choices_of_fields-requires t c =
     let f = c.args.field.now in
-    let b = block-below c.args.build.shapes.now c.requires.checked f c.in-Block.field-0 c.in-Block.fields.now c.in-Block.ensures in
+    let b = block-below c.args.walker.now.build.shapes.now c.requires.ready.checked f c.in-Block.field-0 c.in-Block.fields.now c.in-Block.ensures in
     let l = limit_of-le f.shape c.in-Block.fields.now b in
-    (omega arith, (c.requires.checked, (c.requires.counted, FieldsBelow-mono f.shape (length c.args.build.shapes.now) c.in-Block.fields.now (omega (arith, c.requires.below)) b)))
+    (omega arith, (c.requires.ready, (FieldsBelow-mono f.shape (length c.args.walker.now.build.shapes.now) c.in-Block.fields.now (omega (arith, c.requires.below)) b)))
 
 pub choices_of_field-choices_of_variants-requires : goal.choices_of_field-choices_of_variants-requires
 choices_of_field-choices_of_variants-requires t c =
     let f = c.args.field.now in
     let vs = c.in-Alternatives.variants.now in
-    let b = alternatives-below c.args.build.shapes.now c.requires.checked f c.in-Alternatives.field-0 c.in-Alternatives.shape.now vs c.in-Alternatives.ensures in
+    let b = alternatives-below c.args.walker.now.build.shapes.now c.requires.ready.checked f c.in-Alternatives.field-0 c.in-Alternatives.shape.now vs c.in-Alternatives.ensures in
     let l = limit_of_variants-le f.shape vs b in
-    (omega arith, (c.requires.checked, (c.requires.counted, VariantsBelow-mono f.shape (length c.args.build.shapes.now) vs (omega (arith, c.requires.below)) b)))
+    (omega arith, (c.requires.ready, (VariantsBelow-mono f.shape (length c.args.walker.now.build.shapes.now) vs (omega (arith, c.requires.below)) b)))
 
 pub choices_of_field-returns-in-Block : goal.choices_of_field-returns-in-Block
 choices_of_field-returns-in-Block t c =
-    rw (at-block (build_of c.args.build) c.args.field.now c.in-Block.field-0 c.in-Block.fields.now c.in-Block.ensures) c.choices_of_fields.ensures
+    rw (at-block (build_of c.args.walker.now.build) c.args.field.now c.in-Block.field-0 c.in-Block.fields.now c.in-Block.ensures) c.choices_of_fields.ensures
 
 pub choices_of_field-returns-in-Alternatives : goal.choices_of_field-returns-in-Alternatives
 choices_of_field-returns-in-Alternatives t c =
     rw (
-      at-alternatives (build_of c.args.build) c.args.field.now c.in-Alternatives.field-0 c.in-Alternatives.shape.now c.in-Alternatives.variants.now c.in-Alternatives.ensures,
+      at-alternatives (build_of c.args.walker.now.build) c.args.field.now c.in-Alternatives.field-0 c.in-Alternatives.shape.now c.in-Alternatives.variants.now c.in-Alternatives.ensures,
       ← c.walks_content.ensures,
     ) c.choices_of_variants.ensures
 
 pub choices_of_field-returns-in-Regular : goal.choices_of_field-returns-in-Regular
 choices_of_field-returns-in-Regular t c =
-    let by_role = at-plain (build_of c.args.build) c.args.field.now (role_view c.role_of.result) c.role_of.ensures (plain_role c.role_of.result c.in-Regular.is) in
+    let by_role = at-plain (build_of c.args.walker.now.build) c.args.field.now (role_view c.role_of.result) c.role_of.ensures (plain_role c.role_of.result c.in-Regular.is) in
     rw by_role c.no_choice.ensures
 
 pub choices_of_fields-returns-then-is_zero : goal.choices_of_fields-returns-then-is_zero
 choices_of_fields-returns-then-is_zero t c =
-    let n = count_fields (build_of c.args.build) c.args.fields.now in
-    rw c.new.ensures.items (sym (none_below (build_of c.args.build) c.args.fields.now ((c.is_zero.ensures n c.of_fields.ensures).0 c.if-is_zero.true)))
+    let n = count_fields (build_of c.args.walker.now.build) c.args.fields.now in
+    rw c.new.ensures.items (sym (none_below (build_of c.args.walker.now.build) c.args.fields.now ((c.is_zero.ensures n c.of_fields.ensures).0 c.if-is_zero.true)))
 
 pub choices_of_fields-loop-field-init : goal.choices_of_fields-loop-field-init
 choices_of_fields-loop-field-init t c =
-    rw c.in_ok-found.ensures (left-start (build_of c.args.build) c.args.fields.now c.requires.checked c.requires.below)
+    rw c.in_ok-found.ensures (left-start (build_of c.args.walker.now.build) c.args.fields.now c.requires.ready.checked c.requires.below)
 
 pub choices_of_fields-choices_of_field-requires : goal.choices_of_fields-choices_of_field-requires
 choices_of_fields-choices_of_field-requires t c =
@@ -63,43 +63,43 @@ choices_of_fields-choices_of_field-requires t c =
     let d = c.field-item.result in
     let e = ap (λ (f : Field). f.shape) c.field-item.is in
     let l = limit_of-at fs i d c.loop-field-test.true in
-    let b = FieldsBelow-at (length c.args.build.shapes.now) fs i d c.loop-field-test.true c.requires.below in
-    (omega arith, (c.requires.checked, (c.requires.counted, omega arith)))
+    let b = FieldsBelow-at (length c.args.walker.now.build.shapes.now) fs i d c.loop-field-test.true c.requires.below in
+    (omega arith, (c.requires.ready, (omega arith)))
 
 pub choices_of_fields-loop-field-preserved : goal.choices_of_fields-loop-field-preserved
 choices_of_fields-loop-field-preserved t c =
     let found = c.loop-field.found.items in
     rw (c.in_ok-found-2.ensures, c.deref.ensures.value, c.deref-in-loop-field.ensures.value, c.in_ok-alternatives.ensures)
-    (left-more (build_of c.args.build) (lists found) c.args.fields.now c.loop-field.field-index c.field-item.result c.loop-field-test.true c.field-item.is
+    (left-more (build_of c.args.walker.now.build) (lists found) c.args.fields.now c.loop-field.field-index c.field-item.result c.loop-field-test.true c.field-item.is
     ∙ c.loop-field.invariant)
 
 pub choices_of_fields-returns : goal.choices_of_fields-returns
 choices_of_fields-returns t c =
-    let e = left-end (build_of c.args.build) (lists c.loop-field.found.items) c.args.fields.now c.loop-field.field-index c.loop-field-test.false in
+    let e = left-end (build_of c.args.walker.now.build) (lists c.loop-field.found.items) c.args.fields.now c.loop-field.field-index c.loop-field-test.false in
     sym e ∙ c.loop-field.invariant
 
 pub choices_of_variants-loop-index-init : goal.choices_of_variants-loop-index-init
 choices_of_variants-loop-index-init t c =
-    rw c.new-found.ensures.items (among-start (build_of c.args.build) c.args.walked c.args.variants.now)
+    rw c.new-found.ensures.items (among-start (build_of c.args.walker.now.build) c.args.walked c.args.variants.now)
 
 pub choices_of_variants-choices_of_fields-requires : goal.choices_of_variants-choices_of_fields-requires
 choices_of_variants-choices_of_fields-requires t c =
-    let cat = c.args.build.shapes.now in
+    let cat = c.args.walker.now.build.shapes.now in
     let vs = c.args.variants.now in
     let i = c.loop-index.index in
     let v = c.index-variants-index.result in
     let e = ap (λ (v : Variant). limit_of v.fields.items) c.index-variants-index.is in
     let l = limit_of_variants-at vs i v c.loop-index-test.true in
-    let k = limit_of-content cat c.requires.checked v in
+    let k = limit_of-content cat c.requires.ready.checked v in
     let r = ap limit_of c.content_fields.ensures in
     let b = VariantsBelow-at (length cat) vs i v c.loop-index-test.true c.requires.below in
     let P : Variant → Type 0 = λ v. FieldsBelow (length cat) v.fields.items in
-    (omega arith, (c.requires.checked, (c.requires.counted, rw c.content_fields.ensures (content_of-below cat c.requires.checked (length cat) v (subst P (sym c.index-variants-index.is) b)))))
+    (omega arith, (c.requires.ready, (rw c.content_fields.ensures (content_of-below cat c.requires.ready.checked (length cat) v (subst P (sym c.index-variants-index.is) b)))))
 
 pub choices_of_variants-loop-index-preserved : goal.choices_of_variants-loop-index-preserved
 choices_of_variants-loop-index-preserved t c =
-    let cat = c.args.build.shapes.now in
-    let build = build_of c.args.build in
+    let cat = c.args.walker.now.build.shapes.now in
+    let build = build_of c.args.walker.now.build in
     let v = c.index-variants-index.result in
     let cs = lists c.if-walked.contents.items in
     let e : cs ≡ choices_of_variant (choices_of_fields build) cat c.args.walked v = elim c.if-walked.branch [
@@ -116,5 +116,5 @@ choices_of_variants-loop-index-preserved t c =
 
 pub choices_of_variants-returns : goal.choices_of_variants-returns
 choices_of_variants-returns t c =
-    sym (among-end (build_of c.args.build) c.args.walked (lists c.loop-index.found.items) c.args.variants.now c.loop-index.index c.loop-index-test.false)
+    sym (among-end (build_of c.args.walker.now.build) c.args.walked (lists c.loop-index.found.items) c.args.variants.now c.loop-index.index c.loop-index-test.false)
     ∙ c.loop-index.invariant

@@ -16,10 +16,10 @@ decreases-choices_of_variants l = 3 * limit_of_variants l.variants.now + 2
 
 abbrev pub invariant-choices_of_fields-loop-field : goal.invariant-choices_of_fields-loop-field
 invariant-choices_of_fields-loop-field l =
-    product (lists l.found.items) (choices_left (build_of l.build) (drop l.field-index l.fields))
-    ≡ choices_of_fields (build_of l.build) l.fields
+    product (lists l.found.items) (choices_left (build_of l.walker.build) (drop l.field-index l.fields))
+    ≡ choices_of_fields (build_of l.walker.build) l.fields
 
 abbrev pub invariant-choices_of_variants-loop-index : goal.invariant-choices_of_variants-loop-index
 invariant-choices_of_variants-loop-index l =
-    lists l.found.items ++ indexed l.index (choices_of_variant (choices_of_fields (build_of l.build)) l.build.shapes.now l.walked) (drop l.index l.variants)
-    ≡ choices_of_variants (build_of l.build) l.walked l.variants
+    lists l.found.items ++ indexed l.index (choices_of_variant (choices_of_fields (build_of l.walker.build)) l.walker.build.shapes.now l.walked) (drop l.index l.variants)
+    ≡ choices_of_variants (build_of l.walker.build) l.walked l.variants

@@ -3,7 +3,6 @@ use Rattle.std.proofs.lemmas.Result.{IfOk-weaker}
 use Rattle.std.specs.Prelude.{Vec}
 use Rattle.std.specs.declared.alloc.Global.{Global}
 use Rattle.std.specs.declared.alloc.AllocError.{AllocError}
-use Rattle.facet_solver.specs.Targets.{Catalogue}
 use Rattle.facet_solver.specs.Choice.{ListsChoices}
 use Rattle.facet_solver.specs.Count.{count_of_root}
 use Rattle.facet_solver.specs.Listing.{Choices, choices_of_root, lists}
@@ -30,46 +29,46 @@ counted_so build root r cs e h =
 
 pub choices_of_fields-requires-clause-below : goal.choices_of_fields-requires-clause-below
 choices_of_fields-requires-clause-below c =
-    rw c.deref.ensures.value (struct-below c.args.build.shapes.now c.shape-shape.ensures.checked c.args.root c.shape-shape.result.now c.shape-shape.ensures.found c.in-Struct.kind c.in-Struct.fields c.in-Struct.is)
+    rw c.deref.ensures.value (struct-below c.args.walker.now.build.shapes.now c.shape-shape.ensures.checked c.args.root c.shape-shape.result.now c.shape-shape.ensures.found c.in-Struct.kind c.in-Struct.fields c.in-Struct.is)
 
 pub choices_of_variants-requires-clause-below : goal.choices_of_variants-requires-clause-below
 choices_of_variants-requires-clause-below c =
-    rw c.deref-in-Enum.ensures.value (enum-below c.args.build.shapes.now c.shape-shape.ensures.checked c.args.root c.shape-shape.result.now c.shape-shape.ensures.found c.in-Enum.variants c.in-Enum.is)
+    rw c.deref-in-Enum.ensures.value (enum-below c.args.walker.now.build.shapes.now c.shape-shape.ensures.checked c.args.root c.shape-shape.result.now c.shape-shape.ensures.found c.in-Enum.variants c.in-Enum.is)
 
 pub returns-in-Struct-clause-listed : goal.returns-in-Struct-clause-listed
 returns-in-Struct-clause-listed c =
-    listed (build_of c.args.build) c.args.root _ _
-    (root-struct (build_of c.args.build) c.args.root c.shape-shape.result.now c.shape-shape.ensures.found c.in-Struct.kind c.in-Struct.fields c.in-Struct.is)
+    listed (build_of c.args.walker.now.build) c.args.root _ _
+    (root-struct (build_of c.args.walker.now.build) c.args.root c.shape-shape.result.now c.shape-shape.ensures.found c.in-Struct.kind c.in-Struct.fields c.in-Struct.is)
     (rw c.deref.ensures.value at c.choices_of_fields.ensures)
 
 pub returns-in-Struct-clause-counted : goal.returns-in-Struct-clause-counted
 returns-in-Struct-clause-counted c =
-    counted_so (build_of c.args.build) c.args.root _ _
-    (root-struct (build_of c.args.build) c.args.root c.shape-shape.result.now c.shape-shape.ensures.found c.in-Struct.kind c.in-Struct.fields c.in-Struct.is)
+    counted_so (build_of c.args.walker.now.build) c.args.root _ _
+    (root-struct (build_of c.args.walker.now.build) c.args.root c.shape-shape.result.now c.shape-shape.ensures.found c.in-Struct.kind c.in-Struct.fields c.in-Struct.is)
     (rw c.deref.ensures.value at c.choices_of_fields.ensures)
 
 pub returns-in-Enum-clause-listed : goal.returns-in-Enum-clause-listed
 returns-in-Enum-clause-listed c =
-    listed (build_of c.args.build) c.args.root _ _
-    (root-enum (build_of c.args.build) c.args.root c.shape-shape.result.now c.shape-shape.ensures.found c.in-Enum.variants c.in-Enum.is)
+    listed (build_of c.args.walker.now.build) c.args.root _ _
+    (root-enum (build_of c.args.walker.now.build) c.args.root c.shape-shape.result.now c.shape-shape.ensures.found c.in-Enum.variants c.in-Enum.is)
     (rw c.deref-in-Enum.ensures.value at c.choices_of_variants.ensures)
 
 pub returns-in-Enum-clause-counted : goal.returns-in-Enum-clause-counted
 returns-in-Enum-clause-counted c =
-    counted_so (build_of c.args.build) c.args.root _ _
-    (root-enum (build_of c.args.build) c.args.root c.shape-shape.result.now c.shape-shape.ensures.found c.in-Enum.variants c.in-Enum.is)
+    counted_so (build_of c.args.walker.now.build) c.args.root _ _
+    (root-enum (build_of c.args.walker.now.build) c.args.root c.shape-shape.result.now c.shape-shape.ensures.found c.in-Enum.variants c.in-Enum.is)
     (rw c.deref-in-Enum.ensures.value at c.choices_of_variants.ensures)
 
-pub returns-clause-listed : goal.returns-clause-listed
-returns-clause-listed c =
-    listed (build_of c.args.build) c.args.root _ _
-    (root-other (build_of c.args.build) c.args.root c.shape-shape.result.now c.shape-shape.ensures.found
+pub returns-in_default-clause-listed : goal.returns-in_default-clause-listed
+returns-in_default-clause-listed c =
+    listed (build_of c.args.walker.now.build) c.args.root _ _
+    (root-other (build_of c.args.walker.now.build) c.args.root c.shape-shape.result.now c.shape-shape.ensures.found
     c.in_default.not-Struct c.in_default.not-Enum)
     c.no_choice.ensures
 
-pub returns-clause-counted : goal.returns-clause-counted
-returns-clause-counted c =
-    counted_so (build_of c.args.build) c.args.root _ _
-    (root-other (build_of c.args.build) c.args.root c.shape-shape.result.now c.shape-shape.ensures.found
+pub returns-in_default-clause-counted : goal.returns-in_default-clause-counted
+returns-in_default-clause-counted c =
+    counted_so (build_of c.args.walker.now.build) c.args.root _ _
+    (root-other (build_of c.args.walker.now.build) c.args.root c.shape-shape.result.now c.shape-shape.ensures.found
     c.in_default.not-Struct c.in_default.not-Enum)
     c.no_choice.ensures

@@ -9,5 +9,5 @@ returns c =
     let r = c.args.resolution.now in
     let s = c.add_key_path.new.self in
     take_all-next r s _ _ (taken-path r s _ _ c.in_ok-key_path.ensures c.in_ok-add_key_path.ensures.ok)
-    ∙ take_all-paths s c.args.name.now (content_paths c.args.build.shapes.now c.args.variant.now)
+    ∙ take_all-paths s c.args.name.now (content_paths c.args.walker.now.build.shapes.now c.args.variant.now)
     ∙ ap resolved (sym c.in_ok-add_content_paths.ensures.ok)

@@ -7,6 +7,6 @@ use Rattle.facet_solver.proofs.build.emit.emit_catch_all.Goals as goal
 
 pub returns : goal.returns
 returns c =
-    let part = catch_all-part (build_of c.args.build) c.args.field.now c.args.place.now c.args.target in
+    let part = catch_all-part (build_of c.args.walker.now.build) c.args.field.now c.args.place.now c.args.target in
     rw (part, ← c.in_ok-info.ensures)
     (take_all-one c.args.resolution.now _ ∙ taken-catch_all c.args.resolution.now c.set_catch_all_map.new.self (field_view c.in_ok-info.info) c.in_ok-set_catch_all_map.ensures.ok)

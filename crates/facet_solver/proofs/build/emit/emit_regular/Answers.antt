@@ -8,14 +8,14 @@ use Rattle.facet_solver.proofs.build.emit.emit_regular.Goals as goal
 
 pub returns-in_err-add_with_path : goal.returns-in_err-add_with_path
 returns-in_err-add_with_path c =
-    let parts = regular-parts (build_of c.args.build) c.args.field.now c.args.place.now in
+    let parts = regular-parts (build_of c.args.walker.now.build) c.args.field.now c.args.place.now in
     rw (parts, ← c.in_ok-info.ensures)
     (gives-stopped c.from_residual-in_err-add_with_path.result c.add_with_path.new.resolution c.args.resolution.now _ _ _ c.from_residual-in_err-add_with_path.ensures.1 c.in_err-add_with_path.ensures)
 
 pub returns : goal.returns
 returns c =
-    let parts = regular-parts (build_of c.args.build) c.args.field.now c.args.place.now in
+    let parts = regular-parts (build_of c.args.walker.now.build) c.args.field.now c.args.place.now in
     rw (parts, ← c.in_ok-info.ensures, ← c.effective_name.ensures)
     (take_all-both c.args.resolution.now c.add_with_path.new.resolution c.add_nested_paths.new.resolution _ _ c.in_ok-add_with_path.ensures
-    (take_all-paths c.add_with_path.new.resolution c.effective_name.result.now (nested_paths c.args.build.shapes.now c.args.field.now.shape)
+    (take_all-paths c.add_with_path.new.resolution c.effective_name.result.now (nested_paths c.args.walker.now.build.shapes.now c.args.field.now.shape)
     ∙ ap resolved (sym c.in_ok-add_nested_paths.ensures.ok)))

@@ -9,11 +9,11 @@ use Rattle.facet_solver.proofs.build.resolve.resolve.Goals as goal
 
 pub walk_root-requires-clause-walked : goal.walk_root-requires-clause-walked
 walk_root-requires-clause-walked c =
-    choice-walked (build_of c.args.build) c.args.root c.args.choice.now c.requires.choice
+    choice-walked (build_of c.args.walker.now.build) c.args.root c.args.choice.now c.requires.choice
 
 pub returns-in_err-walk_root-clause-refused : goal.returns-in_err-walk_root-clause-refused
 returns-in_err-walk_root-clause-refused c =
-    let build = build_of c.args.build in
+    let build = build_of c.args.walker.now.build in
     let p = err_from_is_err_and c.from_residual.result c.from_residual.ensures.1 in
     rw (p.1, p.2)
     (stops-clash build c.args.root c.args.choice.now _ c.requires.choice
@@ -21,6 +21,6 @@ returns-in_err-walk_root-clause-refused c =
 
 pub returns-clause-resolved : goal.returns-clause-resolved
 returns-clause-resolved c =
-    let build = build_of c.args.build in
+    let build = build_of c.args.walker.now.build in
     resolution-is build c.args.root c.args.choice.now c.in_ok-walk_root.field-0.now _ c.requires.choice
     (ap (λ (r : Resolved). effect r (walk_root build c.args.root c.args.choice.now)) (sym c.new-resolution.ensures) ∙ c.in_ok-walk_root.ensures)

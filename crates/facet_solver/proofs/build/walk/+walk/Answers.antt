@@ -1,4 +1,4 @@
-use Rattle.std.proofs.Common.{◌≡◌, List, length, ap, sym, ◌∙◌, subst, arith, IsSome, Some, None, Bool}
+use Rattle.std.proofs.Common.{◌≡◌, List, length, ap, sym, ◌∙◌, subst, arith, IsSome, Some, None}
 use Rattle.facet_solver_shape.specs.declared.shape.Field.{Field}
 use Rattle.facet_solver_shape.specs.Places.{FieldsBelow}
 use Rattle.facet_solver.specs.Walk.{Walked, walk_fields}
@@ -18,11 +18,11 @@ use Rattle.facet_solver.proofs.build.walk.+walk.Goals as goal
 pub walk_fields-loop-field-init : goal.walk_fields-loop-field-init
 walk_fields-loop-field-init t c =
     ap (effect c.args.resolution.now)
-    (walk-start (build_of c.args.build) c.args.place.now c.args.fields.now c.args.indices.now c.requires.checked c.requires.below)
+    (walk-start (build_of c.args.walker.now.build) c.args.place.now c.args.fields.now c.args.indices.now c.requires.ready.checked c.requires.below)
 
 pub walk_fields-walk_field-requires : goal.walk_fields-walk_field-requires
 walk_fields-walk_field-requires t c =
-    let cat = c.args.build.shapes.now in
+    let cat = c.args.walker.now.build.shapes.now in
     let fs = c.args.fields.now in
     let i = c.loop-field.field-index in
     let f = c.field-item.result in
@@ -31,42 +31,42 @@ walk_fields-walk_field-requires t c =
     let b = FieldsBelow-at (length cat) fs i f c.loop-field-test.true c.requires.below in (
       omega arith,
       (
-        c.requires.checked,
+        c.requires.ready,
         (
           omega arith,
-          turn-walked (build_of c.args.build) c.args.place.now fs i c.loop-field.rest.now c.loop-field.resolution c.args.resolution.now _ c.requires.walked c.loop-field.invariant f c.loop-field-test.true c.field-item.is,
+          turn-walked (build_of c.args.walker.now.build) c.args.place.now fs i c.loop-field.rest.now c.loop-field.resolution c.args.resolution.now _ c.requires.walked c.loop-field.invariant f c.loop-field-test.true c.field-item.is,
         ),
       ),
     )
 
 pub walk_fields-loop-field-preserved : goal.walk_fields-loop-field-preserved
 walk_fields-loop-field-preserved t c =
-    turn-left (build_of c.args.build) c.args.place.now c.args.fields.now c.loop-field.field-index c.loop-field.rest.now c.loop-field.resolution c.args.resolution.now _ c.requires.walked c.loop-field.invariant c.field-item.result c.loop-field-test.true c.field-item.is
+    turn-left (build_of c.args.walker.now.build) c.args.place.now c.args.fields.now c.loop-field.field-index c.loop-field.rest.now c.loop-field.resolution c.args.resolution.now _ c.requires.walked c.loop-field.invariant c.field-item.result c.loop-field-test.true c.field-item.is
     c.walk_field.new.resolution c.in_ok-rest.rest.now c.in_ok-rest.ensures
 
 pub walk_fields-returns-in_err-rest : goal.walk_fields-returns-in_err-rest
 walk_fields-returns-in_err-rest t c =
     walks-exit c.from_residual.result c.walk_field.new.resolution _ _ c.from_residual.ensures.1
-    (turn-stops (build_of c.args.build) c.args.place.now c.args.fields.now c.loop-field.field-index c.loop-field.rest.now c.loop-field.resolution c.args.resolution.now _ c.requires.walked c.loop-field.invariant c.field-item.result c.loop-field-test.true c.field-item.is
+    (turn-stops (build_of c.args.walker.now.build) c.args.place.now c.args.fields.now c.loop-field.field-index c.loop-field.rest.now c.loop-field.resolution c.args.resolution.now _ c.requires.walked c.loop-field.invariant c.field-item.result c.loop-field-test.true c.field-item.is
     _ c.in_err-rest.ensures)
 
 pub walk_fields-returns : goal.walk_fields-returns
 walk_fields-returns t c =
-    turns-done (build_of c.args.build) c.args.place.now c.args.fields.now c.loop-field.field-index c.loop-field.rest.now c.loop-field.resolution c.args.resolution.now _ c.requires.walked c.loop-field.invariant c.loop-field-test.false
+    turns-done (build_of c.args.walker.now.build) c.args.place.now c.args.fields.now c.loop-field.field-index c.loop-field.rest.now c.loop-field.resolution c.args.resolution.now _ c.requires.walked c.loop-field.invariant c.loop-field-test.false
 
 pub walk_field-walk_fields-requires : goal.walk_field-walk_fields-requires
 walk_field-walk_fields-requires t c =
-    let cat = c.args.build.shapes.now in
+    let cat = c.args.walker.now.build.shapes.now in
     let f = c.args.field.now in
     let fs = c.in-Block.fields.now in
-    let b = block-below cat c.requires.checked f c.in-Block.target fs c.in-Block.ensures in
+    let b = block-below cat c.requires.ready.checked f c.in-Block.target fs c.in-Block.ensures in
     let l = limit_of-le f.shape fs b in (
       omega arith,
       (
-        c.requires.checked,
+        c.requires.ready,
         (
           FieldsBelow-mono f.shape (length cat) fs (omega (arith, c.requires.below)) b,
-          rw (c.in_ok-inside-in-Block.ensures, ← at-block (build_of c.args.build) f c.args.place.now c.args.indices.now c.in-Block.target fs c.in-Block.ensures) c.requires.walked,
+          rw (c.in_ok-inside-in-Block.ensures, ← at-block (build_of c.args.walker.now.build) f c.args.place.now c.args.indices.now c.in-Block.target fs c.in-Block.ensures) c.requires.walked,
         ),
       ),
     )
@@ -75,29 +75,29 @@ pub walk_field-returns-in_ok-inside-in-Block : goal.walk_field-returns-in_ok-ins
 walk_field-returns-in_ok-inside-in-Block t c =
     let fs = c.in-Block.fields.now in
     rw (
-      at-block (build_of c.args.build) c.args.field.now c.args.place.now c.args.indices.now c.in-Block.target fs c.in-Block.ensures,
+      at-block (build_of c.args.walker.now.build) c.args.field.now c.args.place.now c.args.indices.now c.in-Block.target fs c.in-Block.ensures,
       ← c.in_ok-inside-in-Block.ensures,
     ) c.walk_fields.ensures
 
 pub walk_field-next_variant-requires : goal.walk_field-next_variant-requires
 walk_field-next_variant-requires t c =
     has_choice c.in-Alternatives.variants.now c.args.indices.now _
-    (rw (at-alternatives (build_of c.args.build) c.args.field.now c.args.place.now c.args.indices.now c.in-Alternatives.target c.in-Alternatives.shape.now c.in-Alternatives.variants.now c.in-Alternatives.ensures) at c.requires.walked)
+    (rw (at-alternatives (build_of c.args.walker.now.build) c.args.field.now c.args.place.now c.args.indices.now c.in-Alternatives.target c.in-Alternatives.shape.now c.in-Alternatives.variants.now c.in-Alternatives.ensures) at c.requires.walked)
 
 pub walk_field-walk_variant-requires : goal.walk_field-walk_variant-requires
 walk_field-walk_variant-requires t c =
-    let build = build_of c.args.build in
-    let cat = c.args.build.shapes.now in
+    let build = build_of c.args.walker.now.build in
+    let cat = c.args.walker.now.build.shapes.now in
     let f = c.args.field.now in
     let s = c.in-Alternatives.shape.now in
     let vs = c.in-Alternatives.variants.now in
     let v = c.next_variant.result.0.now in
-    let b = VariantsBelow-get f.shape vs _ v c.next_variant.ensures.variant (alternatives-below cat c.requires.checked f c.in-Alternatives.target s vs c.in-Alternatives.ensures) in
+    let b = VariantsBelow-get f.shape vs _ v c.next_variant.ensures.variant (alternatives-below cat c.requires.ready.checked f c.in-Alternatives.target s vs c.in-Alternatives.ensures) in
     let l = limit_of-le f.shape v.fields.items b in
     let e = at-alternatives build f c.args.place.now c.args.indices.now c.in-Alternatives.target s vs c.in-Alternatives.ensures ∙ choose-is vs c.args.indices.now _ v c.next_variant.result.1.now c.next_variant.ensures.variant c.next_variant.ensures.rest in (
       omega arith,
       (
-        c.requires.checked,
+        c.requires.ready,
         (
           FieldsBelow-mono f.shape (length cat) v.fields.items (omega (arith, c.requires.below)) b,
           subst (λ (w : Walked). IsSome w) e c.requires.walked,
@@ -107,7 +107,7 @@ walk_field-walk_variant-requires t c =
 
 pub walk_field-returns-in-Alternatives : goal.walk_field-returns-in-Alternatives
 walk_field-returns-in-Alternatives t c =
-    let build = build_of c.args.build in
+    let build = build_of c.args.walker.now.build in
     let f = c.args.field.now in
     let s = c.in-Alternatives.shape.now in
     let vs = c.in-Alternatives.variants.now in
@@ -118,7 +118,7 @@ walk_field-returns-in-Alternatives t c =
 pub walk_field-returns-in_err-emit_plain-in-Regular : goal.walk_field-returns-in_err-emit_plain-in-Regular
 walk_field-returns-in_err-emit_plain-in-Regular t c =
     let r = c.args.resolution.now in
-    let e = at-plain (build_of c.args.build) c.args.field.now c.args.place.now c.args.indices.now (role_view c.role_of-role.result) c.role_of-role.ensures (plain_role c.role_of-role.result c.in-Regular.is) in
+    let e = at-plain (build_of c.args.walker.now.build) c.args.field.now c.args.place.now c.args.indices.now (role_view c.role_of-role.result) c.role_of-role.ensures (plain_role c.role_of-role.result c.in-Regular.is) in
     walks-same _ c.emit_plain.new.resolution _ _ (ap (effect r) e)
     (walks-exit c.from_residual-in_err-emit_plain-in-Regular.result c.emit_plain.new.resolution _ _ c.from_residual-in_err-emit_plain-in-Regular.ensures.1
     (stops-emit r _ c.args.indices.now _ c.in_err-emit_plain-in-Regular.ensures))
@@ -126,23 +126,23 @@ walk_field-returns-in_err-emit_plain-in-Regular t c =
 pub walk_field-returns-in_ok-emit_plain-in-Regular : goal.walk_field-returns-in_ok-emit_plain-in-Regular
 walk_field-returns-in_ok-emit_plain-in-Regular t c =
     let r = c.args.resolution.now in
-    let e = at-plain (build_of c.args.build) c.args.field.now c.args.place.now c.args.indices.now (role_view c.role_of-role.result) c.role_of-role.ensures (plain_role c.role_of-role.result c.in-Regular.is) in
+    let e = at-plain (build_of c.args.walker.now.build) c.args.field.now c.args.place.now c.args.indices.now (role_view c.role_of-role.result) c.role_of-role.ensures (plain_role c.role_of-role.result c.in-Regular.is) in
     emit-done r c.emit_plain.new.resolution _ _ c.args.indices.now e c.in_ok-emit_plain-in-Regular.ensures
 
 pub walk_variant-returns-in_err-emit_variant : goal.walk_variant-returns-in_err-emit_variant
 walk_variant-returns-in_err-emit_variant t c =
     walks-exit c.from_residual.result c.emit_variant.new.resolution _ _ c.from_residual.ensures.1
-    (stops-chosen (build_of c.args.build) (chosen_of c.args.chosen.now) c.args.place.now c.args.indices.now
+    (stops-chosen (build_of c.args.walker.now.build) (chosen_of c.args.chosen.now) c.args.place.now c.args.indices.now
     c.args.resolution.now _ c.requires.walked c.in_err-emit_variant.ensures)
 
 pub walk_variant-walk_content-requires : goal.walk_variant-walk_content-requires
 walk_variant-walk_content-requires t c = (
   omega arith,
   (
-    c.requires.checked,
+    c.requires.ready,
     (
       c.requires.below,
-      inside-some (build_of c.args.build) (chosen_of c.args.chosen.now) c.args.place.now c.args.indices.now
+      inside-some (build_of c.args.walker.now.build) (chosen_of c.args.chosen.now) c.args.place.now c.args.indices.now
           c.args.resolution.now c.emit_variant.new.resolution c.in_ok-emit_variant.ensures c.in_ok-inside.inside c.in_ok-inside.ensures (sym c.walks_content.ensures ∙ c.if-walks_content.true) c.requires.walked,
     ),
   ),
@@ -151,26 +151,26 @@ walk_variant-walk_content-requires t c = (
 pub walk_variant-returns-in_ok-inside : goal.walk_variant-returns-in_ok-inside
 walk_variant-returns-in_ok-inside t c =
     walks-same c.walk_content.result c.walk_content.new.resolution _ _
-    (then-inside (build_of c.args.build) (chosen_of c.args.chosen.now) c.args.place.now c.args.indices.now
+    (then-inside (build_of c.args.walker.now.build) (chosen_of c.args.chosen.now) c.args.place.now c.args.indices.now
     c.args.resolution.now c.emit_variant.new.resolution c.in_ok-emit_variant.ensures c.in_ok-inside.inside c.in_ok-inside.ensures (sym c.walks_content.ensures ∙ c.if-walks_content.true))
     c.walk_content.ensures
 
 pub walk_variant-returns-else-walks_content : goal.walk_variant-returns-else-walks_content
 walk_variant-returns-else-walks_content t c =
-    then-alone (build_of c.args.build) (chosen_of c.args.chosen.now) c.args.place.now c.args.indices.now
+    then-alone (build_of c.args.walker.now.build) (chosen_of c.args.chosen.now) c.args.place.now c.args.indices.now
     c.args.resolution.now c.emit_variant.new.resolution c.in_ok-emit_variant.ensures (sym c.walks_content.ensures ∙ c.if-walks_content.false)
 
 pub walk_content-walk_fields-requires : goal.walk_content-walk_fields-requires
 walk_content-walk_fields-requires t c =
-    let build = build_of c.args.build in
-    let cat = c.args.build.shapes.now in
+    let build = build_of c.args.walker.now.build in
+    let cat = c.args.walker.now.build.shapes.now in
     let v = c.args.variant.now in
     let fs = c.in-Some.fields.now in
     let e : Some fs ≡ newtype_fields cat v.fields.items = c.in-Some.ensures ∙ ap (newtype_fields cat) c.deref.ensures.value in
-    let l = newtype-limits build v c.args.place.now c.args.indices.now c.requires.checked fs e c.requires.below in (
+    let l = newtype-limits build v c.args.place.now c.args.indices.now c.requires.ready.checked fs e c.requires.below in (
       omega arith,
       (
-        c.requires.checked,
+        c.requires.ready,
         (
           l.1,
           subst (λ (w : Walked). IsSome w)
@@ -182,8 +182,8 @@ walk_content-walk_fields-requires t c =
 
 pub walk_content-returns-in_ok-inside-in-Some : goal.walk_content-returns-in_ok-inside-in-Some
 walk_content-returns-in_ok-inside-in-Some t c =
-    let build = build_of c.args.build in
-    let cat = c.args.build.shapes.now in
+    let build = build_of c.args.walker.now.build in
+    let cat = c.args.walker.now.build.shapes.now in
     let v = c.args.variant.now in
     let fs = c.in-Some.fields.now in
     let e : Some fs ≡ newtype_fields cat v.fields.items = c.in-Some.ensures ∙ ap (newtype_fields cat) c.deref.ensures.value in
@@ -193,15 +193,15 @@ walk_content-returns-in_ok-inside-in-Some t c =
 
 pub walk_content-walk_fields-requires-in-None : goal.walk_content-walk_fields-requires-in-None
 walk_content-walk_fields-requires-in-None t c =
-    let build = build_of c.args.build in
-    let cat = c.args.build.shapes.now in
+    let build = build_of c.args.walker.now.build in
+    let cat = c.args.walker.now.build.shapes.now in
     let v = c.args.variant.now in
     let e : None ≡ newtype_fields cat v.fields.items = c.in-None.ensures ∙ ap (newtype_fields cat) c.deref.ensures.value in
     let d = c.deref-in-None.ensures.value in
     let l = ap limit_of d in (
       omega arith,
       (
-        c.requires.checked,
+        c.requires.ready,
         (
           subst (FieldsBelow (length cat)) (sym d) c.requires.below,
           subst (λ (w : Walked). IsSome w)
@@ -213,8 +213,8 @@ walk_content-walk_fields-requires-in-None t c =
 
 pub walk_content-returns-in-None : goal.walk_content-returns-in-None
 walk_content-returns-in-None t c =
-    let build = build_of c.args.build in
-    let cat = c.args.build.shapes.now in
+    let build = build_of c.args.walker.now.build in
+    let cat = c.args.walker.now.build.shapes.now in
     let v = c.args.variant.now in
     let e : None ≡ newtype_fields cat v.fields.items = c.in-None.ensures ∙ ap (newtype_fields cat) c.deref.ensures.value in
     let d = c.deref-in-None.ensures.value in

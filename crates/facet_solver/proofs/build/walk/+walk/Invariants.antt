@@ -20,5 +20,5 @@ decreases-walk_content l = 4 * limit_of l.variant.now.fields.items + 2
 
 abbrev pub invariant-walk_fields-loop-field : goal.invariant-walk_fields-loop-field
 invariant-walk_fields-loop-field l =
-    effect l.resolution (walk_left (build_of l.build) (drop l.field-index l.fields) l.place l.rest)
-    ≡ effect l.fn.resolution (walk_fields (build_of l.build) l.fields l.place l.fn.indices)
+    effect l.resolution (walk_left (build_of l.walker.build) (drop l.field-index l.fields) l.place l.rest)
+    ≡ effect l.fn.resolution (walk_fields (build_of l.walker.build) l.fields l.place l.fn.indices)

@@ -11,16 +11,16 @@ count_shape-requires-clause-checked c = names_earlier c.args.build.shapes.now c.
 pub count_shape-requires-clause-below : goal.count_shape-requires-clause-below
 count_shape-requires-clause-below c =
     let cat = c.args.build.shapes.now in
-    let place : c.new.result ≡ length c.loop-shape.by_index.items = omega (arith, c.loop-shape.by_index.ok.0) in
-    let here = ap (slice_get cat) (sym place) ∙ sym c.in-Some.ensures.entry in
+    let index : c.new.result ≡ length c.loop-shape.by_index.items = omega (arith, c.loop-shape.by_index.ok.0) in
+    let here = ap (slice_get cat) (sym index) ∙ sym c.in-Some.ensures.entry in
     rw c.as_slice.ensures.value ((names_earlier cat c.get.ensures.checked (length c.loop-shape.by_index.items) c.in-Some.shape.now here).kind)
 
 pub loop-shape-smaller : goal.loop-shape-smaller
 loop-shape-smaller c =
     let cat = c.args.build.shapes.now in
     let ts = c.loop-shape.by_index.items in
-    let place : c.new.result ≡ length ts = omega (arith, c.loop-shape.by_index.ok.0) in
-    let within = slice_get_within cat (length ts) c.in-Some.shape.now (ap (slice_get cat) (sym place) ∙ sym c.in-Some.ensures.entry) in
+    let index : c.new.result ≡ length ts = omega (arith, c.loop-shape.by_index.ok.0) in
+    let within = slice_get_within cat (length ts) c.in-Some.shape.now (ap (slice_get cat) (sym index) ∙ sym c.in-Some.ensures.entry) in
     let longer = ap length c.in_ok-push.ensures.items ∙ length-append ts (c.count_shape.result ∷ []) in
     omega (arith, within, longer)
 
@@ -29,14 +29,17 @@ loop-shape-preserved c =
     let build = build_of c.args.build in
     let cat = c.args.build.shapes.now in
     let ts = c.loop-shape.by_index.items in
-    let place : c.new.result ≡ length c.loop-shape.by_index.items = omega (arith, c.loop-shape.by_index.ok.0) in
-    let here = ap (slice_get cat) (sym place) ∙ sym c.in-Some.ensures.entry in
+    let index : c.new.result ≡ length c.loop-shape.by_index.items = omega (arith, c.loop-shape.by_index.ok.0) in
+    let here = ap (slice_get cat) (sym index) ∙ sym c.in-Some.ensures.entry in
     let within = slice_get_within cat (length ts) c.in-Some.shape.now here in
     rw c.in_ok-push.ensures.items (one_more_entry build ts c.count_shape.result c.in-Some.shape.now c.loop-shape.invariant within here c.count_shape.ensures)
 
-pub returns : goal.returns
-returns c =
+pub returns-clause-checked : goal.returns-clause-checked
+returns-clause-checked c = names_earlier c.args.build.shapes.now c.get.ensures.checked
+
+pub returns-clause-counted : goal.returns-clause-counted
+returns-clause-counted c =
     let build = build_of c.args.build in
     let cat = c.args.build.shapes.now in
-    let place : c.new.result ≡ length c.loop-shape.by_index.items = omega (arith, c.loop-shape.by_index.ok.0) in
-    all_entries build c.loop-shape.by_index.items c.loop-shape.invariant (ap (slice_get cat) (sym place) ∙ sym c.in_default.ensures.entry)
+    let index : c.new.result ≡ length c.loop-shape.by_index.items = omega (arith, c.loop-shape.by_index.ok.0) in
+    all_entries build c.loop-shape.by_index.items c.loop-shape.invariant (ap (slice_get cat) (sym index) ∙ sym c.in_default.ensures.entry)

@@ -1,0 +1,11 @@
+//! What the functions of one build's choices and walks share.
+use crate::build::Build;
+use crate::build::count::Counts;
+
+/// What the functions of one build's choices and walks share, so that none of them takes each part by itself.
+#[derive(Drop)]
+pub(crate) struct Walker<'c> {
+    pub(crate) build: Build<'c>,
+    /// The number of choices at each shape.
+    pub(crate) counts: Counts,
+}
