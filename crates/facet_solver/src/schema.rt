@@ -7,6 +7,8 @@ ghost use Rattle.facet_solver.specs.Choice.{IsRefusal};
 ghost use Rattle.facet_solver.specs.Representation.{asked_view, externally_tagged, flattened, repr_view};
 ghost use Rattle.facet_solver.specs.SchemaView.{IsBuilt, flat_build};
 
+pub(crate) mod index;
+
 use crate::build::Build;
 use crate::build::count::count_of_root;
 use crate::build::representation::{EnumRepr, Format};
