@@ -17,6 +17,7 @@ pub mod IndexSets
 pub mod Filters
 pub mod Bits
 pub mod Members
+pub mod SharedBits
 pub mod Viability
 pub mod Distinct
 pub mod Verdicts
@@ -31,4 +32,8 @@ pub mod KeyPaths
 pub mod Nested
 pub mod Selectors
 pub mod OwnSteps
-pub mod FlatFields
+pub mod FieldCategories
+pub mod NamedEntries
+pub mod Indexing
+pub mod UnderWay
+pub mod LookUps

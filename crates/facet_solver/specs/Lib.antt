@@ -15,6 +15,7 @@ pub mod Build
 pub mod IndexSet
 pub mod HowMany
 pub mod Words
+pub mod SharedBits
 pub mod Schema
 pub mod Handle
 pub mod State
@@ -23,6 +24,9 @@ pub mod SatisfyResult
 pub mod Verdict
 pub mod Counts
 pub mod Walker
+pub mod Slots
+pub mod IndexEntries
+pub mod Indexed
 pub use Rattle.facet_solver_shape.specs.Names
 pub use Rattle.facet_solver_shape.specs.Scalars
 pub use Rattle.facet_solver_shape.specs.Catalogues

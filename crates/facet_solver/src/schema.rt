@@ -8,6 +8,8 @@ ghost use Rattle.facet_solver.specs.Schema.{IsBuilt, IsOwnBuild, flat_build};
 
 pub(crate) mod handle;
 
+pub(crate) mod index;
+
 use crate::build::Build;
 use crate::build::count::count_of_root;
 use crate::build::representation::{EnumRepr, Format};
