@@ -3,7 +3,7 @@ use Rattle.facet_solver.specs.Build.{Build, repr_for}
 use Rattle.std.proofs.Common.{◌≡◌, ◌≢◌, T, All, map, ℕ, zero, suc, List, [], ◌∷◌, ◌++◌, Option, Some, None, Bool, true, false, cond, sym, refl, ap, ◌∙◌, subst, slice_get, length}
 use Rattle.std.specs.Prelude.{if◌then◌else◌, string_bytes}
 use Rattle.std.specs.FinMap.{find as find_at}
-use Rattle.std.specs.List.{AllByRecursion, fold}
+use Rattle.std.specs.List.{AllByRecursion, AllZip, fold}
 use Rattle.std.specs.FinMap as finite
 use Rattle.std.specs.Ordering.{eq_by_cmp, is_eq}
 use Rattle.std.proofs.lemmas.Cmp.{tied_itself}
@@ -34,6 +34,8 @@ use Rattle.facet_solver.specs.Emissions.{Emission, a_field, some_key_paths, a_pi
 use Rattle.facet_solver.specs.Place.{Chosen, at_root, at_root_variant, choosing, further, inside_field, inside_variant}
 use Rattle.facet_solver.specs.Walk.{Walked, Walk, put_before, and_then, emit, choose, at_chosen, walk_variant_step, walk_content_step, walk_role, walk_fields_step, walk_within, walk_fields, walk_root, walk_root_shape, walk_root_kind, walk_root_variant, walk_content}
 use Rattle.facet_solver.specs.Choice.{with_emission, resolution_of, IsResolution, GoesByName}
+use Rattle.facet_solver.specs.Indexed.{AreOfFormat, IsOfFormat}
+use Rattle.facet_solver.specs.Schema.{IsBuilt, SchemaView}
 use Rattle.facet_solver.specs.declared.build.place.Place.{Place}
 
 -- all categories that fields and selectors get in a format
@@ -258,3 +260,24 @@ flat_fields build root c r flat = fields-having (λ c. c ≡ FlatCategory) build
 
 pub dom_fields : (build : Build) (root : ℕ) (c : List ℕ) (r : Resolved) → build.format ≡ Dom → IsResolution build root c r → All (λ (f : FieldView). f.category ≢ FlatCategory) (finite.values r.fields)
 dom_fields build root c r dom = fields-having (λ c. c ≢ FlatCategory) build root c r (subst (HasCategories (λ c. c ≢ FlatCategory)) (sym dom) dom_categories)
+
+-- so the fields of the resolutions of a schema are of its format
+format_categories : (format : Format) → HasCategories (IsOfFormat format) format
+format_categories Flat = flat_categories
+format_categories Dom = dom_categories
+
+OfFormat : Format → Resolved → Type 0
+OfFormat format r = All (λ (f : FieldView). IsOfFormat format f.category) (finite.values r.fields)
+
+each_of_format : (build : Build) (root : ℕ) (cs : List (List ℕ)) (rs : List Resolved) → AllZip (IsResolution build root) cs rs → AllByRecursion (OfFormat build.format) rs
+unfolding OfFormat
+each_of_format build root [] [] each = tt
+each_of_format build root [] (r ∷ rs) each = absurd each
+each_of_format build root (c ∷ cs) [] each = absurd each
+each_of_format build root (c ∷ cs) (r ∷ rs) each =
+    (fields-having (IsOfFormat build.format) build root c r (format_categories build.format) each.0, each_of_format build root cs rs each.1)
+
+pub built_of_format : (build : Build) (root : ℕ) (schema : SchemaView) → IsBuilt build root schema → AreOfFormat build.format schema.resolutions
+unfolding OfFormat
+built_of_format build root schema built =
+    All-from_recursion (OfFormat build.format) schema.resolutions (each_of_format build root built.enumerates.choices schema.resolutions built.enumerates.resolved)

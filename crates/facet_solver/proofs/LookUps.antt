@@ -1,6 +1,7 @@
 -- A key looks in the slot of the fields that it means.
 use Rattle.std.proofs.Common.{◌≡◌, ◌≢◌, ℕ, zero, suc, Bool, true, false, cond, ◌&&◌, ◌||◌, List, [], ◌∷◌, Option, Some, None, All, refl, ap, sym, ◌∙◌, subst}
-use Rattle.std.specs.Prelude.{if◌then◌else◌, length}
+use Rattle.std.specs.Prelude.{if◌then◌else◌, is_some, length, slice_get}
+use Rattle.std.specs.Option.{option_and_then, option_map_or}
 use Rattle.std.specs.FinMap as finite
 use Rattle.std.specs.List.{AllByRecursion, find}
 use Rattle.std.specs.Ordering.{nat_cmp}
@@ -14,7 +15,9 @@ use Rattle.facet_solver_shape.specs.Fields.{category_eq, is_unnamed, matches, me
 use Rattle.facet_solver_shape.specs.Names.{Name, name_eq}
 use Rattle.facet_solver_shape.specs.Resolved.{Resolved}
 use Rattle.facet_solver_shape.proofs.Keys.{category_cmp_same}
-use Rattle.facet_solver.specs.Indexed.{meant_by, Meant, IsEntryIfAny, IsIndexOf, IsOfFormat, AreOfFormat, first_passing, fields_of_each}
+use Rattle.facet_solver.specs.Indexed.{Meant, IsEntryIfAny, IsIndexOf, IsOfFormat, AreOfFormat, first_passing, fields_of_each}
+use Rattle.facet_solver.specs.KeyResult.{field_at}
+use Rattle.facet_solver.specs.State.{field_by_key, has_key, passes}
 use Rattle.facet_solver.specs.IndexEntries.{entry_at}
 use Rattle.facet_solver.specs.Slots.{dom_slot, is_at, is_named, slot_of}
 use Rattle.facet_solver.specs.declared.build.representation.Format.{Format}
@@ -113,7 +116,7 @@ AreAll format r = All (λ (f : FieldView). IsOfFormat format f.category) (finite
 
 -- the field that a key means is the first of the slot
 meant_exact : (format : Format) (key : Key) (rs : List Resolved) → AllByRecursion (AreAll format) rs → (i : ℕ)
-    → first_passing (is_at (slot_of format key)) (fields_of_each rs) i ≡ meant_by key rs i
+    → first_passing (is_at (slot_of format key)) (fields_of_each rs) i ≡ field_at key rs i
 unfolding AreAll
 meant_exact format key [] each i = refl
 meant_exact format key (r ∷ rs) each zero =
@@ -122,9 +125,17 @@ meant_exact format key (r ∷ rs) each (suc i) = meant_exact format key rs each.
 
 -- so the entry of the slot is that of the key
 pub entry_exact : (format : Format) (key : Key) (rs : List Resolved) (index : Index) → AreOfFormat format rs → IsIndexOf (length rs) (fields_of_each rs) index
-    → IsEntryIfAny (length rs) (meant_by key rs) (entry_at index (slot_of format key))
+    → IsEntryIfAny (length rs) (field_at key rs) (entry_at index (slot_of format key))
 unfolding AreAll
 entry_exact format key rs index each is =
     let all : AllByRecursion (AreAll format) rs = recursion_from_All (AreAll format) rs each in
     let meant : Meant = first_passing (is_at (slot_of format key)) (fields_of_each rs) in
     subst (λ m. IsEntryIfAny (length rs) m (entry_at index (slot_of format key))) (λ j i. meant_exact format key rs all i j) (is (slot_of format key))
+
+-- that a key means a field is that its resolution has it
+pub has_field : (key : Key) (rs : List Resolved) (i : ℕ) → is_some (field_at key rs i) ≡ passes (has_key key) rs i
+has_field key rs i = go (slice_get rs i)
+  where
+    go : (o : Option Resolved) → is_some (option_and_then (field_by_key key) o) ≡ option_map_or (has_key key) o false
+    go None = refl
+    go (Some r) = refl

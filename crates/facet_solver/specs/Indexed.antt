@@ -4,8 +4,7 @@ use Rattle.std.specs.FinMap as finite
 use Rattle.std.specs.Option.{option_and_then}
 use Rattle.facet_solver_shape.specs.declared.resolution.key.FieldCategory.{FieldCategory}
 use Rattle.facet_solver_shape.specs.declared.resolution.key.FieldCategory.TheVariants.{Flat as FlatCategory}
-use Rattle.facet_solver_shape.specs.Keys.{Key}
-use Rattle.facet_solver_shape.specs.Fields.{matches, FieldView}
+use Rattle.facet_solver_shape.specs.Fields.{FieldView}
 use Rattle.facet_solver_shape.specs.Resolved.{Resolved}
 use Rattle.facet_solver.specs.IndexSet.{upto}
 use Rattle.facet_solver.specs.IndexEntries.{entry_at}
@@ -57,10 +56,6 @@ fields_of_each resolutions = map (λ r. finite.values r.fields) resolutions
 -- the entry of each slot is that of the fields that stand there
 abbrev pub IsIndexOf : ℕ → List (List FieldView) → Index → Type 0
 IsIndexOf bound lists index = (slot : Slot) → IsEntryIfAny bound (first_passing (is_at slot) lists) (entry_at index slot)
-
--- of the fields of each resolution that a key means, the one of least stored key
-abbrev pub meant_by : Key → List Resolved → Meant
-meant_by key resolutions i = option_and_then (λ r. find (matches key) (finite.values r.fields)) (slice_get resolutions i)
 
 -- whether a field may have the category in a format: names alone have none, and in categories each field has one
 abbrev pub IsOfFormat : Format → FieldCategory → Type 0

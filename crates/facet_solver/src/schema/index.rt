@@ -6,7 +6,8 @@ ghost use Rattle.facet_solver_shape.specs.Fields.{takes_any_name, field_view};
 ghost use Rattle.facet_solver_shape.specs.Names.{Name, name_eq};
 ghost use Rattle.facet_solver_shape.specs.Resolved.{Resolved};
 ghost use Rattle.facet_solver.specs.IndexEntries.{HasBound, added, category_of, entry_at, entry_in, entry_of_one, named_entry, with_occurrence};
-ghost use Rattle.facet_solver.specs.Indexed.{AreOfFormat, IsEntryIfAny, IsIndexOf, fields_of_each, meant_by};
+ghost use Rattle.facet_solver.specs.Indexed.{AreOfFormat, IsEntryIfAny, IsIndexOf, fields_of_each};
+ghost use Rattle.facet_solver.specs.KeyResult.{field_at};
 ghost use Rattle.facet_solver.specs.Slots.{Slot, is_at, is_named, slot_of};
 
 use crate::build::representation::Format;
@@ -245,7 +246,7 @@ impl<'c> Index<'c> {
         ensures { (resolutions : List Resolved) → AreOfFormat format resolutions
             → IsIndexOf (length resolutions) (fields_of_each resolutions) self.now
             → IsEntryIfAny (length resolutions)
-            (meant_by (key_of key.entry) resolutions) (option_copied result) }
+            (field_at (key_of key.entry) resolutions) (option_copied result) }
     {
         self.entry_at(format, key)
     }
