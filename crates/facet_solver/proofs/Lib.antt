@@ -37,3 +37,4 @@ pub mod NamedEntries
 pub mod Indexing
 pub mod UnderWay
 pub mod LookUps
+pub mod Kept
