@@ -10,3 +10,4 @@ pub mod ResolvedCode
 pub mod Formats
 pub mod Groups
 pub mod Scores
+pub mod Steps

@@ -4,6 +4,7 @@
 pub mod laws;
 mod resolution;
 mod shape;
+mod steps;
 mod variants;
 
 pub use resolution::{
@@ -14,4 +15,5 @@ pub use shape::{
     CatalogueError, DomMark, Field, ScalarType, Shape, ShapeId, ShapeKind, Shapes, StructKind,
     Variant,
 };
+pub use steps::Steps;
 pub use variants::{VariantFormat, VariantsByFormat, specificity_score};

@@ -1,0 +1,74 @@
+//! How much work was done, as contracts count it.
+ghost use Rattle.std.specs.Prelude.{◌≡◌, ◌+◌};
+ghost use Rattle.facet_solver_shape.specs.Steps.{StepCounts};
+
+mod count;
+
+use count::Count;
+use std::fmt;
+use std::marker::Model;
+
+/// Counts the steps of a call: words of an index that were read, searches of a resolution for a field, and visits of a
+/// field.
+///
+/// The counts are whole numbers without bound that contracts alone see. When a program runs there are none: a `Steps`
+/// takes no memory and no time, and nothing can be read from it.
+#[derive(Drop)]
+pub struct Steps {
+    words: Count,
+    searches: Count,
+    visits: Count,
+}
+
+impl Model for Steps {
+    ghost use Rattle.facet_solver_shape.specs.Steps.{StepCounts};
+
+    ghost Value = { StepCounts };
+
+    ghost view = { λ s. record {
+      words = s.words.total;
+      searches = s.searches.total;
+      visits = s.visits.total;
+    } };
+}
+
+// By hand, for the counts can't be read.
+impl fmt::Debug for Steps {
+    fn fmt<W: fmt::Write>(&self, f: &mut fmt::Formatter<W>) -> fmt::Result {
+        f.write_str("Steps")
+    }
+}
+
+impl Steps {
+    /// No step was made.
+    pub fn new() -> Steps
+        ensures { result ≡ record { words = 0; searches = 0; visits = 0 } }
+    {
+        Steps {
+            words: Count::new(),
+            searches: Count::new(),
+            visits: Count::new(),
+        }
+    }
+
+    /// A word of an index was read.
+    pub fn word(&mut self)
+        ensures { self.new ≡ record self.old { words = self.old.words + 1 } }
+    {
+        self.words.one();
+    }
+
+    /// A resolution was searched for a field.
+    pub fn search(&mut self)
+        ensures { self.new ≡ record self.old { searches = self.old.searches + 1 } }
+    {
+        self.searches.one();
+    }
+
+    /// A field was visited.
+    pub fn visit(&mut self)
+        ensures { self.new ≡ record self.old { visits = self.old.visits + 1 } }
+    {
+        self.visits.one();
+    }
+}
