@@ -9,13 +9,9 @@ use Rattle.std.proofs.lemmas.List.Folds.{list_any_none}
 use Rattle.std.proofs.lemmas.List.FromFn.{get_or-range_with_len, length-range_with_len}
 use Rattle.std.proofs.lemmas.List.Kept.{IsStrictlyIncreasing-filter}
 use Rattle.facet_solver.specs.IndexSet.{has, upto, no_index, one_index, how_many}
+pub use Rattle.facet_solver.specs.SharedBits.{IsNext}
 
 -- ---- the indices of a range that pass a test
--- the least index from one on that passes
-pub record IsNext (p : ℕ → Bool) (from i : ℕ) : Type 0 where
-  pub above : from ≤ i
-  pub passes : p i ≡ true
-  pub skipped : (j : ℕ) → from ≤ j → j < i → p j ≡ false
 
 -- all do
 pub filter_all : (p : ℕ → Bool) (a n : ℕ) → ((i : ℕ) → a ≤ i → i < a + n → p i ≡ true) → filter p (range_with_len a n) ≡ range_with_len a n

@@ -15,3 +15,10 @@ pub mod ChoiceResolutions
 pub mod NestedSets
 pub mod Nested
 pub mod Emissions
+pub mod SharedBits
+pub mod FieldCategories
+pub mod NamedEntries
+pub mod Indexing
+pub mod UnderWay
+pub mod LookUps
+pub mod Kept

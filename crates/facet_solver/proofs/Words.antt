@@ -79,7 +79,7 @@ one_full word bound within is =
 
 -- ---- the least index from one on whose bit is set, by words
 -- the bits of a shifted word
-bit_at-shr : (word r j : ℕ) → bit_at (word / 2 ^ r) j ≡ bit_at word (r + j)
+pub bit_at-shr : (word r j : ℕ) → bit_at (word / 2 ^ r) j ≡ bit_at word (r + j)
 bit_at-shr word r j = ap (λ x. x % 2) (shr-shr word r j)
 
 -- the word that holds the bit of that index: its lowest bit from there on

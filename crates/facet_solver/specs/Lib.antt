@@ -12,12 +12,16 @@ pub mod Listing
 pub mod Outcome
 pub mod IndexSet
 pub mod Words
+pub mod SharedBits
 pub mod Schema
 pub mod State
 pub mod KeyResult
 pub mod SatisfyResult
 pub mod Verdict
 pub mod Counts
+pub mod Slots
+pub mod IndexEntries
+pub mod Indexed
 pub use Rattle.facet_solver_shape.specs.Names
 pub use Rattle.facet_solver_shape.specs.Scalars
 pub use Rattle.facet_solver_shape.specs.Catalogues

@@ -20,9 +20,13 @@ pub record State : Type 0 where
   pub candidates : List ℕ
   pub seen : List Key
 
+-- some resolutions are candidates, and no key was seen
+abbrev pub state_of : SchemaView → List ℕ → State
+state_of schema candidates = record { schema = schema; candidates = candidates; seen = [] }
+
 -- all resolutions are candidates, and no key was seen
 abbrev pub new_solver : SchemaView → State
-new_solver schema = record { schema = schema; candidates = upto (length schema.resolutions); seen = [] }
+new_solver schema = state_of schema (upto (length schema.resolutions))
 
 -- whether the resolution at an index passes a test
 abbrev pub passes : (Resolved → Bool) → List Resolved → ℕ → Bool

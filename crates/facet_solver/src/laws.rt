@@ -1,15 +1,17 @@
 //! Laws of choices, walks and counts: each is the contract of a function that does nothing.
-ghost use Rattle.std.specs.Prelude.{◌≡◌, ◌++◌, [], ℕ, Bool, List, length, slice_get};
+ghost use Rattle.std.specs.Prelude.{◌≡◌, ◌≢◌, ◌++◌, [], ℕ, All, Bool, List, length, slice_get};
 ghost use Rattle.facet_solver_shape.specs.Catalogues.{IsChecked};
 ghost use Rattle.facet_solver_shape.specs.Names.{Name};
 ghost use Rattle.facet_solver_shape.specs.Resolved.{Resolved};
+ghost use Rattle.std.specs.FinMap as finite;
+ghost use Rattle.facet_solver_shape.specs.declared.resolution.key.FieldCategory.TheVariants.{Flat as FlatCategory};
 ghost use Rattle.facet_solver_shape.specs.declared.shape.Field.{Field};
 ghost use Rattle.facet_solver_shape.specs.declared.shape.Variant.{Variant};
 ghost use Rattle.facet_solver.specs.Choice.{IsChoice, IsClash, IsResolution, ListsChoices, Enumerates, GoesByName};
 ghost use Rattle.facet_solver.specs.Count.{count_fields, count_fields_step, count_of_root};
 ghost use Rattle.facet_solver.specs.Place.{Path};
 ghost use Rattle.facet_solver.specs.declared.build.place.Place.{Place};
-ghost use Rattle.facet_solver.specs.declared.build.representation.Format.TheVariants.{Flat};
+ghost use Rattle.facet_solver.specs.declared.build.representation.Format.TheVariants.{Dom, Flat};
 ghost use Rattle.facet_solver.specs.Nested.{nested_paths, flattened_paths, variant_paths};
 ghost use Rattle.facet_solver.specs.Nested.{content_paths_of_shape, content_paths};
 ghost use Rattle.facet_solver.specs.Nested.{FollowsKinds, EndsByLength, HasNoGaps};
@@ -86,4 +88,11 @@ pub fn nested_paths_have_no_gaps()
 pub fn flat_fields_go_by_name()
     ensures { (build : Build) (root : ℕ) (choice : List ℕ) (r : Resolved)
         → build.format ≡ Flat → IsResolution build root choice r → GoesByName r }
+{}
+
+/// In documents of attributes and elements each field of a resolution has a category of its own.
+pub fn dom_fields_have_categories()
+    ensures { (build : Build) (root : ℕ) (choice : List ℕ) (r : Resolved)
+        → build.format ≡ Dom → IsResolution build root choice r
+        → All (λ f. f.category ≢ FlatCategory) (finite.values r.fields) }
 {}

@@ -1,18 +1,24 @@
 //! All resolutions of a type.
 ghost use Rattle.std.specs.Prelude.{◌≡◌, ◌<◌, IfErr, IfOk, None, Some, length};
+ghost use Rattle.std.specs.Option.{option_copied};
+ghost use Rattle.facet_solver_shape.specs.Keys.{key_of};
 ghost use Rattle.facet_solver.specs.Build.{build_of, build_with};
 ghost use Rattle.facet_solver.specs.Choice.{IsRefusal};
 ghost use Rattle.facet_solver.specs.Count.{IsCountOf};
+ghost use Rattle.facet_solver.specs.Indexed.{IsEntryIfAny};
+ghost use Rattle.facet_solver.specs.KeyResult.{field_at};
 ghost use Rattle.facet_solver.specs.Representation.{asked_view, externally_tagged, flattened, repr_view};
 ghost use Rattle.facet_solver.specs.Schema.{IsBuilt, IsOwnBuild, flat_build};
 
 pub(crate) mod handle;
+pub(crate) mod index;
 
 use crate::build::Build;
 use crate::build::count::count_of_root;
 use crate::build::representation::{EnumRepr, Format};
 use crate::build::resolve::resolutions;
-use facet_solver_shape::{Resolution, SchemaError, ShapeId, Shapes};
+use crate::schema::index::{Entry, Index};
+use facet_solver_shape::{FieldKey, Resolution, SchemaError, ShapeId, Shapes};
 use std::alloc::{AllocError, Global};
 use std::marker::Model;
 
@@ -24,9 +30,12 @@ pub struct Schema<'c> {
     representation: Option<EnumRepr<'c>>,
     format: Format,
     resolutions: Vec<Resolution<'c>>,
+    index: Index<'c>,
 }
 
 impl<'c> Model for Schema<'c> {
+    ghost use Rattle.std.specs.Prelude.{length};
+    ghost use Rattle.facet_solver.specs.Indexed.{AreOfFormat, IsIndexOf, fields_of_each};
     ghost use Rattle.facet_solver.specs.Schema.{IsOwnBuild, SchemaView, schema_code, schema_view};
 
     ghost Value = { SchemaView };
@@ -37,7 +46,9 @@ impl<'c> Model for Schema<'c> {
         schema_view s.shapes.now s.root s.representation s.format s.resolutions.items };
 
     ghost invariant = { λ s. IsOwnBuild
-        (schema_view s.shapes.now s.root s.representation s.format s.resolutions.items) };
+        (schema_view s.shapes.now s.root s.representation s.format s.resolutions.items)
+        × AreOfFormat s.format s.resolutions.items
+        × IsIndexOf (length s.resolutions.items) (fields_of_each s.resolutions.items) s.index };
 }
 
 impl<'c> Schema<'c> {
@@ -180,12 +191,14 @@ impl<'c> Schema<'c> {
         ensures refused { IfErr result (IsRefusal (build_of build.entry) root) }
     {
         let made = resolutions(build, root)?;
+        let index = Index::new(build.alloc, &made)?;
         Ok(Schema {
             shapes: build.shapes,
             root,
             representation: build.representation,
             format: build.format,
             resolutions: made,
+            index,
         })
     }
 
@@ -195,6 +208,15 @@ impl<'c> Schema<'c> {
         ensures built { IsOwnBuild self.now }
     {
         &self.resolutions
+    }
+
+    // The entry of a key: the resolutions that have it, and the shape of the fields that it means, if they agree on it.
+    // There is none where no resolution has it.
+    pub(crate) fn look_up(&self, key: FieldKey<'_>) -> Option<&Entry>
+        ensures { IsEntryIfAny (length self.now.resolutions)
+            (field_at (key_of key.entry) self.now.resolutions) (option_copied result) }
+    {
+        self.index.look_up(self.format, key)
     }
 
     /// What kind of document the schema is for.

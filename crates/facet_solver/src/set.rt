@@ -1,14 +1,16 @@
 //! Sets of resolutions, by their indices.
-ghost use Rattle.std.specs.Prelude.{◌≡◌, ◌↔◌, ◌<◌, ◌≤◌, [], All, IfOk, IsOk, IsTrue, filter, length, slice_get};
+ghost use Rattle.std.specs.Prelude.{◌≡◌, ◌↔◌, ◌<◌, ◌≤◌, ◌||◌, [], All, IfOk, IsOk, IsTrue, filter, length, nat_eq, slice_get};
 ghost use Rattle.std.specs.List.Sorted.{IsStrictlyIncreasing};
-ghost use Rattle.facet_solver.specs.IndexSet.{IsWithin, how_many, matches_view, full, has};
+ghost use Rattle.facet_solver.specs.IndexSet.{IsWithin, how_many, matches_view, full, has, upto};
 
 mod bits;
+mod common;
 pub(crate) mod condition;
 mod iter;
 mod words;
 
 use bits::{count_bits, is_clear, is_set};
+pub(crate) use common::CommonIter;
 pub(crate) use condition::Condition;
 pub use iter::ResolutionSetIter;
 use std::alloc::{AllocError, Global};
@@ -49,6 +51,43 @@ impl ResolutionSet {
     {
         let words = Words::full(alloc, bound)?;
         Ok(ResolutionSet { bound, words })
+    }
+
+    /// No index below a bound.
+    pub(crate) fn empty(alloc: Global, bound: usize) -> Result<Self, AllocError>
+        ensures empty { IfOk result (λ s. s ≡ record { bound = bound; members = [] }) }
+        ensures inline { bound ≤ 64 → IsOk result }
+    {
+        let words = Words::empty(alloc, bound)?;
+        Ok(ResolutionSet { bound, words })
+    }
+
+    /// One more member.
+    pub(crate) fn insert(&mut self, index: usize)
+        requires { index < self.old.bound }
+        ensures { self.new ≡ record self.old {
+          members = filter (λ i. nat_eq i index || has self.old.members i) (upto self.old.bound);
+        } }
+    {
+        self.words.insert(index);
+    }
+
+    /// Drops the members that another set lacks.
+    pub(crate) fn keep_common(&mut self, other: &ResolutionSet)
+        requires { self.old.bound ≡ other.now.bound }
+        ensures { self.new
+            ≡ record self.old { members = filter (has other.now.members) self.old.members } }
+    {
+        self.words.keep(other.words.as_slice());
+    }
+
+    /// The members that another set has too, rising.
+    pub(crate) fn common<'s>(&'s self, other: &'s ResolutionSet) -> CommonIter<'s>
+        requires { self.now.bound ≡ other.now.bound }
+        ensures members { result ≡ filter (has other.now.members) self.now.members }
+        ensures within { All (λ i. i < self.now.bound) self.now.members }
+    {
+        CommonIter::new(self.words.as_slice(), other.words.as_slice())
     }
 
     /// Drops the members that do not meet a condition.

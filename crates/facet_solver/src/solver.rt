@@ -23,10 +23,10 @@ use crate::error::SolverError;
 use crate::schema::Schema;
 use crate::schema::handle::ResolutionHandle;
 use crate::set::{Matches, ResolutionSet};
-use conditions::{AtIndex, HasKey, HasShapeAmong, IsViable, PicksVariant, Test, was_name_seen};
-use distinct_fields::distinct_fields;
+use conditions::{AtIndex, HasShapeAmong, IsViable, PicksVariant, Test, was_name_seen};
+use distinct_fields::KeySearch;
 use facet_solver_shape::{FieldKey, ShapeId};
-use key_result::KeyResult;
+use key_result::{KeyResult, key_result};
 use report::{ambiguity, no_match};
 use satisfy_result::SatisfyResult;
 use std::alloc::{AllocError, Global};
@@ -118,9 +118,19 @@ impl<'s, 'c, 'a> Solver<'s, 'c, 'a> {
         ensures ok { OnOk result (self.new ≡ state.see_key (key_of key.entry) self.old) }
         ensures err { OnErr result (self.new ≡ self.old) }
     {
-        let answer = self.key_result(alloc, key)?;
-        self.mark_seen(key)?;
-        self.narrow(HasKey { key });
+        let Some(entry) = self.schema.look_up(key) else {
+            self.seen.insert(key)?;
+            return Ok(KeyResult::Unknown);
+        };
+        let search = KeySearch {
+            schema: self.schema,
+            key,
+        };
+        let answer = key_result(alloc, &search, &self.candidates, entry)?;
+        self.seen.insert(key)?;
+        if !answer.is_unknown() {
+            self.candidates.keep_common(&entry.set);
+        }
         Ok(answer)
     }
 
@@ -242,22 +252,6 @@ impl<'s, 'c, 'a> Solver<'s, 'c, 'a> {
             test: IsViable { seen: &self.seen },
         };
         ambiguity(alloc, &self.candidates, viable)
-    }
-
-    // The answer to a key, by the candidates that have it.
-    fn key_result(&self, alloc: Global, key: FieldKey<'_>) -> Result<KeyResult<'s, 'c>, AllocError>
-        ensures answer { IfOk result (λ answer.
-            key_result_view answer ≡ key_result (key_of key.entry) self.now) }
-        ensures handle { IfOk result (HoldsHandleOf self.now.schema) }
-    {
-        match self.matching(HasKey { key }) {
-            Matches::None => Ok(KeyResult::Unknown),
-            Matches::One(index) => Ok(KeyResult::Solved(ResolutionHandle::new(self.schema, index))),
-            Matches::Several => {
-                let fields = distinct_fields(alloc, self.schema, &self.candidates, key)?;
-                Ok(KeyResult::of_fields(fields))
-            }
-        }
     }
 
     // The candidates that pass a test, as far as their number matters.

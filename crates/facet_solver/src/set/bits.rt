@@ -1,8 +1,9 @@
 //! Indices as bits of words, 64 a word.
-ghost use Rattle.std.specs.Prelude.{◌≡◌, ℕ, ◌∷◌, [], ◌+◌, ◌-◌, ◌^◌, ◌<◌, ◌≤◌, ◌↔◌, ◌&&◌, IfOk, IfSome, IsTrue, MatchOption, length, nat_eq, vec_len};
+ghost use Rattle.std.specs.Prelude.{◌≡◌, ℕ, ◌∷◌, [], ◌+◌, ◌-◌, ◌*◌, ◌^◌, ◌<◌, ◌≤◌, ◌↔◌, ◌&&◌, IfOk, IfSome, IsTrue, MatchOption, bit_and, length, nat_eq, replicate, slice_index, vec_len};
 ghost use Rattle.std.specs.Int.{bit_at};
 ghost use Rattle.facet_solver.specs.IndexSet.{has};
-ghost use Rattle.facet_solver.specs.Words.{IsClearFrom, IsFull, KeepsBits, has_bit, members_from, members_of, word_count};
+ghost use Rattle.facet_solver.specs.SharedBits.{IsNext, IsNextShared, NoneBetween, common_word};
+ghost use Rattle.facet_solver.specs.Words.{IsClearFrom, IsFull, KeepsBits, bit_of, has_bit, members_from, members_of, word_count};
 
 use crate::set::condition::Condition;
 use std::alloc::{AllocError, Global};
@@ -126,4 +127,59 @@ pub(crate) fn retain_bits<C: Condition>(words: &mut [u64], condition: &C)
     for k in 0..words.len() {
         words[k] = kept_bits(words[k], k * 64, condition);
     }
+}
+
+/// The least index from one on whose bit is set in the word of a place, where the index lies in it or ends it.
+pub(crate) fn next_in_word(word: u64, place: usize, from: usize) -> Option<usize>
+    requires fits { (place + 1) * 64 ≤ 2 ^ 64 }
+    requires above { place * 64 ≤ from }
+    ensures next { MatchOption result
+        ((f : ℕ → ℕ) → f place ≡ word → NoneBetween (bit_of f) from ((place + 1) * 64))
+        (λ k. (f : ℕ → ℕ) → f place ≡ word → IsNext (bit_of f) from k) }
+    ensures within { IfSome result (λ k. k < (place + 1) * 64) }
+{
+    if from / 64 != place {
+        return None;
+    }
+    let rest = word >> (from % 64);
+    if rest == 0 {
+        return None;
+    }
+    Some(from + rest.trailing_zeros() as usize)
+}
+
+/// The first place from one on whose words share a bit, and what they share.
+pub(crate) fn next_shared(words: &[u64], others: &[u64], from: usize) -> Option<(usize, u64)>
+    requires { length words.now ≡ length others.now }
+    ensures { MatchOption result
+        ((k : ℕ) → from ≤ k → common_word words.now others.now k ≡ 0)
+        (IsNextShared (common_word words.now others.now) from (length words.now)) }
+{
+    for place in from..words.len() {
+        let word = words[place] & others[place];
+        if word != 0 {
+            return Some((place, word));
+        }
+    }
+    None
+}
+
+/// Clears the bits that other words lack.
+pub(crate) fn keep_words(words: &mut [u64], others: &[u64])
+    requires { length words.old ≡ length others.now }
+    ensures len { length words.new ≡ length words.old }
+    ensures kept { (k : ℕ) → slice_index words.new k ≡ bit_and (slice_index words.old k) (slice_index others.now k) }
+{
+    for k in 0..words.len() {
+        words[k] &= others[k];
+    }
+}
+
+/// The words of no index below a bound.
+pub(crate) fn empty_words(alloc: Global, bound: usize) -> Result<Vec<u64>, AllocError>
+    requires { 0 < bound }
+    ensures { IfOk result (λ words. words.items ≡ replicate (word_count bound) 0) }
+{
+    let count = (bound - 1) / 64 + 1;
+    Ok(vec![in alloc; 0; count]?)
 }

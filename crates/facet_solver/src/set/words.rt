@@ -1,8 +1,8 @@
 //! The words of a set. One word takes no memory of its own.
-ghost use Rattle.std.specs.Prelude.{◌≡◌, ℕ, ◌^◌, ◌≤◌, ◌&&◌, IfOk, IsOk, length};
+ghost use Rattle.std.specs.Prelude.{◌≡◌, ℕ, ◌*◌, ◌/◌, ◌%◌, ◌^◌, ◌<◌, ◌≤◌, ◌&&◌, IfOk, IsOk, bit_and, bit_or, length, replicate, slice_index, slice_set};
 ghost use Rattle.facet_solver.specs.Words.{IsFull, has_bit, word_count, words_of};
 
-use crate::set::bits::{full_words, low_ones, retain_bits};
+use crate::set::bits::{empty_words, full_words, keep_words, low_ones, retain_bits};
 use crate::set::condition::Condition;
 use std::alloc::{AllocError, Global};
 use std::slice;
@@ -48,6 +48,41 @@ impl Words {
         match self {
             Words::One(word) => retain_bits(slice::from_mut(word), condition),
             Words::Many(words) => retain_bits(words.as_mut_slice(), condition),
+        }
+    }
+
+    /// Those of no index below a bound.
+    pub(crate) fn empty(alloc: Global, bound: usize) -> Result<Self, AllocError>
+        ensures empty { IfOk result (λ words. words_of words ≡ replicate (word_count bound) 0) }
+        ensures inline { bound ≤ 64 → IsOk result }
+    {
+        if bound <= 64 {
+            Ok(Words::One(0))
+        } else {
+            Ok(Words::Many(empty_words(alloc, bound)?))
+        }
+    }
+
+    /// Sets the bit of an index.
+    pub(crate) fn insert(&mut self, index: usize)
+        requires { index / 64 < length (words_of self.old) }
+        ensures { words_of self.new ≡ slice_set (words_of self.old) (index / 64) (bit_or (slice_index (words_of self.old) (index / 64)) (1 * 2 ^ (index % 64) % 2 ^ 64)) }
+    {
+        match self {
+            Words::One(word) => *word |= 1u64 << (index % 64),
+            Words::Many(words) => words[index / 64] |= 1u64 << (index % 64),
+        }
+    }
+
+    /// Clears the bits that other words lack.
+    pub(crate) fn keep(&mut self, others: &[u64])
+        requires { length (words_of self.old) ≡ length others.now }
+        ensures len { length (words_of self.new) ≡ length (words_of self.old) }
+        ensures kept { (k : ℕ) → slice_index (words_of self.new) k ≡ bit_and (slice_index (words_of self.old) k) (slice_index others.now k) }
+    {
+        match self {
+            Words::One(word) => *word &= others[0],
+            Words::Many(words) => keep_words(words.as_mut_slice(), others),
         }
     }
 }

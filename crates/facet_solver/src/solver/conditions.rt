@@ -4,7 +4,7 @@ ghost use Rattle.std.specs.List.{list_all, list_any};
 ghost use Rattle.std.specs.Option.{option_copied};
 ghost use Rattle.facet_solver_shape.specs.Keys.{key_of};
 ghost use Rattle.facet_solver_shape.specs.Names.{name_eq};
-ghost use Rattle.facet_solver.specs.State.{has_key, has_shape_among, passes, passing_at, picks_variant};
+ghost use Rattle.facet_solver.specs.State.{has_shape_among, passes, passing_at, picks_variant};
 ghost use Rattle.facet_solver.specs.Verdict as verdict;
 
 use crate::set::Condition;
@@ -45,20 +45,6 @@ impl<T: Test> Condition for AtIndex<'_, '_, T> {
 
     fn holds(&self, index: usize) -> bool {
         self.resolution_at(index).is_some()
-    }
-}
-
-/// Whether a resolution has a field that a key means.
-#[derive(Clone, Copy)]
-pub(crate) struct HasKey<'k> {
-    pub(crate) key: FieldKey<'k>,
-}
-
-impl Test for HasKey<'_> {
-    ghost is_passed = { λ t. has_key (key_of t.key) };
-
-    fn is_passed(&self, resolution: &Resolution<'_>) -> bool {
-        resolution.field_by_key(&self.key).is_some()
     }
 }
 

@@ -1,49 +1,76 @@
 //! The fields that a key means in the candidates of a solver.
-ghost use Rattle.std.specs.Prelude.{◌≡◌, IfOk, map, nat_eq};
+ghost use Rattle.std.specs.Prelude.{◌≡◌, ◌++◌, ◌∷◌, [], ℕ, IfOk, List, OnOk, map, nat_eq};
 ghost use Rattle.std.specs.List.{list_any};
 ghost use Rattle.std.specs.Option.{option_map};
 ghost use Rattle.facet_solver_shape.specs.Keys.{key_of};
 ghost use Rattle.facet_solver_shape.specs.Fields.{field_view};
 ghost use Rattle.facet_solver.specs.KeyResult as key_result;
-ghost use Rattle.facet_solver.specs.KeyResult.{scored_view};
+ghost use Rattle.facet_solver.specs.KeyResult.{field_at, scored_view};
 
 use crate::schema::Schema;
-use crate::set::ResolutionSet;
+use crate::set::CommonIter;
 use facet_solver_shape::{FieldInfo, FieldKey, ShapeId, specificity_score};
 use std::alloc::{AllocError, Global};
 
-/// Of the fields that a key means in the candidates, the first of each shape, with the score of the shape.
+/// A key that is sought in the resolutions of a schema.
+#[derive(Clone, Copy)]
+pub(crate) struct KeySearch<'s, 'c, 'k> {
+    pub(crate) schema: &'s Schema<'c>,
+    pub(crate) key: FieldKey<'k>,
+}
+
+impl<'s, 'c> KeySearch<'s, 'c, '_> {
+    // The field that the key means in the resolution at an index.
+    fn field_at(&self, index: usize) -> Option<&'s FieldInfo<'c>>
+        ensures { option_map (λ f. field_view f.now) result
+            ≡ field_at (key_of self.now.key) self.now.schema.now.resolutions index }
+    {
+        self.schema
+            .resolutions()
+            .get(index)?
+            .field_by_key(&self.key)
+    }
+}
+
+/// Of the fields that a key means at two indices and those after them, the first of each shape, with the score of the
+/// shape.
 pub(crate) fn distinct_fields<'s, 'c>(
     alloc: Global,
-    schema: &'s Schema<'c>,
-    candidates: &ResolutionSet,
-    key: FieldKey<'_>,
+    search: &KeySearch<'s, 'c, '_>,
+    first: usize,
+    second: usize,
+    rest: CommonIter<'_>,
 ) -> Result<Vec<(&'s FieldInfo<'c>, u64)>, AllocError>
     ensures { IfOk result (λ fields. map scored_view fields.items
-        ≡ key_result.distinct_fields (key_of key.entry) schema.now candidates.now.members) }
+        ≡ key_result.distinct_fields (key_of search.now.key) search.now.schema.now
+        (first ∷ second ∷ rest.entry)) }
 {
     let mut fields = Vec::new(alloc);
-    for index in candidates.iter() {
-        let Some(field) = field_at(schema, index, key) else {
-            continue;
-        };
-        if !has_shape(&fields, field.value_shape) {
-            fields.push((field, score_at(schema, field.value_shape)))?;
-        }
+    add_if_new(&mut fields, search, first)?;
+    add_if_new(&mut fields, search, second)?;
+    for index in rest {
+        add_if_new(&mut fields, search, index)?;
     }
     Ok(fields)
 }
 
-// The field that a key means in the resolution at an index.
-fn field_at<'s, 'c>(
-    schema: &'s Schema<'c>,
+// Adds the field that a key means at an index, if it is the first of its shape.
+fn add_if_new<'s, 'c>(
+    fields: &mut Vec<(&'s FieldInfo<'c>, u64)>,
+    search: &KeySearch<'s, 'c, '_>,
     index: usize,
-    key: FieldKey<'_>,
-) -> Option<&'s FieldInfo<'c>>
-    ensures { option_map (λ f. field_view f.now) result
-        ≡ key_result.field_at (key_of key.entry) schema.now.resolutions index }
+) -> Result<(), AllocError>
+    ensures { let shown = key_result.distinct_fields (key_of search.now.key) search.now.schema.now in
+        OnOk result ((seen : List ℕ) → map scored_view fields.old.items ≡ shown seen
+        → map scored_view fields.new.items ≡ shown (seen ++ index ∷ [])) }
 {
-    schema.resolutions().get(index)?.field_by_key(&key)
+    let Some(field) = search.field_at(index) else {
+        return Ok(());
+    };
+    if !has_shape(fields, field.value_shape) {
+        fields.push((field, score_at(search.schema, field.value_shape)))?;
+    }
+    Ok(())
 }
 
 // Whether one of the fields has the shape.

@@ -1,10 +1,17 @@
 //! What a solver answers to a key.
-ghost use Rattle.std.specs.Prelude.{◌≡◌, map};
-ghost use Rattle.facet_solver.specs.KeyResult.{HoldsHandleOf, key_result_view, of_fields, scored_view};
+ghost use Rattle.std.specs.Prelude.{◌≡◌, ◌↔◌, IfOk, IsTrue, length, map};
+ghost use Rattle.facet_solver_shape.specs.Keys.{key_of};
+ghost use Rattle.facet_solver.specs.Indexed.{IsEntry};
+ghost use Rattle.facet_solver.specs.KeyResult.{HoldsHandleOf, field_at, key_result, key_result_view, of_fields, scored_view, unknown};
 ghost use Rattle.facet_solver.specs.Schema.{SchemaView};
+ghost use Rattle.facet_solver.specs.State.{state_of};
 
 use crate::schema::handle::ResolutionHandle;
+use crate::schema::index::Entry;
+use crate::set::ResolutionSet;
+use crate::solver::distinct_fields::{KeySearch, distinct_fields};
 use facet_solver_shape::{FieldInfo, ShapeId};
+use std::alloc::{AllocError, Global};
 use std::fmt;
 
 /// What a key says of the document.
@@ -27,6 +34,13 @@ pub enum KeyResult<'s, 'c> {
 }
 
 impl<'s, 'c> KeyResult<'s, 'c> {
+    // Whether no candidate has a field that the key means.
+    pub(crate) fn is_unknown(&self) -> bool
+        ensures { IsTrue result ↔ (key_result_view self.now ≡ unknown) }
+    {
+        matches!(self, KeyResult::Unknown)
+    }
+
     // The answer by fields of different shapes, with the scores of the shapes.
     pub(crate) fn of_fields(fields: Vec<(&'s FieldInfo<'c>, u64)>) -> Self
         ensures answer { key_result_view result ≡ of_fields (map scored_view fields.entry.items) }
@@ -39,6 +53,34 @@ impl<'s, 'c> KeyResult<'s, 'c> {
             _ => KeyResult::Ambiguous { fields },
         }
     }
+}
+
+/// The answer to a key, by its entry.
+pub(crate) fn key_result<'s, 'c>(
+    alloc: Global,
+    search: &KeySearch<'s, 'c, '_>,
+    candidates: &ResolutionSet,
+    entry: &Entry,
+) -> Result<KeyResult<'s, 'c>, AllocError>
+    requires bound { candidates.now.bound ≡ length search.now.schema.now.resolutions }
+    requires entry { let resolutions = search.now.schema.now.resolutions in
+        IsEntry (length resolutions) (field_at (key_of search.now.key) resolutions) entry.now }
+    ensures answer { let state = state_of search.now.schema.now candidates.now.members in IfOk result
+        (λ answer. key_result_view answer ≡ key_result (key_of search.now.key) state) }
+    ensures handle { IfOk result (HoldsHandleOf search.now.schema.now) }
+{
+    let mut holders = candidates.common(&entry.set);
+    let Some(first) = holders.next() else {
+        return Ok(KeyResult::Unknown);
+    };
+    let Some(second) = holders.next() else {
+        return Ok(KeyResult::Solved(ResolutionHandle::new(search.schema, first)));
+    };
+    if let Some(shape) = entry.shape {
+        return Ok(KeyResult::Unambiguous { shape });
+    }
+    let fields = distinct_fields(alloc, search, first, second, holders)?;
+    Ok(KeyResult::of_fields(fields))
 }
 
 // Printed as a derived impl would. The derive gets no proof where references lie in pairs in a vector, so each pair is

@@ -1,0 +1,217 @@
+-- An index after one more field.
+use Rattle.std.proofs.Common.{◌≡◌, ℕ, zero, suc, ◌<◌, Bool, true, false, ◌||◌, nat_eq, List, [], ◌∷◌, ◌++◌, Option, Some, None, MatchOption, filter, is_some, length, ne_eqb, refl, ap, sym, ◌∙◌, subst, arith}
+use Rattle.std.specs.Prelude.{if◌then◌else◌}
+use Rattle.std.specs.List.{find}
+use Rattle.std.specs.Option.{option_or}
+use Rattle.std.proofs.lemmas.Bool.{false≢true}
+use Rattle.std.proofs.lemmas.Bool.Decides.{Decides-eqb}
+use Rattle.std.proofs.lemmas.List.Folds.{find-append}
+use Rattle.facet_solver_shape.specs.Fields.{FieldView}
+use Rattle.facet_solver.specs.IndexSet.{IndexSet, has, upto}
+use Rattle.facet_solver.specs.IndexEntries.{HasBound, added, agreed, entry_at, entry_of_one, with_number, with_occurrence}
+use Rattle.facet_solver.specs.Indexed.{Meant, AgreesOn, Differs, IsEntry, IsEntryIfAny, IsIndexOf, first_passing}
+use Rattle.facet_solver.specs.Slots.{Slot, is_at}
+use Rattle.facet_solver.specs.declared.schema.index.Entry.{Entry}
+use Rattle.facet_solver.specs.declared.schema.index.Index.{Index}
+use Rattle.facet_solver.proofs.IndexSet.{filter_same, filter_none, has_inside}
+
+-- what is meant after one more field of a resolution, which passes or does not
+abbrev pub more : Meant → ℕ → Bool → FieldView → Meant
+more meant i passes f k = if nat_eq k i then option_or (meant k) (if passes then Some f else None) else meant k
+
+if_same : {X : Type 0} (b : Bool) (x : X) → (if b then x else x) ≡ x
+if_same true x = refl
+if_same false x = refl
+
+or_none : {X : Type 0} (o : Option X) → option_or o None ≡ o
+or_none None = refl
+or_none (Some x) = refl
+
+one_more : (test : FieldView → Bool) (seen : List FieldView) (f : FieldView) → find test (seen ++ f ∷ []) ≡ option_or (find test seen) (if test f then Some f else None)
+one_more test seen f = find-append test seen (f ∷ [])
+
+eq_suc : (a b : ℕ) → nat_eq (suc a) (suc b) ≡ nat_eq a b
+eq_suc a b = go (nat_eq a b) refl
+  where
+    go : (t : Bool) → nat_eq a b ≡ t → nat_eq (suc a) (suc b) ≡ t
+    go true same = (Decides-eqb (suc a) (suc b)).1 (ap (λ n. suc n) ((Decides-eqb a b).0 same))
+    go false other = ne_eqb (suc a) (suc b) (λ e. let same : a ≡ b = omega arith in false≢true (sym other ∙ (Decides-eqb a b).1 same))
+
+-- one more field of the last resolution
+pub passing_more : (test : FieldView → Bool) (before : List (List FieldView)) (seen : List FieldView) (f : FieldView) (k : ℕ)
+    → first_passing test (before ++ (seen ++ f ∷ []) ∷ []) k ≡ more (first_passing test (before ++ seen ∷ [])) (length before) (test f) f k
+passing_more test [] seen f zero = one_more test seen f
+passing_more test [] seen f (suc k) = ap (λ b. if b then (if test f then Some f else None) else None) (sym (ne_eqb (suc k) 0 (λ e. omega arith)))
+passing_more test (fs ∷ before) seen f zero =
+    ap (λ b. if b then option_or (find test fs) (if test f then Some f else None) else find test fs) (sym (ne_eqb 0 (suc (length before)) (λ e. omega arith)))
+passing_more test (fs ∷ before) seen f (suc k) =
+    let meant : Option FieldView = first_passing test (before ++ seen ∷ []) k in
+    passing_more test before seen f k
+    ∙ ap (λ b. if b then option_or meant (if test f then Some f else None) else meant) (sym (eq_suc k (length before)))
+
+-- a resolution of which no field was seen yet
+pub passing_none : (test : FieldView → Bool) (before : List (List FieldView)) (k : ℕ) → first_passing test (before ++ [] ∷ []) k ≡ first_passing test before k
+passing_none test [] zero = refl
+passing_none test [] (suc k) = refl
+passing_none test (fs ∷ before) zero = refl
+passing_none test (fs ∷ before) (suc k) = passing_none test before k
+
+-- a field that does not pass changes nothing
+more_failing : (meant : Meant) (i : ℕ) (f : FieldView) (k : ℕ) → more meant i false f k ≡ meant k
+more_failing meant i f k = ap (λ o. if nat_eq k i then o else meant k) (or_none (meant k)) ∙ if_same (nat_eq k i) (meant k)
+
+-- nor does one of a resolution in which a field is meant already
+more_known : (meant : Meant) (i : ℕ) (f g : FieldView) → meant i ≡ Some g → (k : ℕ) → more meant i true f k ≡ meant k
+more_known meant i f g known k = go (nat_eq k i) refl
+  where
+    go : (b : Bool) → nat_eq k i ≡ b → (if b then option_or (meant k) (Some f) else meant k) ≡ meant k
+    go true same =
+        let here : meant k ≡ Some g = ap meant ((Decides-eqb k i).0 same) ∙ known in
+        ap (λ o. option_or o (Some f)) here ∙ sym here
+    go false other = refl
+
+-- a field that is meant stays so
+more_keeps : (meant : Meant) (i : ℕ) (f : FieldView) (k : ℕ) (g : FieldView) → meant k ≡ Some g → more meant i true f k ≡ Some g
+more_keeps meant i f k g known = ap (λ o. if nat_eq k i then option_or o (Some f) else o) known ∙ if_same (nat_eq k i) (Some g)
+
+-- the first that passes is meant
+more_first : (meant : Meant) (i : ℕ) (f : FieldView) → meant i ≡ None → more meant i true f i ≡ Some f
+more_first meant i f none =
+    ap (λ b. if b then option_or (meant i) (Some f) else meant i) ((Decides-eqb i i).1 refl) ∙ ap (λ o. option_or o (Some f)) none
+
+some_same : (f g : FieldView) → Some f ≡ Some g → f ≡ g
+some_same f g e = cc
+
+-- and nothing else is new
+more_only : (meant : Meant) (i : ℕ) (f : FieldView) → meant i ≡ None → (k : ℕ) (g : FieldView) → more meant i true f k ≡ Some g → (shape : ℕ) → f.shape ≡ shape
+    → (meant k ≡ Some g → g.shape ≡ shape) → g.shape ≡ shape
+more_only meant i f none k g is shape here there = go (nat_eq k i) refl is
+  where
+    go : (b : Bool) → nat_eq k i ≡ b → (if b then option_or (meant k) (Some f) else meant k) ≡ Some g → g.shape ≡ shape
+    go true same found =
+        let absent : meant k ≡ None = ap meant ((Decides-eqb k i).0 same) ∙ none in
+        let is_f : f ≡ g = some_same f g (ap (λ o. option_or o (Some f)) (sym absent) ∙ found) in
+        ap (λ (x : FieldView). x.shape) (sym is_f) ∙ here
+    go false other found = there found
+
+more_members : (meant : Meant) (i : ℕ) (f : FieldView) → meant i ≡ None → (k : ℕ) → (nat_eq k i || is_some (meant k)) ≡ is_some (more meant i true f k)
+more_members meant i f none k = go (nat_eq k i) refl
+  where
+    go : (b : Bool) → nat_eq k i ≡ b → (b || is_some (meant k)) ≡ is_some (if b then option_or (meant k) (Some f) else meant k)
+    go true same =
+        let absent : meant k ≡ None = ap meant ((Decides-eqb k i).0 same) ∙ none in
+        sym (ap (λ o. is_some (option_or o (Some f))) absent)
+    go false other = refl
+
+-- numbers below a bound
+abbrev below : ℕ → List ℕ → IndexSet
+below bound members = record { bound = bound; members = members }
+
+-- the members after the first field that passes
+set_more : (bound : ℕ) (meant : Meant) (i : ℕ) (f : FieldView) → meant i ≡ None
+    → with_number (below bound (filter (λ k. is_some (meant k)) (upto bound))) i ≡ below bound (filter (λ k. is_some (more meant i true f k)) (upto bound))
+set_more bound meant i f none =
+    let members : List ℕ = filter (λ k. is_some (meant k)) (upto bound) in
+    ap (below bound) (filter_same (λ k. nat_eq k i || has members k) (λ k. is_some (more meant i true f k)) 0 bound
+    (λ k low high. ap (λ b. nat_eq k i || b) (has_inside (λ j. is_some (meant j)) 0 bound k low high) ∙ more_members meant i f none k))
+
+-- the shape after it
+shape_more : (meant : Meant) (i : ℕ) (f : FieldView) → meant i ≡ None → (known : Option ℕ) → MatchOption known (Differs meant) (λ shape. AgreesOn shape meant)
+    → MatchOption (agreed known f.shape) (Differs (more meant i true f)) (λ shape. AgreesOn shape (more meant i true f))
+shape_more meant i f none None two = record {
+  first = two.first;
+  second = two.second;
+  one = two.one;
+  other = two.other;
+  one_present = more_keeps meant i f two.first two.one two.one_present;
+  other_present = more_keeps meant i f two.second two.other two.other_present;
+  apart = two.apart;
+}
+shape_more meant i f none (Some shape) one = go (nat_eq shape f.shape) refl
+  where
+    go : (b : Bool) → nat_eq shape f.shape ≡ b → MatchOption (if b then Some shape else None) (Differs (more meant i true f)) (λ shape. AgreesOn shape (more meant i true f))
+    go true same = record {
+      index = one.index;
+      field = one.field;
+      present = more_keeps meant i f one.index one.field one.present;
+      same = one.same;
+      all = λ k g is. more_only meant i f none k g is shape (sym ((Decides-eqb shape f.shape).0 same)) (one.all k g);
+    }
+    go false other = record {
+      first = one.index;
+      second = i;
+      one = one.field;
+      other = f;
+      one_present = more_keeps meant i f one.index one.field one.present;
+      other_present = more_first meant i f none;
+      apart = λ e. false≢true (sym other ∙ (Decides-eqb shape f.shape).1 (sym one.same ∙ e));
+    }
+
+-- the first entry of a slot
+entry_first : (bound : ℕ) (meant : Meant) (i : ℕ) (f : FieldView) → ((k : ℕ) → meant k ≡ None) → IsEntry bound (more meant i true f) (entry_of_one (record { index = i; bound = bound; shape = f.shape }))
+entry_first bound meant i f none = record {
+  set = ap (λ s. with_number s i) (sym nothing) ∙ set_more bound meant i f (none i);
+  shape = record {
+    index = i;
+    field = f;
+    present = more_first meant i f (none i);
+    same = refl;
+    all = λ k g is. more_only meant i f (none i) k g is f.shape refl (λ there. absurd (absent k g there));
+  };
+}
+  where
+    absent : (k : ℕ) (g : FieldView) → meant k ≡ Some g → ⊥
+    absent k g there = none_is_some (sym (none k) ∙ there)
+      where
+        none_is_some : None ≡ Some g → ⊥
+        none_is_some e = cc
+
+    nothing : below bound (filter (λ k. is_some (meant k)) (upto bound)) ≡ below bound []
+    nothing = ap (below bound) (filter_none (λ k. is_some (meant k)) 0 bound (λ k low high. ap is_some (none k)))
+
+-- an entry with one resolution more
+entry_more : (bound : ℕ) (meant : Meant) (i : ℕ) (f : FieldView) (entry : Entry) → i < bound → IsEntry bound meant entry
+    → IsEntry bound (more meant i true f) (with_occurrence entry (record { index = i; bound = bound; shape = f.shape }))
+entry_more bound meant i f entry within is = go (meant i) refl
+  where
+    known : has entry.set.members i ≡ is_some (meant i)
+    known = ap (λ (s : IndexSet). has s.members i) is.set ∙ has_inside (λ j. is_some (meant j)) 0 bound i (omega arith) (omega arith)
+
+    go : (o : Option FieldView) → meant i ≡ o → IsEntry bound (more meant i true f) (with_occurrence entry (record { index = i; bound = bound; shape = f.shape }))
+    go (Some g) here =
+        let member : has entry.set.members i ≡ true = known ∙ ap is_some here in
+        rw member (subst (λ m. IsEntry bound m entry) (λ j k. sym (more_known meant i f g here k) j) is)
+    go None here =
+        let absent : has entry.set.members i ≡ false = known ∙ ap is_some here in
+        rw absent (record {
+          set = ap (λ s. with_number s i) is.set ∙ set_more bound meant i f here;
+          shape = shape_more meant i f here entry.shape is.shape;
+        })
+
+-- the entry of a slot after one more field
+pub slot_more : (bound : ℕ) (meant : Meant) (i : ℕ) (f : FieldView) (entry : Option Entry) → i < bound → (passes : Bool) → IsEntryIfAny bound meant entry
+    → IsEntryIfAny bound (more meant i passes f) (if passes then Some (added entry (record { index = i; bound = bound; shape = f.shape })) else entry)
+slot_more bound meant i f entry within false is = subst (λ m. IsEntryIfAny bound m entry) (λ j k. sym (more_failing meant i f k) j) is
+slot_more bound meant i f None within true is = entry_first bound meant i f is
+slot_more bound meant i f (Some e) within true is = entry_more bound meant i f e within is
+
+-- an index after one more field of the last resolution
+pub index_more : (bound : ℕ) (before : List (List FieldView)) (seen : List FieldView) (f : FieldView) (old new : Index) → length before < bound
+    → IsIndexOf bound (before ++ seen ∷ []) old
+    → ((slot : Slot) → entry_at new slot ≡ (if is_at slot f then Some (added (entry_at old slot) (record { index = length before; bound = bound; shape = f.shape })) else entry_at old slot))
+    → IsIndexOf bound (before ++ (seen ++ f ∷ []) ∷ []) new
+index_more bound before seen f old new within is step slot =
+    let meant : Meant = first_passing (is_at slot) (before ++ seen ∷ []) in
+    let after : IsEntryIfAny bound (more meant (length before) (is_at slot f) f) (entry_at new slot) =
+    rw (step slot) (slot_more bound meant (length before) f (entry_at old slot) within (is_at slot f) (is slot)) in
+    subst (λ m. IsEntryIfAny bound m (entry_at new slot)) (λ j k. sym (passing_more (is_at slot) before seen f k) j) after
+
+-- an index before the fields of one more resolution
+pub index_same : (bound : ℕ) (before : List (List FieldView)) (index : Index) → IsIndexOf bound before index → IsIndexOf bound (before ++ [] ∷ []) index
+index_same bound before index is slot = subst (λ m. IsEntryIfAny bound m (entry_at index slot)) (λ j k. sym (passing_none (is_at slot) before k) j) (is slot)
+
+-- the entries of an index are over the numbers below the bound
+pub index_bounds : (bound : ℕ) (lists : List (List FieldView)) (index : Index) → IsIndexOf bound lists index → (slot : Slot) → HasBound bound (entry_at index slot)
+index_bounds bound lists index is slot e here =
+    let entry : IsEntry bound (first_passing (is_at slot) lists) e = subst (IsEntryIfAny bound (first_passing (is_at slot) lists)) here (is slot) in
+    ap (λ (s : IndexSet). s.bound) entry.set

@@ -1,0 +1,6 @@
+use Rattle.std.proofs.Common.{◌≡◌, ℕ, ◌<◌, ◌≤◌}
+use Rattle.facet_solver.specs.SharedBits.{common_word}
+use Rattle.facet_solver.proofs.set.bits.next_shared.Given as goal
+
+abbrev pub invariant-loop-place : goal.invariant-loop-place
+invariant-loop-place l = (k : ℕ) → l.from ≤ k → k < l.place → common_word l.words l.others k ≡ 0

@@ -1,0 +1,295 @@
+//! The index of a schema: which resolutions have a key.
+ghost use Rattle.std.specs.Prelude.{◌≡◌, ◌+◌, ◌<◌, IfOk, List, None, OnOk, Option, Some, if◌then◌else◌, length, take};
+ghost use Rattle.std.specs.Option.{option_copied};
+ghost use Rattle.facet_solver_shape.specs.Keys.{key_of};
+ghost use Rattle.facet_solver_shape.specs.Fields.{takes_any_name, field_view};
+ghost use Rattle.facet_solver_shape.specs.Names.{Name, name_eq};
+ghost use Rattle.facet_solver_shape.specs.Resolved.{Resolved};
+ghost use Rattle.facet_solver.specs.IndexEntries.{HasBound, added, category_of, entry_at, entry_in, entry_of_one, named_entry, with_occurrence};
+ghost use Rattle.facet_solver.specs.Indexed.{AreOfFormat, IsEntryIfAny, IsIndexOf, fields_of_each};
+ghost use Rattle.facet_solver.specs.KeyResult.{field_at};
+ghost use Rattle.facet_solver.specs.Slots.{Slot, is_at, is_named, slot_of};
+
+use crate::build::representation::Format;
+use crate::set::ResolutionSet;
+use facet_solver_shape::{FieldCategory, FieldInfo, FieldKey, Resolution, ShapeId};
+use std::alloc::{AllocError, Global};
+use std::collections::BTreeMap;
+
+/// A field of a resolution: the number of the resolution, the number of all of them, and the shape of the field.
+#[derive(Clone, Copy)]
+struct Occurrence {
+    index: usize,
+    bound: usize,
+    shape: ShapeId,
+}
+
+/// The resolutions that have a key.
+#[derive(Debug, Drop)]
+pub(crate) struct Entry {
+    /// Their numbers.
+    pub(crate) set: ResolutionSet,
+    /// The shape of the field that the key means, where they agree on it.
+    pub(crate) shape: Option<ShapeId>,
+}
+
+impl Entry {
+    // The entry of one resolution.
+    fn of_one(alloc: Global, at: &Occurrence) -> Result<Self, AllocError>
+        requires { at.now.index < at.now.bound }
+        ensures { IfOk result (λ entry. entry ≡ entry_of_one at.now) }
+    {
+        let mut set = ResolutionSet::empty(alloc, at.bound)?;
+        set.insert(at.index);
+        Ok(Entry {
+            set,
+            shape: Some(at.shape),
+        })
+    }
+
+    // Adds a resolution. Of one that is here the field that came first is meant.
+    fn add(&mut self, at: &Occurrence)
+        requires { at.now.index < self.old.set.bound }
+        ensures { self.new ≡ with_occurrence self.old at.now }
+    {
+        if self.set.contains(at.index) {
+            return;
+        }
+        self.set.insert(at.index);
+        if let Some(shape) = self.shape {
+            if shape != at.shape {
+                self.shape = None;
+            }
+        }
+    }
+}
+
+/// The entries of one category.
+#[derive(Debug, Drop)]
+struct CategoryIndex<'c> {
+    named: BTreeMap<&'c str, Entry>,
+    all: Option<Entry>,
+}
+
+impl<'c> CategoryIndex<'c> {
+    fn new(alloc: Global) -> Self
+        ensures { (name : Option Name) → entry_in result name ≡ None }
+    {
+        CategoryIndex {
+            named: BTreeMap::new(alloc),
+            all: None,
+        }
+    }
+
+    // The entry of a name.
+    fn entry_of(&self, name: &str) -> Option<&Entry>
+        ensures { option_copied result ≡ entry_in self.now (Some name.now) }
+    {
+        self.named.get(name)
+    }
+
+    // The entry of every name.
+    fn entry_of_all(&self) -> Option<&Entry>
+        ensures { option_copied result ≡ entry_in self.now None }
+    {
+        self.all.as_ref()
+    }
+
+    // Adds a resolution to the entry of every name.
+    fn add_to_all(&mut self, alloc: Global, at: &Occurrence) -> Result<(), AllocError>
+        requires index { at.now.index < at.now.bound }
+        requires bound { HasBound at.now.bound self.old.all }
+        ensures { OnOk result
+            (self.new ≡ record self.old { all = Some (added self.old.all at.now) }) }
+    {
+        match &mut self.all {
+            Some(entry) => entry.add(at),
+            None => self.all = Some(Entry::of_one(alloc, at)?),
+        }
+        Ok(())
+    }
+
+    // Adds a field.
+    fn add(
+        &mut self,
+        alloc: Global,
+        field: &FieldInfo<'c>,
+        at: &Occurrence,
+    ) -> Result<(), AllocError>
+        requires index { at.now.index < at.now.bound }
+        requires bounds { (name : Option Name) → HasBound at.now.bound (entry_in self.old name) }
+        ensures { OnOk result ((name : Option Name) → entry_in self.new name
+            ≡ (if is_named name (field_view field.now)
+            then Some (added (entry_in self.old name) at.now)
+            else entry_in self.old name)) }
+    {
+        add_named(&mut self.named, alloc, field.serialized_name, at)?;
+        if takes_any_name(field.category) {
+            self.add_to_all(alloc, at)?;
+        }
+        Ok(())
+    }
+}
+
+// Whether a DOM key without a name means every field of the category.
+fn takes_any_name(category: FieldCategory) -> bool
+    ensures { result ≡ takes_any_name category }
+{
+    matches!(
+        category,
+        FieldCategory::Text | FieldCategory::Tag | FieldCategory::Elements
+    )
+}
+
+// Adds a resolution to the entry of a name.
+fn add_named<'c>(
+    named: &mut BTreeMap<&'c str, Entry>,
+    alloc: Global,
+    name: &'c str,
+    at: &Occurrence,
+) -> Result<(), AllocError>
+    requires index { at.now.index < at.now.bound }
+    requires bounds { (n : Name) → HasBound at.now.bound (named_entry named.old n) }
+    ensures { OnOk result ((n : Name) → named_entry named.new n
+        ≡ (if name_eq n name.now
+        then Some (added (named_entry named.old n) at.now)
+        else named_entry named.old n)) }
+{
+    match named.get_mut(name) {
+        Some(entry) => entry.add(at),
+        None => {
+            named.insert(name, Entry::of_one(alloc, at)?)?;
+        }
+    }
+    Ok(())
+}
+
+/// The entries of a schema, by category.
+#[derive(Debug, Drop)]
+pub(crate) struct Index<'c> {
+    flat: CategoryIndex<'c>,
+    attributes: CategoryIndex<'c>,
+    elements: CategoryIndex<'c>,
+    texts: CategoryIndex<'c>,
+    tags: CategoryIndex<'c>,
+    lists: CategoryIndex<'c>,
+}
+
+impl<'c> Index<'c> {
+    // No entries.
+    fn empty(alloc: Global) -> Self
+        ensures { (slot : Slot) → entry_at result slot ≡ None }
+    {
+        Index {
+            flat: CategoryIndex::new(alloc),
+            attributes: CategoryIndex::new(alloc),
+            elements: CategoryIndex::new(alloc),
+            texts: CategoryIndex::new(alloc),
+            tags: CategoryIndex::new(alloc),
+            lists: CategoryIndex::new(alloc),
+        }
+    }
+
+    /// The index of resolutions, by their own fields.
+    pub(crate) fn new(alloc: Global, resolutions: &[Resolution<'c>]) -> Result<Self, AllocError>
+        ensures { IfOk result
+            (IsIndexOf (length resolutions.now) (fields_of_each resolutions.now)) }
+    {
+        let mut index = Index::empty(alloc);
+        for i in 0..resolutions.len() {
+            index.add_all(alloc, resolutions, i)?;
+        }
+        Ok(index)
+    }
+
+    // Adds the fields of the resolution of a number.
+    fn add_all(
+        &mut self,
+        alloc: Global,
+        resolutions: &[Resolution<'c>],
+        index: usize,
+    ) -> Result<(), AllocError>
+        requires within { index < length resolutions.now }
+        requires before { IsIndexOf (length resolutions.now)
+            (fields_of_each (take index resolutions.now)) self.old }
+        ensures { OnOk result (IsIndexOf (length resolutions.now)
+            (fields_of_each (take (index + 1) resolutions.now)) self.new) }
+    {
+        let bound = resolutions.len();
+        for (key, field) in resolutions[index].fields() {
+            let at = Occurrence {
+                index,
+                bound,
+                shape: field.value_shape,
+            };
+            self.add(alloc, field, &at)?;
+        }
+        Ok(())
+    }
+
+    fn of_category(&self, category: FieldCategory) -> &CategoryIndex<'c>
+        ensures { result.now ≡ category_of self.now category }
+    {
+        match category {
+            FieldCategory::Flat => &self.flat,
+            FieldCategory::Attribute => &self.attributes,
+            FieldCategory::Element => &self.elements,
+            FieldCategory::Text => &self.texts,
+            FieldCategory::Tag => &self.tags,
+            FieldCategory::Elements => &self.lists,
+        }
+    }
+
+    /// The entry of a key in a format: the resolutions that have the key, and the shape of the fields that it means, if they
+    /// agree on it. There is none where no resolution has the key.
+    pub(crate) fn look_up(&self, format: Format, key: FieldKey<'_>) -> Option<&Entry>
+        ensures { (resolutions : List Resolved) → AreOfFormat format resolutions
+            → IsIndexOf (length resolutions) (fields_of_each resolutions) self.now
+            → IsEntryIfAny (length resolutions)
+            (field_at (key_of key.entry) resolutions) (option_copied result) }
+    {
+        self.entry_at(format, key)
+    }
+
+    // The entry of the slot where a key looks.
+    fn entry_at(&self, format: Format, key: FieldKey<'_>) -> Option<&Entry>
+        ensures { option_copied result ≡ entry_at self.now (slot_of format (key_of key.entry)) }
+    {
+        match (format, key) {
+            (Format::Flat, key) => self.flat.entry_of(key.name()),
+            (Format::Dom, FieldKey::Flat(name)) => self.elements.entry_of(name),
+            (Format::Dom, FieldKey::Dom(category, name)) => {
+                let entries = self.of_category(category);
+                if name.is_empty() && takes_any_name(category) {
+                    entries.entry_of_all()
+                } else {
+                    entries.entry_of(name)
+                }
+            }
+        }
+    }
+
+    // Adds a field.
+    fn add(
+        &mut self,
+        alloc: Global,
+        field: &FieldInfo<'c>,
+        at: &Occurrence,
+    ) -> Result<(), AllocError>
+        requires index { at.now.index < at.now.bound }
+        requires bounds { (slot : Slot) → HasBound at.now.bound (entry_at self.old slot) }
+        ensures { OnOk result ((slot : Slot) → entry_at self.new slot
+            ≡ (if is_at slot (field_view field.now)
+            then Some (added (entry_at self.old slot) at.now)
+            else entry_at self.old slot)) }
+    {
+        match field.category {
+            FieldCategory::Flat => self.flat.add(alloc, field, at),
+            FieldCategory::Attribute => self.attributes.add(alloc, field, at),
+            FieldCategory::Element => self.elements.add(alloc, field, at),
+            FieldCategory::Text => self.texts.add(alloc, field, at),
+            FieldCategory::Tag => self.tags.add(alloc, field, at),
+            FieldCategory::Elements => self.lists.add(alloc, field, at),
+        }
+    }
+}
