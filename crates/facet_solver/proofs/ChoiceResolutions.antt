@@ -1,40 +1,18 @@
 -- What choices resolve to: one resolution for each, whose flat fields go by their names.
-use Rattle.facet_solver.specs.Build.{Build, repr_for}
-use Rattle.std.proofs.Common.{◌≡◌, ℕ, zero, suc, ◌+◌, ◌<◌, List, [], ◌∷◌, ◌++◌, Some, sym, refl, ap, ◌∙◌, subst, length, get_or, take, arith, IsSome, Option, None, Bool, true, false, cond, slice_get}
-use Rattle.std.specs.Prelude.{⊤, Vec, if◌then◌else◌}
+use Rattle.facet_solver.specs.Build.{Build}
+use Rattle.std.proofs.Common.{◌≡◌, ℕ, zero, suc, ◌+◌, ◌<◌, List, [], ◌∷◌, ◌++◌, Some, sym, refl, ap, ◌∙◌, subst, length, get_or, take, arith, IsSome}
+use Rattle.std.specs.Prelude.{Vec}
 use Rattle.std.specs.declared.alloc.Global.{Global}
 use Rattle.std.proofs.lemmas.List.{take_more}
 use Rattle.facet_solver_shape.specs.declared.resolution.error.SchemaError as schema
 use Rattle.facet_solver_shape.specs.declared.resolution.error.SchemaError.TheVariants.{DuplicateField, OutOfMemory}
-use Rattle.facet_solver.specs.Walk.{walk_root, Walked, Walk, put_before, and_then, emit, choose, at_chosen, walk_variant_step, walk_content_step, walk_role, walk_fields_step, walk_within, walk_fields, walk_root_shape, walk_root_kind, walk_root_variant, walk_content}
+use Rattle.facet_solver.specs.Walk.{walk_root}
 use Rattle.facet_solver_shape.specs.Resolved.{Resolved, nothing}
 use Rattle.facet_solver.specs.Outcome.{Duplicate, Outcome, resolved, duplicate, take_all, effect, StopsBy, duplicate_view}
-use Rattle.facet_solver.specs.Choice.{IsChoice, ListsChoices, IsResolution, IsClash, IsRefusal, with_emission, resolution_of, GoesByName}
+use Rattle.facet_solver.specs.Choice.{IsChoice, ListsChoices, IsResolution, IsClash, IsRefusal}
 use Rattle.facet_solver.specs.Listing.{lists}
 use Rattle.facet_solver.proofs.Outcome.{built, clashing}
-use Rattle.std.specs.List.{AllZip, fold}
-use Rattle.std.specs.FinMap as finite
-use Rattle.std.specs.Ordering.{eq_by_cmp}
-use Rattle.facet_solver_shape.specs.declared.shape.Shape.{Shape}
-use Rattle.facet_solver_shape.specs.declared.shape.Field.{Field}
-use Rattle.facet_solver_shape.specs.declared.shape.Variant.{Variant}
-use Rattle.facet_solver_shape.specs.declared.shape.ShapeKind.{ShapeKind}
-use Rattle.facet_solver_shape.specs.declared.shape.ShapeKind.TheVariants.{Struct, Enum}
-use Rattle.facet_solver_shape.specs.declared.resolution.key.FieldCategory.{FieldCategory}
-use Rattle.facet_solver_shape.specs.declared.resolution.key.FieldCategory.TheVariants.{Flat as FlatCategory}
-use Rattle.facet_solver_shape.specs.Keys.{key_cmp, stored_key}
-use Rattle.facet_solver_shape.specs.Fields.{FieldView, key_of_field}
-use Rattle.facet_solver_shape.proofs.Finite.{equal}
-use Rattle.facet_solver_shape.proofs.Keys.{key_cmp_total, key_cmp_same}
-use Rattle.facet_solver.specs.declared.build.representation.Format.{Format}
-use Rattle.facet_solver.specs.declared.build.representation.Format.TheVariants.{Flat}
-use Rattle.facet_solver.specs.Representation.{Repr, flattened, externally_tagged, internally_tagged, adjacently_tagged, is_walked, field_category, selector_category}
-use Rattle.facet_solver.specs.Content.{content_of}
-use Rattle.facet_solver.specs.Roles.{Role, regular, block, alternatives, catch_all, leaf, role_of}
-use Rattle.facet_solver.specs.Emissions.{Emission, field_and_paths, a_field, some_key_paths, a_pick, a_catch_all, pick_of, regular_field, leaf_field, selector_field, emit_regular, emit_catch_all, emit_leaf, emit_selector_by, emit_variant, emit_plain}
-use Rattle.facet_solver.specs.Place.{Chosen, at_root, at_root_variant, choosing, further, inside_field, inside_variant}
-use Rattle.facet_solver.specs.Nested.{with_key_paths}
-use Rattle.facet_solver.specs.declared.build.place.Place.{Place}
+use Rattle.std.specs.List.{AllZip}
 
 -- ---- one resolution for each choice, one by one
 module _ (build : Build) (root : ℕ) where
