@@ -11,7 +11,7 @@ pub mod Newtypes
 pub mod ChoiceLaws
 pub mod Descent
 pub mod Limits
-pub mod Steps
+pub mod WalkSteps
 pub mod Products
 pub mod IndexSets
 pub mod Filters

@@ -10,7 +10,7 @@ use Rattle.facet_solver.specs.Roles.{target_of, Role, regular, block, alternativ
 use Rattle.facet_solver.specs.Walk.{Walked, Walk, and_then, walk_role, walk_fields_step, walk_within, walk_fields}
 use Rattle.facet_solver.specs.Count.{Count, count_role, count_fields_step, count_within, count_fields}
 use Rattle.facet_solver.proofs.Descent.{RoleBelow, role_of_target-below, same_levels}
-use Rattle.facet_solver.proofs.Steps.{walk_role-same, walk-local, walk-step}
+use Rattle.facet_solver.proofs.WalkSteps.{walk_role-same, walk-local, walk-step}
 use Rattle.facet_solver.proofs.CountSteps.{count_role-same, count-local, count-step}
 use Rattle.facet_solver.specs.declared.build.place.Place.{Place}
 

@@ -19,7 +19,7 @@ use Rattle.facet_solver_shape.specs.declared.shape.StructKind.{StructKind}
 use Rattle.facet_solver_shape.specs.declared.shape.ShapeKind.{ShapeKind}
 use Rattle.facet_solver_shape.specs.declared.shape.ShapeKind.TheVariants.{Struct, Enum}
 use Rattle.facet_solver.proofs.Descent.{RoleBelow, role_of-below}
-use Rattle.facet_solver.proofs.Steps.{choices_of_fields-step}
+use Rattle.facet_solver.proofs.WalkSteps.{choices_of_fields-step}
 
 product-append : (cs ds es : Choices) → product (cs ++ ds) es ≡ product cs es ++ product ds es
 unfolding product

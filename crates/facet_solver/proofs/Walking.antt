@@ -24,7 +24,7 @@ use Rattle.facet_solver_shape.specs.declared.shape.Shape.{Shape}
 use Rattle.facet_solver_shape.specs.declared.shape.Field.{Field}
 use Rattle.facet_solver_shape.specs.declared.shape.Variant.{Variant}
 use Rattle.facet_solver.proofs.Outcomes.{take_all-nil, effect-put_before, effect-and_then, effect-and_then-stopped, effect-stopped, put_before-some}
-use Rattle.facet_solver.proofs.Steps.{walk_step}
+use Rattle.facet_solver.proofs.WalkSteps.{walk_step}
 use Rattle.facet_solver.specs.declared.build.place.Place.{Place}
 use Rattle.facet_solver.specs.declared.build.role.Target.{Target}
 

@@ -13,8 +13,8 @@ pub use error::{CandidateFailure, MissingFieldInfo, SolverError};
 pub use facet_solver_shape::{
     CatalogueError, DomMark, DuplicateFieldError, Field, FieldCategory, FieldInfo, FieldKey,
     FieldPath, KeyPath, PathSegment, Resolution, ScalarType, SchemaError, Shape, ShapeId,
-    ShapeKind, Shapes, StructKind, Variant, VariantFormat, VariantSelection, VariantsByFormat,
-    specificity_score,
+    ShapeKind, Shapes, Steps, StructKind, Variant, VariantFormat, VariantSelection,
+    VariantsByFormat, specificity_score,
 };
 pub use schema::Schema;
 pub use schema::handle::ResolutionHandle;

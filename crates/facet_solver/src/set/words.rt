@@ -1,9 +1,10 @@
 //! The words of a set. One word takes no memory of its own.
-ghost use Rattle.std.specs.Prelude.{◌≡◌, ℕ, ◌*◌, ◌/◌, ◌%◌, ◌^◌, ◌<◌, ◌≤◌, ◌&&◌, IfOk, IsOk, bit_and, bit_or, length, replicate, slice_index, slice_set};
+ghost use Rattle.std.specs.Prelude.{◌≡◌, ℕ, ◌+◌, ◌*◌, ◌/◌, ◌%◌, ◌^◌, ◌<◌, ◌≤◌, ◌&&◌, IfOk, IsOk, bit_and, bit_or, length, replicate, slice_index, slice_set};
 ghost use Rattle.facet_solver.specs.Words.{IsFull, has_bit, word_count, words_of};
 
-use crate::set::bits::{empty_words, full_words, keep_words, low_ones, retain_bits};
+use crate::set::bits::{empty_words, full_words, keep_words, low_ones, read_word, retain_bits};
 use crate::set::condition::Condition;
+use facet_solver_shape::Steps;
 use std::alloc::{AllocError, Global};
 use std::slice;
 
@@ -75,14 +76,16 @@ impl Words {
     }
 
     /// Clears the bits that other words lack.
-    pub(crate) fn keep(&mut self, others: &[u64])
+    pub(crate) fn keep(&mut self, others: &[u64], steps: &mut Steps)
         requires { length (words_of self.old) ≡ length others.now }
+        ensures words { steps.new.words ≡ steps.old.words + length (words_of self.old) }
+        ensures searches { steps.new.searches ≡ steps.old.searches }
         ensures len { length (words_of self.new) ≡ length (words_of self.old) }
         ensures kept { (k : ℕ) → slice_index (words_of self.new) k ≡ bit_and (slice_index (words_of self.old) k) (slice_index others.now k) }
     {
         match self {
-            Words::One(word) => *word &= others[0],
-            Words::Many(words) => keep_words(words.as_mut_slice(), others),
+            Words::One(word) => *word &= read_word(others, 0, steps),
+            Words::Many(words) => keep_words(words.as_mut_slice(), others, steps),
         }
     }
 }

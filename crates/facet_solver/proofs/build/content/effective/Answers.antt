@@ -1,7 +1,7 @@
 use Rattle.std.proofs.Common.{Option, sym, ap, ◌∙◌}
 use Rattle.facet_solver_shape.specs.declared.shape.Shape.{Shape}
 use Rattle.facet_solver.specs.Targets.{effective, next_inside, go_on}
-use Rattle.facet_solver.proofs.Steps.{effective-step}
+use Rattle.facet_solver.proofs.WalkSteps.{effective-step}
 use Rattle.facet_solver.proofs.build.content.effective.Goals as goal
 
 pub loop-shape-preserved : goal.loop-shape-preserved
