@@ -1,4 +1,4 @@
-use Rattle.std.proofs.Common.{List, length, rules, subst, sym}
+use Rattle.std.proofs.Common.{List, length, rules, subst}
 use Rattle.facet_solver_shape.specs.Resolved.{Resolved}
 use Rattle.facet_solver.specs.Build.{build_of}
 use Rattle.facet_solver.specs.Indexed.{IsIndexOf, fields_of_each}
