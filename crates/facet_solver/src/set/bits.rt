@@ -1,5 +1,5 @@
 //! Indices as bits of words, 64 a word.
-ghost use Rattle.std.specs.Prelude.{◌≡◌, ℕ, ◌∷◌, [], ◌+◌, ◌-◌, ◌*◌, ◌^◌, ◌<◌, ◌≤◌, ◌↔◌, ◌&&◌, IfOk, IfSome, IsTrue, MatchOption, bit_and, length, nat_eq, replicate, slice_index, vec_len};
+ghost use Rattle.std.specs.Prelude.{◌≡◌, ℕ, ◌∷◌, [], ◌+◌, ◌-◌, ◌*◌, ◌^◌, ◌<◌, ◌≤◌, ◌↔◌, ◌&&◌, IfOk, IfSome, IsTrue, MatchOption, length, nat_eq, replicate, slice_index, vec_len};
 ghost use Rattle.std.specs.Int.{bit_at};
 ghost use Rattle.facet_solver.specs.IndexSet.{has};
 ghost use Rattle.facet_solver.specs.SharedBits.{IsNext, IsNextShared, NoneBetween, common_word};
@@ -191,7 +191,7 @@ pub(crate) fn keep_words(words: &mut [u64], others: &[u64], steps: &mut Steps)
     ensures words { steps.new.words ≡ steps.old.words + length words.old }
     ensures searches { steps.new.searches ≡ steps.old.searches }
     ensures len { length words.new ≡ length words.old }
-    ensures kept { (k : ℕ) → slice_index words.new k ≡ bit_and (slice_index words.old k) (slice_index others.now k) }
+    ensures kept { (k : ℕ) → slice_index words.new k ≡ common_word words.old others.now k }
 {
     for k in 0..words.len() {
         words[k] &= read_word(others, k, steps);

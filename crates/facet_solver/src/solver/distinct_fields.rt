@@ -20,8 +20,8 @@ pub(crate) struct KeySearch<'s, 'c, 'k> {
 }
 
 impl<'s, 'c> KeySearch<'s, 'c, '_> {
-    // The field that the key means in the resolution at an index.
-    fn field_at(&self, index: usize, steps: &mut Steps) -> Option<&'s FieldInfo<'c>>
+    /// The field that the key means in the resolution at an index.
+    pub(crate) fn field_at(&self, index: usize, steps: &mut Steps) -> Option<&'s FieldInfo<'c>>
         ensures field { option_map (λ f. field_view f.now) result
             ≡ field_at (key_of self.now.key) self.now.schema.now.resolutions index }
         ensures steps { steps.new ≡ record steps.old { searches = steps.old.searches + 1 } }
@@ -68,7 +68,8 @@ fn add_if_new<'s, 'c>(
     steps: &mut Steps,
 ) -> Result<(), AllocError>
     ensures steps { steps.new ≡ record steps.old { searches = steps.old.searches + 1 } }
-    ensures fields { let shown = key_result.distinct_fields (key_of search.now.key) search.now.schema.now in
+    ensures fields { let schema = search.now.schema.now in
+        let shown = key_result.distinct_fields (key_of search.now.key) schema in
         OnOk result ((seen : List ℕ) → map scored_view fields.old.items ≡ shown seen
         → map scored_view fields.new.items ≡ shown (seen ++ index ∷ [])) }
 {

@@ -67,8 +67,8 @@ pub(crate) fn key_result<'s, 'c>(
     requires bound { candidates.now.bound ≡ length search.now.schema.now.resolutions }
     requires entry { let resolutions = search.now.schema.now.resolutions in
         IsEntry (length resolutions) (field_at (key_of search.now.key) resolutions) entry.now }
-    ensures answer { let state = state_of search.now.schema.now candidates.now.members in IfOk result
-        (λ answer. key_result_view answer ≡ key_result (key_of search.now.key) state) }
+    ensures answer { let state = state_of search.now.schema.now candidates.now.members in
+        IfOk result (λ answer. key_result_view answer ≡ key_result (key_of search.now.key) state) }
     ensures handle { IfOk result (HoldsHandleOf search.now.schema.now) }
     ensures words { steps.new.words
         ≤ steps.old.words + word_count (length search.now.schema.now.resolutions) }
