@@ -4,6 +4,7 @@ use Rattle.std.specs.List.{AllByRecursion, cons_option, filter_map}
 use Rattle.std.specs.Option.{option_and_then, is_some}
 use Rattle.std.proofs.lemmas.Bool.Decides.{Decides-eqb}
 use Rattle.std.proofs.lemmas.List.Elements.{All-filter}
+use Rattle.std.proofs.lemmas.List.Filters.{length-filter_both}
 use Rattle.std.proofs.lemmas.Option.{slice_get_past}
 use Rattle.std.specs.BTreeSet.{insert_key}
 use Rattle.facet_solver_shape.specs.Keys.{Key, key_cmp, key_of}
@@ -59,6 +60,11 @@ result_by key s entry is kept kept_is =
     let rs = s.schema.resolutions in
     let shown : List FieldView → List (FieldView × ℕ) = λ fs. map (with_score s.schema.build.catalogue) (first_of_each_shape fs) in
     (λ j. by_number (shown ((ap (fields_by_key key rs) kept_is ∙ fields_of_kept key s entry is) j)) (how_many ((kept_is ∙ members_pass key rs entry is s.candidates) j)))
+
+-- and how many they are
+pub kept_count : (key : Key) (s : State) (entry : Entry) → IsEntry (length s.schema.resolutions) (field_at key s.schema.resolutions) entry → (kept : List ℕ)
+    → kept ≡ filter (has entry.set.members) s.candidates → length kept ≡ length (passing (has_key key) s)
+kept_count key s entry is kept kept_is = ap length (kept_is ∙ members_pass key s.schema.resolutions entry is s.candidates)
 
 -- fields of one shape
 all_shape : (h : ℕ → Option FieldView) (shape : ℕ) → ((i : ℕ) (f : FieldView) → h i ≡ Some f → f.shape ≡ shape) → (xs : List ℕ) → AllByRecursion (λ (f : FieldView). f.shape ≡ shape) (filter_map h xs)
@@ -147,6 +153,20 @@ unknown_number fields several_indices e = absurd (results_known fields e)
 or_all_some : (xs all : List ℕ) → (xs ≡ [] → ⊥) → or_all xs all ≡ xs
 or_all_some [] all some = absurd (some refl)
 or_all_some (x ∷ xs) all some = refl
+
+or_all_long : (xs all : List ℕ) → length xs ≤ length (or_all xs all)
+or_all_long [] all = omega arith
+or_all_long (x ∷ xs) all = omega arith
+
+-- no more have the key than are left after it
+pub left_long : (key : Key) (s : State) → length (passing (has_key key) s) ≤ length (see_key key s).candidates
+left_long key s = or_all_long (passing (has_key key) s) s.candidates
+
+-- nor than there are
+pub passing_long : (key : Key) (s : State) → length (passing (has_key key) s) ≤ length s.candidates
+passing_long key s =
+    let p = passes (has_key key) s.schema.resolutions in
+    omega (arith, length-filter_both p (λ i. not (p i)) (λ i. refl) s.candidates)
 
 -- the candidates after a key that some of them have
 pub left_known : (key : Key) (s : State) → (key_result key s ≡ unknown → ⊥) → passing (has_key key) s ≡ (see_key key s).candidates

@@ -23,6 +23,13 @@ pub data KeyResultView : Type 0 where
   unambiguous : ℕ → KeyResultView
   ambiguous : List (FieldView × ℕ) → KeyResultView
 
+-- no candidate has the key, or one is left
+abbrev pub IsUnknownOrSolved : KeyResultView → Type 0
+IsUnknownOrSolved unknown = ⊤
+IsUnknownOrSolved (solved index) = ⊤
+IsUnknownOrSolved (unambiguous shape) = ⊥
+IsUnknownOrSolved (ambiguous fields) = ⊥
+
 -- a field with a score, wherever the field lies
 abbrev pub scored_view : Bor FieldInfo × ℕ → FieldView × ℕ
 scored_view e = (field_view e.0.now, e.1)

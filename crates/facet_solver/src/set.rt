@@ -1,7 +1,8 @@
 //! Sets of resolutions, by their indices.
-ghost use Rattle.std.specs.Prelude.{◌≡◌, ◌↔◌, ◌<◌, ◌≤◌, ◌||◌, [], All, IfOk, IsOk, IsTrue, filter, length, nat_eq, slice_get};
+ghost use Rattle.std.specs.Prelude.{◌≡◌, ◌↔◌, ◌+◌, ◌<◌, ◌≤◌, ◌||◌, [], All, IfOk, IsOk, IsTrue, filter, length, nat_eq, slice_get};
 ghost use Rattle.std.specs.List.Sorted.{IsStrictlyIncreasing};
 ghost use Rattle.facet_solver.specs.IndexSet.{IsWithin, how_many, matches_view, full, has, upto};
+ghost use Rattle.facet_solver.specs.Words.{word_count};
 
 mod bits;
 mod common;
@@ -12,6 +13,7 @@ mod words;
 use bits::{count_bits, is_clear, is_set};
 pub(crate) use common::CommonIter;
 pub(crate) use condition::Condition;
+use facet_solver_shape::Steps;
 pub use iter::ResolutionSetIter;
 use std::alloc::{AllocError, Global};
 use std::marker::Model;
@@ -73,21 +75,30 @@ impl ResolutionSet {
     }
 
     /// Drops the members that another set lacks.
-    pub(crate) fn keep_common(&mut self, other: &ResolutionSet)
+    pub(crate) fn keep_common(&mut self, other: &ResolutionSet, steps: &mut Steps)
         requires { self.old.bound ≡ other.now.bound }
-        ensures { self.new
+        ensures kept { self.new
             ≡ record self.old { members = filter (has other.now.members) self.old.members } }
+        ensures words { steps.new.words ≤ steps.old.words + word_count self.old.bound }
+        ensures searches { steps.new.searches ≡ steps.old.searches }
     {
-        self.words.keep(other.words.as_slice());
+        self.words.keep(other.words.as_slice(), steps);
     }
 
     /// The members that another set has too, rising.
-    pub(crate) fn common<'s>(&'s self, other: &'s ResolutionSet) -> CommonIter<'s>
+    pub(crate) fn common<'s>(
+        &'s self,
+        other: &'s ResolutionSet,
+        steps: &mut Steps,
+    ) -> CommonIter<'s>
         requires { self.now.bound ≡ other.now.bound }
-        ensures members { result ≡ filter (has other.now.members) self.now.members }
+        ensures members { result.items ≡ filter (has other.now.members) self.now.members }
+        ensures words { steps.new.words + result.unread
+            ≤ steps.old.words + word_count self.now.bound }
+        ensures searches { steps.new.searches ≡ steps.old.searches }
         ensures within { All (λ i. i < self.now.bound) self.now.members }
     {
-        CommonIter::new(self.words.as_slice(), other.words.as_slice())
+        CommonIter::new(self.words.as_slice(), other.words.as_slice(), steps)
     }
 
     /// Drops the members that do not meet a condition.

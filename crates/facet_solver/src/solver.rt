@@ -1,16 +1,17 @@
 //! The solver: it narrows the resolutions of a schema by the keys of a document.
-ghost use Rattle.std.specs.Prelude.{◌≡◌, ◌≢◌, ◌↔◌, ◌∷◌, [], ◌≤◌, All, IfErr, IfOk, IsOk, IsTrue, OnErr, OnOk, false, length, map, true};
+ghost use Rattle.std.specs.Prelude.{◌≡◌, ◌≢◌, ◌↔◌, ◌+◌, ◌*◌, ◌∷◌, [], ◌≤◌, All, IfErr, IfOk, IsOk, IsTrue, OnErr, OnOk, false, length, map, true};
 ghost use Rattle.std.specs.Bool.{OnFalse};
 ghost use Rattle.std.specs.List.Sorted.{IsStrictlyIncreasing};
 ghost use Rattle.facet_solver_shape.specs.Keys.{dom_key, key_of};
 ghost use Rattle.facet_solver_shape.specs.declared.resolution.key.FieldCategory.TheVariants.{Attribute, Element, Text};
 ghost use Rattle.facet_solver.specs.Schema.{IsHandleOf, index_of};
 ghost use Rattle.facet_solver.specs.IndexSet.{IsWithin, how_many, matches_view};
-ghost use Rattle.facet_solver.specs.KeyResult.{HoldsHandleOf, key_result, key_result_view};
+ghost use Rattle.facet_solver.specs.KeyResult.{HoldsHandleOf, IsUnknownOrSolved, key_result, key_result_view};
 ghost use Rattle.facet_solver.specs.SatisfyResult as satisfy;
 ghost use Rattle.facet_solver.specs.SatisfyResult.{satisfy_result, satisfy_result_view};
 ghost use Rattle.facet_solver.specs.State as state;
 ghost use Rattle.facet_solver.specs.State.{narrowed, new_solver, passing, picks_variant};
+ghost use Rattle.facet_solver.specs.Words.{word_count};
 ghost use Rattle.facet_solver.specs.Verdict.{IsAmbiguityOf, IsReportOn, descriptions, viable};
 
 pub(crate) mod conditions;
@@ -25,7 +26,7 @@ use crate::schema::handle::ResolutionHandle;
 use crate::set::{Matches, ResolutionSet};
 use conditions::{AtIndex, HasShapeAmong, IsViable, PicksVariant, Test, was_name_seen};
 use distinct_fields::KeySearch;
-use facet_solver_shape::{FieldKey, ShapeId};
+use facet_solver_shape::{FieldKey, ShapeId, Steps};
 use key_result::{KeyResult, key_result};
 use report::{ambiguity, no_match};
 use satisfy_result::SatisfyResult;
@@ -118,6 +119,32 @@ impl<'s, 'c, 'a> Solver<'s, 'c, 'a> {
         ensures ok { OnOk result (self.new ≡ state.see_key (key_of key.entry) self.old) }
         ensures err { OnErr result (self.new ≡ self.old) }
     {
+        self.see_key_counted(alloc, key, &mut Steps::new())
+    }
+
+    /// Sees a key as [`Solver::see_key`] does, and counts the words of the index that it reads and its searches of a
+    /// resolution for a field.
+    ///
+    /// It reads at most two words for each 64 resolutions that are begun, searches at most each candidate that is left,
+    /// and searches none where the answer is `Unknown` or `Solved`.
+    pub fn see_key_counted(
+        &mut self,
+        alloc: Global,
+        key: FieldKey<'a>,
+        steps: &mut Steps,
+    ) -> Result<KeyResult<'s, 'c>, AllocError>
+        ensures answer { IfOk result (λ answer.
+            key_result_view answer ≡ key_result (key_of key.entry) self.old) }
+        ensures handle { IfOk result (HoldsHandleOf self.old.schema) }
+        ensures ok { OnOk result (self.new ≡ state.see_key (key_of key.entry) self.old) }
+        ensures err { OnErr result (self.new ≡ self.old) }
+        ensures words { steps.new.words
+            ≤ steps.old.words + 2 * word_count (length self.old.schema.resolutions) }
+        ensures searches { steps.new.searches
+            ≤ steps.old.searches + length self.new.candidates }
+        ensures no_search { IfOk result (λ answer. IsUnknownOrSolved (key_result_view answer)
+            → steps.new.searches ≡ steps.old.searches) }
+    {
         let Some(entry) = self.schema.look_up(key) else {
             self.seen.insert(key)?;
             return Ok(KeyResult::Unknown);
@@ -126,10 +153,10 @@ impl<'s, 'c, 'a> Solver<'s, 'c, 'a> {
             schema: self.schema,
             key,
         };
-        let answer = key_result(alloc, &search, &self.candidates, entry)?;
+        let answer = key_result(alloc, &search, &self.candidates, entry, steps)?;
         self.seen.insert(key)?;
         if !answer.is_unknown() {
-            self.candidates.keep_common(&entry.set);
+            self.candidates.keep_common(&entry.set, steps);
         }
         Ok(answer)
     }

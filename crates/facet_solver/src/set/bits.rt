@@ -1,11 +1,12 @@
 //! Indices as bits of words, 64 a word.
-ghost use Rattle.std.specs.Prelude.{◌≡◌, ℕ, ◌∷◌, [], ◌+◌, ◌-◌, ◌*◌, ◌^◌, ◌<◌, ◌≤◌, ◌↔◌, ◌&&◌, IfOk, IfSome, IsTrue, MatchOption, bit_and, length, nat_eq, replicate, slice_index, vec_len};
+ghost use Rattle.std.specs.Prelude.{◌≡◌, ℕ, ◌∷◌, [], ◌+◌, ◌-◌, ◌*◌, ◌^◌, ◌<◌, ◌≤◌, ◌↔◌, ◌&&◌, IfOk, IfSome, IsTrue, MatchOption, length, nat_eq, replicate, slice_index, vec_len};
 ghost use Rattle.std.specs.Int.{bit_at};
 ghost use Rattle.facet_solver.specs.IndexSet.{has};
 ghost use Rattle.facet_solver.specs.SharedBits.{IsNext, IsNextShared, NoneBetween, common_word};
 ghost use Rattle.facet_solver.specs.Words.{IsClearFrom, IsFull, KeepsBits, bit_of, has_bit, members_from, members_of, word_count};
 
 use crate::set::condition::Condition;
+use facet_solver_shape::Steps;
 use std::alloc::{AllocError, Global};
 
 /// A word whose lowest bits are set.
@@ -148,15 +149,35 @@ pub(crate) fn next_in_word(word: u64, place: usize, from: usize) -> Option<usize
     Some(from + rest.trailing_zeros() as usize)
 }
 
-/// The first place from one on whose words share a bit, and what they share.
-pub(crate) fn next_shared(words: &[u64], others: &[u64], from: usize) -> Option<(usize, u64)>
-    requires { length words.now ≡ length others.now }
-    ensures { MatchOption result
+/// Reads the word at a place, which counts as a step.
+pub(crate) fn read_word(words: &[u64], place: usize, steps: &mut Steps) -> u64
+    requires { place < length words.now }
+    ensures word { result ≡ slice_index words.now place }
+    ensures steps { steps.new ≡ record steps.old { words = steps.old.words + 1 } }
+{
+    steps.word();
+    words[place]
+}
+
+/// The first place from one on whose words share a bit, and what they share. It reads the other words up to there.
+pub(crate) fn next_shared(
+    words: &[u64],
+    others: &[u64],
+    from: usize,
+    steps: &mut Steps,
+) -> Option<(usize, u64)>
+    requires count { length words.now ≡ length others.now }
+    requires from { from ≤ length words.now }
+    ensures words { steps.new.words ≤ steps.old.words + (length words.now - from) }
+    ensures unread { IfSome result (λ found. steps.new.words + (length words.now - (found.0 + 1))
+        ≤ steps.old.words + (length words.now - from)) }
+    ensures searches { steps.new.searches ≡ steps.old.searches }
+    ensures shared { MatchOption result
         ((k : ℕ) → from ≤ k → common_word words.now others.now k ≡ 0)
         (IsNextShared (common_word words.now others.now) from (length words.now)) }
 {
     for place in from..words.len() {
-        let word = words[place] & others[place];
+        let word = words[place] & read_word(others, place, steps);
         if word != 0 {
             return Some((place, word));
         }
@@ -165,13 +186,15 @@ pub(crate) fn next_shared(words: &[u64], others: &[u64], from: usize) -> Option<
 }
 
 /// Clears the bits that other words lack.
-pub(crate) fn keep_words(words: &mut [u64], others: &[u64])
+pub(crate) fn keep_words(words: &mut [u64], others: &[u64], steps: &mut Steps)
     requires { length words.old ≡ length others.now }
+    ensures words { steps.new.words ≡ steps.old.words + length words.old }
+    ensures searches { steps.new.searches ≡ steps.old.searches }
     ensures len { length words.new ≡ length words.old }
-    ensures kept { (k : ℕ) → slice_index words.new k ≡ bit_and (slice_index words.old k) (slice_index others.now k) }
+    ensures kept { (k : ℕ) → slice_index words.new k ≡ common_word words.old others.now k }
 {
     for k in 0..words.len() {
-        words[k] &= others[k];
+        words[k] &= read_word(others, k, steps);
     }
 }
 

@@ -1,10 +1,10 @@
 //! The indices that two sets share, one after another.
-ghost use Rattle.std.specs.Prelude.{◌≡◌, ◌-◌, ◌^◌, ◌<◌, ◌≤◌, length};
-ghost use Rattle.std.specs.Iterator.{YieldsFirst, item_count};
+ghost use Rattle.std.specs.Prelude.{◌≡◌, ◌+◌, ◌-◌, ◌∷◌, ◌^◌, ◌<◌, ◌≤◌, [], IfSome, MatchOption, length};
 ghost use Rattle.facet_solver.specs.SharedBits.{common_from};
 ghost use Rattle.facet_solver.specs.Words.{IsClearFrom};
 
-use crate::set::bits::{next_in_word, next_shared};
+use crate::set::bits::{next_in_word, next_shared, read_word};
+use facet_solver_shape::Steps;
 use std::marker::Model;
 
 /// The indices that two sets share and that are still to come, rising. Each word of the sets is read once.
@@ -20,13 +20,16 @@ pub(crate) struct CommonIter<'s> {
 }
 
 impl<'s> Model for CommonIter<'s> {
-    ghost use Rattle.std.specs.Prelude.{List, ℕ, ◌≡◌, ◌≤◌, ◌<◌, ◌+◌, ◌*◌, ◌^◌, ◌-◌, length};
-    ghost use Rattle.facet_solver.specs.SharedBits.{common_from, common_word};
+    ghost use Rattle.std.specs.Prelude.{◌≡◌, ◌≤◌, ◌<◌, ◌+◌, ◌*◌, ◌^◌, ◌-◌, length};
+    ghost use Rattle.facet_solver.specs.SharedBits.{CommonView, common_from, common_word};
     ghost use Rattle.facet_solver.specs.Words.{IsClearFrom};
 
-    ghost Value = { List ℕ };
+    ghost Value = { CommonView };
 
-    ghost view = { λ a. common_from a.words.now a.others.now a.next };
+    ghost view = { λ a. record {
+      items = common_from a.words.now a.others.now a.next;
+      unread = length a.words.now - (a.place + 1);
+    } };
 
     ghost invariant = { λ a. IsClearFrom a.words.now (2 ^ 64 - 1)
         × (length a.words.now ≡ length a.others.now) × (length a.words.now ≤ 2 ^ 58)
@@ -37,36 +40,38 @@ impl<'s> Model for CommonIter<'s> {
 
 impl<'s> CommonIter<'s> {
     /// All indices that the words share.
-    pub(super) fn new(words: &'s [u64], others: &'s [u64]) -> Self
+    pub(super) fn new(words: &'s [u64], others: &'s [u64], steps: &mut Steps) -> Self
         requires some { 0 < length words.now }
         requires count { length words.now ≡ length others.now }
         requires fits { length words.now ≤ 2 ^ 58 }
         requires clear { IsClearFrom words.now (2 ^ 64 - 1) }
-        ensures { result ≡ common_from words.now others.now 0 }
+        ensures items { result.items ≡ common_from words.now others.now 0 }
+        ensures words { steps.new.words + result.unread ≡ steps.old.words + length words.now }
+        ensures searches { steps.new.searches ≡ steps.old.searches }
     {
         CommonIter {
             words,
             others,
             next: 0,
             place: 0,
-            word: words[0] & others[0],
+            word: words[0] & read_word(others, 0, steps),
         }
     }
-}
 
-impl<'s> Iterator for CommonIter<'s> {
-    type Item = usize;
-
-    ghost next_gives = { YieldsFirst (λ s. s) };
-
-    ghost remaining = { item_count (λ s. s) };
-
-    fn next(&mut self) -> Option<usize> {
+    /// The next of them.
+    pub(crate) fn next(&mut self, steps: &mut Steps) -> Option<usize>
+        ensures next { MatchOption result (self.old.items ≡ [])
+            (λ index. self.old.items ≡ index ∷ self.new.items) }
+        ensures words { steps.new.words ≤ steps.old.words + self.old.unread }
+        ensures unread { IfSome result (λ index.
+            steps.new.words + self.new.unread ≤ steps.old.words + self.old.unread) }
+        ensures searches { steps.new.searches ≡ steps.old.searches }
+    {
         if let Some(index) = next_in_word(self.word, self.place, self.next) {
             self.next = index + 1;
             return Some(index);
         }
-        match next_shared(self.words, self.others, self.place + 1) {
+        match next_shared(self.words, self.others, self.place + 1, steps) {
             Some((place, word)) => {
                 let index = place * 64 + word.trailing_zeros() as usize;
                 self.place = place;

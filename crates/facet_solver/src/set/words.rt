@@ -1,9 +1,11 @@
 //! The words of a set. One word takes no memory of its own.
-ghost use Rattle.std.specs.Prelude.{◌≡◌, ℕ, ◌*◌, ◌/◌, ◌%◌, ◌^◌, ◌<◌, ◌≤◌, ◌&&◌, IfOk, IsOk, bit_and, bit_or, length, replicate, slice_index, slice_set};
+ghost use Rattle.std.specs.Prelude.{◌≡◌, ℕ, ◌+◌, ◌*◌, ◌/◌, ◌%◌, ◌^◌, ◌<◌, ◌≤◌, ◌&&◌, IfOk, IsOk, bit_or, length, replicate, slice_index, slice_set};
+ghost use Rattle.facet_solver.specs.SharedBits.{common_word};
 ghost use Rattle.facet_solver.specs.Words.{IsFull, has_bit, word_count, words_of};
 
-use crate::set::bits::{empty_words, full_words, keep_words, low_ones, retain_bits};
+use crate::set::bits::{empty_words, full_words, keep_words, low_ones, read_word, retain_bits};
 use crate::set::condition::Condition;
+use facet_solver_shape::Steps;
 use std::alloc::{AllocError, Global};
 use std::slice;
 
@@ -66,7 +68,9 @@ impl Words {
     /// Sets the bit of an index.
     pub(crate) fn insert(&mut self, index: usize)
         requires { index / 64 < length (words_of self.old) }
-        ensures { words_of self.new ≡ slice_set (words_of self.old) (index / 64) (bit_or (slice_index (words_of self.old) (index / 64)) (1 * 2 ^ (index % 64) % 2 ^ 64)) }
+        ensures { let word = slice_index (words_of self.old) (index / 64) in
+            words_of self.new ≡ slice_set (words_of self.old) (index / 64)
+            (bit_or word (1 * 2 ^ (index % 64) % 2 ^ 64)) }
     {
         match self {
             Words::One(word) => *word |= 1u64 << (index % 64),
@@ -75,14 +79,17 @@ impl Words {
     }
 
     /// Clears the bits that other words lack.
-    pub(crate) fn keep(&mut self, others: &[u64])
+    pub(crate) fn keep(&mut self, others: &[u64], steps: &mut Steps)
         requires { length (words_of self.old) ≡ length others.now }
+        ensures words { steps.new.words ≡ steps.old.words + length (words_of self.old) }
+        ensures searches { steps.new.searches ≡ steps.old.searches }
         ensures len { length (words_of self.new) ≡ length (words_of self.old) }
-        ensures kept { (k : ℕ) → slice_index (words_of self.new) k ≡ bit_and (slice_index (words_of self.old) k) (slice_index others.now k) }
+        ensures kept { (k : ℕ) → slice_index (words_of self.new) k
+            ≡ common_word (words_of self.old) others.now k }
     {
         match self {
-            Words::One(word) => *word &= others[0],
-            Words::Many(words) => keep_words(words.as_mut_slice(), others),
+            Words::One(word) => *word &= read_word(others, 0, steps),
+            Words::Many(words) => keep_words(words.as_mut_slice(), others, steps),
         }
     }
 }

@@ -1,5 +1,5 @@
 //! The fields that a key means in the candidates of a solver.
-ghost use Rattle.std.specs.Prelude.{◌≡◌, ◌++◌, ◌∷◌, [], ℕ, IfOk, List, OnOk, map, nat_eq};
+ghost use Rattle.std.specs.Prelude.{◌≡◌, ◌+◌, ◌++◌, ◌∷◌, [], ◌≤◌, ℕ, IfOk, List, OnOk, length, map, nat_eq};
 ghost use Rattle.std.specs.List.{list_any};
 ghost use Rattle.std.specs.Option.{option_map};
 ghost use Rattle.facet_solver_shape.specs.Keys.{key_of};
@@ -9,7 +9,7 @@ ghost use Rattle.facet_solver.specs.KeyResult.{field_at, scored_view};
 
 use crate::schema::Schema;
 use crate::set::CommonIter;
-use facet_solver_shape::{FieldInfo, FieldKey, ShapeId, specificity_score};
+use facet_solver_shape::{FieldInfo, FieldKey, ShapeId, Steps, specificity_score};
 use std::alloc::{AllocError, Global};
 
 /// A key that is sought in the resolutions of a schema.
@@ -20,11 +20,13 @@ pub(crate) struct KeySearch<'s, 'c, 'k> {
 }
 
 impl<'s, 'c> KeySearch<'s, 'c, '_> {
-    // The field that the key means in the resolution at an index.
-    fn field_at(&self, index: usize) -> Option<&'s FieldInfo<'c>>
-        ensures { option_map (λ f. field_view f.now) result
+    /// The field that the key means in the resolution at an index.
+    pub(crate) fn field_at(&self, index: usize, steps: &mut Steps) -> Option<&'s FieldInfo<'c>>
+        ensures field { option_map (λ f. field_view f.now) result
             ≡ field_at (key_of self.now.key) self.now.schema.now.resolutions index }
+        ensures steps { steps.new ≡ record steps.old { searches = steps.old.searches + 1 } }
     {
+        steps.search();
         self.schema
             .resolutions()
             .get(index)?
@@ -39,17 +41,21 @@ pub(crate) fn distinct_fields<'s, 'c>(
     search: &KeySearch<'s, 'c, '_>,
     first: usize,
     second: usize,
-    rest: CommonIter<'_>,
+    mut rest: CommonIter<'_>,
+    steps: &mut Steps,
 ) -> Result<Vec<(&'s FieldInfo<'c>, u64)>, AllocError>
-    ensures { IfOk result (λ fields. map scored_view fields.items
+    ensures fields { IfOk result (λ fields. map scored_view fields.items
         ≡ key_result.distinct_fields (key_of search.now.key) search.now.schema.now
-        (first ∷ second ∷ rest.entry)) }
+        (first ∷ second ∷ rest.entry.items)) }
+    ensures words { steps.new.words ≤ steps.old.words + rest.entry.unread }
+    ensures searches { steps.new.searches
+        ≤ steps.old.searches + length (first ∷ second ∷ rest.entry.items) }
 {
     let mut fields = Vec::new(alloc);
-    add_if_new(&mut fields, search, first)?;
-    add_if_new(&mut fields, search, second)?;
-    for index in rest {
-        add_if_new(&mut fields, search, index)?;
+    add_if_new(&mut fields, search, first, steps)?;
+    add_if_new(&mut fields, search, second, steps)?;
+    while let Some(index) = rest.next(steps) {
+        add_if_new(&mut fields, search, index, steps)?;
     }
     Ok(fields)
 }
@@ -59,12 +65,15 @@ fn add_if_new<'s, 'c>(
     fields: &mut Vec<(&'s FieldInfo<'c>, u64)>,
     search: &KeySearch<'s, 'c, '_>,
     index: usize,
+    steps: &mut Steps,
 ) -> Result<(), AllocError>
-    ensures { let shown = key_result.distinct_fields (key_of search.now.key) search.now.schema.now in
+    ensures steps { steps.new ≡ record steps.old { searches = steps.old.searches + 1 } }
+    ensures fields { let schema = search.now.schema.now in
+        let shown = key_result.distinct_fields (key_of search.now.key) schema in
         OnOk result ((seen : List ℕ) → map scored_view fields.old.items ≡ shown seen
         → map scored_view fields.new.items ≡ shown (seen ++ index ∷ [])) }
 {
-    let Some(field) = search.field_at(index) else {
+    let Some(field) = search.field_at(index, steps) else {
         return Ok(());
     };
     if !has_shape(fields, field.value_shape) {

@@ -1,16 +1,17 @@
 //! What a solver answers to a key.
-ghost use Rattle.std.specs.Prelude.{◌≡◌, ◌↔◌, IfOk, IsTrue, length, map};
+ghost use Rattle.std.specs.Prelude.{◌≡◌, ◌↔◌, ◌+◌, ◌≤◌, IfOk, IsTrue, length, map};
 ghost use Rattle.facet_solver_shape.specs.Keys.{key_of};
 ghost use Rattle.facet_solver.specs.Indexed.{IsEntry};
-ghost use Rattle.facet_solver.specs.KeyResult.{HoldsHandleOf, field_at, key_result, key_result_view, of_fields, scored_view, unknown};
+ghost use Rattle.facet_solver.specs.KeyResult.{HoldsHandleOf, IsUnknownOrSolved, field_at, key_result, key_result_view, of_fields, scored_view, unknown};
 ghost use Rattle.facet_solver.specs.Schema.{SchemaView};
-ghost use Rattle.facet_solver.specs.State.{state_of};
+ghost use Rattle.facet_solver.specs.State.{has_key, passing, state_of};
+ghost use Rattle.facet_solver.specs.Words.{word_count};
 
 use crate::schema::handle::ResolutionHandle;
 use crate::schema::index::Entry;
 use crate::set::ResolutionSet;
 use crate::solver::distinct_fields::{KeySearch, distinct_fields};
-use facet_solver_shape::{FieldInfo, ShapeId};
+use facet_solver_shape::{FieldInfo, ShapeId, Steps};
 use std::alloc::{AllocError, Global};
 use std::fmt;
 
@@ -61,25 +62,33 @@ pub(crate) fn key_result<'s, 'c>(
     search: &KeySearch<'s, 'c, '_>,
     candidates: &ResolutionSet,
     entry: &Entry,
+    steps: &mut Steps,
 ) -> Result<KeyResult<'s, 'c>, AllocError>
     requires bound { candidates.now.bound ≡ length search.now.schema.now.resolutions }
     requires entry { let resolutions = search.now.schema.now.resolutions in
         IsEntry (length resolutions) (field_at (key_of search.now.key) resolutions) entry.now }
-    ensures answer { let state = state_of search.now.schema.now candidates.now.members in IfOk result
-        (λ answer. key_result_view answer ≡ key_result (key_of search.now.key) state) }
+    ensures answer { let state = state_of search.now.schema.now candidates.now.members in
+        IfOk result (λ answer. key_result_view answer ≡ key_result (key_of search.now.key) state) }
     ensures handle { IfOk result (HoldsHandleOf search.now.schema.now) }
+    ensures words { steps.new.words
+        ≤ steps.old.words + word_count (length search.now.schema.now.resolutions) }
+    ensures searches { let state = state_of search.now.schema.now candidates.now.members in
+        steps.new.searches
+        ≤ steps.old.searches + length (passing (has_key (key_of search.now.key)) state) }
+    ensures no_search { IfOk result (λ answer. IsUnknownOrSolved (key_result_view answer)
+        → steps.new.searches ≡ steps.old.searches) }
 {
-    let mut holders = candidates.common(&entry.set);
-    let Some(first) = holders.next() else {
+    let mut holders = candidates.common(&entry.set, steps);
+    let Some(first) = holders.next(steps) else {
         return Ok(KeyResult::Unknown);
     };
-    let Some(second) = holders.next() else {
+    let Some(second) = holders.next(steps) else {
         return Ok(KeyResult::Solved(ResolutionHandle::new(search.schema, first)));
     };
     if let Some(shape) = entry.shape {
         return Ok(KeyResult::Unambiguous { shape });
     }
-    let fields = distinct_fields(alloc, search, first, second, holders)?;
+    let fields = distinct_fields(alloc, search, first, second, holders, steps)?;
     Ok(KeyResult::of_fields(fields))
 }
 

@@ -12,7 +12,7 @@ returns-clause-members c =
     let others : List ℕ = words_of c.other.inside.words in
     let Q : IndexSet → Type 0 = λ s. common_from words others 0 ≡ filter (has (members_of others)) s.members in
     let R : IndexSet → Type 0 = λ o. common_from words others 0 ≡ filter (has o.members) c.args.self.now.members in
-    c.new.ensures ∙ (λ j. common_from (c.as_slice.ensures j) (c.as_slice-2.ensures j) 0) ∙ subst R c.other.view_is (subst Q c.self.view_is (members_common words others))
+    c.new.ensures.items ∙ (λ j. common_from (c.as_slice.ensures j) (c.as_slice-2.ensures j) 0) ∙ subst R c.other.view_is (subst Q c.self.view_is (members_common words others))
 
 pub returns-clause-within : goal.returns-clause-within
 returns-clause-within c =

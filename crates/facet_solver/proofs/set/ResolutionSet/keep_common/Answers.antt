@@ -19,8 +19,8 @@ invariant_of-self c =
       fits = c.self.invariant.fits;
     }
 
-pub returns : goal.returns
-returns c =
+pub returns-clause-kept : goal.returns-clause-kept
+returns-clause-kept c =
     let words : List ℕ = words_of c.self.inside.words in
     let others : List ℕ = words_of c.other.inside.words in
     let after : List ℕ = words_of c.keep.new.self in

@@ -11,20 +11,20 @@ use Rattle.facet_solver.proofs.solver.distinct_fields.add_if_new.Goals as goal
 has_shape_told : {fields seen : List (Bor FieldInfo × ℕ)} {told answer : Bool} (id : ℕ) → seen ≡ fields → told ≡ list_any (λ (e : Bor FieldInfo × ℕ). nat_eq e.0.now.value_shape id) seen → told ≡ answer → list_any (λ (e : Bor FieldInfo × ℕ). nat_eq e.0.now.value_shape id) fields ≡ answer
 has_shape_told id same told is = ap (list_any (λ (e : Bor FieldInfo × ℕ). nat_eq e.0.now.value_shape id)) (sym same) ∙ sym told ∙ is
 
-pub returns-in_default : goal.returns-in_default
-returns-in_default c = λ seen so_far.
+pub returns-in_default-clause-fields : goal.returns-in_default-clause-fields
+returns-in_default-clause-fields c = λ seen so_far.
     let search = c.args.search.now in
-    firsts_none search.schema.now.build.catalogue (field_at (key_of search.key) search.schema.now.resolutions) seen c.args.index c.args.fields.now.items so_far (sym c.in_default.ensures)
+    firsts_none search.schema.now.build.catalogue (field_at (key_of search.key) search.schema.now.resolutions) seen c.args.index c.args.fields.now.items so_far (sym c.in_default.ensures.field)
 
-pub returns-in_ok-push : goal.returns-in_ok-push
-returns-in_ok-push c = λ seen so_far.
+pub returns-in_ok-push-clause-fields : goal.returns-in_ok-push-clause-fields
+returns-in_ok-push-clause-fields c = λ seen so_far.
     let search = c.args.search.now in
     ap (map scored_view) c.in_ok-push.ensures.items
     ∙ firsts_new search.schema.now.build.catalogue (field_at (key_of search.key) search.schema.now.resolutions) seen c.args.index c.args.fields.now.items so_far
-    (c.in-Some.field, c.score_at.result) (sym c.in-Some.ensures) (has_shape_told c.in-Some.field.now.value_shape c.deref.ensures.value c.has_shape.ensures c.if-not-has_shape.true) c.score_at.ensures
+    (c.in-Some.field, c.score_at.result) (sym c.in-Some.ensures.field) (has_shape_told c.in-Some.field.now.value_shape c.deref.ensures.value c.has_shape.ensures c.if-not-has_shape.true) c.score_at.ensures
 
-pub returns-else-not-has_shape : goal.returns-else-not-has_shape
-returns-else-not-has_shape c = λ seen so_far.
+pub returns-else-not-has_shape-clause-fields : goal.returns-else-not-has_shape-clause-fields
+returns-else-not-has_shape-clause-fields c = λ seen so_far.
     let search = c.args.search.now in
     firsts_old search.schema.now.build.catalogue (field_at (key_of search.key) search.schema.now.resolutions) seen c.args.index c.args.fields.now.items so_far
-    (field_view c.in-Some.field.now) (sym c.in-Some.ensures) (has_shape_told c.in-Some.field.now.value_shape c.deref.ensures.value c.has_shape.ensures c.if-not-has_shape.false)
+    (field_view c.in-Some.field.now) (sym c.in-Some.ensures.field) (has_shape_told c.in-Some.field.now.value_shape c.deref.ensures.value c.has_shape.ensures c.if-not-has_shape.false)

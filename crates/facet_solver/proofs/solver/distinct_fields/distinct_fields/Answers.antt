@@ -1,18 +1,34 @@
-use Rattle.std.proofs.Common.{◌∷◌, [], map, ap, rules}
+use Rattle.std.proofs.Common.{◌∷◌, ◌++◌, [], length, map, ap, refl, arith}
+use Rattle.facet_solver_shape.specs.Steps.{StepCounts}
 use Rattle.facet_solver.specs.KeyResult.{scored_view}
 use Rattle.facet_solver.proofs.IndexSet.{rest_more}
 use Rattle.facet_solver.proofs.solver.distinct_fields.distinct_fields.Goals as goal
 
 pub loop-index-init : goal.loop-index-init
-loop-index-init c = record {
-  parts = search rules;
-  fields = c.in_ok-add_if_new-2.ensures (c.args.first ∷ []) (c.in_ok-add_if_new.ensures [] (ap (map scored_view) c.new-fields.ensures.items));
-}
+loop-index-init c =
+    let words = ap (λ (s : StepCounts). s.words) c.in_ok-add_if_new.ensures.steps in
+    let words_2 = ap (λ (s : StepCounts). s.words) c.in_ok-add_if_new-2.ensures.steps in
+    let searches = ap (λ (s : StepCounts). s.searches) c.in_ok-add_if_new.ensures.steps in
+    let searches_2 = ap (λ (s : StepCounts). s.searches) c.in_ok-add_if_new-2.ensures.steps in
+    record {
+      shown = ([], refl, c.in_ok-add_if_new-2.ensures.fields (c.args.first ∷ []) (c.in_ok-add_if_new.ensures.fields [] (ap (map scored_view) c.new-fields.ensures.items)));
+      words = omega (arith, words, words_2);
+      searches = omega (arith, searches, searches_2);
+    }
 
 pub loop-index-preserved : goal.loop-index-preserved
 loop-index-preserved c =
     let before = c.loop-index.invariant in
+    let step = c.in-Some.ensures.next in
+    let words = ap (λ (s : StepCounts). s.words) c.in_ok-add_if_new-3.ensures.steps in
+    let searches = ap (λ (s : StepCounts). s.searches) c.in_ok-add_if_new-3.ensures.steps in
+    let shorter = ap length step in
     record {
-      parts = rest_more c.loop-index.yielded _ _ _ c.in-Some.index before.parts c.in-Some.ensures.steps;
-      fields = c.in_ok-add_if_new-3.ensures (c.args.first ∷ c.args.second ∷ c.loop-index.yielded) before.fields;
+      shown = (
+        before.shown.0 ++ c.in-Some.index ∷ [],
+        rest_more before.shown.0 _ _ _ c.in-Some.index before.shown.1 step,
+        c.in_ok-add_if_new-3.ensures.fields (c.args.first ∷ c.args.second ∷ before.shown.0) before.shown.2,
+      );
+      words = omega (arith, words, c.in-Some.ensures.unread, before.words);
+      searches = omega (arith, searches, shorter, c.in-Some.ensures.searches, before.searches);
     }

@@ -1,11 +1,15 @@
-use Rattle.std.proofs.Common.{◌≡◌, ◌∷◌, ◌++◌, map}
+use Rattle.std.proofs.Common.{◌≡◌, ◌≤◌, ◌+◌, ℕ, List, ◌∷◌, ◌++◌, length, map}
 use Rattle.facet_solver_shape.specs.Keys.{key_of}
 use Rattle.facet_solver.specs.KeyResult.{distinct_fields, scored_view}
 use Rattle.facet_solver.proofs.solver.distinct_fields.distinct_fields.Given as goal
 
 abbrev pub invariant-loop-index : goal.invariant-loop-index
 invariant-loop-index l = record {
-  parts : l.yielded ++ l.index-iterator ≡ l.fn.rest;
-  fields : map scored_view l.fields.items
-      ≡ distinct_fields (key_of l.search.key) l.search.schema.now (l.first ∷ l.second ∷ l.yielded);
+  shown : (yielded : List ℕ) × (yielded ++ l.rest.items ≡ l.fn.rest.items)
+      × (map scored_view l.fields.items ≡ distinct_fields (key_of l.search.key) l.search.schema.now (l.first ∷ l.second ∷ yielded));
+  words : l.steps.words + l.rest.unread ≤ l.fn.steps.words + l.fn.rest.unread;
+  searches : l.steps.searches + length l.rest.items ≤ l.fn.steps.searches + 2 + length l.fn.rest.items;
 }
+
+abbrev pub decreases-loop-index : goal.decreases-loop-index
+decreases-loop-index l = length l.rest.items
