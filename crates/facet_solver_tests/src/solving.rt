@@ -4,7 +4,9 @@ use crate::catalogue::Catalogue;
 use crate::line::{Stop, add, number, word};
 use crate::resolution;
 use crate::resolution::{add_key, key};
-use facet_solver::{KeyResult, ResolutionHandle, SatisfyResult, Schema, Solver, SolverError};
+use facet_solver::{
+    KeyResult, ResolutionHandle, SatisfyResult, Schema, Solver, SolverError, Steps,
+};
 use std::alloc::AllocError;
 use std::mem;
 use std::str::SplitWhitespace;
@@ -30,6 +32,7 @@ impl<'s, 'c, 't> Session<'s, 'c, 't> {
     pub fn answer(&mut self, words: &mut SplitWhitespace<'t>) -> Result<String, Stop> {
         match word(words)? {
             "see" => self.see(words),
+            "see_counted" => self.see_counted(words),
             "see_attribute" => self.see_attribute(words),
             "see_element" => self.see_element(words),
             "see_text" => Ok(self.see_text()?),
@@ -50,6 +53,15 @@ impl<'s, 'c, 't> Session<'s, 'c, 't> {
     fn see(&mut self, words: &mut SplitWhitespace<'t>) -> Result<String, Stop> {
         let key = key(word(words)?)?;
         let answer = self.solver.see_key(self.catalogue.alloc, key)?;
+        Ok(self.key_answer(&answer)?)
+    }
+
+    fn see_counted(&mut self, words: &mut SplitWhitespace<'t>) -> Result<String, Stop> {
+        let key = key(word(words)?)?;
+        let mut steps = Steps::new();
+        let answer = self
+            .solver
+            .see_key_counted(self.catalogue.alloc, key, &mut steps)?;
         Ok(self.key_answer(&answer)?)
     }
 
