@@ -1,12 +1,13 @@
 //! What a solver answers to a key.
-ghost use Rattle.std.specs.Prelude.{◌≡◌, ◌↔◌, ◌+◌, ◌≤◌, IfOk, IsTrue, length, map};
+ghost use Rattle.std.specs.Prelude.{◌≡◌, ◌↔◌, ◌+◌, ◌<◌, ◌≤◌, IfOk, IsTrue, length, map};
 ghost use Rattle.facet_solver_shape.specs.Keys.{key_of};
 ghost use Rattle.facet_solver.specs.Indexed.{IsEntry};
-ghost use Rattle.facet_solver.specs.KeyResult.{HoldsHandleOf, IsUnknownOrSolved, field_at, key_result, key_result_view, of_fields, scored_view, unknown};
+ghost use Rattle.facet_solver.specs.KeyResult.{HoldsHandleOf, IsUnknownOrSolved, field_at, key_result, key_result_view, of_fields, scored_view, solved, unknown};
 ghost use Rattle.facet_solver.specs.Schema.{SchemaView};
 ghost use Rattle.facet_solver.specs.State.{has_key, passing, state_of};
 ghost use Rattle.facet_solver.specs.Words.{word_count};
 
+use crate::schema::Schema;
 use crate::schema::handle::ResolutionHandle;
 use crate::schema::index::Entry;
 use crate::set::ResolutionSet;
@@ -40,6 +41,15 @@ impl<'s, 'c> KeyResult<'s, 'c> {
         ensures { IsTrue result ↔ (key_result_view self.now ≡ unknown) }
     {
         matches!(self, KeyResult::Unknown)
+    }
+
+    // The answer by the index of the one candidate that is left.
+    fn of_one(schema: &'s Schema<'c>, index: usize) -> Self
+        requires { index < length schema.now.resolutions }
+        ensures answer { key_result_view result ≡ solved index }
+        ensures handle { HoldsHandleOf schema.now result }
+    {
+        KeyResult::Solved(ResolutionHandle::new(schema, index))
     }
 
     // The answer by fields of different shapes, with the scores of the shapes.
@@ -83,7 +93,7 @@ pub(crate) fn key_result<'s, 'c>(
         return Ok(KeyResult::Unknown);
     };
     let Some(second) = holders.next(steps) else {
-        return Ok(KeyResult::Solved(ResolutionHandle::new(search.schema, first)));
+        return Ok(KeyResult::of_one(search.schema, first));
     };
     if let Some(shape) = entry.shape {
         return Ok(KeyResult::Unambiguous { shape });

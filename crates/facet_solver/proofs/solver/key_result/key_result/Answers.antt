@@ -1,7 +1,7 @@
 use Rattle.std.proofs.Common.{ℕ, List, [], ◌∷◌, ap, sym, ◌∙◌, arith}
 use Rattle.facet_solver_shape.specs.Keys.{key_of}
 use Rattle.facet_solver.specs.IndexSet.{has}
-use Rattle.facet_solver.specs.KeyResult.{of_fields, solved}
+use Rattle.facet_solver.specs.KeyResult.{of_fields}
 use Rattle.facet_solver.specs.State.{State, state_of}
 use Rattle.facet_solver.proofs.Kept.{first_kept, first_within, kept_count, result_agreed, result_by}
 use Rattle.facet_solver.proofs.solver.key_result.key_result.Goals as goal
@@ -11,8 +11,8 @@ returns-in_default-clause-answer c =
     let s : State = state_of c.args.search.now.schema.now c.args.candidates.now.members in
     result_by (key_of c.args.search.now.key) s c.args.entry.now c.requires.entry [] (sym c.in_default.ensures.next ∙ c.common-holders.ensures.members)
 
-pub new-requires : goal.new-requires
-new-requires c =
+pub of_one-requires : goal.of_one-requires
+of_one-requires c =
     let e = sym c.common-holders.ensures.members ∙ c.in-Some.ensures.next in
     let low = first_within c.args.candidates.now.bound (has c.args.entry.now.set.members) c.args.candidates.now.members c.in-Some.first _ c.common-holders.ensures.within e in
     rw c.requires.bound at low
@@ -21,7 +21,7 @@ pub returns-in_default-next-clause-answer : goal.returns-in_default-next-clause-
 returns-in_default-next-clause-answer c =
     let s : State = state_of c.args.search.now.schema.now c.args.candidates.now.members in
     let first = c.in-Some.first in
-    ap (λ i. solved i) c.new.ensures.index
+    c.of_one.ensures.answer
     ∙ result_by (key_of c.args.search.now.key) s c.args.entry.now c.requires.entry (first ∷ []) (ap (λ rest. first ∷ rest) (sym c.in_default-next.ensures.next) ∙ sym c.in-Some.ensures.next ∙ c.common-holders.ensures.members)
 
 pub returns-in-Some-shape-clause-answer : goal.returns-in-Some-shape-clause-answer
