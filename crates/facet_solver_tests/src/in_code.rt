@@ -5,8 +5,8 @@ use crate::public_names::public_types_have_their_derives;
 use crate::readme::keys_tell_the_payload;
 use crate::types::Types;
 use facet_solver::{
-    CatalogueError, FieldKey, Resolution, ResolutionHandle, ScalarType, Schema, SchemaError, Shape,
-    ShapeId, ShapeKind, Shapes, Solver, SolverError, specificity_score,
+    CatalogueError, FieldKey, FieldPath, PathSegment, Resolution, ResolutionHandle, ScalarType,
+    Schema, SchemaError, Shape, ShapeId, ShapeKind, Shapes, Solver, SolverError, specificity_score,
 };
 use std::alloc::{AllocError, AllocFailed, Global};
 
@@ -76,11 +76,12 @@ pub enum Check {
     ShapeOutlives,
     EqualHandles,
     RefusedKey,
+    PathSegments,
     Readme,
 }
 
 /// The checks, by name.
-pub const CHECKS: [(&str, Check); 10] = [
+pub const CHECKS: [(&str, Check); 11] = [
     ("public_types_have_their_derives", Check::PublicTypes),
     ("keys_have_names_and_an_order", Check::Keys),
     ("a_catalogue_gives_its_shapes", Check::Catalogue),
@@ -102,6 +103,7 @@ pub const CHECKS: [(&str, Check); 10] = [
         "a_refused_key_leaves_the_solver_as_it_was",
         Check::RefusedKey,
     ),
+    ("a_path_gives_its_segments", Check::PathSegments),
     ("the_sample_of_the_readme_holds", Check::Readme),
 ];
 
@@ -118,6 +120,7 @@ impl Check {
             Check::ShapeOutlives => a_shape_outlives_its_schema(alloc),
             Check::EqualHandles => handles_are_equal_by_their_numbers(alloc),
             Check::RefusedKey => a_refused_key_leaves_the_solver_as_it_was(alloc),
+            Check::PathSegments => a_path_gives_its_segments(alloc),
             Check::Readme => keys_tell_the_payload(alloc),
         }
     }
@@ -316,4 +319,18 @@ fn keys_have_names_and_an_order() -> Result<(), Failure> {
         hold(first < second, "the order of keys")?;
     }
     Ok(())
+}
+
+fn a_path_gives_its_segments(alloc: Global) -> Result<(), Failure> {
+    let foo = FieldPath::empty(alloc).push_field(alloc, "foo")?;
+    let same = FieldPath::empty(alloc).push_field(alloc, "foo")?;
+    hold(foo == same, "paths of the same segments")?;
+    let longer = foo.push_variant(alloc, "config", "Advanced")?;
+    hold(foo != longer, "a path and a longer one")?;
+    let segments = longer.segments();
+    let variant = PathSegment::Variant("config", "Advanced");
+    hold(
+        segments.first() == Some(&PathSegment::Field("foo")) && segments.get(1) == Some(&variant),
+        "the segments of a path",
+    )
 }
