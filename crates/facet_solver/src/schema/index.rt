@@ -16,7 +16,7 @@ use facet_solver_shape::{FieldCategory, FieldInfo, FieldKey, Resolution, ShapeId
 use std::alloc::{AllocError, Global};
 use std::collections::BTreeMap;
 
-/// A field of a resolution: the number of the resolution, the number of all of them, and the shape of the field.
+/// A field of a resolution: the index of the resolution, how many resolutions there are, and the shape of the field.
 #[derive(Clone, Copy)]
 struct Occurrence {
     index: usize,
@@ -27,7 +27,7 @@ struct Occurrence {
 /// The resolutions that have a key.
 #[derive(Debug, Drop)]
 pub(crate) struct Entry {
-    /// Their numbers.
+    /// Their indices.
     pub(crate) set: ResolutionSet,
     /// The shape of the field that the key means, where they agree on it.
     pub(crate) shape: Option<ShapeId>,
@@ -202,7 +202,7 @@ impl<'c> Index<'c> {
         Ok(index)
     }
 
-    // Adds the fields of the resolution of a number.
+    // Adds the fields of the resolution at an index.
     fn add_all(
         &mut self,
         alloc: Global,
