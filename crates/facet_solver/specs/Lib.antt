@@ -17,6 +17,7 @@ pub mod Schema
 pub mod State
 pub mod KeyResult
 pub mod SatisfyResult
+pub mod Report
 pub mod Verdict
 pub mod Counts
 pub mod Slots
