@@ -18,6 +18,8 @@ pub mod State
 pub mod KeyResult
 pub mod SatisfyResult
 pub mod Report
+pub mod QuotedNames
+pub mod ErrorTexts
 pub mod Verdict
 pub mod Counts
 pub mod Slots
