@@ -17,6 +17,9 @@ pub mod Schema
 pub mod State
 pub mod KeyResult
 pub mod SatisfyResult
+pub mod Report
+pub mod QuotedNames
+pub mod ErrorTexts
 pub mod Verdict
 pub mod Counts
 pub mod Slots

@@ -1,8 +1,20 @@
-//! Why a document tells no resolution.
+//! Why a document tells no resolution, and its text.
 ghost use Rattle.std.specs.Prelude.{◌≡◌};
 ghost use Rattle.facet_solver.specs.declared.error.SolverError.TheVariants.{OutOfMemory};
+ghost use Rattle.facet_solver.specs.ErrorTexts.{error_output};
+ghost use Rattle.facet_solver.specs.Report.{error_view};
 
+mod ambiguous;
+mod failure;
+mod no_match;
+mod quoted;
+
+use crate::error::ambiguous::Hint;
+use crate::error::no_match::{Reasons, UnknownEnd};
+use crate::error::quoted::Quoted;
 use std::alloc::AllocError;
+use std::error::Error;
+use std::fmt;
 
 /// A required field that was not seen.
 #[derive(Debug, Drop)]
@@ -29,6 +41,22 @@ pub struct CandidateFailure<'c> {
 }
 
 /// Why a document tells no resolution.
+///
+/// The texts below are stated byte for byte where all names in printed lists are ASCII. A list prints as `{:?}` prints
+/// a list of texts, with quotes and escapes. All that stands in no list prints as it is.
+///
+/// `NoMatch` prints `No matching configuration for fields INPUT_FIELDS`, then:
+/// - where there are failures, an empty line, `No variant matched:`, and for each a line: two blanks, `- ` and its
+///   `variant_name`; `: missing field 'NAME'` for one missing field and `: missing fields LIST` for more; and for
+///   unknown fields `: unknown fields LIST`, with a comma for the colon where a field is missing;
+/// - where there are none, ` (closest match: RESOLUTION)` if a closest resolution is given, and then, if
+///   `missing_required_detailed` is not empty, `; missing required fields:` and ` NAME (at path: PATH)` for each;
+/// - where `unknown_fields` is not empty, an empty line and `Unknown fields: LIST`.
+///
+/// No line feed ends it. Nothing of `missing_required` is printed.
+///
+/// `Ambiguous` prints `Ambiguous: multiple resolutions match: CANDIDATES`, and where `disambiguating_fields` is not
+/// empty, `; try adding one of these fields to disambiguate: LIST`. Refused memory prints `out of memory`.
 #[derive(Debug, Drop)]
 pub enum SolverError<'c> {
     /// No candidate has all its required fields seen.
@@ -64,3 +92,46 @@ impl<'c> From<AllocError> for SolverError<'c> {
         SolverError::OutOfMemory
     }
 }
+
+impl fmt::Display for SolverError<'_> {
+    ghost output = { λ e. error_output (error_view e) };
+
+    fn fmt<W: fmt::Write>(&self, f: &mut fmt::Formatter<W>) -> fmt::Result {
+        match self {
+            SolverError::NoMatch {
+                input_fields,
+                missing_required: _,
+                missing_required_detailed,
+                unknown_fields,
+                closest_resolution,
+                candidate_failures,
+            } => {
+                let input_fields = Quoted(input_fields);
+                let reasons = Reasons {
+                    failures: candidate_failures,
+                    closest: closest_resolution,
+                    missing: missing_required_detailed,
+                };
+                let unknown = UnknownEnd(unknown_fields);
+                write!(
+                    f,
+                    "No matching configuration for fields {input_fields}{reasons}{unknown}"
+                )
+            }
+            SolverError::Ambiguous {
+                candidates,
+                disambiguating_fields,
+            } => {
+                let candidates = Quoted(candidates);
+                let hint = Hint(disambiguating_fields);
+                write!(
+                    f,
+                    "Ambiguous: multiple resolutions match: {candidates}{hint}"
+                )
+            }
+            SolverError::OutOfMemory => write!(f, "out of memory"),
+        }
+    }
+}
+
+impl Error for SolverError<'_> {}

@@ -5,6 +5,7 @@ pub mod Catalogues
 pub mod Paths
 pub mod Keys
 pub mod Fields
+pub mod SchemaErrorText
 pub mod Resolved
 pub mod ResolvedCode
 pub mod Formats

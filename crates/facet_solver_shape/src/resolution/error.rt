@@ -1,9 +1,12 @@
-//! Why no schema could be made.
-ghost use Rattle.std.specs.Prelude.{◌≡◌};
+//! Why no schema could be made, and its text.
+ghost use Rattle.std.specs.Prelude.{◌≡◌, Some};
 ghost use Rattle.facet_solver_shape.specs.declared.resolution.error.SchemaError.TheVariants.{DuplicateField, OutOfMemory};
+ghost use Rattle.facet_solver_shape.specs.SchemaErrorText.{schema_error_text};
 
 use crate::resolution::path::FieldPath;
 use std::alloc::{AllocError, AllocFailed};
+use std::error::Error;
+use std::fmt;
 
 /// Two fields of one stored key: their name, and where each stands, that of the first that came first.
 #[derive(Debug, Drop)]
@@ -14,6 +17,10 @@ pub struct DuplicateFieldError<'c> {
 }
 
 /// Why no schema, or no larger resolution, could be made.
+///
+/// A duplicate prints as `Duplicate field name 'NAME' from different sources: FIRST vs SECOND. This usually means a
+/// parent struct and a flattened struct both define a field with the same name.`, on one line, with the name and the
+/// texts of both paths. Refused memory prints as `out of memory`.
 #[derive(Debug, Drop)]
 pub enum SchemaError<'c> {
     /// Two fields have one stored key.
@@ -45,3 +52,24 @@ impl<'c, T: Drop> From<AllocFailed<T>> for SchemaError<'c> {
         SchemaError::OutOfMemory
     }
 }
+
+impl fmt::Display for SchemaError<'_> {
+    ghost output = { λ e. Some (schema_error_text e) };
+
+    fn fmt<W: fmt::Write>(&self, f: &mut fmt::Formatter<W>) -> fmt::Result {
+        match self {
+            SchemaError::DuplicateField(duplicate) => {
+                let name = duplicate.field_name;
+                let first = &duplicate.first_path;
+                let second = &duplicate.second_path;
+                write!(
+                    f,
+                    "Duplicate field name '{name}' from different sources: {first} vs {second}. This usually means a parent struct and a flattened struct both define a field with the same name."
+                )
+            }
+            SchemaError::OutOfMemory => write!(f, "out of memory"),
+        }
+    }
+}
+
+impl Error for SchemaError<'_> {}
