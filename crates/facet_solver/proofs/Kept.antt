@@ -14,7 +14,7 @@ use Rattle.facet_solver_shape.specs.Fields.{FieldView}
 use Rattle.facet_solver_shape.specs.Resolved.{Resolved}
 use Rattle.facet_solver.specs.IndexSet.{HowMany, no_index, one_index, several_indices, how_many, IndexSet, has}
 use Rattle.facet_solver.specs.Indexed.{AgreesOn, Differs, IsEntry}
-use Rattle.facet_solver.specs.KeyResult.{unambiguous, unknown, by_number, distinct_fields, field_at, fields_by_key, first_of_each_shape, key_result, of_fields, with_score}
+use Rattle.facet_solver.specs.KeyResult.{HaveShape, unambiguous, unknown, by_number, distinct_fields, field_at, fields_by_key, first_of_each_shape, key_result, of_fields, with_score}
 use Rattle.facet_solver.specs.Schema.{SchemaView}
 use Rattle.facet_solver.specs.State.{State, field_by_key, has_key, or_all, passes, passing, see_key}
 use Rattle.facet_solver.specs.Build.{Catalogue}
@@ -111,6 +111,14 @@ result_agreed key schema entry shape first second rest shape_is is member =
     go : (o : Option FieldView) → is_some o ≡ true → cons_option o (filter_map (field_at key schema.resolutions) (second ∷ rest)) ≡ [] → ⊥
     go None e = cc
     go (Some f) e = λ none. cc
+
+-- where the fields that a key means have one shape, its entry knows it
+pub knows_shape : (key : Key) (resolutions : List Resolved) (entry : Entry) (shape : ℕ) → IsEntry (length resolutions) (field_at key resolutions) entry
+    → HaveShape shape key resolutions → entry.shape ≡ None → ⊥
+knows_shape key resolutions entry shape is same unknown_shape =
+    let at = field_at key resolutions in
+    let two : Differs at = subst (λ o. MatchOption o (Differs at) (λ n. AgreesOn n at)) unknown_shape is.shape in
+    two.apart (same two.first two.one two.one_present ∙ sym (same two.second two.other two.other_present))
 
 -- the first number that is kept passes
 pub first_kept : (q : ℕ → Bool) (xs : List ℕ) (first : ℕ) (rest : List ℕ) → filter q xs ≡ first ∷ rest → q first ≡ true

@@ -18,6 +18,7 @@ use Rattle.std.specs.Option.{option_and_then, option_map_or}
 use Rattle.std.specs.declared.alloc.Global.{Global}
 use Rattle.std.specs.declared.string.String.{String}
 use Rattle.std.proofs.lemmas.List.{map-append}
+use Rattle.std.proofs.lemmas.List.Folds.{list_any-append}
 use Rattle.facet_solver.specs.State.{passes, passing_at}
 use Rattle.facet_solver.proofs.KeyResultFields.{filter_map_found, filter_map_none}
 
@@ -67,6 +68,16 @@ all_named keys (n ∷ names) = λ i. contains-names_among keys n.now i && all_na
 -- all of some names are names of keys
 pub are_names_among : (keys : List FieldKey) (names : List (Bor Name)) → set.is_subset (names_view names) (names_among (map key_of keys)) ≡ list_all (λ name. list_any (λ k. name_eq (key_of k).name name.now) keys) names
 are_names_among keys names = is_subset-from_list nat_list_cmp_total (names_among (map key_of keys)) (map (λ n. n.now) names) ∙ all_named keys names
+
+-- a name that is found among the last keys is found among all, so the names after it decide
+pub found_behind : {X Y : Type 0} (test : Y → X → Bool) (skipped rest keys : List X) (name : Y) (later names : List Y)
+    → skipped ++ rest ≡ keys → names ≡ name ∷ later → list_any (test name) rest ≡ true
+    → list_all (λ n. list_any (test n) keys) later ≡ list_all (λ n. list_any (test n) keys) names
+found_behind test skipped rest keys name later names split step found =
+    let here : list_any (test name) keys ≡ true =
+    ap (list_any (test name)) (sym split) ∙ list_any-append (test name) skipped rest ∙ or_right (list_any (test name) skipped) (list_any (test name) rest) found in
+    ap (λ b. b && list_all (λ n. list_any (test n) keys) later) (sym here)
+    ∙ ap (list_all (λ n. list_any (test n) keys)) (sym step)
 
 -- ---- descriptions of candidates, one after another
 -- the texts of the resolutions that pass

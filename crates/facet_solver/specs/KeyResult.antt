@@ -1,7 +1,7 @@
 -- What a solver answers to a key.
-use Rattle.std.specs.Prelude.{ℕ, List, [], ◌∷◌, Option, filter, map, nat_eq, not, slice_get, string_bytes, ⊤}
+use Rattle.std.specs.Prelude.{◌≡◌, ℕ, List, [], ◌∷◌, Option, filter, map, nat_eq, not, slice_get, string_bytes, ⊤}
 use Rattle.std.specs.List.{filter_map}
-use Rattle.std.specs.Option.{option_and_then, option_map_or}
+use Rattle.std.specs.Option.{ForSome, option_and_then, option_map_or}
 use denote.Bor.{Bor}
 use Rattle.facet_solver_shape.specs.Keys.{Key}
 use Rattle.facet_solver_shape.specs.Fields.{FieldView, field_view}
@@ -59,6 +59,10 @@ with_score cat f = (f, score_at cat f.shape)
 -- the field that a key means in the resolution at an index
 abbrev pub field_at : Key → List Resolved → ℕ → Option FieldView
 field_at key resolutions index = option_and_then (field_by_key key) (slice_get resolutions index)
+
+-- each field that a key means in some resolutions has the shape
+abbrev pub HaveShape : ℕ → Key → List Resolved → Type 0
+HaveShape shape key resolutions = (index : ℕ) → ForSome (field_at key resolutions index) (λ f. f.shape ≡ shape)
 
 -- the fields that a key means in the resolutions at some indices, one for each that has one, in order
 abbrev pub fields_by_key : Key → List Resolved → List ℕ → List FieldView

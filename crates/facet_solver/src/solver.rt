@@ -1,12 +1,12 @@
 //! The solver: it narrows the resolutions of a schema by the keys of a document.
-ghost use Rattle.std.specs.Prelude.{◌≡◌, ◌≢◌, ◌↔◌, ◌+◌, ◌*◌, ◌∷◌, [], ◌≤◌, All, IfErr, IfOk, IsOk, IsTrue, OnErr, OnOk, false, length, map, true};
+ghost use Rattle.std.specs.Prelude.{◌≡◌, ◌≢◌, ◌↔◌, ◌+◌, ◌*◌, ◌∷◌, [], ◌≤◌, ℕ, All, IfErr, IfOk, IsOk, IsTrue, OnErr, OnOk, false, length, map, true};
 ghost use Rattle.std.specs.Bool.{OnFalse};
 ghost use Rattle.std.specs.List.Sorted.{IsStrictlyIncreasing};
 ghost use Rattle.facet_solver_shape.specs.Keys.{dom_key, key_of};
 ghost use Rattle.facet_solver_shape.specs.declared.resolution.key.FieldCategory.TheVariants.{Attribute, Element, Text};
 ghost use Rattle.facet_solver.specs.Schema.{IsHandleOf, index_of};
 ghost use Rattle.facet_solver.specs.IndexSet.{IsWithin, how_many, matches_view};
-ghost use Rattle.facet_solver.specs.KeyResult.{HoldsHandleOf, IsUnknownOrSolved, key_result, key_result_view};
+ghost use Rattle.facet_solver.specs.KeyResult.{HaveShape, HoldsHandleOf, IsUnknownOrSolved, key_result, key_result_view};
 ghost use Rattle.facet_solver.specs.SatisfyResult as satisfy;
 ghost use Rattle.facet_solver.specs.SatisfyResult.{satisfy_result, satisfy_result_view};
 ghost use Rattle.facet_solver.specs.State as state;
@@ -125,8 +125,9 @@ impl<'s, 'c, 'a> Solver<'s, 'c, 'a> {
     /// Sees a key as [`Solver::see_key`] does, and counts the words of the index that it reads and its searches of a
     /// resolution for a field.
     ///
-    /// It reads at most two words for each 64 resolutions that are begun, searches at most each candidate that is left,
-    /// and searches none where the answer is `Unknown` or `Solved`.
+    /// It reads at most two words for each 64 resolutions that are begun, and searches at most each candidate that is
+    /// left. It searches none where the answer is `Unknown` or `Solved`, nor where the fields that the key means in the
+    /// resolutions of the schema have one shape.
     pub fn see_key_counted(
         &mut self,
         alloc: Global,
@@ -144,6 +145,8 @@ impl<'s, 'c, 'a> Solver<'s, 'c, 'a> {
             ≤ steps.old.searches + length self.new.candidates }
         ensures no_search { IfOk result (λ answer. IsUnknownOrSolved (key_result_view answer)
             → steps.new.searches ≡ steps.old.searches) }
+        ensures agreed { (shape : ℕ) → HaveShape shape (key_of key.entry) self.old.schema.resolutions
+            → steps.new.searches ≡ steps.old.searches }
     {
         let Some(entry) = self.schema.look_up(key) else {
             self.seen.insert(key)?;

@@ -1,8 +1,8 @@
 //! What a solver answers to a key.
-ghost use Rattle.std.specs.Prelude.{◌≡◌, ◌↔◌, ◌+◌, ◌<◌, ◌≤◌, IfOk, IsTrue, length, map};
+ghost use Rattle.std.specs.Prelude.{◌≡◌, ◌↔◌, ◌+◌, ◌<◌, ◌≤◌, ℕ, IfOk, IsTrue, length, map};
 ghost use Rattle.facet_solver_shape.specs.Keys.{key_of};
 ghost use Rattle.facet_solver.specs.Indexed.{IsEntry};
-ghost use Rattle.facet_solver.specs.KeyResult.{HoldsHandleOf, IsUnknownOrSolved, field_at, key_result, key_result_view, of_fields, scored_view, solved, unknown};
+ghost use Rattle.facet_solver.specs.KeyResult.{HaveShape, HoldsHandleOf, IsUnknownOrSolved, field_at, key_result, key_result_view, of_fields, scored_view, solved, unknown};
 ghost use Rattle.facet_solver.specs.Schema.{SchemaView};
 ghost use Rattle.facet_solver.specs.State.{has_key, passing, state_of};
 ghost use Rattle.facet_solver.specs.Words.{word_count};
@@ -87,6 +87,9 @@ pub(crate) fn key_result<'s, 'c>(
         ≤ steps.old.searches + length (passing (has_key (key_of search.now.key)) state) }
     ensures no_search { IfOk result (λ answer. IsUnknownOrSolved (key_result_view answer)
         → steps.new.searches ≡ steps.old.searches) }
+    ensures agreed { let resolutions = search.now.schema.now.resolutions in
+        (shape : ℕ) → HaveShape shape (key_of search.now.key) resolutions
+        → steps.new.searches ≡ steps.old.searches }
 {
     let mut holders = candidates.common(&entry.set, steps);
     let Some(first) = holders.next(steps) else {

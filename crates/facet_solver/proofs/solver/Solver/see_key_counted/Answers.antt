@@ -1,9 +1,9 @@
-use Rattle.std.proofs.Common.{◌≡◌, ap, arith, length, map, refl, sym, ◌∙◌}
+use Rattle.std.proofs.Common.{◌≡◌, ap, arith, length, map, refl, subst, sym, ◌∙◌}
 use Rattle.std.proofs.lemmas.Bool.{false≢true}
 use Rattle.facet_solver_shape.specs.Keys.{key_of}
 use Rattle.facet_solver_shape.specs.Steps.{StepCounts}
 use Rattle.facet_solver.specs.IndexSet.{IndexSet}
-use Rattle.facet_solver.specs.KeyResult.{key_result, unknown}
+use Rattle.facet_solver.specs.KeyResult.{HaveShape, key_result, unknown}
 use Rattle.facet_solver.specs.State.{State, see_key}
 use Rattle.facet_solver.proofs.Kept.{left_known, left_long, left_unknown, members_pass, passing_long, seen_from, unknown_key}
 use Rattle.facet_solver.proofs.solver.Solver.see_key_counted.Goals as goal
@@ -73,3 +73,23 @@ returns-clause-searches c =
     let left = ap (λ (s : State). length s.candidates) (returns-clause-ok c) in
     let same = ap (λ (s : State). length (see_key key s).candidates) c.self.view_is in
     omega (arith, same_steps, c.in_ok-answer.ensures.searches, left_long key before, same, left)
+
+-- what holds of the resolutions before holds of those of the state
+pub returns-in_err-answer-clause-agreed : goal.returns-in_err-answer-clause-agreed
+returns-in_err-answer-clause-agreed c = λ shape same.
+    c.in_err-answer.ensures.agreed shape
+    (subst (HaveShape shape (key_of c.args.key)) (ap (λ (s : State). s.schema.resolutions) (sym c.self.view_is)) same)
+
+pub returns-in_err-insert-2-clause-agreed : goal.returns-in_err-insert-2-clause-agreed
+returns-in_err-insert-2-clause-agreed c = λ shape same.
+    c.in_ok-answer.ensures.agreed shape
+    (subst (HaveShape shape (key_of c.args.key)) (ap (λ (s : State). s.schema.resolutions) (sym c.self.view_is)) same)
+
+pub returns-clause-agreed : goal.returns-clause-agreed
+returns-clause-agreed c = λ shape same.
+    let none = c.in_ok-answer.ensures.agreed shape
+    (subst (HaveShape shape (key_of c.args.key)) (ap (λ (s : State). s.schema.resolutions) (sym c.self.view_is)) same) in
+    elim c.if-not-is_unknown.branch [
+      | then-not-is_unknown w ↦ ap (λ (s : StepCounts). s.searches) w.steps-is ∙ w.keep_common.ensures.searches ∙ none
+      | else-not-is_unknown w ↦ ap (λ (s : StepCounts). s.searches) w.steps-is ∙ none
+    ]

@@ -3,7 +3,7 @@ use Rattle.facet_solver_shape.specs.Keys.{key_of}
 use Rattle.facet_solver.specs.IndexSet.{has}
 use Rattle.facet_solver.specs.KeyResult.{of_fields}
 use Rattle.facet_solver.specs.State.{State, state_of}
-use Rattle.facet_solver.proofs.Kept.{first_kept, first_within, kept_count, result_agreed, result_by}
+use Rattle.facet_solver.proofs.Kept.{first_kept, first_within, kept_count, knows_shape, result_agreed, result_by}
 use Rattle.facet_solver.proofs.solver.key_result.key_result.Goals as goal
 
 pub returns-in_default-clause-answer : goal.returns-in_default-clause-answer
@@ -60,3 +60,13 @@ returns-clause-searches c =
     let count = kept_count (key_of c.args.search.now.key) s c.args.entry.now c.requires.entry indices
     (ap (λ rest. c.in-Some.first ∷ rest) (sym c.in-Some-next.ensures.next) ∙ sym c.in-Some.ensures.next ∙ c.common-holders.ensures.members) in
     omega (arith, count, c.in_ok-fields.ensures.searches, c.in-Some-next.ensures.searches, c.in-Some.ensures.searches, c.common-holders.ensures.searches)
+
+pub returns-in_err-fields-clause-agreed : goal.returns-in_err-fields-clause-agreed
+returns-in_err-fields-clause-agreed c = λ shape same.
+    let search = c.args.search.now in
+    absurd (knows_shape (key_of search.key) search.schema.now.resolutions c.args.entry.now shape c.requires.entry same c.in_default-shape.is)
+
+pub returns-clause-agreed : goal.returns-clause-agreed
+returns-clause-agreed c = λ shape same.
+    let search = c.args.search.now in
+    absurd (knows_shape (key_of search.key) search.schema.now.resolutions c.args.entry.now shape c.requires.entry same c.in_default-shape.is)
