@@ -14,6 +14,7 @@ pub mod IndexSet
 pub mod Words
 pub mod SharedBits
 pub mod Schema
+pub mod KeyPath
 pub mod State
 pub mod KeyResult
 pub mod SatisfyResult

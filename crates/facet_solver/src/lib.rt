@@ -3,6 +3,7 @@
 
 mod build;
 mod error;
+mod key_path;
 pub mod laws;
 mod schema;
 mod set;
