@@ -4,6 +4,10 @@ use Rattle.std.specs.FinSet as set
 use Rattle.facet_solver_shape.specs.Names.{Name}
 use Rattle.facet_solver_shape.specs.Resolved.{Resolved}
 
--- whether a resolution has the whole key path that ends in the key, with the path before it
+-- the whole path of a key that stands at a path
+abbrev pub whole_path : List Name → Name → List Name
+whole_path path key = path ++ key ∷ []
+
+-- whether a resolution has the whole path of a key that stands at a path
 abbrev pub has_key_at : List Name → Name → Resolved → Bool
-has_key_at path key r = set.contains r.key_paths (path ++ key ∷ [])
+has_key_at path key r = set.contains r.key_paths (whole_path path key)

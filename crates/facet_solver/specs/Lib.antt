@@ -18,6 +18,7 @@ pub mod KeyPath
 pub mod State
 pub mod KeyResult
 pub mod SatisfyResult
+pub mod Probing
 pub mod Verdict
 pub mod Counts
 pub mod Slots
