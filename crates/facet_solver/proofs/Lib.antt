@@ -24,3 +24,5 @@ pub mod LookUps
 pub mod Kept
 pub mod QuotedNames
 pub mod ErrorTexts
+pub mod KeyPath
+pub mod Probed

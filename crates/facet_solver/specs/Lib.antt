@@ -14,12 +14,14 @@ pub mod IndexSet
 pub mod Words
 pub mod SharedBits
 pub mod Schema
+pub mod KeyPath
 pub mod State
 pub mod KeyResult
 pub mod SatisfyResult
 pub mod Report
 pub mod QuotedNames
 pub mod ErrorTexts
+pub mod Probing
 pub mod Verdict
 pub mod Counts
 pub mod Slots

@@ -3,7 +3,9 @@
 
 mod build;
 mod error;
+mod key_path;
 pub mod laws;
+mod probing;
 mod schema;
 mod set;
 mod solver;
@@ -16,6 +18,7 @@ pub use facet_solver_shape::{
     ShapeKind, Shapes, Steps, StructKind, Variant, VariantFormat, VariantSelection,
     VariantsByFormat, specificity_score,
 };
+pub use probing::{ProbeResult, ProbingSolver};
 pub use schema::Schema;
 pub use schema::handle::ResolutionHandle;
 pub use set::{ResolutionSet, ResolutionSetIter};

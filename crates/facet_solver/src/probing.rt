@@ -1,0 +1,123 @@
+//! A solver that goes by key paths alone: it narrows resolutions by the nested keys of a document, and records none.
+ghost use Rattle.std.specs.Prelude.{◌≡◌, IfOk, map};
+ghost use Rattle.facet_solver_shape.specs.Names.{names_of};
+ghost use Rattle.facet_solver.specs.Probing.{probe_key, probe_result, probe_result_view, resolutions_of};
+
+use crate::key_path::has_key_at;
+use crate::schema::Schema;
+use facet_solver_shape::Resolution;
+use std::alloc::{AllocError, Global};
+use std::fmt;
+use std::marker::Model;
+
+/// What the keys that were probed say of the document.
+#[derive(Debug, Drop)]
+pub enum ProbeResult<'s, 'c> {
+    /// Several candidates are left.
+    KeepGoing,
+    /// One candidate is left.
+    Solved(&'s Resolution<'c>),
+    /// No candidate is left.
+    NoMatch,
+}
+
+/// Narrows resolutions by the key paths of a document.
+///
+/// It keeps a list of candidates and no seen keys, so an answer says what key paths a document has, and not whether it
+/// has all that a candidate requires.
+#[derive(Drop)]
+pub struct ProbingSolver<'s, 'c> {
+    candidates: Vec<&'s Resolution<'c>>,
+}
+
+impl<'s, 'c> Model for ProbingSolver<'s, 'c> {
+    ghost use Rattle.std.specs.Prelude.{List};
+    ghost use Rattle.std.specs.Coded.{coded_list};
+    ghost use Rattle.facet_solver_shape.specs.Resolved.{Resolved};
+    ghost use Rattle.facet_solver_shape.specs.ResolvedCode.{resolved_code};
+    ghost use Rattle.facet_solver.specs.Probing.{resolutions_of};
+
+    ghost Value = { List Resolved };
+
+    ghost coded = { coded_list resolved_code };
+
+    ghost view = { λ s. resolutions_of s.candidates.items };
+}
+
+impl<'s, 'c> ProbingSolver<'s, 'c> {
+    /// A solver whose candidates are all resolutions of a schema, in order.
+    ///
+    /// The only error is refused memory.
+    pub fn new(alloc: Global, schema: &'s Schema<'c>) -> Result<Self, AllocError>
+        ensures { IfOk result (λ solver. solver ≡ schema.now.resolutions) }
+    {
+        ProbingSolver::from_resolutions(alloc, schema.resolutions())
+    }
+
+    /// A solver whose candidates are some resolutions, in order.
+    ///
+    /// The only error is refused memory.
+    pub fn from_resolutions(
+        alloc: Global,
+        resolutions: &'s [Resolution<'c>],
+    ) -> Result<Self, AllocError>
+        ensures { IfOk result (λ solver. solver ≡ resolutions.now) }
+    {
+        let candidates = resolutions.iter().collect(alloc)?;
+        Ok(ProbingSolver { candidates })
+    }
+
+    /// Tells that the document has a key, below the keys of a path: of the candidates those stay that have the whole
+    /// key path, in their order. Where there is none, none stays.
+    ///
+    /// The answer goes by the number of candidates that are left.
+    pub fn probe_key(&mut self, path: &[&str], key: &str) -> ProbeResult<'s, 'c>
+        ensures answer { probe_result_view result ≡ probe_result self.new }
+        ensures narrowed { self.new ≡ probe_key (names_of path.now) key.now self.old }
+    {
+        self.candidates
+            .retain(|resolution| has_key_at(resolution, path, key));
+        self.finish()
+    }
+
+    /// The candidates, in their order.
+    pub fn candidates(&self) -> &[&'s Resolution<'c>]
+        ensures { resolutions_of result.now ≡ self.now }
+    {
+        &self.candidates
+    }
+
+    /// The answer by the number of candidates that are left, of which it changes none.
+    pub fn finish(&self) -> ProbeResult<'s, 'c>
+        ensures { probe_result_view result ≡ probe_result self.now }
+    {
+        match self.candidates.as_slice() {
+            [] => ProbeResult::NoMatch,
+            [resolution] => ProbeResult::Solved(resolution),
+            _ => ProbeResult::KeepGoing,
+        }
+    }
+}
+
+// Printed as a derived impl would. The derive gets no proof where references lie in a vector, so each is printed by
+// itself.
+impl fmt::Debug for ProbingSolver<'_, '_> {
+    fn fmt<W: fmt::Write>(&self, f: &mut fmt::Formatter<W>) -> fmt::Result {
+        f.debug_struct("ProbingSolver")
+            .field("candidates", &Candidates(&self.candidates))
+            .finish()
+    }
+}
+
+#[derive(Drop)]
+struct Candidates<'l, 's, 'c>(&'l [&'s Resolution<'c>]);
+
+impl fmt::Debug for Candidates<'_, '_, '_> {
+    fn fmt<W: fmt::Write>(&self, f: &mut fmt::Formatter<W>) -> fmt::Result {
+        let mut list = f.debug_list();
+        for candidate in self.0 {
+            list.entry(*candidate);
+        }
+        list.finish()
+    }
+}
