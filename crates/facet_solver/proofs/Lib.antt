@@ -22,3 +22,5 @@ pub mod Indexing
 pub mod UnderWay
 pub mod LookUps
 pub mod Kept
+pub mod Told
+pub mod Run

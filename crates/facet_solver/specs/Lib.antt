@@ -18,6 +18,8 @@ pub mod State
 pub mod KeyResult
 pub mod SatisfyResult
 pub mod Verdict
+pub mod Told
+pub mod Run
 pub mod Counts
 pub mod Slots
 pub mod IndexEntries
