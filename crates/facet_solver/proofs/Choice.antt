@@ -357,7 +357,7 @@ one_list build root cs ds h k =
     at c xs i = index_in c xs i
 
 -- a choice has one resolution
-resolution-one : (build : Build) (root : ℕ) (c : List ℕ) (r s : Resolved) → IsResolution build root c r → IsResolution build root c s → r ≡ s
+pub resolution-one : (build : Build) (root : ℕ) (c : List ℕ) (r s : Resolved) → IsResolution build root c r → IsResolution build root c s → r ≡ s
 resolution-one build root c r s h k =
     let f : Some (h.emissions, []) ≡ Some (k.emissions, []) = sym h.emitted ∙ k.emitted in
     let p : (h.emissions, []) ≡ (k.emissions, []) = cc in

@@ -158,7 +158,7 @@ unknown_number fields no_index e = refl
 unknown_number fields (one_index i) e = cc
 unknown_number fields several_indices e = absurd (results_known fields e)
 
-or_all_some : (xs all : List ℕ) → (xs ≡ [] → ⊥) → or_all xs all ≡ xs
+pub or_all_some : (xs all : List ℕ) → (xs ≡ [] → ⊥) → or_all xs all ≡ xs
 or_all_some [] all some = absurd (some refl)
 or_all_some (x ∷ xs) all some = refl
 

@@ -26,3 +26,5 @@ pub mod QuotedNames
 pub mod ErrorTexts
 pub mod KeyPath
 pub mod Probed
+pub mod Told
+pub mod Run

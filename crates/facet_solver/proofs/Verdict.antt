@@ -24,7 +24,7 @@ use Rattle.facet_solver.proofs.KeyResultFields.{filter_map_found, filter_map_non
 
 -- ---- sets of names within one another
 -- two tests that hold together are one
-same_test : (a b : Bool) → (a ≡ true → b ≡ true) → (b ≡ true → a ≡ true) → a ≡ b
+pub same_test : (a b : Bool) → (a ≡ true → b ≡ true) → (b ≡ true → a ≡ true) → a ≡ b
 same_test true b f g = sym (f refl)
 same_test false true f g = g refl
 same_test false false f g = refl

@@ -23,6 +23,8 @@ pub mod QuotedNames
 pub mod ErrorTexts
 pub mod Probing
 pub mod Verdict
+pub mod Told
+pub mod Run
 pub mod Counts
 pub mod Slots
 pub mod IndexEntries

@@ -1,8 +1,8 @@
-//! Laws of choices, walks and counts: each is the contract of a function that does nothing.
-ghost use Rattle.std.specs.Prelude.{◌≡◌, ◌≢◌, ◌++◌, [], ℕ, All, Bool, List, length, slice_get};
+//! Laws of choices, walks, counts and told keys: each is the contract of a function that does nothing.
+ghost use Rattle.std.specs.Prelude.{◌≡◌, ◌≢◌, ◌++◌, [], ℕ, All, Bool, Contains, List, Some, length, slice_get, true};
 ghost use Rattle.facet_solver_shape.specs.Catalogues.{IsChecked};
 ghost use Rattle.facet_solver_shape.specs.Names.{Name};
-ghost use Rattle.facet_solver_shape.specs.Resolved.{Resolved};
+ghost use Rattle.facet_solver_shape.specs.Resolved.{Resolved, description};
 ghost use Rattle.std.specs.FinMap as finite;
 ghost use Rattle.facet_solver_shape.specs.declared.resolution.key.FieldCategory.TheVariants.{Flat as FlatCategory};
 ghost use Rattle.facet_solver_shape.specs.declared.shape.Field.{Field};
@@ -18,6 +18,14 @@ ghost use Rattle.facet_solver.specs.Nested.{FollowsKinds, EndsByLength, HasNoGap
 ghost use Rattle.facet_solver.specs.Build.{Build, Catalogue};
 ghost use Rattle.facet_solver.specs.Content.{effective, go_on, next_inside};
 ghost use Rattle.facet_solver.specs.Walk.{walk_fields, walk_fields_step};
+ghost use Rattle.facet_solver_shape.specs.Keys.{Key};
+ghost use Rattle.facet_solver.specs.KeyResult.{key_result, unknown};
+ghost use Rattle.facet_solver.specs.Schema.{IsOwnBuild, SchemaView};
+ghost use Rattle.facet_solver.specs.Run.{CallView, after_call, after_calls};
+ghost use Rattle.facet_solver.specs.State.{State, has_key, mark_seen, new_solver, passing, see_key};
+ghost use Rattle.facet_solver.specs.Told.{accepted_keys, indices_with, known_keys, see_keys};
+ghost use Rattle.facet_solver.specs.Told.{EndsWithOrNames, HasAllKnown, HaveSameKeys, LeavesSome, TellsChoice};
+ghost use Rattle.facet_solver.specs.Verdict.{is_viable, viable};
 
 /// A root has one list of all choices, and at most one list of resolutions.
 pub fn lists_are_the_only_ones()
@@ -95,4 +103,73 @@ pub fn dom_fields_have_categories()
     ensures { (build : Build) (root : ℕ) (choice : List ℕ) (r : Resolved)
         → build.format ≡ Dom → IsResolution build root choice r
         → All (λ f. f.category ≢ FlatCategory) (finite.values r.fields) }
+{}
+
+/// Keys that a new solver sees one after another leave the resolutions that have every accepted key: a key is accepted
+/// where some resolution has it and all keys that were accepted before.
+pub fn accepted_keys_decide()
+    ensures { (schema : SchemaView) (keys : List Key)
+        → (see_keys keys (new_solver schema)).candidates
+        ≡ indices_with (accepted_keys schema.resolutions keys) schema }
+{}
+
+/// Where one resolution has each key that a new solver sees and that any resolution has, exactly the resolutions are left
+/// that have all these keys, and it is among them.
+pub fn known_keys_decide()
+    ensures left { (schema : SchemaView) (keys : List Key) (index : ℕ) (r : Resolved)
+        → HasAllKnown schema keys index r
+        → (see_keys keys (new_solver schema)).candidates
+        ≡ indices_with (known_keys schema.resolutions keys) schema }
+    ensures among { (schema : SchemaView) (keys : List Key) (index : ℕ) (r : Resolved)
+        → HasAllKnown schema keys index r
+        → Contains (see_keys keys (new_solver schema)).candidates index }
+    ensures in_any_order { (schema : SchemaView) (keys others : List Key) (index : ℕ) (r : Resolved)
+        → HasAllKnown schema keys index r → HaveSameKeys keys others
+        → (see_keys keys (new_solver schema)).candidates
+        ≡ (see_keys others (new_solver schema)).candidates }
+{}
+
+/// A candidate that is viable is what a solver ends with, or it is named: where it alone is viable, `finish` gives its
+/// index, and where several are, its description stands among theirs, at its own place.
+pub fn viable_candidates_are_named()
+    ensures { (s : State) (index : ℕ) (r : Resolved)
+        → Contains (viable s) index → slice_get s.schema.resolutions index ≡ Some r
+        → EndsWithOrNames s index (description r.picks) }
+{}
+
+/// With all its required names among the keys that a new solver sees, a resolution that has each of them that any
+/// resolution has is viable, and the solver ends with it or names it.
+pub fn told_resolutions_are_found()
+    ensures viable { (schema : SchemaView) (keys : List Key) (index : ℕ) (r : Resolved)
+        → HasAllKnown schema keys index r → is_viable keys r ≡ true
+        → Contains (viable (see_keys keys (new_solver schema))) index }
+    ensures ends { (schema : SchemaView) (keys : List Key) (index : ℕ) (r : Resolved)
+        → HasAllKnown schema keys index r → is_viable keys r ≡ true
+        → EndsWithOrNames (see_keys keys (new_solver schema)) index (description r.picks) }
+{}
+
+/// A new solver of a built schema that is told the keys of one choice ends with that choice's index or names it: whatever
+/// their order, repeats and unknown keys among them, where every name that the choice requires is told and no key that
+/// another choice has and this one lacks.
+pub fn told_choices_are_found()
+    ensures { (schema : SchemaView) → IsOwnBuild schema
+        → (choices : List (List ℕ)) → ListsChoices schema.build schema.root choices
+        → (index : ℕ) (choice : List ℕ) → slice_get choices index ≡ Some choice
+        → (keys : List Key) (r : Resolved)
+        → TellsChoice schema.build schema.root choice keys r
+        → EndsWithOrNames (see_keys keys (new_solver schema)) index (description r.picks) }
+{}
+
+/// No call adds a candidate, and no run of calls does: what is left are some of the candidates, in their order.
+pub fn no_candidate_is_added()
+    ensures by_a_call { (call : CallView) (s : State) → LeavesSome s (after_call call s) }
+    ensures by_a_run { (calls : List CallView) (s : State) → LeavesSome s (after_calls calls s) }
+{}
+
+/// A key that no candidate has is seen and changes nothing else, and the answer to it is `Unknown`.
+pub fn unknown_keys_are_only_seen()
+    ensures seen { (key : Key) (s : State)
+        → passing (has_key key) s ≡ [] → see_key key s ≡ mark_seen key s }
+    ensures answer { (key : Key) (s : State)
+        → passing (has_key key) s ≡ [] → key_result key s ≡ unknown }
 {}

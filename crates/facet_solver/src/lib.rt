@@ -24,4 +24,5 @@ pub use schema::handle::ResolutionHandle;
 pub use set::{ResolutionSet, ResolutionSetIter};
 pub use solver::Solver;
 pub use solver::key_result::KeyResult;
+pub use solver::run::Call;
 pub use solver::satisfy_result::SatisfyResult;

@@ -18,6 +18,7 @@ pub(crate) mod conditions;
 pub(crate) mod distinct_fields;
 pub(crate) mod key_result;
 pub(crate) mod report;
+pub(crate) mod run;
 pub(crate) mod satisfy_result;
 
 use crate::error::SolverError;

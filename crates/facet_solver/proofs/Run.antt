@@ -1,0 +1,57 @@
+-- What a run of calls leaves.
+use Rattle.std.proofs.Common.{◌≡◌, ℕ, ◌+◌, ◌<◌, true, false, ◌&&◌, filter, List, [], ◌∷◌, ◌++◌, get_or, length, map, refl, subst, take, ap, sym, ◌∙◌}
+use Rattle.std.specs.Prelude.{fold}
+use Rattle.std.proofs.lemmas.List.{map-append, take_more}
+use Rattle.std.proofs.lemmas.List.Folds.{fold-map}
+use Rattle.std.proofs.lemmas.List.Sums.{fold_push}
+use Rattle.facet_solver_shape.specs.Keys.{Key}
+use Rattle.facet_solver_shape.specs.Resolved.{description}
+use Rattle.facet_solver.specs.Run.{after_call, after_calls, call_view, call_views, CallView, FindsToldChoices, see_key, mark_seen, satisfy_shapes, hint_variant}
+use Rattle.facet_solver.specs.State as state
+use Rattle.facet_solver.specs.State.{State, has_key, has_shape_among, picks_variant}
+use Rattle.facet_solver.specs.Told.{see_keys, EndsWithOrNames, LeavesSome}
+use Rattle.facet_solver.proofs.IndexSet.{filter_filter}
+use Rattle.facet_solver.proofs.Told.{all_stay, choice_ends, narrowed_leaves}
+use Rattle.facet_solver.specs.declared.solver.run.Call.{Call}
+
+-- one more call
+pub after_calls_more : (calls : List Call) (i : ℕ) (d : Call) (s : State) → i < length calls → after_calls (call_views (take (i + 1) calls)) s ≡ after_call (call_view (get_or calls i d)) (after_calls (call_views (take i calls)) s)
+after_calls_more calls i d s low =
+    ap (λ cs. after_calls (call_views cs) s) (take_more calls i d low)
+    ∙ ap (λ cs. after_calls cs s) (map-append call_view (take i calls) (get_or calls i d ∷ []))
+    ∙ fold_push (λ now call. after_call call now) s (call_views (take i calls)) (call_view (get_or calls i d))
+
+-- calls that see keys alone
+pub only_keys : (calls : List CallView) (keys : List Key) (s : State) → calls ≡ map see_key keys → after_calls calls s ≡ see_keys keys s
+only_keys calls keys s same = ap (λ cs. after_calls cs s) same ∙ fold-map (λ now call. after_call call now) see_key s keys
+
+-- a run of them, from its state
+pub told_from : (calls : List CallView) (before after : State) → after ≡ after_calls calls before → (keys : List Key) → calls ≡ map see_key keys → after ≡ see_keys keys before
+told_from calls before after is keys only = is ∙ only_keys calls keys before only
+
+-- and where it tells a choice
+pub found_from : (calls : List CallView) (before after : State) → after ≡ after_calls calls before → FindsToldChoices calls before after
+found_from calls before after is keys only new built choices listed index choice at r told =
+    subst (λ (s : State). EndsWithOrNames s index (description r.picks))
+    (sym (told_from calls before after is keys only ∙ ap (see_keys keys) new))
+    (choice_ends before.schema built choices listed index choice at keys r told)
+
+-- ---- no call adds a candidate
+pub call_leaves : (call : CallView) (s : State) → LeavesSome s (after_call call s)
+call_leaves (see_key key) s =
+    let some = narrowed_leaves false (has_key key) (state.mark_seen key s) in
+    record { stays = some.stays; left = some.left }
+call_leaves (mark_seen key) s = record { stays = λ i. true; left = all_stay s.candidates }
+call_leaves (satisfy_shapes shapes) s = narrowed_leaves true (has_shape_among shapes) s
+call_leaves (hint_variant name) s = narrowed_leaves false (picks_variant name) s
+
+-- so no run does
+pub calls_leave : (calls : List CallView) (s : State) → LeavesSome s (after_calls calls s)
+calls_leave [] s = record { stays = λ i. true; left = all_stay s.candidates }
+calls_leave (call ∷ calls) s =
+    let first = call_leaves call s in
+    let later = calls_leave calls (after_call call s) in
+    record {
+      stays = λ i. first.stays i && later.stays i;
+      left = later.left ∙ ap (filter later.stays) first.left ∙ filter_filter first.stays later.stays s.candidates;
+    }

@@ -1,0 +1,51 @@
+-- Calls of a solver as values, and what a run of them leaves.
+use Rattle.std.specs.Prelude.{◌≡◌, ℕ, List, Some, fold, map, slice_get}
+use Rattle.facet_solver_shape.specs.Keys.{Key, key_of}
+use Rattle.facet_solver_shape.specs.Names.{Name, names_of}
+use Rattle.facet_solver_shape.specs.Resolved.{description, Resolved}
+use Rattle.facet_solver.specs.Choice.{ListsChoices}
+use Rattle.facet_solver.specs.Schema.{IsOwnBuild}
+use Rattle.facet_solver.specs.State as state
+use Rattle.facet_solver.specs.State.{State, new_solver}
+use Rattle.facet_solver.specs.Told.{EndsWithOrNames, TellsChoice}
+use Rattle.facet_solver.specs.declared.solver.run.Call.{Call}
+use Rattle.facet_solver.specs.declared.solver.run.Call.TheVariants.{SeeKey, MarkSeen, SatisfyShapes, HintVariant}
+
+-- a call, wherever its names lie
+pub data CallView : Type 0 where
+  see_key : Key → CallView
+  mark_seen : Key → CallView
+  satisfy_shapes : List ℕ → CallView
+  hint_variant : Name → CallView
+
+-- what a call says
+abbrev pub call_view : Call → CallView
+call_view (SeeKey key) = see_key (key_of key)
+call_view (MarkSeen key) = mark_seen (key_of key)
+call_view (SatisfyShapes shapes) = satisfy_shapes shapes.now
+call_view (HintVariant name) = hint_variant name.now
+
+-- what calls say
+abbrev pub call_views : List Call → List CallView
+call_views calls = map call_view calls
+
+-- what a call leaves of a state
+abbrev pub after_call : CallView → State → State
+after_call (see_key key) s = state.see_key key s
+after_call (mark_seen key) s = state.mark_seen key s
+after_call (satisfy_shapes shapes) s = state.satisfy_shapes shapes s
+after_call (hint_variant name) s = state.hint_variant name s
+
+-- what calls leave that are made one after another
+abbrev pub after_calls : List CallView → State → State
+after_calls calls s = fold (λ now call. after_call call now) s calls
+
+-- a new solver of a built schema that was told one choice's keys, and nothing else, ends with that choice or names it
+abbrev pub FindsToldChoices : List CallView → State → State → Type 0
+FindsToldChoices calls before after =
+    (keys : List Key) → calls ≡ map see_key keys
+    → before ≡ new_solver before.schema → IsOwnBuild before.schema
+    → (choices : List (List ℕ)) → ListsChoices before.schema.build before.schema.root choices
+    → (index : ℕ) (choice : List ℕ) → slice_get choices index ≡ Some choice
+    → (r : Resolved) → TellsChoice before.schema.build before.schema.root choice keys r
+    → EndsWithOrNames after index (description r.picks)

@@ -1,0 +1,67 @@
+//! Calls of a solver as values, and runs of them.
+ghost use Rattle.std.specs.Prelude.{◌≡◌, ◌<◌, IfErr, List, OnErr, OnOk, length, map, take};
+ghost use Rattle.facet_solver_shape.specs.Keys.{Key};
+ghost use Rattle.facet_solver.specs.Run.{FindsToldChoices, after_call, after_calls, call_view, call_views, see_key};
+ghost use Rattle.facet_solver.specs.Told.{see_keys};
+
+use crate::solver::Solver;
+use facet_solver_shape::{FieldKey, ShapeId};
+use std::alloc::{AllocError, Global};
+
+/// A call of a solver that narrows it or marks a key as seen.
+#[derive(Clone, Copy, Debug)]
+pub enum Call<'a> {
+    /// A key is seen: `Solver::see_key`.
+    SeeKey(FieldKey<'a>),
+    /// A key is marked as seen: `Solver::mark_seen`.
+    MarkSeen(FieldKey<'a>),
+    /// A value fits shapes: `Solver::satisfy_shapes`.
+    SatisfyShapes(&'a [ShapeId]),
+    /// A variant is hinted: `Solver::hint_variant`.
+    HintVariant(&'a str),
+}
+
+impl<'s, 'c, 'a> Solver<'s, 'c, 'a> {
+    /// Makes calls in their order, and leaves their answers out.
+    ///
+    /// The only error is refused memory, and tells how many calls were made: the call at that index was refused and
+    /// changed nothing, and none after it was made.
+    #[tactic(auto, using(crate::proofs::Run::after_calls_more))]
+    pub fn run(&mut self, alloc: Global, calls: &[Call<'a>]) -> Result<(), usize>
+        ensures ok { OnOk result (self.new ≡ after_calls (call_views calls.now) self.old) }
+        ensures told { OnOk result ((keys : List Key)
+            → call_views calls.now ≡ map see_key keys → self.new ≡ see_keys keys self.old) }
+        ensures found { OnOk result
+            (FindsToldChoices (call_views calls.now) self.old self.new) }
+        ensures within { IfErr result (λ made. made < length calls.now) }
+        ensures err { IfErr result
+            (λ made. self.new ≡ after_calls (call_views (take made calls.now)) self.old) }
+    {
+        for (made, call) in calls.iter().enumerate() {
+            if self.make(alloc, call).is_err() {
+                return Err(made);
+            }
+        }
+        Ok(())
+    }
+
+    // Makes one call.
+    fn make(&mut self, alloc: Global, call: &Call<'a>) -> Result<(), AllocError>
+        ensures ok { OnOk result (self.new ≡ after_call (call_view call.now) self.old) }
+        ensures err { OnErr result (self.new ≡ self.old) }
+    {
+        match call {
+            Call::SeeKey(key) => {
+                self.see_key(alloc, *key)?;
+            }
+            Call::MarkSeen(key) => self.mark_seen(*key)?,
+            Call::SatisfyShapes(shapes) => {
+                self.satisfy_shapes(shapes);
+            }
+            Call::HintVariant(name) => {
+                self.hint_variant(name);
+            }
+        }
+        Ok(())
+    }
+}
