@@ -36,6 +36,7 @@ pub use Rattle.facet_solver_shape.specs.Pointers
 pub use Rattle.facet_solver_shape.specs.Paths
 pub use Rattle.facet_solver_shape.specs.Keys
 pub use Rattle.facet_solver_shape.specs.Fields
+pub use Rattle.facet_solver_shape.specs.SchemaErrorText
 pub use Rattle.facet_solver_shape.specs.Resolved
 pub use Rattle.facet_solver_shape.specs.Formats
 pub use Rattle.facet_solver_shape.specs.Groups
