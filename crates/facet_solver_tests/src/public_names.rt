@@ -2,10 +2,10 @@
 
 use crate::in_code::Failure;
 use facet_solver::{
-    CandidateFailure, CatalogueError, DomMark, DuplicateFieldError, EnumRepr, Field, FieldCategory,
-    FieldInfo, FieldKey, FieldPath, Format, KeyPath, KeyResult, MissingFieldInfo, PathSegment,
-    Resolution, ResolutionHandle, ResolutionSet, ResolutionSetIter, ScalarType, Schema,
-    SchemaError, Shape, ShapeId, ShapeKind, Shapes, Solver, SolverError, Steps, StructKind,
+    Call, CandidateFailure, CatalogueError, DomMark, DuplicateFieldError, EnumRepr, Field,
+    FieldCategory, FieldInfo, FieldKey, FieldPath, Format, KeyPath, KeyResult, MissingFieldInfo,
+    PathSegment, Resolution, ResolutionHandle, ResolutionSet, ResolutionSetIter, ScalarType,
+    Schema, SchemaError, Shape, ShapeId, ShapeKind, Shapes, Solver, SolverError, Steps, StructKind,
     Variant, VariantFormat, VariantSelection, VariantsByFormat,
 };
 use std::fmt::Debug;
@@ -74,6 +74,7 @@ fn wholes_are_printed() {
     is_printed::<ResolutionSet>();
     is_printed::<ResolutionSetIter<'static>>();
     is_printed::<Solver<'static, 'static, 'static>>();
+    is_printed::<Call<'static>>();
     is_printed::<KeyResult<'static, 'static>>();
     is_printed::<SolverError<'static>>();
     is_printed::<MissingFieldInfo<'static>>();
