@@ -17,6 +17,8 @@ pub mod Schema
 pub mod State
 pub mod KeyResult
 pub mod SatisfyResult
+pub mod ShapeAtPath
+pub mod Probe
 pub mod Verdict
 pub mod Counts
 pub mod Slots
