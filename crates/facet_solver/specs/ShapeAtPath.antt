@@ -1,5 +1,5 @@
 -- The shape of a resolution at a path of names, and what calls that go by it leave of a state.
-use Rattle.std.specs.Prelude.{ℕ, Bool, List, [], ◌∷◌, Option, Some, None, filter, find, nat_eq, not, slice_get, false}
+use Rattle.std.specs.Prelude.{ℕ, Bool, List, [], ◌∷◌, Option, Some, None, filter, find, nat_eq, not, slice_get, true, false}
 use Rattle.std.specs.FinMap as finite
 use Rattle.std.specs.List.{filter_map, list_any}
 use Rattle.std.specs.Option.{option_and_then, option_map, option_map_or}
