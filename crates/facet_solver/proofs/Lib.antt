@@ -22,3 +22,4 @@ pub mod Indexing
 pub mod UnderWay
 pub mod LookUps
 pub mod Kept
+pub mod FirstOfEach

@@ -9,6 +9,7 @@ use Rattle.facet_solver_shape.specs.Names.{Name, effective_name, name_eq}
 use Rattle.facet_solver_shape.specs.Resolved.{Resolved}
 use Rattle.facet_solver.specs.Build.{Catalogue, kind_at}
 use Rattle.facet_solver.specs.Content.{struct_fields}
+use Rattle.facet_solver.specs.Schema.{SchemaView}
 use Rattle.facet_solver.specs.State.{State, narrowed}
 
 -- of the fields of a resolution that have a name, the one of least stored key
@@ -48,12 +49,21 @@ satisfy_at_path path shapes s =
 abbrev pub shape_at : Catalogue → List Name → List Resolved → ℕ → Option ℕ
 shape_at cat path resolutions index = option_and_then (shape_at_path cat path) (slice_get resolutions index)
 
--- each of some indices where it stands first
+-- of some items with shapes the first of each shape
+abbrev pub first_of_each : {X : Type 0} → (X → ℕ) → List X → List X
+first_of_each shape_of [] = []
+first_of_each shape_of (x ∷ xs) =
+    x ∷ filter (λ y. not (nat_eq (shape_of y) (shape_of x))) (first_of_each shape_of xs)
+
+-- some shapes, each once
 abbrev pub distinct : List ℕ → List ℕ
-distinct [] = []
-distinct (id ∷ ids) = id ∷ filter (λ other. not (nat_eq other id)) (distinct ids)
+distinct shapes = first_of_each (λ shape. shape) shapes
+
+-- the shapes of the resolutions at some indices at a path, each once, in the order of the indices
+abbrev pub distinct_shapes : List Name → SchemaView → List ℕ → List ℕ
+distinct_shapes path schema indices =
+    distinct (filter_map (shape_at schema.build.catalogue path schema.resolutions) indices)
 
 -- the shapes of the candidates at a path, each once, in the order of the candidates
 abbrev pub get_shapes_at_path : List Name → State → List ℕ
-get_shapes_at_path path s =
-    distinct (filter_map (shape_at s.schema.build.catalogue path s.schema.resolutions) s.candidates)
+get_shapes_at_path path s = distinct_shapes path s.schema s.candidates
