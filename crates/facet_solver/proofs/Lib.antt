@@ -28,3 +28,4 @@ pub mod KeyPath
 pub mod Probed
 pub mod Told
 pub mod Run
+pub mod FirstOfEach

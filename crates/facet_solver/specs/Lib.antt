@@ -22,6 +22,8 @@ pub mod Report
 pub mod QuotedNames
 pub mod ErrorTexts
 pub mod Probing
+pub mod ShapeAtPath
+pub mod Probe
 pub mod Verdict
 pub mod Told
 pub mod Run

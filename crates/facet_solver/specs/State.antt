@@ -1,10 +1,12 @@
 -- States of a solver, and what calls leave of them.
-use Rattle.std.specs.Prelude.{ℕ, Bool, List, [], ◌∷◌, Option, Some, None, filter, find, if◌then◌else◌, is_some, length, nat_eq, refl, slice_get, true, false}
+use Rattle.std.specs.Prelude.{ℕ, Bool, List, [], ◌∷◌, Option, Some, None, filter, find, if◌then◌else◌, is_some, length, map, nat_eq, refl, slice_get, true, false}
 use Rattle.std.specs.BTreeSet.{insert_key}
 use Rattle.std.specs.Coded.{Coded, code_by, coded×, coded_ℕ, coded_list}
 use Rattle.std.specs.FinMap as finite
 use Rattle.std.specs.List.{list_any}
 use Rattle.std.specs.Option.{option_and_then, option_map_or}
+use denote.Bor.{Bor}
+use Rattle.facet_solver_shape.specs.declared.resolution.field.FieldInfo.{FieldInfo}
 use Rattle.facet_solver_shape.specs.Keys.{Key, key_cmp}
 use Rattle.facet_solver_shape.specs.Fields.{matches, FieldView}
 use Rattle.facet_solver_shape.specs.Names.{Name, name_eq}
@@ -84,6 +86,14 @@ has_shape_among shapes r =
 -- only the candidates stay that have a field of one of the shapes
 abbrev pub satisfy_shapes : List ℕ → State → State
 satisfy_shapes shapes s = narrowed true (has_shape_among shapes) s
+
+-- the shapes of fields behind references
+abbrev pub shapes_of : List (Bor FieldInfo) → List ℕ
+shapes_of fields = map (λ f. f.now.value_shape) fields
+
+-- only the candidates stay that have a field of the shape of one of some fields
+abbrev pub satisfy : List (Bor FieldInfo) → State → State
+satisfy fields s = satisfy_shapes (shapes_of fields) s
 
 -- whether a key of the name was seen
 abbrev pub was_field_seen : Name → State → Bool

@@ -7,8 +7,6 @@ ghost use Rattle.facet_solver_shape.specs.declared.resolution.key.FieldCategory.
 ghost use Rattle.facet_solver.specs.Schema.{IsHandleOf, index_of};
 ghost use Rattle.facet_solver.specs.IndexSet.{IsWithin, how_many, matches_view};
 ghost use Rattle.facet_solver.specs.KeyResult.{HaveShape, HoldsHandleOf, IsUnknownOrSolved, key_result, key_result_view};
-ghost use Rattle.facet_solver.specs.SatisfyResult as satisfy;
-ghost use Rattle.facet_solver.specs.SatisfyResult.{satisfy_result, satisfy_result_view};
 ghost use Rattle.facet_solver.specs.State as state;
 ghost use Rattle.facet_solver.specs.State.{narrowed, new_solver, passing, picks_variant};
 ghost use Rattle.facet_solver.specs.Words.{word_count};
@@ -19,18 +17,20 @@ pub(crate) mod distinct_fields;
 pub(crate) mod key_result;
 pub(crate) mod report;
 pub(crate) mod run;
+mod satisfy;
 pub(crate) mod satisfy_result;
+pub(crate) mod shape_at_path;
+pub(crate) mod shaped;
 
 use crate::error::SolverError;
 use crate::schema::Schema;
 use crate::schema::handle::ResolutionHandle;
 use crate::set::{Matches, ResolutionSet};
-use conditions::{AtIndex, HasShapeAmong, IsViable, PicksVariant, Test, was_name_seen};
+use conditions::{AtIndex, IsViable, PicksVariant, Test, was_name_seen};
 use distinct_fields::KeySearch;
-use facet_solver_shape::{FieldKey, ShapeId, Steps};
+use facet_solver_shape::{FieldKey, Steps};
 use key_result::{KeyResult, key_result};
 use report::{ambiguity, no_match};
-use satisfy_result::SatisfyResult;
 use std::alloc::{AllocError, Global};
 use std::collections::BTreeSet;
 use std::marker::Model;
@@ -235,19 +235,6 @@ impl<'s, 'c, 'a> Solver<'s, 'c, 'a> {
         self.narrow(PicksVariant { name })
     }
 
-    /// Says that a value fits any of the shapes: of the candidates those stay that have a field of one of
-    /// them. Where there is none, none stays.
-    ///
-    /// The answer goes by the number of candidates that are left.
-    pub fn satisfy_shapes(&mut self, shapes: &[ShapeId]) -> SatisfyResult<'s, 'c>
-        ensures answer { satisfy_result_view result ≡ satisfy_result self.new }
-        ensures handle { satisfy.HoldsHandleOf self.old.schema result }
-        ensures narrowed { self.new ≡ state.satisfy_shapes shapes.now self.old }
-    {
-        self.retain(HasShapeAmong { shapes });
-        self.satisfy_result()
-    }
-
     /// The one candidate all of whose required names are names of seen keys.
     ///
     /// The error is `NoMatch` where there is none, and `Ambiguous` where there are several, or
@@ -292,19 +279,6 @@ impl<'s, 'c, 'a> Solver<'s, 'c, 'a> {
     {
         let resolutions = self.schema.resolutions();
         self.candidates.matching(&AtIndex { resolutions, test })
-    }
-
-    // The answer by the number of candidates that are left.
-    fn satisfy_result(&self) -> SatisfyResult<'s, 'c>
-        ensures answer { satisfy_result_view result ≡ satisfy_result self.now }
-        ensures handle { satisfy.HoldsHandleOf self.now.schema result }
-    {
-        let mut indices = self.candidates.iter();
-        match (indices.next(), indices.next()) {
-            (None, _) => SatisfyResult::NoMatch,
-            (Some(index), None) => SatisfyResult::Solved(ResolutionHandle::new(self.schema, index)),
-            _ => SatisfyResult::Continue,
-        }
     }
 
     // Only the candidates stay that pass a test.

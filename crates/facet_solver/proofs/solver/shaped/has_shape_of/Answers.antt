@@ -1,0 +1,15 @@
+use Rattle.std.proofs.Common.{ℕ, Bool, nat_eq, ap, sym, ◌∙◌}
+use Rattle.std.specs.FinMap.{values}
+use Rattle.std.specs.List.{list_any}
+use Rattle.facet_solver_shape.specs.Fields.{FieldView}
+use Rattle.facet_solver_shape.proofs.Lists.{list_any-map}
+use Rattle.facet_solver.proofs.State.{shape_among}
+use Rattle.facet_solver.proofs.solver.shaped.has_shape_of.Goals as goal
+
+pub returns : goal.returns
+returns g c =
+    let items = c.args.items.now in
+    let fields = c.args.resolution.now.fields in
+    c.have_shape_of.ensures
+    ∙ shape_among c.fields.result.now.entries fields (λ (shape : ℕ). list_any (λ x. nat_eq (g.S.Shaped.shape_of x) shape) items) c.fields.ensures.in_order
+    ∙ ap (λ (test : FieldView → Bool). list_any test (values fields)) (λ j f. sym (list_any-map (λ (id : ℕ). nat_eq id f.shape) g.S.Shaped.shape_of items) j)

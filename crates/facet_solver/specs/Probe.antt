@@ -1,0 +1,90 @@
+-- What a solver does with a key that stands at a path of names, and what it answers.
+use Rattle.std.specs.Prelude.{ℕ, Bool, List, [], ◌∷◌, ◌++◌, Option, None, filter, map, slice_get, true}
+use Rattle.std.specs.FinSet as set
+use Rattle.std.specs.List.{filter_map}
+use Rattle.std.specs.Option.{option_and_then, option_map}
+use Rattle.facet_solver_shape.specs.Fields.{FieldView}
+use Rattle.facet_solver_shape.specs.Names.{Name}
+use Rattle.facet_solver_shape.specs.Resolved.{Resolved}
+use Rattle.facet_solver.specs.Build.{Catalogue}
+use Rattle.facet_solver.specs.IndexSet.{HowMany, no_index, one_index, several_indices, how_many}
+use Rattle.facet_solver.specs.KeyResult.{KeyResultView, unknown, solved, unambiguous, ambiguous, score_at}
+use Rattle.facet_solver.specs.Schema.{SchemaView}
+use Rattle.facet_solver.specs.ShapeAtPath.{field_by_name, first_of_each, shape_below}
+use Rattle.facet_solver.specs.State.{State, narrowed, passes}
+
+-- the whole path of a key that stands at a path
+abbrev pub whole_path : List Name → Name → List Name
+whole_path path key = path ++ key ∷ []
+
+-- whether a resolution has a whole key path
+abbrev pub has_key_path : List Name → Resolved → Bool
+has_key_path whole r = set.contains r.key_paths whole
+
+-- only the candidates stay that have the whole path of the key
+abbrev pub probe_key : List Name → Name → State → State
+probe_key path key s = narrowed true (has_key_path (whole_path path key)) s
+
+-- the names of a path below the first
+abbrev pub below_first : List Name → List Name
+below_first [] = []
+below_first (name ∷ path) = path
+
+-- the field of a resolution that has the first name of a path
+abbrev pub first_field : List Name → Resolved → Option FieldView
+first_field [] r = None
+first_field (name ∷ path) r = field_by_name name r
+
+-- where a resolution has a shape at a path: the field of the first name, with that shape
+abbrev pub field_on_path : Catalogue → List Name → Resolved → Option (FieldView × ℕ)
+field_on_path cat whole r =
+    option_and_then
+    (λ f. option_map (λ shape. (f, shape)) (shape_below cat (below_first whole) f.shape))
+    (first_field whole r)
+
+-- the same of the resolution at an index
+abbrev pub field_on_path_at : Catalogue → List Name → List Resolved → ℕ → Option (FieldView × ℕ)
+field_on_path_at cat whole resolutions index =
+    option_and_then (field_on_path cat whole) (slice_get resolutions index)
+
+-- of the resolutions at some indices the fields of the first name of a path, the first for each shape at the path
+abbrev pub fields_on_path : List Name → SchemaView → List ℕ → List (FieldView × ℕ)
+fields_on_path whole schema indices =
+    first_of_each (λ e. e.1)
+    (filter_map (field_on_path_at schema.build.catalogue whole schema.resolutions) indices)
+
+-- a field with the score of a shape
+abbrev pub scored : Catalogue → FieldView × ℕ → FieldView × ℕ
+scored cat e = (e.0, score_at cat e.1)
+
+-- of the resolutions at some indices that have a whole path, the shapes there, each once
+abbrev pub shapes_at : List Name → SchemaView → List ℕ → List ℕ
+shapes_at whole schema indices =
+    map (λ e. e.1)
+    (fields_on_path whole schema (filter (passes (has_key_path whole) schema.resolutions) indices))
+
+-- and the fields of the first name, one for each such shape, with its score
+abbrev pub scored_at : List Name → SchemaView → List ℕ → List (FieldView × ℕ)
+scored_at whole schema indices =
+    map (scored schema.build.catalogue)
+    (fields_on_path whole schema (filter (passes (has_key_path whole) schema.resolutions) indices))
+
+-- by the shapes that a value may have, each with a field: one says what the value is, more do not, and are shown by the
+-- field with the score of the shape
+abbrev pub by_shapes : Catalogue → List (FieldView × ℕ) → KeyResultView
+by_shapes cat [] = unknown
+by_shapes cat (e ∷ []) = unambiguous e.1
+by_shapes cat es = ambiguous (map (scored cat) es)
+
+-- by how many candidates are left
+abbrev pub by_number : KeyResultView → HowMany → KeyResultView
+by_number several no_index = unknown
+by_number several (one_index index) = solved index
+by_number several several_indices = several
+
+-- the answer to a key at a path, by the candidates that are left
+abbrev pub probe_result : List Name → Name → State → KeyResultView
+probe_result path key s =
+    let cat = s.schema.build.catalogue in
+    let left = (probe_key path key s).candidates in
+    by_number (by_shapes cat (fields_on_path (whole_path path key) s.schema left)) (how_many left)
