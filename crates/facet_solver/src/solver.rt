@@ -10,12 +10,13 @@ ghost use Rattle.facet_solver.specs.KeyResult.{HoldsHandleOf, IsUnknownOrSolved,
 ghost use Rattle.facet_solver.specs.SatisfyResult as satisfy;
 ghost use Rattle.facet_solver.specs.SatisfyResult.{satisfy_result, satisfy_result_view};
 ghost use Rattle.facet_solver.specs.State as state;
-ghost use Rattle.facet_solver.specs.State.{narrowed, new_solver, passing, picks_variant};
+ghost use Rattle.facet_solver.specs.State.{narrowed, new_solver, passing};
 ghost use Rattle.facet_solver.specs.Words.{word_count};
 ghost use Rattle.facet_solver.specs.Verdict.{IsAmbiguityOf, IsReportOn, descriptions, viable};
 
 pub(crate) mod conditions;
 pub(crate) mod distinct_fields;
+mod hint;
 pub(crate) mod key_result;
 pub(crate) mod report;
 pub(crate) mod satisfy_result;
@@ -24,7 +25,7 @@ use crate::error::SolverError;
 use crate::schema::Schema;
 use crate::schema::handle::ResolutionHandle;
 use crate::set::{Matches, ResolutionSet};
-use conditions::{AtIndex, HasShapeAmong, IsViable, PicksVariant, Test, was_name_seen};
+use conditions::{AtIndex, HasShapeAmong, IsViable, Test, was_name_seen};
 use distinct_fields::KeySearch;
 use facet_solver_shape::{FieldKey, ShapeId, Steps};
 use key_result::{KeyResult, key_result};
@@ -219,16 +220,6 @@ impl<'s, 'c, 'a> Solver<'s, 'c, 'a> {
         ensures { result ≡ state.was_field_seen name.now self.now }
     {
         was_name_seen(&self.seen, name)
-    }
-
-    /// Takes the hint that the document means a variant of the name, of whichever enum: of the
-    /// candidates those stay that picked such a variant. Where none did, all stay and the answer is false.
-    pub fn hint_variant(&mut self, name: &str) -> bool
-        ensures picked { IsTrue result ↔ (passing (picks_variant name.now) self.old ≢ []) }
-        ensures narrowed { self.new ≡ state.hint_variant name.now self.old }
-        ensures unchanged { OnFalse result (self.new ≡ self.old) }
-    {
-        self.narrow(PicksVariant { name })
     }
 
     /// Says that a value fits any of the shapes: of the candidates those stay that have a field of one of
