@@ -1,5 +1,5 @@
 -- States of a solver, and what calls leave of them.
-use Rattle.std.specs.Prelude.{ℕ, Bool, List, [], ◌∷◌, Option, Some, None, filter, find, if◌then◌else◌, is_some, length, map, nat_eq, refl, slice_get, true, false}
+use Rattle.std.specs.Prelude.{ℕ, Bool, List, [], ◌∷◌, ◌&&◌, Option, Some, None, filter, find, if◌then◌else◌, is_some, length, map, nat_eq, refl, slice_get, string_bytes, true, false}
 use Rattle.std.specs.BTreeSet.{insert_key}
 use Rattle.std.specs.Coded.{Coded, code_by, coded×, coded_ℕ, coded_list}
 use Rattle.std.specs.FinMap as finite
@@ -7,11 +7,15 @@ use Rattle.std.specs.List.{list_any}
 use Rattle.std.specs.Option.{option_and_then, option_map_or}
 use denote.Bor.{Bor}
 use Rattle.facet_solver_shape.specs.declared.resolution.field.FieldInfo.{FieldInfo}
+use Rattle.std.specs.declared.alloc.Global.{Global}
+use Rattle.std.specs.declared.string.String.{String}
+use Rattle.facet_solver_shape.specs.declared.shape.Shape.{Shape}
 use Rattle.facet_solver_shape.specs.Keys.{Key, key_cmp}
 use Rattle.facet_solver_shape.specs.Fields.{matches, FieldView}
 use Rattle.facet_solver_shape.specs.Names.{Name, name_eq}
 use Rattle.facet_solver_shape.specs.Resolved.{Resolved}
 use Rattle.facet_solver_shape.specs.ResolvedCode.{key_code}
+use Rattle.facet_solver.specs.Build.{Catalogue}
 use Rattle.facet_solver.specs.IndexSet.{upto}
 use Rattle.facet_solver.specs.Schema.{SchemaView, schema_code}
 
@@ -77,6 +81,34 @@ picks_variant name r = list_any (λ pick. name_eq pick.variant_name name) r.pick
 -- only the candidates stay that picked a variant of the name, or all where none did
 abbrev pub hint_variant : Name → State → State
 hint_variant name s = narrowed false (picks_variant name) s
+
+-- whether an enum of these attributes has the name as its tag, and no content beside it
+abbrev pub is_tag_alone : Name → Option (String Global) → Option (String Global) → Bool
+is_tag_alone tag (Some name) None = name_eq (string_bytes name) tag
+is_tag_alone tag _ _ = false
+
+-- whether a shape has the name as its tag, and no content beside it
+abbrev pub has_tag_alone : Name → Shape → Bool
+has_tag_alone tag shape = is_tag_alone tag shape.tag shape.content
+
+-- whether a field has the name, and its shape has that name as its tag, and no content beside it
+abbrev pub is_tag_field : Catalogue → Name → FieldView → Bool
+is_tag_field cat tag f =
+    name_eq f.name tag && option_map_or (has_tag_alone tag) (slice_get cat f.shape) false
+
+-- whether one of a resolution's fields is such a field
+abbrev pub has_tag_field : Catalogue → Name → Resolved → Bool
+has_tag_field cat tag r = list_any (is_tag_field cat tag) (finite.values r.fields)
+
+-- a state where there is any index, and another where there is none
+abbrev pub where_any : List ℕ → State → State → State
+where_any [] some none = none
+where_any (index ∷ rest) some none = some
+
+-- where some candidate has such a field, a hint of the variant's name
+abbrev pub hint_variant_for_tag : Name → Name → State → State
+hint_variant_for_tag tag name s =
+    where_any (passing (has_tag_field s.schema.build.catalogue tag) s) (hint_variant name s) s
 
 -- whether one of a resolution's fields has one of the shapes
 abbrev pub has_shape_among : List ℕ → Resolved → Bool

@@ -1,5 +1,5 @@
 //! A solver that goes by key paths alone: it narrows resolutions by the nested keys of a document, and records none.
-ghost use Rattle.std.specs.Prelude.{◌≡◌, IfOk, map};
+ghost use Rattle.std.specs.Prelude.{◌≡◌, IfOk};
 ghost use Rattle.facet_solver_shape.specs.Names.{names_of};
 ghost use Rattle.facet_solver.specs.Probing.{probe_key, probe_result, probe_result_view, resolutions_of};
 
@@ -75,8 +75,7 @@ impl<'s, 'c> ProbingSolver<'s, 'c> {
         ensures answer { probe_result_view result ≡ probe_result self.new }
         ensures narrowed { self.new ≡ probe_key (names_of path.now) key.now self.old }
     {
-        self.candidates
-            .retain(|resolution| has_key_at(resolution, path, key));
+        retain_with_key(&mut self.candidates, path, key);
         self.finish()
     }
 
@@ -97,6 +96,14 @@ impl<'s, 'c> ProbingSolver<'s, 'c> {
             _ => ProbeResult::KeepGoing,
         }
     }
+}
+
+// Only the resolutions stay that have the key at the path, in their order.
+fn retain_with_key<'s, 'c>(resolutions: &mut Vec<&'s Resolution<'c>>, path: &[&str], key: &str)
+    ensures { resolutions_of resolutions.new.items
+        ≡ probe_key (names_of path.now) key.now (resolutions_of resolutions.old.items) }
+{
+    resolutions.retain(|resolution| has_key_at(resolution, path, key));
 }
 
 // Printed as a derived impl would. The derive gets no proof where references lie in a vector, so each is printed by

@@ -8,12 +8,13 @@ ghost use Rattle.facet_solver.specs.Schema.{IsHandleOf, index_of};
 ghost use Rattle.facet_solver.specs.IndexSet.{IsWithin, how_many, matches_view};
 ghost use Rattle.facet_solver.specs.KeyResult.{HaveShape, HoldsHandleOf, IsUnknownOrSolved, key_result, key_result_view};
 ghost use Rattle.facet_solver.specs.State as state;
-ghost use Rattle.facet_solver.specs.State.{narrowed, new_solver, passing, picks_variant};
+ghost use Rattle.facet_solver.specs.State.{narrowed, new_solver, passing};
 ghost use Rattle.facet_solver.specs.Words.{word_count};
 ghost use Rattle.facet_solver.specs.Verdict.{IsAmbiguityOf, IsReportOn, descriptions, viable};
 
 pub(crate) mod conditions;
 pub(crate) mod distinct_fields;
+mod hint;
 pub(crate) mod key_result;
 pub(crate) mod report;
 pub(crate) mod run;
@@ -26,7 +27,7 @@ use crate::error::SolverError;
 use crate::schema::Schema;
 use crate::schema::handle::ResolutionHandle;
 use crate::set::{Matches, ResolutionSet};
-use conditions::{AtIndex, IsViable, PicksVariant, Test, was_name_seen};
+use conditions::{AtIndex, IsViable, Test, was_name_seen};
 use distinct_fields::KeySearch;
 use facet_solver_shape::{FieldKey, Steps};
 use key_result::{KeyResult, key_result};
@@ -223,16 +224,6 @@ impl<'s, 'c, 'a> Solver<'s, 'c, 'a> {
         ensures { result ≡ state.was_field_seen name.now self.now }
     {
         was_name_seen(&self.seen, name)
-    }
-
-    /// Takes the hint that the document means a variant of the name, of whichever enum: of the
-    /// candidates those stay that picked such a variant. Where none did, all stay and the answer is false.
-    pub fn hint_variant(&mut self, name: &str) -> bool
-        ensures picked { IsTrue result ↔ (passing (picks_variant name.now) self.old ≢ []) }
-        ensures narrowed { self.new ≡ state.hint_variant name.now self.old }
-        ensures unchanged { OnFalse result (self.new ≡ self.old) }
-    {
-        self.narrow(PicksVariant { name })
     }
 
     /// The one candidate all of whose required names are names of seen keys.

@@ -8,6 +8,8 @@ ghost use Rattle.facet_solver_shape.specs.Names.{name_eq};
 ghost use Rattle.facet_solver.specs.State.{has_shape_among, passes, passing_at, picks_variant};
 ghost use Rattle.facet_solver.specs.Verdict as verdict;
 
+pub(crate) mod tag_field;
+
 use crate::set::Condition;
 use facet_solver_shape::{FieldInfo, FieldKey, Resolution, ShapeId, VariantSelection};
 use std::collections::btree_set::Iter;
