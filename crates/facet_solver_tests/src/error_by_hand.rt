@@ -31,7 +31,10 @@ impl<'c> ErrorByHand<'c> {
     }
 
     /// Makes a call that adds to the lists.
-    pub fn add(&mut self, words: &mut SplitWhitespace<'c>) -> Result<(), Stop> {
+    pub fn add<'t>(&mut self, words: &mut SplitWhitespace<'t>) -> Result<(), Stop>
+    where
+        't: 'c,
+    {
         let call = word(words)?;
         let name = word(words)?;
         let text = String::from_str(self.alloc, name)?;
