@@ -25,10 +25,10 @@ pub fn answer(
             closest_resolution,
             candidate_failures,
         } => match word(words)? {
-            "input_fields" => Ok(format!(in alloc; "{input_fields:?}")?),
+            "input_fields" => Ok(quoted(alloc, input_fields)?),
             "missing_required" => Ok(format!(in alloc; "{missing_required:?}")?),
             "missing_required_detailed" => Ok(missing(alloc, missing_required_detailed)?),
-            "unknown_fields" => Ok(format!(in alloc; "{unknown_fields:?}")?),
+            "unknown_fields" => Ok(quoted(alloc, unknown_fields)?),
             "closest_resolution" => Ok(or_none(alloc, closest_resolution)?),
             "candidate_failures" => Ok(format!(in alloc; "{}", candidate_failures.len())?),
             "failure" => {
@@ -41,12 +41,16 @@ pub fn answer(
             candidates,
             disambiguating_fields,
         } => match word(words)? {
-            "candidates" => Ok(format!(in alloc; "{candidates:?}")?),
-            "disambiguating_fields" => Ok(format!(in alloc; "{disambiguating_fields:?}")?),
+            "candidates" => Ok(quoted(alloc, candidates)?),
+            "disambiguating_fields" => Ok(quoted(alloc, disambiguating_fields)?),
             _ => Err(Stop::Unread),
         },
         SolverError::OutOfMemory => Err(Stop::Refused),
     }
+}
+
+fn quoted(alloc: Global, names: &[String]) -> Result<String, AllocError> {
+    format!(in alloc; "{names:?}")
 }
 
 fn or_none(alloc: Global, text: &Option<String>) -> Result<String, AllocError> {
@@ -76,10 +80,7 @@ fn failure_answer(
     match word(words)? {
         "variant_name" => Ok(String::from_str(alloc, failure.variant_name.as_str())?),
         "missing_fields" => Ok(missing(alloc, &failure.missing_fields)?),
-        "unknown_fields" => {
-            let unknown = &failure.unknown_fields;
-            Ok(format!(in alloc; "{unknown:?}")?)
-        }
+        "unknown_fields" => Ok(quoted(alloc, &failure.unknown_fields)?),
         "suggestion_matches" => Ok(format!(in alloc; "{}", failure.suggestion_matches)?),
         _ => Err(Stop::Unread),
     }
