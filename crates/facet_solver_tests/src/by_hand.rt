@@ -1,7 +1,8 @@
 //! Calls on paths and resolutions that are made by hand.
 
 use crate::catalogue::Catalogue;
-use crate::line::{Stop, word};
+use crate::error_by_hand::ErrorByHand;
+use crate::line::{BAR, Stop, barred, word};
 use crate::resolution::{category_of, of_resolution, refusal};
 use facet_solver::{
     Field, FieldCategory, FieldInfo, FieldPath, KeyPath, PathSegment, Resolution, SchemaError,
@@ -11,7 +12,8 @@ use std::alloc::{AllocError, Global};
 use std::mem;
 use std::str::SplitWhitespace;
 
-/// A path that grows, the resolution that calls are about, and the one that it may be merged with.
+/// A path that grows, the resolution that calls are about, the one that it may be merged with, the lists of an error,
+/// and the text of the last error.
 #[derive(Drop)]
 pub struct Hand<'c, 't> {
     catalogue: Catalogue<'c, 't>,
@@ -19,6 +21,8 @@ pub struct Hand<'c, 't> {
     path: FieldPath<'c>,
     resolution: Resolution<'c>,
     other: Resolution<'c>,
+    error: ErrorByHand<'c>,
+    told: String,
 }
 
 impl<'c, 't> Hand<'c, 't>
@@ -33,6 +37,8 @@ where
             path: FieldPath::empty(catalogue.alloc),
             resolution: Resolution::new(catalogue.alloc),
             other: Resolution::new(catalogue.alloc),
+            error: ErrorByHand::new(catalogue.alloc),
+            told: String::new(catalogue.alloc),
         }
     }
 
@@ -55,8 +61,22 @@ where
                 mem::swap(&mut self.resolution, &mut self.other);
                 self.done(Ok(()))
             }
+            "error" => {
+                self.error.add(words)?;
+                self.done(Ok(()))
+            }
+            "no_match" => Ok(self.no_match()?),
+            BAR => Ok(barred(self.catalogue.alloc, self.told.as_str())?),
             call => self.path_answer(call, words),
         }
+    }
+
+    // The error of the lists so far, which are then empty again.
+    fn no_match(&mut self) -> Result<String, AllocError> {
+        let alloc = self.catalogue.alloc;
+        let lists = mem::replace(&mut self.error, ErrorByHand::new(alloc));
+        self.told = lists.into_error().to_string(alloc)?;
+        String::from_str(alloc, "ok")
     }
 
     // What a call answers that is about the path, or that reads the resolution.
@@ -83,10 +103,13 @@ where
         }
     }
 
-    fn done(&self, outcome: Result<(), SchemaError<'c>>) -> Result<String, Stop> {
+    fn done(&mut self, outcome: Result<(), SchemaError<'c>>) -> Result<String, Stop> {
         match outcome {
             Ok(()) => Ok(String::from_str(self.catalogue.alloc, "ok")?),
-            Err(error) => refusal(self.catalogue.alloc, &error),
+            Err(error) => {
+                self.told = error.to_string(self.catalogue.alloc)?;
+                refusal(self.catalogue.alloc, &error)
+            }
         }
     }
 

@@ -1,13 +1,19 @@
 //! What only code can show: names, derives, how long values live, and what stays where memory is refused.
 
+mod errors;
+mod refused;
+
 use crate::line::Stop;
 use crate::public_names::public_types_have_their_derives;
 use crate::readme::keys_tell_the_payload;
 use crate::types::Types;
+use errors::{a_second_field_is_an_error_of_a_schema, refused_memory_has_a_text};
 use facet_solver::{
-    CatalogueError, FieldKey, FieldPath, PathSegment, Resolution, ResolutionHandle, ScalarType,
-    Schema, SchemaError, Shape, ShapeId, ShapeKind, Shapes, Solver, SolverError, specificity_score,
+    CatalogueError, FieldKey, FieldPath, PathSegment, ProbeResult, ProbingSolver, Resolution,
+    ResolutionHandle, ScalarType, Schema, SchemaError, Shape, ShapeId, ShapeKind, Shapes, Solver,
+    SolverError, specificity_score,
 };
+use refused::{a_refused_key_leaves_the_solver_as_it_was, a_refused_run_has_made_the_calls_before};
 use std::alloc::{AllocError, AllocFailed, Global};
 
 /// Why a check does not hold.
@@ -75,13 +81,17 @@ pub enum Check {
     ResolutionOutlives,
     ShapeOutlives,
     EqualHandles,
+    ProbedOutlives,
     RefusedKey,
+    RefusedRun,
+    RefusedMemory,
+    SecondField,
     PathSegments,
     Readme,
 }
 
 /// The checks, by name.
-pub const CHECKS: [(&str, Check); 11] = [
+pub const CHECKS: [(&str, Check); 15] = [
     ("public_types_have_their_derives", Check::PublicTypes),
     ("keys_have_names_and_an_order", Check::Keys),
     ("a_catalogue_gives_its_shapes", Check::Catalogue),
@@ -98,11 +108,18 @@ pub const CHECKS: [(&str, Check); 11] = [
         Check::ResolutionOutlives,
     ),
     ("a_shape_outlives_its_schema", Check::ShapeOutlives),
+    (
+        "a_resolution_outlives_the_solver_that_was_probed",
+        Check::ProbedOutlives,
+    ),
     ("handles_are_equal_by_their_numbers", Check::EqualHandles),
     (
         "a_refused_key_leaves_the_solver_as_it_was",
         Check::RefusedKey,
     ),
+    ("a_refused_run_has_made_the_calls_before", Check::RefusedRun),
+    ("refused_memory_has_a_text", Check::RefusedMemory),
+    ("a_second_field_is_an_error_of_a_schema", Check::SecondField),
     ("a_path_gives_its_segments", Check::PathSegments),
     ("the_sample_of_the_readme_holds", Check::Readme),
 ];
@@ -119,7 +136,11 @@ impl Check {
             Check::ResolutionOutlives => a_resolution_outlives_its_handle(alloc),
             Check::ShapeOutlives => a_shape_outlives_its_schema(alloc),
             Check::EqualHandles => handles_are_equal_by_their_numbers(alloc),
+            Check::ProbedOutlives => a_resolution_outlives_the_solver_that_was_probed(alloc),
             Check::RefusedKey => a_refused_key_leaves_the_solver_as_it_was(alloc),
+            Check::RefusedRun => a_refused_run_has_made_the_calls_before(alloc),
+            Check::RefusedMemory => refused_memory_has_a_text(alloc),
+            Check::SecondField => a_second_field_is_an_error_of_a_schema(alloc),
             Check::PathSegments => a_path_gives_its_segments(alloc),
             Check::Readme => keys_tell_the_payload(alloc),
         }
@@ -201,6 +222,21 @@ fn a_resolution_outlives_its_handle(alloc: Global) -> Result<(), Failure> {
     hold(description.as_str() == "T::B", "its description")
 }
 
+fn probed<'s, 'c>(alloc: Global, schema: &'s Schema<'c>) -> Result<&'s Resolution<'c>, Failure> {
+    let mut solver = ProbingSolver::new(alloc, schema)?;
+    match solver.probe_key(&[], "y") {
+        ProbeResult::Solved(resolution) => Ok(resolution),
+        _ => Err(Failure::Broken("one has the key")),
+    }
+}
+
+fn a_resolution_outlives_the_solver_that_was_probed(alloc: Global) -> Result<(), Failure> {
+    let shapes = catalogue(alloc, &LETTERS)?;
+    let schema = schema(alloc, &shapes, S)?;
+    let description = probed(alloc, &schema)?.describe(alloc)?;
+    hold(description.as_str() == "T::B", "its description")
+}
+
 fn root_shape(alloc: Global, shapes: &Shapes) -> Result<&Shape, Failure> {
     let schema = schema(alloc, shapes, S)?;
     let root = schema.shapes().get(ShapeId::new(S));
@@ -221,21 +257,6 @@ fn handles_are_equal_by_their_numbers(alloc: Global) -> Result<(), Failure> {
     let second = Solver::new(alloc, &second)?.candidates(alloc)?;
     hold(first.first() == second.first(), "equal numbers")?;
     hold(first.first() != second.last(), "other numbers")
-}
-
-// At most one allocation fails in a run, so what was refused once is made at the second try.
-fn a_refused_key_leaves_the_solver_as_it_was(alloc: Global) -> Result<(), Failure> {
-    let shapes = catalogue(alloc, &LETTERS)?;
-    let schema = schema(alloc, &shapes, S)?;
-    let mut solver = Solver::new(alloc, &schema)?;
-    if let Err(AllocError) = solver.see_key(alloc, FieldKey::flat("x")) {
-        hold(solver.candidate_set().len() == 2, "the candidates stay")?;
-        hold(solver.seen_keys().is_empty(), "no key is seen")?;
-        let _answer = solver.see_key(alloc, FieldKey::flat("x"))?;
-    }
-    hold(solver.candidate_set().first() == Some(0), "the first stays")?;
-    hold(!solver.candidate_set().contains(1), "the second goes")?;
-    hold(solver.seen_keys().len() == 1, "the key is seen")
 }
 
 fn a_catalogue_gives_its_shapes(alloc: Global) -> Result<(), Failure> {

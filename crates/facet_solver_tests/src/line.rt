@@ -1,7 +1,6 @@
 //! Lines of a transcript, their words, and why a transcript ends early.
 
-use facet_solver::{SchemaError, SolverError};
-use std::alloc::{AllocError, AllocFailed};
+use std::alloc::{AllocError, AllocFailed, Global};
 use std::str::SplitWhitespace;
 
 /// Why a line has no answer.
@@ -40,19 +39,33 @@ impl From<AllocError> for End<'_> {
     }
 }
 
-/// One line of a file.
+impl<T: Drop> From<AllocFailed<T>> for End<'_> {
+    fn from(_refused: AllocFailed<T>) -> Self {
+        End::Refused
+    }
+}
+
+/// One line of a file, or the first of a text that is wanted.
 #[derive(Clone, Copy, Drop)]
 pub struct Line<'t> {
     /// Its number in the file, from 1.
     pub number: usize,
-    /// Its text, without blanks at its ends.
+    /// Its text, without blanks at its ends. Where a text is wanted: all of the file from there on.
     pub text: &'t str,
 }
+
+/// What the lines of a text that is wanted begin with.
+pub const BAR: &str = "|";
 
 impl<'t> Line<'t> {
     /// The first word.
     pub fn keyword(&self) -> &'t str {
         self.words().next().unwrap_or("")
+    }
+
+    /// Whether it is empty or a comment.
+    pub fn says_nothing(&self) -> bool {
+        self.text.is_empty() || self.text.starts_with('#')
     }
 
     fn words(&self) -> SplitWhitespace<'t> {
@@ -70,6 +83,9 @@ impl<'t> Line<'t> {
     }
 
     fn parts(&self) -> (&'t str, &'t str) {
+        if self.text.starts_with(BAR) {
+            return (BAR, "the text that stands there");
+        }
         if let Some(parts) = self.text.split_once(": ") {
             return parts;
         }
@@ -84,16 +100,28 @@ impl<'t> Line<'t> {
     /// Ends the transcript unless the answer is the one that is wanted, and no word of the call is left.
     pub fn expect(
         &self,
-        rest: &mut SplitWhitespace<'t>,
+        rest: &mut SplitWhitespace<'_>,
         came: Result<String, Stop>,
     ) -> Result<(), End<'t>> {
         let text = came.map_err(|stop| self.end(stop))?;
         if rest.next().is_some() {
             Err(End::Wrong(*self, None))
-        } else if text.as_str() == self.wanted() {
+        } else if self.is_wanted(text.as_str()) {
             Ok(())
         } else {
             Err(End::Wrong(*self, Some(text)))
+        }
+    }
+
+    fn is_wanted(&self, came: &str) -> bool {
+        if !self.text.starts_with(BAR) {
+            return came == self.wanted();
+        }
+        match self.text.strip_prefix(came) {
+            Some(behind) => {
+                behind.is_empty() || (behind.starts_with('\n') && !behind.starts_with("\n|"))
+            }
+            None => false,
         }
     }
 
@@ -125,6 +153,22 @@ pub fn number(words: &mut SplitWhitespace<'_>) -> Result<usize, Stop> {
 /// A word as a number.
 pub fn parsed(word: &str) -> Result<usize, Stop> {
     word.parse::<usize>().ok().ok_or(Stop::Unread)
+}
+
+/// A text as it stands in a transcript, each line behind a bar and a blank. An empty line is a bar alone.
+pub fn barred(alloc: Global, text: &str) -> Result<String, AllocError> {
+    let mut barred = String::new(alloc);
+    for line in text.split('\n') {
+        if !barred.is_empty() {
+            barred.push_str("\n")?;
+        }
+        barred.push_str(BAR)?;
+        if !line.is_empty() {
+            barred.push_str(" ")?;
+            barred.push_str(line)?;
+        }
+    }
+    Ok(barred)
 }
 
 /// Adds a part to an answer, behind a blank.

@@ -3,12 +3,16 @@
 
 mod by_hand;
 mod catalogue;
+mod error_by_hand;
+mod errors;
 mod in_code;
 mod line;
+mod probing;
 mod public_names;
 mod readme;
 mod resolution;
 mod solving;
+mod steps;
 mod transcript;
 mod types;
 

@@ -4,10 +4,12 @@ use crate::in_code::Failure;
 use facet_solver::{
     Call, CandidateFailure, CatalogueError, DomMark, DuplicateFieldError, EnumRepr, Field,
     FieldCategory, FieldInfo, FieldKey, FieldPath, Format, KeyPath, KeyResult, MissingFieldInfo,
-    PathSegment, Resolution, ResolutionHandle, ResolutionSet, ResolutionSetIter, ScalarType,
-    Schema, SchemaError, Shape, ShapeId, ShapeKind, Shapes, Solver, SolverError, Steps, StructKind,
-    Variant, VariantFormat, VariantSelection, VariantsByFormat,
+    PathSegment, ProbeResult, ProbingSolver, Resolution, ResolutionHandle, ResolutionSet,
+    ResolutionSetIter, SatisfyResult, ScalarType, Schema, SchemaError, Shape, ShapeId, ShapeKind,
+    Shapes, Solver, SolverError, Steps, StructKind, Variant, VariantFormat, VariantSelection,
+    VariantsByFormat,
 };
+use std::error::Error;
 use std::fmt::Debug;
 use std::hash::Hash;
 
@@ -18,6 +20,8 @@ fn is_copied<T: Debug + Copy + Eq>() {}
 fn is_ordered<T: Debug + Copy + Ord>() {}
 
 fn is_hashed<T: Hash>() {}
+
+fn is_an_error<T: Debug + Error>() {}
 
 fn is_compared<T: Debug + Eq>() {}
 
@@ -69,14 +73,18 @@ fn parts_are_printed() {
 fn wholes_are_printed() {
     is_printed::<Steps>();
     is_printed::<VariantsByFormat<'static>>();
-    is_printed::<SchemaError<'static>>();
     is_printed::<Schema<'static>>();
     is_printed::<ResolutionSet>();
     is_printed::<ResolutionSetIter<'static>>();
     is_printed::<Solver<'static, 'static, 'static>>();
     is_printed::<Call<'static>>();
     is_printed::<KeyResult<'static, 'static>>();
-    is_printed::<SolverError<'static>>();
+    is_printed::<SatisfyResult<'static, 'static>>();
+    is_printed::<Call<'static>>();
+    is_printed::<ProbingSolver<'static, 'static>>();
+    is_printed::<ProbeResult<'static, 'static>>();
+    is_an_error::<SolverError<'static>>();
+    is_an_error::<SchemaError<'static>>();
     is_printed::<MissingFieldInfo<'static>>();
     is_printed::<CandidateFailure<'static>>();
 }

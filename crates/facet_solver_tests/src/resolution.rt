@@ -1,7 +1,7 @@
 //! Calls that are about a schema and its resolutions.
 
 use crate::catalogue::Catalogue;
-use crate::line::{Stop, add, number, word};
+use crate::line::{Stop, add, number, parsed, word};
 use facet_solver::{FieldCategory, FieldInfo, FieldKey, Format, Resolution, Schema, SchemaError};
 use std::alloc::{AllocError, Global};
 use std::collections::BTreeSet;
@@ -32,6 +32,16 @@ fn format_word(format: Format) -> &'static str {
         Format::Flat => "flat",
         Format::Dom => "dom",
     }
+}
+
+/// The field that a number and a name tell, as `0.host`: that of a resolution.
+pub fn field<'s, 'c>(schema: &'s Schema<'c>, word: &str) -> Result<&'s FieldInfo<'c>, Stop> {
+    let (index, name) = word.split_once('.').ok_or(Stop::Unread)?;
+    let resolution = schema
+        .resolutions()
+        .get(parsed(index)?)
+        .ok_or(Stop::Unread)?;
+    resolution.field_by_name(name).ok_or(Stop::Unread)
 }
 
 /// What a call answers that reads a resolution.
@@ -74,6 +84,14 @@ pub fn key(word: &str) -> Result<FieldKey<'_>, Stop> {
         }
         None => Ok(FieldKey::flat(word)),
     }
+}
+
+/// The names of a path, between its dots; `<root>` is the path without names.
+pub fn path(alloc: Global, word: &str) -> Result<Vec<&str>, AllocError> {
+    if word == "<root>" {
+        return Ok(Vec::new(alloc));
+    }
+    word.split('.').collect(alloc)
 }
 
 /// The category that is named next.
@@ -156,7 +174,7 @@ fn has_path(
     resolution: &Resolution<'_>,
     words: &mut SplitWhitespace<'_>,
 ) -> Result<String, Stop> {
-    let path: Vec<&str> = word(words)?.split('.').collect(alloc)?;
+    let path = path(alloc, word(words)?)?;
     let answer = if resolution.has_key_path(&path) {
         "yes"
     } else {

@@ -1,30 +1,43 @@
 //! Calls of a solver, and those about its schema.
 
 use crate::catalogue::Catalogue;
-use crate::line::{Stop, add, number, word};
-use crate::resolution;
-use crate::resolution::{add_key, key};
+use crate::line::{BAR, Stop, add, number, word};
+use crate::probing::Probing;
+use crate::resolution::{add_key, field, key, path};
+use crate::steps::Step;
+use crate::{errors, resolution};
 use facet_solver::{
-    KeyResult, ResolutionHandle, SatisfyResult, Schema, Solver, SolverError, Steps,
+    KeyResult, ResolutionHandle, SatisfyResult, Schema, ShapeId, Solver, SolverError, Steps,
 };
-use std::alloc::AllocError;
+use std::alloc::{AllocError, Global};
 use std::mem;
+use std::slice::Iter;
 use std::str::SplitWhitespace;
 
-/// A schema, and the solver that is told keys now.
+/// A schema, the solvers that are told keys now, and the error of the one before.
 #[derive(Drop)]
 pub struct Session<'s, 'c, 't> {
     catalogue: Catalogue<'c, 't>,
     schema: &'s Schema<'c>,
     solver: Solver<'s, 'c, 't>,
+    probing: Probing<'s, 'c>,
+    runs: Iter<'t, Vec<Step<'t>>>,
+    error: Option<SolverError<'c>>,
 }
 
 impl<'s, 'c, 't> Session<'s, 'c, 't> {
-    pub fn new(catalogue: Catalogue<'c, 't>, schema: &'s Schema<'c>) -> Result<Self, AllocError> {
+    pub fn new(
+        catalogue: Catalogue<'c, 't>,
+        schema: &'s Schema<'c>,
+        runs: &'t [Vec<Step<'t>>],
+    ) -> Result<Self, AllocError> {
         Ok(Session {
             catalogue,
             schema,
             solver: Solver::new(catalogue.alloc, schema)?,
+            probing: Probing::new(catalogue.alloc, schema)?,
+            runs: runs.iter(),
+            error: None,
         })
     }
 
@@ -38,15 +51,35 @@ impl<'s, 'c, 't> Session<'s, 'c, 't> {
             "see_text" => Ok(self.see_text()?),
             "mark_seen" => self.mark_seen(words),
             "was_seen" => self.was_seen(words),
-            "hint_variant" => self.hint_variant(words),
-            "satisfy_shapes" => self.satisfy_shapes(words),
+            "probing" => self.probing.answer(words),
+            "run" => self.run(words),
             "candidates" => Ok(self.candidates()?),
             "candidate_set" => Ok(self.candidate_set()?),
             "contains" => self.contains(words),
             "last" => Ok(self.last()?),
             "seen" => Ok(self.seen()?),
             "finish" => Ok(self.finish()?),
-            call => resolution::answer(self.catalogue, self.schema, call, words),
+            call => self.narrowing_answer(call, words),
+        }
+    }
+
+    // What a call answers that narrows by other than a key, or that reads the error or the schema.
+    fn narrowing_answer(
+        &mut self,
+        call: &str,
+        words: &mut SplitWhitespace<'t>,
+    ) -> Result<String, Stop> {
+        match call {
+            "probe" => self.probe(words),
+            "hint_variant" => self.hint_variant(words),
+            "hint_variant_for_tag" => self.hint_variant_for_tag(words),
+            "satisfy" => self.satisfy(words),
+            "satisfy_shapes" => self.satisfy_shapes(words),
+            "satisfy_at_path" => self.satisfy_at_path(words),
+            "shapes_at_path" => self.shapes_at_path(words),
+            "error" => errors::answer(self.catalogue.alloc, self.error()?, words),
+            BAR => Ok(errors::text(self.catalogue.alloc, self.error()?)?),
+            _ => resolution::answer(self.catalogue, self.schema, call, words),
         }
     }
 
@@ -95,6 +128,34 @@ impl<'s, 'c, 't> Session<'s, 'c, 't> {
     fn hint_variant(&mut self, words: &mut SplitWhitespace<'t>) -> Result<String, Stop> {
         let is_picked = self.solver.hint_variant(word(words)?);
         Ok(self.yes_or_no(is_picked)?)
+    }
+
+    fn hint_variant_for_tag(&mut self, words: &mut SplitWhitespace<'t>) -> Result<String, Stop> {
+        let tag = word(words)?;
+        let is_picked = self.solver.hint_variant_for_tag(tag, word(words)?);
+        Ok(self.yes_or_no(is_picked)?)
+    }
+
+    fn probe(&mut self, words: &mut SplitWhitespace<'t>) -> Result<String, Stop> {
+        let alloc = self.catalogue.alloc;
+        let path = path(alloc, word(words)?)?;
+        let (key, path) = path.split_last().ok_or(Stop::Unread)?;
+        let answer = self.solver.probe_key(alloc, path, key)?;
+        Ok(self.key_answer(&answer)?)
+    }
+
+    // The calls were made of the words before.
+    fn run(&mut self, words: &mut SplitWhitespace<'t>) -> Result<String, Stop> {
+        let alloc = self.catalogue.alloc;
+        let mut calls = Vec::new(alloc);
+        for step in self.runs.next().ok_or(Stop::Unread)? {
+            calls.push(step.call()?)?;
+        }
+        for _ in words {}
+        match self.solver.run(alloc, &calls) {
+            Ok(()) => Ok(String::from_str(alloc, "ok")?),
+            Err(_made) => Err(Stop::Refused),
+        }
     }
 
     fn key_answer(&self, answer: &KeyResult<'_, '_>) -> Result<String, AllocError> {
@@ -154,18 +215,46 @@ impl<'s, 'c, 't> Session<'s, 'c, 't> {
         String::from_str(self.catalogue.alloc, answer)
     }
 
-    // The types are those of all words that are left.
-    fn satisfy_shapes(&mut self, words: &mut SplitWhitespace<'t>) -> Result<String, Stop> {
-        let alloc = self.catalogue.alloc;
-        let mut shapes = Vec::new(alloc);
+    // The types of all words that are left.
+    fn shapes(&self, words: &mut SplitWhitespace<'t>) -> Result<Vec<ShapeId>, Stop> {
+        let mut shapes = Vec::new(self.catalogue.alloc);
         for name in words {
             shapes.push(self.catalogue.id_of(name)?)?;
         }
-        match self.solver.satisfy_shapes(&shapes) {
-            SatisfyResult::Continue => Ok(String::from_str(alloc, "continue")?),
-            SatisfyResult::Solved(handle) => Ok(format!(in alloc; "solved {}", handle.index())?),
-            SatisfyResult::NoMatch => Ok(String::from_str(alloc, "no match")?),
+        Ok(shapes)
+    }
+
+    // The fields are those of all words that are left.
+    fn satisfy(&mut self, words: &mut SplitWhitespace<'t>) -> Result<String, Stop> {
+        let alloc = self.catalogue.alloc;
+        let mut fields = Vec::new(alloc);
+        for word in words {
+            fields.push(field(self.schema, word)?)?;
         }
+        Ok(satisfied(alloc, self.solver.satisfy(&fields))?)
+    }
+
+    fn satisfy_shapes(&mut self, words: &mut SplitWhitespace<'t>) -> Result<String, Stop> {
+        let shapes = self.shapes(words)?;
+        let answer = self.solver.satisfy_shapes(&shapes);
+        Ok(satisfied(self.catalogue.alloc, answer)?)
+    }
+
+    fn satisfy_at_path(&mut self, words: &mut SplitWhitespace<'t>) -> Result<String, Stop> {
+        let alloc = self.catalogue.alloc;
+        let path = path(alloc, word(words)?)?;
+        let shapes = self.shapes(words)?;
+        Ok(satisfied(alloc, self.solver.satisfy_at_path(&path, &shapes))?)
+    }
+
+    fn shapes_at_path(&self, words: &mut SplitWhitespace<'t>) -> Result<String, Stop> {
+        let alloc = self.catalogue.alloc;
+        let path = path(alloc, word(words)?)?;
+        let mut answer = String::new(alloc);
+        for shape in &self.solver.get_shapes_at_path(alloc, &path)? {
+            add(&mut answer, self.catalogue.name(*shape))?;
+        }
+        Ok(answer)
     }
 
     // The last candidate.
@@ -188,11 +277,12 @@ impl<'s, 'c, 't> Session<'s, 'c, 't> {
     // Finishes, and starts a new solver.
     fn finish(&mut self) -> Result<String, AllocError> {
         let alloc = self.catalogue.alloc;
+        self.error = None;
         let next = Solver::new(alloc, self.schema)?;
         let solver = mem::replace(&mut self.solver, next);
         match solver.finish(alloc) {
             Ok(handle) => self.solved(handle),
-            Err(error) => self.unsolved(&error),
+            Err(error) => self.unsolved(error),
         }
     }
 
@@ -202,18 +292,36 @@ impl<'s, 'c, 't> Session<'s, 'c, 't> {
         format!(in alloc; "{} {description}", handle.index())
     }
 
-    fn unsolved(&self, error: &SolverError<'_>) -> Result<String, AllocError> {
-        let alloc = self.catalogue.alloc;
-        match error {
-            SolverError::NoMatch { .. } => String::from_str(alloc, "no match"),
-            SolverError::Ambiguous { candidates, .. } => {
-                let mut answer = String::from_str(alloc, "ambiguous")?;
-                for candidate in candidates {
-                    add(&mut answer, candidate.as_str())?;
-                }
-                Ok(answer)
+    fn error(&self) -> Result<&SolverError<'c>, Stop> {
+        self.error.as_ref().ok_or(Stop::Unread)
+    }
+
+    // Keeps the error for the calls that read it.
+    fn unsolved(&mut self, error: SolverError<'c>) -> Result<String, AllocError> {
+        let answer = verdict(self.catalogue.alloc, &error)?;
+        self.error = Some(error);
+        Ok(answer)
+    }
+}
+
+fn verdict(alloc: Global, error: &SolverError<'_>) -> Result<String, AllocError> {
+    match error {
+        SolverError::NoMatch { .. } => String::from_str(alloc, "no match"),
+        SolverError::Ambiguous { candidates, .. } => {
+            let mut answer = String::from_str(alloc, "ambiguous")?;
+            for candidate in candidates {
+                add(&mut answer, candidate.as_str())?;
             }
-            SolverError::OutOfMemory => Err(AllocError),
+            Ok(answer)
         }
+        SolverError::OutOfMemory => Err(AllocError),
+    }
+}
+
+fn satisfied(alloc: Global, answer: SatisfyResult<'_, '_>) -> Result<String, AllocError> {
+    match answer {
+        SatisfyResult::Continue => String::from_str(alloc, "continue"),
+        SatisfyResult::Solved(handle) => format!(in alloc; "solved {}", handle.index()),
+        SatisfyResult::NoMatch => String::from_str(alloc, "no match"),
     }
 }

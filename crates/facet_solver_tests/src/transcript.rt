@@ -2,9 +2,10 @@
 
 use crate::by_hand::Hand;
 use crate::catalogue::Catalogue;
-use crate::line::{End, Line};
+use crate::line::{BAR, End, Line, barred};
 use crate::resolution::refusal;
 use crate::solving::Session;
+use crate::steps::{Step, steps};
 use crate::types::{Types, declares};
 use facet_solver::{CatalogueError, Schema, Shapes};
 use std::alloc::{AllocError, Global};
@@ -18,26 +19,43 @@ pub struct Transcript<'t> {
 }
 
 /// The transcripts of a file. Empty lines and those that begin with `#` say nothing.
-pub fn transcripts(alloc: Global, text: &str) -> Result<Vec<Transcript<'_>>, AllocError> {
+pub fn transcripts(alloc: Global, file: &str) -> Result<Vec<Transcript<'_>>, AllocError> {
     let mut transcripts: Vec<Transcript<'_>> = Vec::new(alloc);
+    let mut rest = file;
     let mut number = 0usize;
-    for line in text.lines() {
+    let mut in_text = false;
+    for line in file.split('\n') {
         number = number.saturating_add(1);
         let text = line.trim();
+        let was_in_text = in_text;
+        in_text = line.starts_with(BAR);
         if let Some(name) = text.strip_prefix("transcript ") {
             let (types, calls) = (Vec::new(alloc), Vec::new(alloc));
             transcripts.push(Transcript { name, types, calls })?;
-        } else if !text.is_empty() && !text.starts_with('#') {
-            if let Some(last) = transcripts.last_mut() {
+        } else if let Some(last) = transcripts.last_mut() {
+            if !in_text {
                 last.add(Line { number, text })?;
+            } else if !was_in_text {
+                last.add(Line { number, text: rest })?;
             }
         }
+        rest = behind_line(rest);
     }
     Ok(transcripts)
 }
 
+fn behind_line(text: &str) -> &str {
+    match text.split_once('\n') {
+        Some((_, rest)) => rest,
+        None => "",
+    }
+}
+
 impl<'t> Transcript<'t> {
     fn add(&mut self, line: Line<'t>) -> Result<(), AllocError> {
+        if line.says_nothing() {
+            return Ok(());
+        }
         if self.calls.is_empty() && declares(line.keyword()) {
             self.types.push(line)?;
         } else {
@@ -82,6 +100,7 @@ fn on_fault<'t>(alloc: Global, fault: CatalogueError, calls: &[Line<'t>]) -> Res
 
 // The calls up to the first schema, and those behind it.
 fn on_catalogue<'t>(catalogue: Catalogue<'_, 't>, calls: &[Line<'t>]) -> Result<(), End<'t>> {
+    let mut refused = String::new(catalogue.alloc);
     for index in 0..calls.len() {
         let line = &calls[index];
         let mut words = line.call_words();
@@ -94,9 +113,14 @@ fn on_catalogue<'t>(catalogue: Catalogue<'_, 't>, calls: &[Line<'t>]) -> Result<
                     Err(error) => refusal(catalogue.alloc, error),
                 };
                 line.expect(&mut words, came)?;
-                if let Ok(schema) = &built {
-                    return on_schema(catalogue, schema, &calls[index + 1..]);
+                match &built {
+                    Ok(schema) => return on_schema(catalogue, schema, &calls[index + 1..]),
+                    Err(error) => refused = error.to_string(catalogue.alloc)?,
                 }
+            }
+            BAR => {
+                words.next();
+                line.expect(&mut words, Ok(barred(catalogue.alloc, refused.as_str())?))?;
             }
             "by_hand" => return by_hand(catalogue, line, &calls[index + 1..]),
             _ => {
@@ -113,13 +137,29 @@ fn on_schema<'c, 't>(
     schema: &Schema<'c>,
     calls: &[Line<'t>],
 ) -> Result<(), End<'t>> {
-    let mut session = Session::new(catalogue, schema)?;
+    let runs = runs(catalogue, calls)?;
+    let mut session = Session::new(catalogue, schema, runs.as_slice())?;
     for line in calls {
         let mut words = line.call_words();
         let came = session.answer(&mut words);
         line.expect(&mut words, came)?;
     }
     Ok(())
+}
+
+// The steps of each run. A solver keeps what it is given in a run, so they are made before it.
+fn runs<'t>(
+    catalogue: Catalogue<'_, 't>,
+    calls: &[Line<'t>],
+) -> Result<Vec<Vec<Step<'t>>>, End<'t>> {
+    let mut runs = Vec::new(catalogue.alloc);
+    for line in calls {
+        if line.keyword() == "run" {
+            let steps = steps(catalogue, line.call_words()).map_err(|stop| line.end(stop))?;
+            runs.push(steps)?;
+        }
+    }
+    Ok(runs)
 }
 
 // The calls on what is made by hand, whose fields stand for the first field of the type that is named.
