@@ -55,7 +55,9 @@ pub record EndsWithOrNames (s : State) (index : ℕ) (text : Name) : Type 0 wher
   pub alone : length (viable s) ≡ 1 → viable s ≡ index ∷ []
   pub place : ℕ
   pub at_place : slice_get (viable s) place ≡ Some index
-  pub described : slice_get (map (λ r. description r.picks) (filter_map (slice_get s.schema.resolutions) (viable s))) place ≡ Some text
+  pub described : slice_get (map (λ r. description r.picks)
+      (filter_map (slice_get s.schema.resolutions) (viable s))) place
+      ≡ Some text
 
 -- the resolution of a choice has a key
 pub record ChoiceHasKey (build : Build) (root : ℕ) (choice : List ℕ) (key : Key) : Type 0 where

@@ -148,9 +148,11 @@ pub fn told_resolutions_are_found()
         → EndsWithOrNames (see_keys keys (new_solver schema)) index (description r.picks) }
 {}
 
-/// A new solver of a built schema that is told the keys of one choice ends with that choice's index or names it: whatever
-/// their order, repeats and unknown keys among them, where every name that the choice requires is told and no key that
-/// another choice has and this one lacks.
+/// A new solver of a built schema that sees the keys of one choice ends with that choice's index, or names it by its
+/// description at its own place.
+///
+/// The order does not matter, and keys may be repeated or unknown. Each name that the choice requires has to be told, and
+/// no told key may be one that another choice has and this one lacks.
 pub fn told_choices_are_found()
     ensures { (schema : SchemaView) → IsOwnBuild schema
         → (choices : List (List ℕ)) → ListsChoices schema.build schema.root choices
