@@ -22,3 +22,11 @@ pub mod Indexing
 pub mod UnderWay
 pub mod LookUps
 pub mod Kept
+pub mod NameEntries
+pub mod ByteOrder
+pub mod NameSets
+pub mod Left
+pub mod SeenNames
+pub mod AtIndices
+pub mod Reported
+pub mod Missing

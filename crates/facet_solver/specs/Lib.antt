@@ -18,6 +18,7 @@ pub mod State
 pub mod KeyResult
 pub mod SatisfyResult
 pub mod Report
+pub mod Failure
 pub mod Verdict
 pub mod Counts
 pub mod Slots
