@@ -23,3 +23,4 @@ pub mod UnderWay
 pub mod LookUps
 pub mod Kept
 pub mod FirstOfEach
+pub mod Probe

@@ -15,6 +15,8 @@ ghost use Rattle.facet_solver.specs.Verdict.{IsAmbiguityOf, IsReportOn, descript
 pub(crate) mod conditions;
 pub(crate) mod distinct_fields;
 pub(crate) mod key_result;
+pub(crate) mod path_search;
+mod probe;
 pub(crate) mod report;
 mod satisfy;
 pub(crate) mod satisfy_result;
