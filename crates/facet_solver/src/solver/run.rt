@@ -17,8 +17,12 @@ pub enum Call<'a> {
     MarkSeen(FieldKey<'a>),
     /// A value fits shapes: `Solver::satisfy_shapes`.
     SatisfyShapes(&'a [ShapeId]),
+    /// A value at a path of names fits shapes: `Solver::satisfy_at_path`.
+    SatisfyAtPath(&'a [&'a str], &'a [ShapeId]),
     /// A variant is hinted: `Solver::hint_variant`.
     HintVariant(&'a str),
+    /// A variant is hinted by the name under a tag, which comes first: `Solver::hint_variant_for_tag`.
+    HintVariantForTag(&'a str, &'a str),
 }
 
 impl<'s, 'c, 'a> Solver<'s, 'c, 'a> {
@@ -58,8 +62,14 @@ impl<'s, 'c, 'a> Solver<'s, 'c, 'a> {
             Call::SatisfyShapes(shapes) => {
                 self.satisfy_shapes(shapes);
             }
+            Call::SatisfyAtPath(path, shapes) => {
+                self.satisfy_at_path(path, shapes);
+            }
             Call::HintVariant(name) => {
                 self.hint_variant(name);
+            }
+            Call::HintVariantForTag(tag, name) => {
+                self.hint_variant_for_tag(tag, name);
             }
         }
         Ok(())
