@@ -1,5 +1,9 @@
-//! Laws of choices, walks and counts: each is the contract of a function that does nothing.
-ghost use Rattle.std.specs.Prelude.{◌≡◌, ◌≢◌, ◌++◌, [], ℕ, All, Bool, List, length, slice_get};
+//! Laws of choices, walks, counts and reports: each is the contract of a function that does nothing.
+ghost use Rattle.std.specs.Prelude.{◌≡◌, ◌≢◌, ◌↔◌, ◌++◌, [], ℕ, All, Bool, List, length, slice_get, true};
+ghost use Rattle.std.specs.Cmp.Lexicographic.{slice_cmp};
+ghost use Rattle.std.specs.List.Sorted.{IsStrictlySortedBy};
+ghost use Rattle.std.specs.Ordering.{nat_cmp};
+ghost use Rattle.facet_solver_shape.specs.Keys.{Key};
 ghost use Rattle.facet_solver_shape.specs.Catalogues.{IsChecked};
 ghost use Rattle.facet_solver_shape.specs.Names.{Name};
 ghost use Rattle.facet_solver_shape.specs.Resolved.{Resolved};
@@ -9,6 +13,8 @@ ghost use Rattle.facet_solver_shape.specs.declared.shape.Field.{Field};
 ghost use Rattle.facet_solver_shape.specs.declared.shape.Variant.{Variant};
 ghost use Rattle.facet_solver.specs.Choice.{IsChoice, IsClash, IsResolution, ListsChoices, Enumerates, GoesByName};
 ghost use Rattle.facet_solver.specs.Count.{count_fields, count_fields_step, count_of_root};
+ghost use Rattle.facet_solver.specs.Failure.{missing_names};
+ghost use Rattle.facet_solver.specs.Verdict.{disambiguating, is_viable};
 ghost use Rattle.facet_solver.specs.Place.{Path};
 ghost use Rattle.facet_solver.specs.declared.build.place.Place.{Place};
 ghost use Rattle.facet_solver.specs.declared.build.representation.Format.TheVariants.{Dom, Flat};
@@ -95,4 +101,18 @@ pub fn dom_fields_have_categories()
     ensures { (build : Build) (root : ℕ) (choice : List ℕ) (r : Resolved)
         → build.format ≡ Dom → IsResolution build root choice r
         → All (λ f. f.category ≢ FlatCategory) (finite.values r.fields) }
+{}
+
+/// The names that tell viable resolutions apart, and those that a resolution lacks, are in byte order and once each.
+pub fn reports_name_in_byte_order()
+    ensures disambiguating { (resolutions : List Resolved)
+        → IsStrictlySortedBy (slice_cmp nat_cmp) (disambiguating resolutions) }
+    ensures missing { (seen : List Key) (r : Resolved)
+        → IsStrictlySortedBy (slice_cmp nat_cmp) (missing_names seen r) }
+{}
+
+/// A resolution is viable exactly if it lacks none of its required names.
+pub fn viable_resolutions_lack_no_name()
+    ensures { (seen : List Key) (r : Resolved)
+        → (is_viable seen r ≡ true) ↔ (missing_names seen r ≡ []) }
 {}
