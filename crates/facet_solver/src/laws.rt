@@ -13,7 +13,6 @@ ghost use Rattle.facet_solver_shape.specs.declared.shape.Variant.{Variant};
 ghost use Rattle.facet_solver.specs.Choice.{IsChoice, IsClash, IsResolution, ListsChoices, Enumerates, GoesByName};
 ghost use Rattle.facet_solver.specs.Count.{count_fields, count_fields_step, count_of_root};
 ghost use Rattle.facet_solver.specs.Failure.{missing_names};
-ghost use Rattle.facet_solver.specs.Verdict.{disambiguating, is_viable};
 ghost use Rattle.facet_solver.specs.Place.{Path};
 ghost use Rattle.facet_solver.specs.declared.build.place.Place.{Place};
 ghost use Rattle.facet_solver.specs.declared.build.representation.Format.TheVariants.{Dom, Flat};
@@ -30,7 +29,7 @@ ghost use Rattle.facet_solver.specs.Run.{CallView, after_call, after_calls};
 ghost use Rattle.facet_solver.specs.State.{State, has_key, mark_seen, new_solver, passing, see_key};
 ghost use Rattle.facet_solver.specs.Told.{accepted_keys, indices_with, known_keys, see_keys};
 ghost use Rattle.facet_solver.specs.Told.{EndsWithOrNames, HasAllKnown, HaveSameKeys, LeavesSome, TellsChoice};
-ghost use Rattle.facet_solver.specs.Verdict.{is_viable, viable};
+ghost use Rattle.facet_solver.specs.Verdict.{disambiguating, is_viable, viable};
 
 /// A root has one list of all choices, and at most one list of resolutions.
 pub fn lists_are_the_only_ones()
