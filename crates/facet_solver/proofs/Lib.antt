@@ -29,3 +29,11 @@ pub mod Probed
 pub mod Told
 pub mod Run
 pub mod FirstOfEach
+pub mod NameEntries
+pub mod ByteOrder
+pub mod NameSets
+pub mod Left
+pub mod SeenNames
+pub mod AtIndices
+pub mod Reported
+pub mod Missing

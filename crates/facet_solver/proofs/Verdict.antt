@@ -1,28 +1,21 @@
--- What a solver says at the end: sets of names within one another, and descriptions of candidates.
-use Rattle.std.proofs.Common.{◌≡◌, Bool, true, false, ◌||◌, ◌&&◌, List, [], ◌∷◌, map, Bor, refl, sym, ◌∙◌, ⊎_elim, ℕ, cond, ◌++◌, filter, ap, Option, Some, None, string_bytes}
+-- What a solver says at the end: sets of names within one another.
+use Rattle.std.proofs.Common.{◌≡◌, Bool, true, false, ◌||◌, ◌&&◌, List, [], ◌∷◌, ◌++◌, map, Bor, refl, ap, sym, ◌∙◌, ⊎_elim}
 use Rattle.std.specs.declared.cmp.Ordering.{Ordering}
 use Rattle.std.specs.Cmp.{IsTotalOrder}
 use Rattle.std.specs.Cmp.Lexicographic.{slice_cmp, nat_list_eq_equiv, texts_ties}
 use Rattle.std.specs.FinSet as set
-use Rattle.std.specs.List.{list_any, list_all, cons_option, filter_map, slice_get}
+use Rattle.std.specs.List.{list_any, list_all}
 use Rattle.std.specs.Ordering.{nat_cmp, eq_by_cmp}
 use Rattle.std.proofs.lemmas.Bool.{false≢true, or_cases, or_left, or_right, and_from, and_parts}
 use Rattle.std.proofs.lemmas.Cmp.{nat_list_cmp_total, eq_by_cmp_equiv}
 use Rattle.facet_solver_shape.specs.Names.{Name, name_eq}
 use Rattle.facet_solver_shape.specs.Keys.{Key, key_of}
-use Rattle.facet_solver_shape.specs.Resolved.{names_view, description, Resolved}
+use Rattle.facet_solver_shape.specs.Resolved.{names_view}
 use Rattle.facet_solver_shape.specs.declared.resolution.key.FieldKey.{FieldKey}
 use Rattle.facet_solver_shape.proofs.Finite.{equal}
-use Rattle.facet_solver.specs.Verdict.{names_among, descriptions}
-use Rattle.std.specs.Option.{option_and_then, option_map_or}
-use Rattle.std.specs.declared.alloc.Global.{Global}
-use Rattle.std.specs.declared.string.String.{String}
-use Rattle.std.proofs.lemmas.List.{map-append}
 use Rattle.std.proofs.lemmas.List.Folds.{list_any-append}
-use Rattle.facet_solver.specs.State.{passes, passing_at}
-use Rattle.facet_solver.proofs.KeyResultFields.{filter_map_found, filter_map_none}
+use Rattle.facet_solver.specs.Failure.{names_among}
 
--- ---- sets of names within one another
 -- two tests that hold together are one
 pub same_test : (a b : Bool) → (a ≡ true → b ≡ true) → (b ≡ true → a ≡ true) → a ≡ b
 same_test true b f g = sym (f refl)
@@ -78,49 +71,3 @@ found_behind test skipped rest keys name later names split step found =
     ap (list_any (test name)) (sym split) ∙ list_any-append (test name) skipped rest ∙ or_right (list_any (test name) skipped) (list_any (test name) rest) found in
     ap (λ b. b && list_all (λ n. list_any (test n) keys) later) (sym here)
     ∙ ap (list_all (λ n. list_any (test n) keys)) (sym step)
-
--- ---- descriptions of candidates, one after another
--- the texts of the resolutions that pass
-abbrev pub passing_texts : (Resolved → Bool) → List Resolved → List ℕ → List (List ℕ)
-passing_texts test rs is = map (λ r. description r.picks) (filter_map (passing_at test rs) is)
-
-one_found : (h : ℕ → Option Resolved) (i : ℕ) (is : List ℕ) (r : Resolved) (b : Bool) → h i ≡ Some r
-    → cons_option (cond b (Some r) None) (filter_map h is) ≡ filter_map h (cond b (i ∷ is) is)
-one_found h i is r true at = ap (λ o. cons_option o (filter_map h is)) (sym at)
-one_found h i is r false at = refl
-
-one_read : (test : Resolved → Bool) (h : ℕ → Option Resolved) (i : ℕ) (is : List ℕ) (o : Option Resolved) → h i ≡ o
-    → cons_option (option_and_then (λ r. cond (test r) (Some r) None) o) (filter_map h is)
-    ≡ filter_map h (cond (option_map_or test o false) (i ∷ is) is)
-one_read test h i is None at = refl
-one_read test h i is (Some r) at = one_found h i is r (test r) at
-
--- the resolutions that pass are those of the indices that pass
-found_passing : (test : Resolved → Bool) (rs : List Resolved) (is : List ℕ)
-    → filter_map (passing_at test rs) is ≡ filter_map (slice_get rs) (filter (passes test rs) is)
-found_passing test rs [] = refl
-found_passing test rs (i ∷ is) =
-    ap (cons_option (passing_at test rs i)) (found_passing test rs is)
-    ∙ one_read test (slice_get rs) i (filter (passes test rs) is) (slice_get rs i) refl
-
--- the texts are the descriptions of the resolutions at the indices that pass
-pub passing_texts_are : (test : Resolved → Bool) (rs : List Resolved) (is : List ℕ)
-    → passing_texts test rs is ≡ descriptions rs (filter (passes test rs) is)
-passing_texts_are test rs is = ap (map (λ r. description r.picks)) (found_passing test rs is)
-
-module _ (test : Resolved → Bool) (rs : List Resolved) (ys : List ℕ) (i : ℕ) (texts : List (String Global)) (so_far : map string_bytes texts ≡ passing_texts test rs ys) where
-  -- a resolution that passes
-  pub texts_more : (r : Resolved) (text : String Global) → passing_at test rs i ≡ Some r → string_bytes text ≡ description r.picks
-      → map string_bytes (texts ++ text ∷ []) ≡ passing_texts test rs (ys ++ i ∷ [])
-  texts_more r text at is_text =
-      let text_of : Resolved → List ℕ = λ r. description r.picks in
-      map-append string_bytes texts (text ∷ [])
-      ∙ (λ j. so_far j ++ is_text j ∷ [])
-      ∙ sym (map-append text_of (filter_map (passing_at test rs) ys) (r ∷ []))
-      ∙ ap (map text_of) (sym (filter_map_found (passing_at test rs) ys i r at))
-
-  -- one that does not
-  pub texts_same : passing_at test rs i ≡ None → map string_bytes texts ≡ passing_texts test rs (ys ++ i ∷ [])
-  texts_same at =
-      so_far
-      ∙ ap (map (λ r. description r.picks)) (sym (filter_map_none (passing_at test rs) ys i at))

@@ -1,8 +1,8 @@
 -- The entries of an index.
-use Rattle.std.specs.Prelude.{◌≡◌, ◌||◌, ℕ, if◌then◌else◌, [], Option, Some, None, filter, nat_eq}
+use Rattle.std.specs.Prelude.{◌≡◌, ◌||◌, ℕ, Bool, false, if◌then◌else◌, [], Option, Some, None, filter, nat_eq}
 use Rattle.std.specs.BTreeMap.{BTreeMap, get_by}
 use Rattle.std.specs.Cmp.Lexicographic.{slice_cmp}
-use Rattle.std.specs.Option.{ForSome}
+use Rattle.std.specs.Option.{ForSome, option_map_or}
 use Rattle.std.specs.Ordering.{nat_cmp}
 use denote.Bor.{Bor}
 use Rattle.facet_solver_shape.specs.declared.resolution.key.FieldCategory.{FieldCategory}
@@ -45,6 +45,10 @@ with_category index Elements t = record index { lists = t }
 -- the entry of a slot
 abbrev pub entry_at : Index → Slot → Option Entry
 entry_at index slot = entry_in (category_of index slot.category) slot.name
+
+-- whether an entry has a resolution; where there is none, it has not
+abbrev pub holds : Option Entry → ℕ → Bool
+holds entry index = option_map_or (λ e. has e.set.members index) entry false
 
 -- an entry is over the numbers below a bound
 abbrev pub HasBound : ℕ → Option Entry → Type 0

@@ -24,6 +24,7 @@ pub mod ErrorTexts
 pub mod Probing
 pub mod ShapeAtPath
 pub mod Probe
+pub mod Failure
 pub mod Verdict
 pub mod Told
 pub mod Run

@@ -1,7 +1,7 @@
 -- The slots of an index: where a key looks, and which fields stand there.
-use Rattle.std.specs.Prelude.{Bool, ◌&&◌, if◌then◌else◌, Option, Some, None}
+use Rattle.std.specs.Prelude.{Bool, ◌&&◌, if◌then◌else◌, List, [], ◌∷◌, Option, Some, None}
 use Rattle.facet_solver_shape.specs.declared.resolution.key.FieldCategory.{FieldCategory}
-use Rattle.facet_solver_shape.specs.declared.resolution.key.FieldCategory.TheVariants.{Flat as FlatCategory, Element}
+use Rattle.facet_solver_shape.specs.declared.resolution.key.FieldCategory.TheVariants.{Flat as FlatCategory, Attribute, Element, Text, Tag, Elements}
 use Rattle.facet_solver_shape.specs.Keys.{Key}
 use Rattle.facet_solver_shape.specs.Fields.{category_eq, is_unnamed, takes_any_name, FieldView}
 use Rattle.facet_solver_shape.specs.Names.{Name, name_eq}
@@ -12,6 +12,14 @@ use Rattle.facet_solver.specs.declared.build.representation.Format.TheVariants.{
 pub record Slot : Type 0 where
   pub category : FieldCategory
   pub name : Option Name
+
+-- all categories
+abbrev pub categories : List FieldCategory
+categories = FlatCategory ∷ Attribute ∷ Element ∷ Text ∷ Tag ∷ Elements ∷ []
+
+-- the slot of a name in a category
+abbrev pub slot_in : Name → FieldCategory → Slot
+slot_in name category = record { category = category; name = Some name }
 
 -- whether a field goes by the name, or by any
 abbrev pub is_named : Option Name → FieldView → Bool

@@ -1,19 +1,20 @@
 -- What a solver says at the end.
-use Rattle.std.specs.Prelude.{◌≡◌, ◌≢◌, ◌<◌, ℕ, Bool, List, [], length, map, slice_get, string_bytes, ⊤}
-use Rattle.std.specs.Cmp.Lexicographic.{slice_cmp}
+use Rattle.std.specs.Prelude.{◌≡◌, ℕ, Bool, List, [], Option, Some, None, filter, length, map, not, slice_get, ⊤}
+use Rattle.std.specs.FinMap as finite
 use Rattle.std.specs.FinSet as set
-use Rattle.std.specs.List.{filter_map}
-use Rattle.std.specs.Ordering.{nat_cmp}
-use Rattle.facet_solver_shape.specs.Resolved.{description, Resolved}
-use Rattle.facet_solver_shape.specs.Keys.{Key}
+use Rattle.std.specs.List.{filter_map, flat_map, list_all, list_any}
+use Rattle.std.specs.Option.{option_and_then, option_map, option_map_or}
+use Rattle.facet_solver_shape.specs.Keys.{Key, key_of}
 use Rattle.facet_solver_shape.specs.Names.{Name}
+use Rattle.facet_solver_shape.specs.Resolved.{description, Resolved}
 use Rattle.facet_solver.specs.declared.error.SolverError.{SolverError}
+use Rattle.facet_solver.specs.declared.solver.report.Report.{Report}
 use Rattle.facet_solver.specs.declared.error.SolverError.TheVariants.{NoMatch, Ambiguous, OutOfMemory}
-use Rattle.facet_solver.specs.State.{State, passing}
-
--- the names of keys
-abbrev pub names_among : List Key → set.FinSet (slice_cmp nat_cmp)
-names_among seen = set.from_list (map (λ k. k.name) seen)
+use Rattle.facet_solver.specs.Failure.{failure_of, has_field_named, in_byte_order, missing, missing_fields, names_where}
+pub use Rattle.facet_solver.specs.Failure.{names_among}
+use Rattle.facet_solver.specs.IndexSet.{HowMany, no_index, one_index, several_indices, how_many, upto}
+use Rattle.facet_solver.specs.Report.{AmbiguityView, ErrorView, NoMatchView, ambiguous, error_view, no_match}
+use Rattle.facet_solver.specs.State.{State, or_all, passing}
 
 -- each required name is the name of a seen key
 abbrev pub is_viable : List Key → Resolved → Bool
@@ -23,28 +24,75 @@ is_viable seen r = set.is_subset r.required_names (names_among seen)
 abbrev pub viable : State → List ℕ
 viable s = passing (is_viable s.seen) s
 
--- the descriptions of the resolutions at some indices, in order
-abbrev pub descriptions : List Resolved → List ℕ → List Name
-descriptions resolutions indices =
-    map (λ r. description r.picks) (filter_map (slice_get resolutions) indices)
+-- the resolutions at some indices, in order
+abbrev pub resolutions_at : List Resolved → List ℕ → List Resolved
+resolutions_at resolutions indices = filter_map (slice_get resolutions) indices
 
--- a report that no candidate is viable
-abbrev pub IsNoMatch : SolverError → Type 0
-IsNoMatch (NoMatch _ _ _ _ _ _) = ⊤
-IsNoMatch (Ambiguous _ _) = ⊥
-IsNoMatch OutOfMemory = ⊥
+-- the descriptions of resolutions
+abbrev pub descriptions : List Resolved → List Name
+descriptions resolutions = map (λ r. description r.picks) resolutions
 
--- a report that several are, with their descriptions
-abbrev pub IsAmbiguityOf : List Name → SolverError → Type 0
-IsAmbiguityOf texts (NoMatch _ _ _ _ _ _) = ⊥
-IsAmbiguityOf texts (Ambiguous candidates _) = map string_bytes candidates.items ≡ texts
-IsAmbiguityOf texts OutOfMemory = ⊥
+-- the names of a resolution's fields, in key order
+abbrev pub field_names : Resolved → List Name
+field_names r = map (λ f. f.name) (finite.values r.fields)
 
--- no candidate is viable; several are, and all are described in order; or memory was refused, which it is not where one
--- candidate alone is viable
+-- the names that some but not all of some resolutions have, in byte order
+abbrev pub disambiguating : List Resolved → List Name
+disambiguating resolutions =
+    filter (λ name. not (list_all (has_field_named name) resolutions))
+    (in_byte_order (flat_map field_names resolutions))
+
+-- the state that a report is made from
+abbrev pub state_of_report : Report → State
+state_of_report report = record {
+  schema = report.schema.now;
+  candidates = report.candidates.now.members;
+  seen = map key_of report.seen.now.keys;
+}
+
+-- the names of the seen keys whose name no field of any resolution has
+abbrev pub unknown_names : List Key → List Resolved → List Name
+unknown_names seen resolutions = names_where (λ key. not (list_any (has_field_named key.name) resolutions)) seen
+
+-- the resolutions that a report speaks of: the candidates, or all where there is none
+abbrev pub reported : State → List Resolved
+reported s =
+    resolutions_at s.schema.resolutions (or_all s.candidates (upto (length s.schema.resolutions)))
+
+-- the first candidate
+abbrev pub closest : State → Option Resolved
+closest s = option_and_then (slice_get s.schema.resolutions) (slice_get s.candidates 0)
+
+-- the report that no candidate is viable
+abbrev pub no_match_of : State → NoMatchView
+no_match_of s =
+    let catalogue = s.schema.build.catalogue in
+    record {
+      input_fields = map (λ k. k.name) s.seen;
+      missing_required = option_map_or (λ r. map (λ f. f.name) (missing s.seen r)) (closest s) [];
+      missing_required_detailed = option_map_or (missing_fields catalogue s.seen) (closest s) [];
+      unknown_fields = unknown_names s.seen s.schema.resolutions;
+      closest_resolution = option_map (λ r. description r.picks) (closest s);
+      candidate_failures = map (failure_of catalogue s.seen) (reported s);
+    }
+
+-- the report that several are
+abbrev pub ambiguity_of : State → AmbiguityView
+ambiguity_of s =
+    let resolutions = resolutions_at s.schema.resolutions (viable s) in
+    record { candidates = descriptions resolutions; disambiguating_fields = disambiguating resolutions }
+
+-- the report, by how many candidates are viable: there is none where one alone is
+abbrev pub report_by : HowMany → State → Option ErrorView
+report_by no_index s = Some (no_match (no_match_of s))
+report_by (one_index index) s = None
+report_by several_indices s = Some (ambiguous (ambiguity_of s))
+
+-- what is reported where not exactly one candidate is viable
+abbrev pub report_of : State → Option ErrorView
+report_of s = report_by (how_many (viable s)) s
+
+-- an error is the report on a state, or says that memory was refused
 abbrev pub IsReportOn : State → SolverError → Type 0
-IsReportOn s (NoMatch _ _ _ _ _ _) = viable s ≡ []
-IsReportOn s (Ambiguous candidates _) =
-    (1 < length (viable s))
-    × (map string_bytes candidates.items ≡ descriptions s.schema.resolutions (viable s))
-IsReportOn s OutOfMemory = length (viable s) ≢ 1
+IsReportOn s OutOfMemory = ⊤
+IsReportOn s e = Some (error_view e) ≡ report_of s

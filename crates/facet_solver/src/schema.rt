@@ -1,14 +1,17 @@
 //! All resolutions of a type.
 ghost use Rattle.std.specs.Prelude.{◌≡◌, ◌<◌, IfErr, IfOk, None, Some, length};
+ghost use Rattle.std.specs.List.{list_any};
 ghost use Rattle.std.specs.Option.{option_copied};
 ghost use Rattle.facet_solver_shape.specs.Keys.{key_of};
 ghost use Rattle.facet_solver.specs.Build.{build_of, build_with};
 ghost use Rattle.facet_solver.specs.Choice.{IsRefusal};
 ghost use Rattle.facet_solver.specs.Count.{IsCountOf};
 ghost use Rattle.facet_solver.specs.Indexed.{IsEntryIfAny};
+ghost use Rattle.facet_solver.specs.Failure.{has_field_named};
 ghost use Rattle.facet_solver.specs.KeyResult.{field_at};
 ghost use Rattle.facet_solver.specs.Representation.{asked_view, externally_tagged, flattened, repr_view};
 ghost use Rattle.facet_solver.specs.Schema.{IsBuilt, IsOwnBuild, flat_build};
+ghost use Rattle.facet_solver.specs.State.{has_key, passes};
 
 pub(crate) mod handle;
 pub(crate) mod index;
@@ -17,7 +20,7 @@ use crate::build::Build;
 use crate::build::count::count_of_root;
 use crate::build::representation::{EnumRepr, Format};
 use crate::build::resolve::resolutions;
-use crate::schema::index::{Entry, Index};
+use crate::schema::index::{Entry, Index, holds};
 use facet_solver_shape::{FieldKey, Resolution, SchemaError, ShapeId, Shapes};
 use std::alloc::{AllocError, Global};
 use std::marker::Model;
@@ -217,6 +220,27 @@ impl<'c> Schema<'c> {
             (field_at (key_of key.entry) self.now.resolutions) (option_copied result) }
     {
         self.index.look_up(self.format, key)
+    }
+
+    // Whether the resolution at an index has a field that a key means.
+    pub(crate) fn has_key_at(&self, key: FieldKey<'_>, index: usize) -> bool
+        ensures { result ≡ passes (has_key (key_of key.entry)) self.now.resolutions index }
+    {
+        holds(self.look_up(key), index)
+    }
+
+    // Whether a field of any resolution has the name.
+    pub(crate) fn has_name(&self, name: &str) -> bool
+        ensures { result ≡ list_any (has_field_named name.now) self.now.resolutions }
+    {
+        self.index.has_name(name)
+    }
+
+    // Whether the resolution at an index has a field of the name.
+    pub(crate) fn has_name_at(&self, name: &str, index: usize) -> bool
+        ensures { result ≡ passes (has_field_named name.now) self.now.resolutions index }
+    {
+        self.index.has_name_at(name, index)
     }
 
     /// What kind of document the schema is for.

@@ -10,10 +10,10 @@ ghost use Rattle.facet_solver.specs.KeyResult.{HaveShape, HoldsHandleOf, IsUnkno
 ghost use Rattle.facet_solver.specs.State as state;
 ghost use Rattle.facet_solver.specs.State.{narrowed, new_solver, passing};
 ghost use Rattle.facet_solver.specs.Words.{word_count};
-ghost use Rattle.facet_solver.specs.Verdict.{IsAmbiguityOf, IsReportOn, descriptions, viable};
 
 pub(crate) mod conditions;
 pub(crate) mod distinct_fields;
+mod finish;
 mod hint;
 pub(crate) mod key_result;
 pub(crate) mod report;
@@ -23,15 +23,13 @@ pub(crate) mod satisfy_result;
 pub(crate) mod shape_at_path;
 pub(crate) mod shaped;
 
-use crate::error::SolverError;
 use crate::schema::Schema;
 use crate::schema::handle::ResolutionHandle;
 use crate::set::{Matches, ResolutionSet};
-use conditions::{AtIndex, IsViable, Test, was_name_seen};
+use conditions::{AtIndex, Test, was_name_seen};
 use distinct_fields::KeySearch;
 use facet_solver_shape::{FieldKey, Steps};
 use key_result::{KeyResult, key_result};
-use report::{ambiguity, no_match};
 use std::alloc::{AllocError, Global};
 use std::collections::BTreeSet;
 use std::marker::Model;
@@ -224,43 +222,6 @@ impl<'s, 'c, 'a> Solver<'s, 'c, 'a> {
         ensures { result ≡ state.was_field_seen name.now self.now }
     {
         was_name_seen(&self.seen, name)
-    }
-
-    /// The one candidate all of whose required names are names of seen keys.
-    ///
-    /// The error is `NoMatch` where there is none, and `Ambiguous` where there are several, or
-    /// `OutOfMemory` where memory for saying so is refused.
-    pub fn finish(self, alloc: Global) -> Result<ResolutionHandle<'s, 'c>, SolverError<'c>>
-        ensures one { IsOk result ↔ (length (viable self.entry) ≡ 1) }
-        ensures index { IfOk result (λ handle. viable self.entry ≡ index_of handle ∷ []) }
-        ensures handle { IfOk result (IsHandleOf self.entry.schema) }
-        ensures refused { IfErr result (IsReportOn self.entry) }
-    {
-        match self.viable() {
-            Matches::None => Err(no_match(alloc)),
-            Matches::One(index) => Ok(ResolutionHandle::new(self.schema, index)),
-            Matches::Several => Err(self.ambiguity(alloc)?),
-        }
-    }
-
-    // The candidates all of whose required names are names of seen keys, as far as their number matters.
-    fn viable(&self) -> Matches
-        ensures number { matches_view result ≡ how_many (viable self.now) }
-        ensures within { IsWithin (length self.now.schema.resolutions) result }
-    {
-        self.matching(IsViable { seen: &self.seen })
-    }
-
-    // The report that several candidates are viable.
-    fn ambiguity(&self, alloc: Global) -> Result<SolverError<'c>, AllocError>
-        ensures { IfOk result (IsAmbiguityOf
-            (descriptions self.now.schema.resolutions (viable self.now))) }
-    {
-        let viable = AtIndex {
-            resolutions: self.schema.resolutions(),
-            test: IsViable { seen: &self.seen },
-        };
-        ambiguity(alloc, &self.candidates, viable)
     }
 
     // The candidates that pass a test, as far as their number matters.

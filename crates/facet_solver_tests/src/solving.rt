@@ -151,7 +151,7 @@ impl<'s, 'c, 't> Session<'s, 'c, 't> {
         for step in self.runs.next().ok_or(Stop::Unread)? {
             calls.push(step.call()?)?;
         }
-        for _ in words {}
+        for _ in &mut *words {}
         match self.solver.run(alloc, &calls) {
             Ok(()) => Ok(String::from_str(alloc, "ok")?),
             Err(_made) => Err(Stop::Refused),
@@ -228,7 +228,7 @@ impl<'s, 'c, 't> Session<'s, 'c, 't> {
     fn satisfy(&mut self, words: &mut SplitWhitespace<'t>) -> Result<String, Stop> {
         let alloc = self.catalogue.alloc;
         let mut fields = Vec::new(alloc);
-        for word in words {
+        for word in &mut *words {
             fields.push(field(self.schema, word)?)?;
         }
         Ok(satisfied(alloc, self.solver.satisfy(&fields))?)

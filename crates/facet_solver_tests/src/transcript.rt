@@ -9,6 +9,7 @@ use crate::steps::{Step, steps};
 use crate::types::{Types, declares};
 use facet_solver::{CatalogueError, Schema, Shapes};
 use std::alloc::{AllocError, Global};
+use std::str::SplitWhitespace;
 
 /// The lines under one name.
 #[derive(Drop)]
@@ -138,9 +139,21 @@ fn on_schema<'c, 't>(
     calls: &[Line<'t>],
 ) -> Result<(), End<'t>> {
     let runs = runs(catalogue, calls)?;
-    let mut session = Session::new(catalogue, schema, runs.as_slice())?;
+    on_solvers(catalogue, schema, runs.as_slice(), calls)
+}
+
+fn on_solvers<'r, 'c, 't>(
+    catalogue: Catalogue<'c, 't>,
+    schema: &Schema<'c>,
+    runs: &'r [Vec<Step<'t>>],
+    calls: &[Line<'t>],
+) -> Result<(), End<'t>>
+where
+    't: 'r,
+{
+    let mut session: Session<'_, 'c, 'r> = Session::new(catalogue, schema, runs)?;
     for line in calls {
-        let mut words = line.call_words();
+        let mut words: SplitWhitespace<'r> = line.call_words();
         let came = session.answer(&mut words);
         line.expect(&mut words, came)?;
     }

@@ -1,20 +1,33 @@
 //! The index of a schema: which resolutions have a key.
-ghost use Rattle.std.specs.Prelude.{◌≡◌, ◌+◌, ◌<◌, IfOk, List, None, OnOk, Option, Some, if◌then◌else◌, length, take};
+ghost use Rattle.std.specs.Prelude.{◌≡◌, ◌+◌, ◌<◌, IfOk, List, None, OnOk, Option, Some, if◌then◌else◌, is_some, length, take};
+ghost use Rattle.std.specs.List.{list_any};
 ghost use Rattle.std.specs.Option.{option_copied};
 ghost use Rattle.facet_solver_shape.specs.Keys.{key_of};
 ghost use Rattle.facet_solver_shape.specs.Fields.{takes_any_name, field_view};
 ghost use Rattle.facet_solver_shape.specs.Names.{Name, name_eq};
 ghost use Rattle.facet_solver_shape.specs.Resolved.{Resolved};
-ghost use Rattle.facet_solver.specs.IndexEntries.{HasBound, added, category_of, entry_at, entry_in, entry_of_one, named_entry, with_occurrence};
+ghost use Rattle.facet_solver.specs.IndexEntries.{HasBound, added, category_of, entry_at, entry_in, entry_of_one, holds, named_entry, with_occurrence};
 ghost use Rattle.facet_solver.specs.Indexed.{AreOfFormat, IsEntryIfAny, IsIndexOf, fields_of_each};
+ghost use Rattle.facet_solver.specs.Failure.{has_field_named};
 ghost use Rattle.facet_solver.specs.KeyResult.{field_at};
-ghost use Rattle.facet_solver.specs.Slots.{Slot, is_at, is_named, slot_of};
+ghost use Rattle.facet_solver.specs.State.{passes};
+ghost use Rattle.facet_solver.specs.Slots.{Slot, categories, is_at, is_named, slot_in, slot_of};
 
 use crate::build::representation::Format;
 use crate::set::ResolutionSet;
 use facet_solver_shape::{FieldCategory, FieldInfo, FieldKey, Resolution, ShapeId};
 use std::alloc::{AllocError, Global};
 use std::collections::BTreeMap;
+
+// The categories of fields.
+const CATEGORIES: [FieldCategory; 6] = [
+    FieldCategory::Flat,
+    FieldCategory::Attribute,
+    FieldCategory::Element,
+    FieldCategory::Text,
+    FieldCategory::Tag,
+    FieldCategory::Elements,
+];
 
 /// A field of a resolution: the index of the resolution, how many resolutions there are, and the shape of the field.
 #[derive(Clone, Copy)]
@@ -128,6 +141,16 @@ impl<'c> CategoryIndex<'c> {
             self.add_to_all(alloc, at)?;
         }
         Ok(())
+    }
+}
+
+/// Whether an entry has a resolution. Where there is no entry, no resolution has the key.
+pub(crate) fn holds(entry: Option<&Entry>, index: usize) -> bool
+    ensures { result ≡ holds (option_copied entry.entry) index }
+{
+    match entry {
+        Some(entry) => entry.set.contains(index),
+        None => false,
     }
 }
 
@@ -249,6 +272,40 @@ impl<'c> Index<'c> {
             (field_at (key_of key.entry) resolutions) (option_copied result) }
     {
         self.entry_at(format, key)
+    }
+
+    /// Whether a field of any resolution has the name.
+    pub(crate) fn has_name(&self, name: &str) -> bool
+        ensures { (resolutions : List Resolved)
+            → IsIndexOf (length resolutions) (fields_of_each resolutions) self.now
+            → result ≡ list_any (has_field_named name.now) resolutions }
+    {
+        self.has_entry(name)
+    }
+
+    /// Whether a field of the resolution at an index has the name.
+    pub(crate) fn has_name_at(&self, name: &str, index: usize) -> bool
+        ensures { (resolutions : List Resolved)
+            → IsIndexOf (length resolutions) (fields_of_each resolutions) self.now
+            → result ≡ passes (has_field_named name.now) resolutions index }
+    {
+        self.is_held(name, index)
+    }
+
+    // Whether there is an entry of the name in any category.
+    fn has_entry(&self, name: &str) -> bool
+        ensures { result
+            ≡ list_any (λ c. is_some (entry_at self.now (slot_in name.now c))) categories }
+    {
+        CATEGORIES.iter().any(|category| self.of_category(*category).entry_of(name).is_some())
+    }
+
+    // Whether the entry of the name in any category has the resolution at an index.
+    fn is_held(&self, name: &str, index: usize) -> bool
+        ensures { result
+            ≡ list_any (λ c. holds (entry_at self.now (slot_in name.now c)) index) categories }
+    {
+        CATEGORIES.iter().any(|category| holds(self.of_category(*category).entry_of(name), index))
     }
 
     // The entry of the slot where a key looks.

@@ -1,59 +1,132 @@
-//! What a solver reports where not one candidate alone is viable.
-ghost use Rattle.std.specs.Prelude.{◌≡◌, IfOk, filter, map, string_bytes};
-ghost use Rattle.facet_solver.specs.State.{passes};
+//! What a solver reports where not exactly one candidate is viable.
+ghost use Rattle.std.specs.Prelude.{◌≡◌, [], IfOk, map};
+ghost use Rattle.std.specs.Option.{option_copied, option_map, option_map_or};
+ghost use Rattle.facet_solver_shape.specs.Names.{names_of, optional_name};
+ghost use Rattle.facet_solver_shape.specs.Resolved.{description};
+ghost use Rattle.facet_solver.specs.Failure as spec;
+ghost use Rattle.facet_solver.specs.Report.{ambiguous, error_view, failure_view, missing_view, no_match};
 ghost use Rattle.facet_solver.specs.Verdict as verdict;
-ghost use Rattle.facet_solver.specs.Verdict.{IsAmbiguityOf, IsNoMatch};
+ghost use Rattle.facet_solver.specs.Verdict.{ambiguity_of, no_match_of, state_of_report};
 
-use crate::error::SolverError;
+pub(crate) mod failure;
+pub(crate) mod names;
+pub(crate) mod viable;
+
+use crate::error::{CandidateFailure, MissingFieldInfo, SolverError};
+use crate::schema::Schema;
 use crate::set::ResolutionSet;
-use crate::solver::conditions::{AtIndex, Test};
+use crate::solver::conditions::IsViable;
+use facet_solver_shape::{FieldKey, Resolution};
+use failure::{failures_at, missing_fields};
+use names::{AnyKey, IsUnknown, names_where, seen_names};
 use std::alloc::{AllocError, Global};
+use std::collections::BTreeSet;
+use viable::{descriptions, disambiguating, viable_indices};
 
-/// No candidate is viable.
-pub(crate) fn no_match<'c>(alloc: Global) -> SolverError<'c>
-    ensures { IsNoMatch result }
-{
-    SolverError::NoMatch {
-        input_fields: Vec::new(alloc),
-        missing_required: Vec::new(alloc),
-        missing_required_detailed: Vec::new(alloc),
-        unknown_fields: Vec::new(alloc),
-        closest_resolution: None,
-        candidate_failures: Vec::new(alloc),
+/// What a report is made from: the state of a solver.
+#[derive(Clone, Copy)]
+pub(crate) struct Report<'r, 'c, 'a> {
+    pub(crate) alloc: Global,
+    pub(crate) schema: &'r Schema<'c>,
+    pub(crate) candidates: &'r ResolutionSet,
+    pub(crate) seen: &'r BTreeSet<FieldKey<'a>>,
+}
+
+impl<'r, 'c, 'a> Report<'r, 'c, 'a> {
+    /// The report that no candidate is viable.
+    pub(crate) fn no_match(&self) -> Result<SolverError<'c>, AllocError>
+        ensures { let state = state_of_report self.now in
+            IfOk result (λ e. error_view e ≡ no_match (no_match_of state)) }
+    {
+        let alloc = self.alloc;
+        let missing = self.closest_missing()?;
+        Ok(SolverError::NoMatch {
+            input_fields: names_where(alloc, self.seen, AnyKey)?,
+            missing_required: names_of(alloc, &missing)?,
+            missing_required_detailed: missing,
+            unknown_fields: names_where(
+                alloc,
+                self.seen,
+                IsUnknown {
+                    schema: self.schema,
+                },
+            )?,
+            closest_resolution: self.closest_description()?,
+            candidate_failures: self.failures()?,
+        })
     }
-}
 
-/// Several candidates are viable.
-pub(crate) fn ambiguity<'c, T: Test>(
-    alloc: Global,
-    candidates: &ResolutionSet,
-    viable: AtIndex<'_, '_, T>,
-) -> Result<SolverError<'c>, AllocError>
-    ensures { let resolutions = viable.entry.resolutions.now in
-        IfOk result (IsAmbiguityOf (verdict.descriptions resolutions
-        (filter (passes (T.is_passed viable.entry.test) resolutions) candidates.now.members))) }
-{
-    Ok(SolverError::Ambiguous {
-        candidates: descriptions(alloc, candidates, viable)?,
-        disambiguating_fields: Vec::new(alloc),
-    })
-}
+    /// The report that several candidates are viable.
+    pub(crate) fn ambiguity(&self) -> Result<SolverError<'c>, AllocError>
+        ensures { let state = state_of_report self.now in
+            IfOk result (λ e. error_view e ≡ ambiguous (ambiguity_of state)) }
+    {
+        let viable = viable_indices(self)?;
+        Ok(SolverError::Ambiguous {
+            candidates: descriptions(self.alloc, self.schema, &viable)?,
+            disambiguating_fields: disambiguating(self.alloc, self.schema, &viable)?,
+        })
+    }
 
-// The descriptions of the viable candidates, in order.
-fn descriptions<T: Test>(
-    alloc: Global,
-    candidates: &ResolutionSet,
-    viable: AtIndex<'_, '_, T>,
-) -> Result<Vec<String>, AllocError>
-    ensures { let resolutions = viable.entry.resolutions.now in
-        IfOk result (λ texts. map string_bytes texts.items ≡ verdict.descriptions resolutions
-        (filter (passes (T.is_passed viable.entry.test) resolutions) candidates.now.members)) }
-{
-    let mut texts = Vec::new(alloc);
-    for index in candidates.iter() {
-        if let Some(resolution) = viable.resolution_at(index) {
-            texts.push(resolution.describe(alloc)?)?;
+    // The first candidate.
+    fn closest(&self) -> Option<&'r Resolution<'c>>
+        ensures { option_copied result ≡ verdict.closest (state_of_report self.now) }
+    {
+        self.schema.resolutions().get(self.candidates.first()?)
+    }
+
+    // The description of the first candidate.
+    fn closest_description(&self) -> Result<Option<String>, AllocError>
+        ensures { IfOk result (λ text. optional_name text
+            ≡ option_map (λ r. description r.picks) (verdict.closest (state_of_report self.now))) }
+    {
+        match self.closest() {
+            Some(resolution) => Ok(Some(resolution.describe(self.alloc)?)),
+            None => Ok(None),
         }
     }
-    Ok(texts)
+
+    // What the first candidate lacks.
+    fn closest_missing(&self) -> Result<Vec<MissingFieldInfo<'c>>, AllocError>
+        ensures { let state = state_of_report self.now in
+            IfOk result (λ fields. map missing_view fields.items
+            ≡ option_map_or (spec.missing_fields state.schema.build.catalogue state.seen)
+            (verdict.closest state) []) }
+    {
+        match self.closest() {
+            Some(resolution) => {
+                let names = seen_names(self.alloc, self.seen)?;
+                missing_fields(self.alloc, self.schema.shapes(), &names, resolution)
+            }
+            None => Ok(Vec::new(self.alloc)),
+        }
+    }
+
+    // Why the candidates are not the answer, or where there is none, all resolutions.
+    fn failures(&self) -> Result<Vec<CandidateFailure<'c>>, AllocError>
+        ensures { let state = state_of_report self.now in
+            IfOk result (λ failures. map failure_view failures.items
+            ≡ map (spec.failure_of state.schema.build.catalogue state.seen)
+            (verdict.reported state)) }
+    {
+        let names = seen_names(self.alloc, self.seen)?;
+        if self.candidates.is_empty() {
+            let all = ResolutionSet::full(self.alloc, self.schema.resolutions().len())?;
+            failures_at(self, &names, &all)
+        } else {
+            failures_at(self, &names, self.candidates)
+        }
+    }
+}
+
+// The names of missing fields.
+fn names_of<'c>(alloc: Global, fields: &[MissingFieldInfo<'c>]) -> Result<Vec<&'c str>, AllocError>
+    ensures { IfOk result (λ names. names_of names.items
+        ≡ map (λ f. f.name) (map missing_view fields.now)) }
+{
+    let mut names = Vec::new(alloc);
+    for field in fields {
+        names.push(field.name)?;
+    }
+    Ok(names)
 }

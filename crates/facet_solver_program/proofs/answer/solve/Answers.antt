@@ -9,6 +9,7 @@ use Rattle.facet_solver.specs.Representation.{flattened}
 use Rattle.facet_solver.specs.State.{State, new_solver, see_key}
 use Rattle.facet_solver.specs.Build.{Catalogue}
 use Rattle.facet_solver.specs.Verdict.{IsReportOn, viable}
+use Rattle.facet_solver.proofs.Reported.{none_viable, several_viable}
 use Rattle.facet_solver_program.specs.Replies.{Ending, resolved, IsErrorAs, IsEnding, left_by, see_keys}
 use Rattle.facet_solver_program.proofs.answer.solve.Goals as goal
 
@@ -31,8 +32,8 @@ module _ (schema : SchemaView) (names : List Name) (first last : State) (first_i
   -- what an error of the solver says of the root
   ended : (shapes : Catalogue) (root : ℕ) → IsBuilt (flat_build shapes (Some flattened)) root schema
       → (error : SolverError) (o : Ending) → IsReportOn last error → IsErrorAs error o → IsEnding shapes root names o
-  ended shapes root built (NoMatch _ _ _ _ _ _) o report is = subst (IsEnding shapes root names) (sym is) (schema, built, sym left ∙ report)
-  ended shapes root built (Ambiguous _ _) o report is = subst (IsEnding shapes root names) (sym is) (schema, built, subst (λ is. 1 < length is) left report.0)
+  ended shapes root built (NoMatch _ _ _ _ _ _) o report is = subst (IsEnding shapes root names) (sym is) (schema, built, sym left ∙ none_viable last _ report)
+  ended shapes root built (Ambiguous _ _) o report is = subst (IsEnding shapes root names) (sym is) (schema, built, subst (λ is. 1 < length is) left (several_viable last _ report))
   ended shapes root built OutOfMemory o report is = absurd is
 
 pub returns-in-Ok-finish : goal.returns-in-Ok-finish

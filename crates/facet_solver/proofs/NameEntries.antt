@@ -1,0 +1,152 @@
+-- What the entries of a name in each category say of the resolutions.
+use Rattle.std.proofs.Common.{◌≡◌, ℕ, zero, suc, ◌≤◌, Bool, true, false, cond, ◌&&◌, ◌||◌, List, [], ◌∷◌, Option, Some, None, MatchOption, is_some, length, map, refl, ap, sym, ◌∙◌, arith}
+use Rattle.std.specs.Prelude.{slice_get}
+use Rattle.std.specs.FinMap as finite
+use Rattle.std.specs.List.{find, list_any}
+use Rattle.std.specs.Option.{option_and_then}
+use Rattle.std.proofs.lemmas.Option.{slice_get_past}
+use Rattle.facet_solver_shape.specs.declared.resolution.key.FieldCategory.{FieldCategory}
+use Rattle.facet_solver_shape.specs.declared.resolution.key.FieldCategory.TheVariants.{Flat, Attribute, Element, Text, Tag, Elements}
+use Rattle.facet_solver_shape.specs.Fields.{category_eq, has_name, FieldView}
+use Rattle.facet_solver_shape.specs.Names.{Name, name_eq}
+use Rattle.facet_solver_shape.specs.Resolved.{Resolved}
+use Rattle.facet_solver_shape.proofs.Lists.{list_any-map}
+use Rattle.facet_solver.specs.Failure.{has_field_named}
+use Rattle.facet_solver.specs.IndexEntries.{entry_at, holds}
+use Rattle.facet_solver.specs.IndexSet.{IndexSet, has}
+use Rattle.facet_solver.specs.Indexed.{AgreesOn, Differs, IsEntry, IsEntryIfAny, IsIndexOf, Meant, fields_of_each, first_passing}
+use Rattle.facet_solver.specs.KeyResult.{field_at}
+use Rattle.facet_solver.specs.Slots.{Slot, categories, is_at, slot_in}
+use Rattle.facet_solver.specs.State.{field_by_key, has_key, passes}
+use Rattle.facet_solver_shape.specs.Keys.{Key}
+use Rattle.facet_solver.specs.declared.schema.index.Entry.{Entry}
+use Rattle.facet_solver.specs.declared.schema.index.Index.{Index}
+use Rattle.facet_solver.proofs.IndexSet.{has_passing}
+use Rattle.facet_solver.proofs.Kept.{members_mean}
+use Rattle.facet_solver.proofs.LookUps.{has_field}
+
+-- ---- two tests in either order
+or_false : (a : Bool) → (a || false) ≡ a
+or_false true = refl
+or_false false = refl
+
+or_swap : (a b c d : Bool) → ((a || b) || (c || d)) ≡ ((a || c) || (b || d))
+or_swap true b c d = refl
+or_swap false true true d = refl
+or_swap false true false d = refl
+or_swap false false c d = refl
+
+module _ {X Y : Type 0} (p : X → Y → Bool) where
+  none : (xs : List X) → list_any (λ (x : X). false) xs ≡ false
+  none [] = refl
+  none (x ∷ xs) = none xs
+
+  either : (q r : X → Bool) (xs : List X) → list_any (λ x. q x || r x) xs ≡ (list_any q xs || list_any r xs)
+  either q r [] = refl
+  either q r (x ∷ xs) = ap (λ b. (q x || r x) || b) (either q r xs) ∙ or_swap (q x) (r x) (list_any q xs) (list_any r xs)
+
+  pub any_either_way : (xs : List X) (ys : List Y) → list_any (λ x. list_any (p x) ys) xs ≡ list_any (λ y. list_any (λ x. p x y) xs) ys
+  any_either_way xs [] = none xs
+  any_either_way xs (y ∷ ys) =
+      either (λ x. p x y) (λ x. list_any (p x) ys) xs
+      ∙ ap (λ b. list_any (λ x. p x y) xs || b) (any_either_way xs ys)
+
+-- what is found passes
+pub is_some-found : {X : Type 0} (p : X → Bool) (xs : List X) → is_some (find p xs) ≡ list_any p xs
+is_some-found p [] = refl
+is_some-found p (x ∷ xs) = go (p x) (is_some-found p xs)
+  where
+    go : (b : Bool) → is_some (find p xs) ≡ list_any p xs → is_some (cond b (Some x) (find p xs)) ≡ (b || list_any p xs)
+    go true rest = refl
+    go false rest = rest
+
+-- ---- a field of a name stands in one of the slots of the name
+own_category : (c : FieldCategory) (b : Bool) → list_any (λ d. category_eq d c && b) categories ≡ b
+own_category Flat true = refl
+own_category Flat false = refl
+own_category Attribute true = refl
+own_category Attribute false = refl
+own_category Element true = refl
+own_category Element false = refl
+own_category Text true = refl
+own_category Text false = refl
+own_category Tag true = refl
+own_category Tag false = refl
+own_category Elements true = refl
+own_category Elements false = refl
+
+somewhere : (name : Name) (fs : List FieldView) → list_any (λ c. list_any (is_at (slot_in name c)) fs) categories ≡ list_any (has_name name) fs
+somewhere name fs =
+    any_either_way (λ c. is_at (slot_in name c)) categories fs
+    ∙ ap (λ p. list_any p fs) (λ i f. own_category f.category (name_eq name f.name) i)
+
+found_somewhere : (name : Name) (rs : List Resolved) (i : ℕ)
+    → list_any (λ c. is_some (first_passing (is_at (slot_in name c)) (fields_of_each rs) i)) categories ≡ passes (has_field_named name) rs i
+found_somewhere name [] i = refl
+found_somewhere name (r ∷ rs) zero =
+    ap (λ p. list_any p categories) (λ i c. is_some-found (is_at (slot_in name c)) (finite.values r.fields) i)
+    ∙ somewhere name (finite.values r.fields)
+found_somewhere name (r ∷ rs) (suc i) = found_somewhere name rs i
+
+-- ---- entries
+past : (test : FieldView → Bool) (rs : List Resolved) (i : ℕ) → length rs ≤ i → is_some (first_passing test (fields_of_each rs) i) ≡ false
+past test [] i low = refl
+past test (r ∷ rs) zero low = absurd (omega arith)
+past test (r ∷ rs) (suc i) low = past test rs i (omega arith)
+
+-- an entry has the resolutions in which a field is meant
+entry_holds : (rs : List Resolved) (meant : Meant) (entry : Option Entry) → ((i : ℕ) → length rs ≤ i → is_some (meant i) ≡ false)
+    → IsEntryIfAny (length rs) meant entry → (i : ℕ) → holds entry i ≡ is_some (meant i)
+entry_holds rs meant None clear is i = sym (ap is_some (is i))
+entry_holds rs meant (Some e) clear is i =
+    ap (λ (s : IndexSet). has s.members i) is.set ∙ has_passing (λ j. is_some (meant j)) (length rs) i clear
+
+-- so the entry of a key has those that have the key
+pub key_held : (key : Key) (rs : List Resolved) (entry : Option Entry) → IsEntryIfAny (length rs) (field_at key rs) entry → (i : ℕ) → holds entry i ≡ passes (has_key key) rs i
+key_held key rs entry is i =
+    entry_holds rs (field_at key rs) entry (λ j low. ap (λ o. is_some (option_and_then (field_by_key key) o)) (slice_get_past rs j low)) is i ∙ has_field key rs i
+
+module _ (name : Name) (rs : List Resolved) (index : Index) (is : IsIndexOf (length rs) (fields_of_each rs) index) where
+  -- and the entries of a name those that have a field of the name
+  pub name_held : (i : ℕ) → list_any (λ c. holds (entry_at index (slot_in name c)) i) categories ≡ passes (has_field_named name) rs i
+  name_held i =
+      ap (λ p. list_any p categories) (λ j c. entry_holds rs (first_passing (is_at (slot_in name c)) (fields_of_each rs)) (entry_at index (slot_in name c)) (past (is_at (slot_in name c)) rs) (is (slot_in name c)) i j)
+      ∙ found_somewhere name rs i
+
+-- ---- there is an entry where a field stands
+none_stands : (test : FieldView → Bool) (lists : List (List FieldView)) → ((i : ℕ) → first_passing test lists i ≡ None) → list_any (list_any test) lists ≡ false
+none_stands test [] absent = refl
+none_stands test (fs ∷ lists) absent =
+    ap (λ b. b || list_any (list_any test) lists) (sym (is_some-found test fs) ∙ ap is_some (absent 0))
+    ∙ none_stands test lists (λ i. absent (suc i))
+
+or_true : (a : Bool) → (a || true) ≡ true
+or_true true = refl
+or_true false = refl
+
+one_stands : (test : FieldView → Bool) (lists : List (List FieldView)) (i : ℕ) (f : FieldView) → first_passing test lists i ≡ Some f → list_any (list_any test) lists ≡ true
+one_stands test [] i f here = absurd (missed here)
+  where
+    missed : None ≡ Some f → ⊥
+    missed e = cc
+one_stands test (fs ∷ lists) zero f here = ap (λ b. b || list_any (list_any test) lists) (sym (is_some-found test fs) ∙ ap is_some here)
+one_stands test (fs ∷ lists) (suc i) f here = ap (λ b. list_any test fs || b) (one_stands test lists i f here) ∙ or_true (list_any test fs)
+
+present : (test : FieldView → Bool) (lists : List (List FieldView)) (shape : Option ℕ)
+    → MatchOption shape (Differs (first_passing test lists)) (λ s. AgreesOn s (first_passing test lists)) → list_any (list_any test) lists ≡ true
+present test lists None two = one_stands test lists two.first two.one two.one_present
+present test lists (Some s) one = one_stands test lists one.index one.field one.present
+
+entry_stands : (bound : ℕ) (test : FieldView → Bool) (lists : List (List FieldView)) (entry : Option Entry) → IsEntryIfAny bound (first_passing test lists) entry → is_some entry ≡ list_any (list_any test) lists
+entry_stands bound test lists None is = sym (none_stands test lists is)
+entry_stands bound test lists (Some e) is = sym (present test lists e.shape is.shape)
+
+-- some resolution has a field of the name where a category has an entry of it
+pub name_stands : (name : Name) (rs : List Resolved) (index : Index) → IsIndexOf (length rs) (fields_of_each rs) index
+    → list_any (λ c. is_some (entry_at index (slot_in name c))) categories ≡ list_any (has_field_named name) rs
+name_stands name rs index is =
+    let lists = fields_of_each rs in
+    ap (λ p. list_any p categories) (λ i c. entry_stands (length rs) (is_at (slot_in name c)) lists (entry_at index (slot_in name c)) (is (slot_in name c)) i)
+    ∙ any_either_way (λ c fs. list_any (is_at (slot_in name c)) fs) categories lists
+    ∙ ap (λ p. list_any p lists) (λ i fs. somewhere name fs i)
+    ∙ list_any-map (λ fs. list_any (has_name name) fs) (λ (r : Resolved). finite.values r.fields) rs

@@ -1,0 +1,76 @@
+-- Why a resolution is not the answer: what it lacks, and which seen keys mean nothing in it.
+use Rattle.std.specs.Prelude.{ℕ, Bool, List, [], ◌∷◌, Option, filter, find, map, not, slice_get, string_bytes}
+use Rattle.std.specs.BTreeSet.{insert_key}
+use Rattle.std.specs.Cmp.Lexicographic.{slice_cmp}
+use Rattle.std.specs.FinMap as finite
+use Rattle.std.specs.FinSet as set
+use Rattle.std.specs.List.{filter_map, list_any}
+use Rattle.std.specs.Option.{option_map_or}
+use Rattle.std.specs.Ordering.{nat_cmp}
+use Rattle.facet_solver_shape.specs.Fields.{has_name, FieldView}
+use Rattle.facet_solver_shape.specs.Keys.{Key}
+use Rattle.facet_solver_shape.specs.Names.{Name}
+use Rattle.facet_solver_shape.specs.Paths.{path_text}
+use Rattle.facet_solver_shape.specs.Resolved.{description, Resolved}
+use Rattle.facet_solver.specs.Build.{Catalogue}
+use Rattle.facet_solver.specs.Report.{FailureView, MissingView}
+use Rattle.facet_solver.specs.State.{has_key}
+
+-- some names in byte order, each once
+abbrev pub in_byte_order : List Name → List Name
+in_byte_order [] = []
+in_byte_order (name ∷ names) = insert_key (slice_cmp nat_cmp) (in_byte_order names) name
+
+-- the names of keys
+abbrev pub names_among : List Key → set.FinSet (slice_cmp nat_cmp)
+names_among seen = set.from_list (map (λ k. k.name) seen)
+
+-- the names of the keys that pass a test, one for each key, in key order
+abbrev pub names_where : (Key → Bool) → List Key → List Name
+names_where test seen = map (λ k. k.name) (filter test seen)
+
+-- of the fields of a resolution that have a name, the one of least stored key
+abbrev pub field_by_name : Resolved → Name → Option FieldView
+field_by_name r name = find (has_name name) (finite.values r.fields)
+
+-- whether a resolution has a field of the name
+abbrev pub has_field_named : Name → Resolved → Bool
+has_field_named name r = list_any (has_name name) (finite.values r.fields)
+
+-- the required names that no seen key bears, in byte order
+abbrev pub missing_names : List Key → Resolved → List Name
+missing_names seen r =
+    filter (λ name. not (set.contains (names_among seen) name)) (in_byte_order (set.items r.required_names))
+
+-- what a resolution lacks: for each of these names the field that goes by it
+abbrev pub missing : List Key → Resolved → List FieldView
+missing seen r = filter_map (field_by_name r) (missing_names seen r)
+
+-- the type identifier of a shape
+abbrev pub type_identifier : Catalogue → ℕ → Name
+type_identifier catalogue shape = option_map_or (λ s. string_bytes s.type_identifier) (slice_get catalogue shape) []
+
+-- what is told of a field that a resolution lacks
+abbrev pub missing_field : Catalogue → FieldView → MissingView
+missing_field catalogue f = record {
+  name = f.name;
+  path = path_text f.path;
+  defined_in = type_identifier catalogue f.shape;
+}
+
+-- what is told of all that a resolution lacks
+abbrev pub missing_fields : Catalogue → List Key → Resolved → List MissingView
+missing_fields catalogue seen r = map (missing_field catalogue) (missing seen r)
+
+-- the names of the seen keys that mean no field of a resolution
+abbrev pub unknown_to : List Key → Resolved → List Name
+unknown_to seen r = names_where (λ key. not (has_key key r)) seen
+
+-- why a resolution is not the answer
+abbrev pub failure_of : Catalogue → List Key → Resolved → FailureView
+failure_of catalogue seen r = record {
+  variant_name = description r.picks;
+  missing_fields = missing_fields catalogue seen r;
+  unknown_fields = unknown_to seen r;
+  suggestion_matches = 0;
+}

@@ -1,0 +1,52 @@
+//! The end of a solver: the one candidate that is viable, or why there is none.
+ghost use Rattle.std.specs.Prelude.{◌≡◌, ◌↔◌, ◌∷◌, [], IfErr, IfOk, IsOk, length};
+ghost use Rattle.facet_solver.specs.IndexSet.{IsWithin, how_many, matches_view};
+ghost use Rattle.facet_solver.specs.Schema.{IsHandleOf, index_of};
+ghost use Rattle.facet_solver.specs.Verdict.{IsReportOn, state_of_report, viable};
+
+use crate::error::SolverError;
+use crate::schema::handle::ResolutionHandle;
+use crate::set::Matches;
+use crate::solver::Solver;
+use crate::solver::conditions::IsViable;
+use crate::solver::report::Report;
+use std::alloc::Global;
+
+impl<'s, 'c, 'a> Solver<'s, 'c, 'a> {
+    /// The one candidate all of whose required names are names of seen keys. It takes no memory.
+    ///
+    /// The error is `NoMatch` where there is none, and `Ambiguous` where there are several, or
+    /// `OutOfMemory` where memory for saying so is refused.
+    pub fn finish(self, alloc: Global) -> Result<ResolutionHandle<'s, 'c>, SolverError<'c>>
+        ensures one { IsOk result ↔ (length (viable self.entry) ≡ 1) }
+        ensures index { IfOk result (λ handle. viable self.entry ≡ index_of handle ∷ []) }
+        ensures handle { IfOk result (IsHandleOf self.entry.schema) }
+        ensures refused { IfErr result (IsReportOn self.entry) }
+    {
+        match self.viable() {
+            Matches::None => Err(self.report(alloc).no_match()?),
+            Matches::One(index) => Ok(ResolutionHandle::new(self.schema, index)),
+            Matches::Several => Err(self.report(alloc).ambiguity()?),
+        }
+    }
+
+    // The candidates all of whose required names are names of seen keys, as far as their number matters.
+    fn viable(&self) -> Matches
+        ensures number { matches_view result ≡ how_many (viable self.now) }
+        ensures within { IsWithin (length self.now.schema.resolutions) result }
+    {
+        self.matching(IsViable { seen: &self.seen })
+    }
+
+    // What a report is made from.
+    fn report(&self, alloc: Global) -> Report<'_, 'c, 'a>
+        ensures { state_of_report result ≡ self.now }
+    {
+        Report {
+            alloc,
+            schema: self.schema,
+            candidates: &self.candidates,
+            seen: &self.seen,
+        }
+    }
+}

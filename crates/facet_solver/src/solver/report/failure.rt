@@ -1,0 +1,115 @@
+//! Why resolutions are not the answer.
+ghost use Rattle.std.specs.Prelude.{◌≡◌, ◌<◌, IfOk, List, Some, length, map, slice_get, string_bytes};
+ghost use Rattle.std.specs.Option.{option_map};
+ghost use Rattle.facet_solver_shape.specs.Fields.{field_view};
+ghost use Rattle.facet_solver_shape.specs.Keys.{Key};
+ghost use Rattle.facet_solver_shape.specs.Resolved.{names_view};
+ghost use Rattle.facet_solver.specs.Failure as spec;
+ghost use Rattle.facet_solver.specs.Failure.{failure_of, names_among, type_identifier};
+ghost use Rattle.facet_solver.specs.Report.{failure_view, missing_view};
+ghost use Rattle.facet_solver.specs.Verdict.{resolutions_at, state_of_report};
+
+use crate::error::{CandidateFailure, MissingFieldInfo};
+use crate::set::ResolutionSet;
+use crate::solver::report::Report;
+use crate::solver::report::names::{IsUnknownAt, names_where};
+use facet_solver_shape::{FieldInfo, Resolution, ShapeId, Shapes};
+use std::alloc::{AllocError, Global};
+use std::collections::BTreeSet;
+
+/// Why the resolutions at some indices are not the answer, in order.
+pub(crate) fn failures_at<'c>(
+    report: &Report<'_, 'c, '_>,
+    seen_names: &BTreeSet<&str>,
+    indices: &ResolutionSet,
+) -> Result<Vec<CandidateFailure<'c>>, AllocError>
+    requires { let state = state_of_report report.now in
+        names_view seen_names.now.keys ≡ names_among state.seen }
+    ensures { let state = state_of_report report.now in
+        IfOk result (λ failures. map failure_view failures.items
+        ≡ map (failure_of state.schema.build.catalogue state.seen)
+        (resolutions_at state.schema.resolutions indices.now.members)) }
+{
+    let resolutions = report.schema.resolutions();
+    let mut failures = Vec::new(report.alloc);
+    for index in indices.iter() {
+        if let Some(resolution) = resolutions.get(index) {
+            failures.push(failure(report, seen_names, index, resolution)?)?;
+        }
+    }
+    Ok(failures)
+}
+
+// Why the resolution at an index is not the answer.
+fn failure<'c>(
+    report: &Report<'_, 'c, '_>,
+    seen_names: &BTreeSet<&str>,
+    index: usize,
+    resolution: &Resolution<'c>,
+) -> Result<CandidateFailure<'c>, AllocError>
+    requires names { let state = state_of_report report.now in
+        names_view seen_names.now.keys ≡ names_among state.seen }
+    requires place { let state = state_of_report report.now in
+        slice_get state.schema.resolutions index ≡ Some resolution.now }
+    ensures { let state = state_of_report report.now in
+        IfOk result (λ failure. failure_view failure
+        ≡ failure_of state.schema.build.catalogue state.seen resolution.now) }
+{
+    let alloc = report.alloc;
+    let schema = report.schema;
+    Ok(CandidateFailure {
+        variant_name: resolution.describe(alloc)?,
+        missing_fields: missing_fields(alloc, schema.shapes(), seen_names, resolution)?,
+        unknown_fields: names_where(alloc, report.seen, IsUnknownAt { schema, index })?,
+        suggestion_matches: 0,
+    })
+}
+
+/// What a resolution lacks: each required name that is not among the seen ones, with the field that goes by it.
+pub(crate) fn missing_fields<'c>(
+    alloc: Global,
+    shapes: &Shapes,
+    seen_names: &BTreeSet<&str>,
+    resolution: &Resolution<'c>,
+) -> Result<Vec<MissingFieldInfo<'c>>, AllocError>
+    ensures { IfOk result (λ fields. (seen : List Key)
+        → names_view seen_names.now.keys ≡ names_among seen
+        → map missing_view fields.items ≡ spec.missing_fields shapes.now seen resolution.now) }
+{
+    let mut fields = Vec::new(alloc);
+    for name in resolution.required_field_names() {
+        if seen_names.contains(*name) {
+            continue;
+        }
+        if let Some(field) = resolution.field_by_name(name) {
+            fields.push(missing_field(alloc, shapes, field)?)?;
+        }
+    }
+    Ok(fields)
+}
+
+// What is told of a field that a resolution lacks.
+fn missing_field<'c>(
+    alloc: Global,
+    shapes: &Shapes,
+    field: &FieldInfo<'c>,
+) -> Result<MissingFieldInfo<'c>, AllocError>
+    ensures { IfOk result (λ missing. missing_view missing
+        ≡ spec.missing_field shapes.now (field_view field.now)) }
+{
+    Ok(MissingFieldInfo {
+        name: field.serialized_name,
+        path: field.path.to_string(alloc)?,
+        defined_in: type_identifier(alloc, shapes, field.value_shape)?,
+    })
+}
+
+// The type identifier of a shape.
+fn type_identifier(alloc: Global, shapes: &Shapes, id: ShapeId) -> Result<String, AllocError>
+    ensures { IfOk result (λ text. string_bytes text ≡ type_identifier shapes.now id) }
+{
+    match shapes.get(id) {
+        Some(shape) => shape.type_identifier.clone(),
+        None => Ok(String::new(alloc)),
+    }
+}

@@ -1,0 +1,101 @@
+//! The names of seen keys.
+ghost use Rattle.std.specs.Prelude.{◌≡◌, IfOk, map, not, string_bytes};
+ghost use Rattle.std.specs.List.{list_any};
+ghost use Rattle.facet_solver_shape.specs.Keys.{key_of};
+ghost use Rattle.facet_solver_shape.specs.Resolved.{names_view};
+ghost use Rattle.facet_solver.specs.Failure as spec;
+ghost use Rattle.facet_solver.specs.Failure.{has_field_named, names_among};
+ghost use Rattle.facet_solver.specs.State.{has_key, passes};
+
+use crate::schema::Schema;
+use facet_solver_shape::FieldKey;
+use std::alloc::{AllocError, Global};
+use std::collections::BTreeSet;
+
+/// A test of a seen key.
+pub(crate) trait KeyTest: Copy {
+    ghost use Rattle.std.specs.Prelude.{Bool};
+    ghost use Rattle.facet_solver_shape.specs.Keys.{Key, key_of};
+
+    ghost is_passed: { Self → Key → Bool };
+
+    fn is_passed(&self, key: FieldKey<'_>) -> bool
+        ensures { result ≡ is_passed self.now (key_of key.entry) };
+}
+
+/// Each key passes.
+#[derive(Clone, Copy)]
+pub(crate) struct AnyKey;
+
+impl KeyTest for AnyKey {
+    ghost use Rattle.std.specs.Prelude.{true};
+
+    ghost is_passed = { λ t k. true };
+
+    fn is_passed(&self, _key: FieldKey<'_>) -> bool {
+        true
+    }
+}
+
+/// Whether no field of any resolution has the name of a key.
+#[derive(Clone, Copy)]
+pub(crate) struct IsUnknown<'s, 'c> {
+    pub(crate) schema: &'s Schema<'c>,
+}
+
+impl KeyTest for IsUnknown<'_, '_> {
+    ghost is_passed = { λ t key.
+        not (list_any (has_field_named key.name) t.schema.now.resolutions) };
+
+    fn is_passed(&self, key: FieldKey<'_>) -> bool {
+        !self.schema.has_name(key.name())
+    }
+}
+
+/// Whether a key means no field of the resolution at an index.
+#[derive(Clone, Copy)]
+pub(crate) struct IsUnknownAt<'s, 'c> {
+    pub(crate) schema: &'s Schema<'c>,
+    pub(crate) index: usize,
+}
+
+impl KeyTest for IsUnknownAt<'_, '_> {
+    ghost is_passed = { λ t key. not (passes (has_key key) t.schema.now.resolutions t.index) };
+
+    fn is_passed(&self, key: FieldKey<'_>) -> bool {
+        !self.schema.has_key_at(key, self.index)
+    }
+}
+
+/// The names of the keys that pass a test, one for each key, in key order.
+pub(crate) fn names_where<T: KeyTest>(
+    alloc: Global,
+    seen: &BTreeSet<FieldKey<'_>>,
+    test: T,
+) -> Result<Vec<String>, AllocError>
+    ensures { IfOk result (λ names. map string_bytes names.items
+        ≡ spec.names_where (T.is_passed test) (map key_of seen.now.keys)) }
+{
+    let mut names = Vec::new(alloc);
+    for key in seen {
+        if test.is_passed(*key) {
+            names.push(String::from_str(alloc, key.name())?)?;
+        }
+    }
+    Ok(names)
+}
+
+/// The names of keys, each once.
+pub(crate) fn seen_names<'a>(
+    alloc: Global,
+    seen: &BTreeSet<FieldKey<'a>>,
+) -> Result<BTreeSet<&'a str>, AllocError>
+    ensures { IfOk result
+        (λ names. names_view names.keys ≡ names_among (map key_of seen.now.keys)) }
+{
+    let mut names = BTreeSet::new(alloc);
+    for key in seen {
+        names.insert(key.name())?;
+    }
+    Ok(names)
+}
