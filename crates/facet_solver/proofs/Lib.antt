@@ -37,3 +37,4 @@ pub mod SeenNames
 pub mod AtIndices
 pub mod Reported
 pub mod Missing
+pub mod Probe

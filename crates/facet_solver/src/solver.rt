@@ -16,6 +16,8 @@ pub(crate) mod distinct_fields;
 mod finish;
 mod hint;
 pub(crate) mod key_result;
+pub(crate) mod path_search;
+mod probe;
 pub(crate) mod report;
 pub(crate) mod run;
 mod satisfy;

@@ -92,8 +92,8 @@ fn has_shape(fields: &[(&FieldInfo<'_>, u64)], shape: ShapeId) -> bool
 // The score of a shape that is not there.
 const NO_SCORE: u64 = 1000;
 
-// The score of the shape at an index.
-fn score_at(schema: &Schema<'_>, id: ShapeId) -> u64
+/// The score of the shape at an index.
+pub(crate) fn score_at(schema: &Schema<'_>, id: ShapeId) -> u64
     ensures { result ≡ key_result.score_at schema.now.build.catalogue id }
 {
     match schema.shapes().get(id) {

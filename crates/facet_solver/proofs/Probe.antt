@@ -1,0 +1,137 @@
+-- Keys at a path: whole paths, shapes at them, and the first field for each shape.
+use Rattle.std.proofs.Common.{◌≡◌, ℕ, Bool, true, false, cond, ◌&&◌, List, [], ◌∷◌, ◌++◌, filter, map, nat_eq, refl, ap, sym, ◌∙◌, Option, Some, None, append-nil, length, slice_get, ◌≤◌, arith}
+use Rattle.std.specs.List.{filter_map, list_any}
+use Rattle.std.specs.Option.{option_and_then, option_map}
+use Rattle.facet_solver_shape.specs.Fields.{FieldView}
+use Rattle.facet_solver_shape.specs.Names.{Name, name_eq}
+use Rattle.facet_solver_shape.specs.Paths.{key_path_eq}
+use Rattle.facet_solver_shape.specs.Resolved.{Resolved}
+use Rattle.facet_solver_shape.proofs.Finite.{and_false}
+use Rattle.facet_solver_shape.proofs.Lists.{list_any-map}
+use Rattle.facet_solver.specs.Build.{Catalogue}
+use Rattle.facet_solver.specs.KeyResult.{ambiguous, unambiguous, unknown}
+use Rattle.facet_solver.specs.Probe.{below_first, by_shapes, field_on_path, field_on_path_at, first_field, scored, whole_path}
+use Rattle.facet_solver.specs.ShapeAtPath.{first_of_each, shape_below, shape_of_member}
+use Rattle.facet_solver.proofs.FirstOfEach.{first_of_each-told}
+use Rattle.facet_solver.proofs.IndexSet.{filter_more}
+use Rattle.facet_solver.proofs.KeyResultFields.{filter_map_found, filter_map_none}
+
+-- ---- whole paths
+none_joined : (ps : List Name) (k : Name) → key_path_eq (whole_path ps k) [] ≡ false
+none_joined [] k = refl
+none_joined (p ∷ ps) k = refl
+
+joined_none : (qs : List Name) (l : Name) → key_path_eq [] (qs ++ l ∷ []) ≡ false
+joined_none [] l = refl
+joined_none (q ∷ qs) l = refl
+
+and_swap : (a b c : Bool) → (a && (b && c)) ≡ (b && (a && c))
+and_swap true b c = refl
+and_swap false b c = sym (and_false b)
+
+-- two whole paths are one where their keys are, and the paths before them
+pub whole_path-eq : (ps qs : List Name) (k l : Name) → key_path_eq (whole_path ps k) (qs ++ l ∷ []) ≡ (name_eq k l && key_path_eq ps qs)
+whole_path-eq [] [] k l = refl
+whole_path-eq [] (q ∷ qs) k l =
+    ap (λ b. name_eq k q && b) (joined_none qs l) ∙ and_false (name_eq k q) ∙ sym (and_false (name_eq k l))
+whole_path-eq (p ∷ ps) [] k l =
+    ap (λ b. name_eq p l && b) (none_joined ps k) ∙ and_false (name_eq p l) ∙ sym (and_false (name_eq k l))
+whole_path-eq (p ∷ ps) (q ∷ qs) k l =
+    ap (λ b. name_eq p q && b) (whole_path-eq ps qs k l) ∙ and_swap (name_eq p q) (name_eq k l) (key_path_eq ps qs)
+
+-- ---- shapes at them
+and_then_some : (o : Option ℕ) → option_and_then (λ id. Some id) o ≡ o
+and_then_some None = refl
+and_then_some (Some id) = refl
+
+-- one name more
+pub shape_below-push : (cat : Catalogue) (ps : List Name) (k : Name) (id : ℕ) → shape_below cat (ps ++ k ∷ []) id ≡ option_and_then (shape_of_member cat k) (shape_below cat ps id)
+shape_below-push cat [] k id = and_then_some (shape_of_member cat k id)
+shape_below-push cat (p ∷ ps) k id = go (shape_of_member cat p id) (shape_below-push cat ps k)
+  where
+    go : (o : Option ℕ) → ((next : ℕ) → shape_below cat (ps ++ k ∷ []) next ≡ option_and_then (shape_of_member cat k) (shape_below cat ps next))
+        → option_and_then (shape_below cat (ps ++ k ∷ [])) o ≡ option_and_then (shape_of_member cat k) (option_and_then (shape_below cat ps) o)
+    go None later = refl
+    go (Some next) later = later next
+
+-- where a resolution has the field of the first name, or has not, the rest of the path decides
+pub on_path : (cat : Catalogue) (whole : List Name) (rs : List Resolved) (i : ℕ) (o : Option FieldView) → option_and_then (first_field whole) (slice_get rs i) ≡ o
+    → field_on_path_at cat whole rs i ≡ option_and_then (λ f. option_map (λ shape. (f, shape)) (shape_below cat (below_first whole) f.shape)) o
+on_path cat whole rs i o is = go (slice_get rs i) ∙ ap (option_and_then onward) is
+  where
+    onward : FieldView → Option (FieldView × ℕ)
+    onward f = option_map (λ shape. (f, shape)) (shape_below cat (below_first whole) f.shape)
+
+    go : (r : Option Resolved) → option_and_then (field_on_path cat whole) r ≡ option_and_then onward (option_and_then (first_field whole) r)
+    go None = refl
+    go (Some r) = refl
+
+pub on_path_from : (cat : Catalogue) (whole : List Name) (rs : List Resolved) (i : ℕ) (f : FieldView) (o : Option ℕ) → option_and_then (first_field whole) (slice_get rs i) ≡ Some f → shape_below cat (below_first whole) f.shape ≡ o
+    → field_on_path_at cat whole rs i ≡ option_map (λ shape. (f, shape)) o
+on_path_from cat whole rs i f o is below =
+    on_path cat whole rs i (Some f) is ∙ ap (option_map (λ (shape : ℕ). (f, shape))) below
+
+-- ---- the first field for each shape, of the indices that pass
+
+module _ (h : ℕ → Option (FieldView × ℕ)) (pass : ℕ → Bool) (seen : List ℕ) (i : ℕ) where
+  abbrev firsts : List ℕ → List (FieldView × ℕ)
+  firsts xs = first_of_each (λ (e : FieldView × ℕ). e.1) (filter_map h (filter pass xs))
+
+  -- an index that does not pass
+  pub firsts_failed : pass i ≡ false → firsts seen ≡ firsts (seen ++ i ∷ [])
+  firsts_failed fails =
+      sym (ap (λ xs. first_of_each (λ (e : FieldView × ℕ). e.1) (filter_map h xs)) (filter_more pass seen i false fails ∙ append-nil (filter pass seen)))
+
+  passed : pass i ≡ true → firsts (seen ++ i ∷ []) ≡ first_of_each (λ (e : FieldView × ℕ). e.1) (filter_map h (filter pass seen ++ i ∷ []))
+  passed passes = ap (λ xs. first_of_each (λ (e : FieldView × ℕ). e.1) (filter_map h xs)) (filter_more pass seen i true passes)
+
+  -- one without a field
+  pub firsts_none : h i ≡ None → firsts seen ≡ firsts (seen ++ i ∷ [])
+  firsts_none none = go (pass i) refl
+    where
+      go : (b : Bool) → pass i ≡ b → firsts seen ≡ firsts (seen ++ i ∷ [])
+      go true passes = sym (passed passes ∙ ap (first_of_each (λ (e : FieldView × ℕ). e.1)) (filter_map_none h (filter pass seen) i none))
+      go false fails = firsts_failed fails
+
+  after_one : (e : FieldView × ℕ) (told : Bool) → h i ≡ Some e → list_any (λ (d : FieldView × ℕ). nat_eq d.1 e.1) (firsts seen) ≡ told → pass i ≡ true → firsts (seen ++ i ∷ []) ≡ cond told (firsts seen) (firsts seen ++ e ∷ [])
+  after_one e told found is passes =
+      passed passes
+      ∙ ap (first_of_each (λ (d : FieldView × ℕ). d.1)) (filter_map_found h (filter pass seen) i e found)
+      ∙ first_of_each-told (λ (d : FieldView × ℕ). d.1) (filter_map h (filter pass seen)) e told is
+
+  -- one whose shape stands there already
+  pub firsts_old : (e : FieldView × ℕ) → h i ≡ Some e → list_any (λ (d : FieldView × ℕ). nat_eq d.1 e.1) (firsts seen) ≡ true → firsts seen ≡ firsts (seen ++ i ∷ [])
+  firsts_old e found is_old = go (pass i) refl
+    where
+      go : (b : Bool) → pass i ≡ b → firsts seen ≡ firsts (seen ++ i ∷ [])
+      go true passes = sym (after_one e true found is_old passes)
+      go false fails = firsts_failed fails
+
+  -- one of a new shape
+  pub firsts_new : (e : FieldView × ℕ) → h i ≡ Some e → list_any (λ (d : FieldView × ℕ). nat_eq d.1 e.1) (firsts seen) ≡ false → pass i ≡ true → firsts seen ++ e ∷ [] ≡ firsts (seen ++ i ∷ [])
+  firsts_new e found is_new passes = sym (after_one e false found is_new passes)
+
+-- what a search told of the shapes so far
+pub told_of : {shapes read : List ℕ} {told answer : Bool} (fields : List (FieldView × ℕ)) (id : ℕ) → shapes ≡ map (λ (e : FieldView × ℕ). e.1) fields → read ≡ shapes → told ≡ list_any (λ (other : ℕ). nat_eq other id) read → told ≡ answer
+    → list_any (λ (d : FieldView × ℕ). nat_eq d.1 id) fields ≡ answer
+told_of fields id so_far same told is =
+    let has_it : ℕ → Bool = λ other. nat_eq other id in
+    sym (list_any-map has_it (λ (e : FieldView × ℕ). e.1) fields)
+    ∙ ap (list_any has_it) (sym so_far ∙ sym same)
+    ∙ sym told
+    ∙ is
+
+-- ---- the answer by the shapes
+pub by_none : (cat : Catalogue) (es : List (FieldView × ℕ)) → map (λ (e : FieldView × ℕ). e.1) es ≡ [] → unknown ≡ by_shapes cat es
+by_none cat [] none = refl
+by_none cat (e ∷ es) none = cc
+
+pub by_one : (cat : Catalogue) (es : List (FieldView × ℕ)) (shape : ℕ) → map (λ (e : FieldView × ℕ). e.1) es ≡ shape ∷ [] → unambiguous shape ≡ by_shapes cat es
+by_one cat [] shape one = cc
+by_one cat (e ∷ []) shape one = let same : shape ≡ e.1 = cc in ap (λ id. unambiguous id) same
+by_one cat (e ∷ f ∷ es) shape one = cc
+
+pub by_several : (cat : Catalogue) (es : List (FieldView × ℕ)) (shapes : List ℕ) (fields : List (FieldView × ℕ)) → shapes ≡ map (λ (e : FieldView × ℕ). e.1) es → 2 ≤ length shapes → fields ≡ map (scored cat) es → ambiguous fields ≡ by_shapes cat es
+by_several cat [] shapes fields is many shown = absurd (let e = ap length is in omega (arith, many, e))
+by_several cat (e ∷ []) shapes fields is many shown = absurd (let e = ap length is in omega (arith, many, e))
+by_several cat (e ∷ f ∷ es) shapes fields is many shown = ap (λ fs. ambiguous fs) shown

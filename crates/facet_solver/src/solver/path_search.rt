@@ -1,0 +1,171 @@
+//! A key at a path of names, sought in the resolutions of a schema.
+ghost use Rattle.std.specs.Prelude.{◌≡◌, ◌∷◌, ◌++◌, [], IfOk, OnOk, List, ℕ, filter, map, slice_get};
+ghost use Rattle.std.specs.FinSet as set;
+ghost use Rattle.std.specs.Option.{option_and_then, option_map};
+ghost use Rattle.facet_solver_shape.specs.Fields.{field_view};
+ghost use Rattle.facet_solver_shape.specs.Names.{names_of};
+ghost use Rattle.facet_solver_shape.specs.Paths.{key_path_eq};
+ghost use Rattle.facet_solver_shape.specs.Resolved.{key_paths_view};
+ghost use Rattle.facet_solver.specs.KeyResult.{HoldsHandleOf, key_result_view, scored_view};
+ghost use Rattle.facet_solver.specs.Probe as probe;
+ghost use Rattle.facet_solver.specs.Probe.{below_first, by_shapes, fields_on_path, first_field, has_key_path, scored_at, shapes_at, whole_path};
+ghost use Rattle.facet_solver.specs.ShapeAtPath as at_path;
+ghost use Rattle.facet_solver.specs.State.{passes};
+
+use crate::schema::Schema;
+use crate::set::ResolutionSet;
+use crate::solver::conditions::Test;
+use crate::solver::distinct_fields::score_at;
+use crate::solver::key_result::KeyResult;
+use crate::solver::shape_at_path::{is_among, shape_below, shape_of_member};
+use facet_solver_shape::{FieldInfo, KeyPath, Resolution, ShapeId, Shapes};
+use std::alloc::{AllocError, Global};
+use std::collections::BTreeSet;
+
+/// A key at a path of names.
+#[derive(Clone, Copy)]
+pub(crate) struct PathSearch<'p, 'n, 'k> {
+    pub(crate) path: &'p [&'n str],
+    pub(crate) key: &'k str,
+}
+
+impl Test for PathSearch<'_, '_, '_> {
+    ghost is_passed = { λ t. has_key_path (whole_path (names_of t.path.now) t.key.now) };
+
+    fn is_passed(&self, resolution: &Resolution<'_>) -> bool {
+        is_known(resolution.known_paths(), self.path, self.key)
+    }
+}
+
+fn is_known(known: &BTreeSet<KeyPath<'_>>, path: &[&str], key: &str) -> bool
+    ensures { result ≡ set.contains (key_paths_view known.now.keys)
+        (whole_path (names_of path.now) key.now) }
+{
+    for whole in known {
+        if is_joined(path, key, whole) {
+            return true;
+        }
+    }
+    false
+}
+
+// Whether a path and a key after it are the whole path.
+fn is_joined(path: &[&str], key: &str, whole: &KeyPath<'_>) -> bool
+    ensures { result
+        ≡ key_path_eq (whole_path (names_of path.now) key.now) (names_of whole.now.items) }
+{
+    match whole.split_last() {
+        Some((last, before)) => key == *last && path == before,
+        None => false,
+    }
+}
+
+impl PathSearch<'_, '_, '_> {
+    /// The answer by the shapes at the whole path, of the resolutions of a set that have it.
+    pub(crate) fn by_shapes<'s, 'c>(
+        &self,
+        alloc: Global,
+        schema: &'s Schema<'c>,
+        set: &ResolutionSet,
+    ) -> Result<KeyResult<'s, 'c>, AllocError>
+        ensures answer { let whole = whole_path (names_of self.now.path.now) self.now.key.now in
+            let schema = schema.now in
+            let left = filter (passes (has_key_path whole) schema.resolutions) set.now.members in
+            IfOk result (λ answer. key_result_view answer
+            ≡ by_shapes schema.build.catalogue (fields_on_path whole schema left)) }
+        ensures no_handle { IfOk result (HoldsHandleOf schema.now) }
+    {
+        let mut shapes = Vec::new(alloc);
+        let mut fields = Vec::new(alloc);
+        for index in set.iter() {
+            self.add_if_new(&mut shapes, &mut fields, schema, index)?;
+        }
+        Ok(match shapes.as_slice() {
+            [] => KeyResult::Unknown,
+            [shape] => KeyResult::Unambiguous { shape: *shape },
+            _ => KeyResult::Ambiguous { fields },
+        })
+    }
+
+    // Adds the shape of the resolution at an index, if that has the whole path and the shape is new, with the field of
+    // the first name and the score.
+    fn add_if_new<'s, 'c>(
+        &self,
+        shapes: &mut Vec<ShapeId>,
+        fields: &mut Vec<(&'s FieldInfo<'c>, u64)>,
+        schema: &'s Schema<'c>,
+        index: usize,
+    ) -> Result<(), AllocError>
+        ensures shapes { let whole = whole_path (names_of self.now.path.now) self.now.key.now in
+            OnOk result ((seen : List ℕ)
+            → shapes.old.items ≡ shapes_at whole schema.now seen
+            → shapes.new.items ≡ shapes_at whole schema.now (seen ++ index ∷ [])) }
+        ensures fields { let whole = whole_path (names_of self.now.path.now) self.now.key.now in
+            OnOk result ((seen : List ℕ)
+            → shapes.old.items ≡ shapes_at whole schema.now seen
+            → map scored_view fields.old.items ≡ scored_at whole schema.now seen
+            → map scored_view fields.new.items ≡ scored_at whole schema.now (seen ++ index ∷ [])) }
+    {
+        let Some(field) = self.first_field_at(schema, index) else {
+            return Ok(());
+        };
+        let catalogue = schema.shapes();
+        let Some(shape) = self.shape_below(catalogue, field.value_shape) else {
+            return Ok(());
+        };
+        if !is_among(shapes, shape) && self.is_at(schema, index) {
+            shapes.push(shape)?;
+            fields.push((field, score_at(schema, shape)))?;
+        }
+        Ok(())
+    }
+
+    // Whether the resolution at an index has the whole path.
+    fn is_at(&self, schema: &Schema<'_>, index: usize) -> bool
+        ensures { let whole = whole_path (names_of self.now.path.now) self.now.key.now in
+            result ≡ passes (has_key_path whole) schema.now.resolutions index }
+    {
+        match schema.resolutions().get(index) {
+            Some(resolution) => self.is_passed(resolution),
+            None => false,
+        }
+    }
+
+    // The field of the first name in the resolution at an index.
+    fn first_field_at<'s, 'c>(
+        &self,
+        schema: &'s Schema<'c>,
+        index: usize,
+    ) -> Option<&'s FieldInfo<'c>>
+        ensures { let whole = whole_path (names_of self.now.path.now) self.now.key.now in
+            option_map (λ f. field_view f.now) result
+            ≡ option_and_then (first_field whole) (slice_get schema.now.resolutions index) }
+    {
+        self.first_field(schema.resolutions().get(index)?)
+    }
+
+    // The field of the first name.
+    fn first_field<'s, 'c>(&self, resolution: &'s Resolution<'c>) -> Option<&'s FieldInfo<'c>>
+        ensures { let whole = whole_path (names_of self.now.path.now) self.now.key.now in
+            option_map (λ f. field_view f.now) result ≡ first_field whole resolution.now }
+    {
+        match self.path.first() {
+            Some(name) => resolution.field_by_name(name),
+            None => resolution.field_by_name(self.key),
+        }
+    }
+
+    // The shape at the end of the path, from the shape of the field of the first name.
+    fn shape_below(&self, catalogue: &Shapes, first: ShapeId) -> Option<ShapeId>
+        ensures { let whole = whole_path (names_of self.now.path.now) self.now.key.now in
+            result ≡ at_path.shape_below catalogue.now (below_first whole) first }
+    {
+        match self.path.split_first() {
+            Some((_, below)) => {
+                let last = shape_below(catalogue, below, first)?;
+                shape_of_member(catalogue, self.key, last)
+            }
+            None => Some(first),
+        }
+    }
+}

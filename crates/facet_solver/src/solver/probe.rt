@@ -1,0 +1,49 @@
+//! The call that asks for a key at a path of names.
+ghost use Rattle.std.specs.Prelude.{◌≡◌, IfOk, OnErr, OnOk};
+ghost use Rattle.facet_solver_shape.specs.Names.{names_of};
+ghost use Rattle.facet_solver.specs.KeyResult.{HoldsHandleOf, key_result_view};
+ghost use Rattle.facet_solver.specs.Probe as probe;
+ghost use Rattle.facet_solver.specs.Probe.{probe_result};
+
+use crate::schema::Schema;
+use crate::schema::handle::ResolutionHandle;
+use crate::set::Matches;
+use crate::solver::Solver;
+use crate::solver::key_result::KeyResult;
+use crate::solver::path_search::PathSearch;
+use std::alloc::{AllocError, Global};
+
+impl<'s, 'c> Solver<'s, 'c, '_> {
+    /// Asks for a key at a path of names: of the candidates those stay that have the whole path of the key.
+    /// Where there is none, none stays. No key is seen by it.
+    ///
+    /// The answer is `Unknown` where none is left, and `Solved` where one is left. Else it goes by the shapes of
+    /// the candidates at the whole path: none is `Unknown`, one is `Unambiguous`, more are `Ambiguous`, which
+    /// gives for each shape the field of the first name in the first candidate that has it, and the score of the
+    /// shape.
+    ///
+    /// The only error is refused memory; then the candidates are as before.
+    pub fn probe_key(
+        &mut self,
+        alloc: Global,
+        path: &[&str],
+        key: &str,
+    ) -> Result<KeyResult<'s, 'c>, AllocError>
+        ensures answer { IfOk result (λ answer.
+            key_result_view answer ≡ probe_result (names_of path.now) key.now self.old) }
+        ensures handle { IfOk result (HoldsHandleOf self.old.schema) }
+        ensures ok { OnOk result
+            (self.new ≡ probe.probe_key (names_of path.now) key.now self.old) }
+        ensures err { OnErr result (self.new ≡ self.old) }
+    {
+        let schema = self.schema;
+        let search = PathSearch { path, key };
+        let answer = match self.matching(search) {
+            Matches::None => KeyResult::Unknown,
+            Matches::One(index) => KeyResult::Solved(ResolutionHandle::new(schema, index)),
+            Matches::Several => search.by_shapes(alloc, schema, &self.candidates)?,
+        };
+        self.retain(search);
+        Ok(answer)
+    }
+}
