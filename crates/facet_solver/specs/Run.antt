@@ -4,13 +4,14 @@ use Rattle.facet_solver_shape.specs.Keys.{Key, key_of}
 use Rattle.facet_solver_shape.specs.Names.{Name, names_of}
 use Rattle.facet_solver_shape.specs.Resolved.{description, Resolved}
 use Rattle.facet_solver.specs.Choice.{ListsChoices}
+use Rattle.facet_solver.specs.Probe as probe
 use Rattle.facet_solver.specs.Schema.{IsOwnBuild}
 use Rattle.facet_solver.specs.ShapeAtPath as at_path
 use Rattle.facet_solver.specs.State as state
 use Rattle.facet_solver.specs.State.{State, new_solver}
 use Rattle.facet_solver.specs.Told.{EndsWithOrNames, TellsChoice}
 use Rattle.facet_solver.specs.declared.solver.run.Call.{Call}
-use Rattle.facet_solver.specs.declared.solver.run.Call.TheVariants.{SeeKey, MarkSeen, SatisfyShapes, SatisfyAtPath, HintVariant, HintVariantForTag}
+use Rattle.facet_solver.specs.declared.solver.run.Call.TheVariants.{SeeKey, MarkSeen, SatisfyShapes, SatisfyAtPath, ProbeKey, HintVariant, HintVariantForTag}
 
 -- a call, wherever its names lie
 pub data CallView : Type 0 where
@@ -18,6 +19,7 @@ pub data CallView : Type 0 where
   mark_seen : Key → CallView
   satisfy_shapes : List ℕ → CallView
   satisfy_at_path : List Name → List ℕ → CallView
+  probe_key : List Name → Name → CallView
   hint_variant : Name → CallView
   hint_variant_for_tag : Name → Name → CallView
 
@@ -27,6 +29,7 @@ call_view (SeeKey key) = see_key (key_of key)
 call_view (MarkSeen key) = mark_seen (key_of key)
 call_view (SatisfyShapes shapes) = satisfy_shapes shapes.now
 call_view (SatisfyAtPath path shapes) = satisfy_at_path (names_of path.now) shapes.now
+call_view (ProbeKey path key) = probe_key (names_of path.now) key.now
 call_view (HintVariant name) = hint_variant name.now
 call_view (HintVariantForTag tag name) = hint_variant_for_tag tag.now name.now
 
@@ -40,6 +43,7 @@ after_call (see_key key) s = state.see_key key s
 after_call (mark_seen key) s = state.mark_seen key s
 after_call (satisfy_shapes shapes) s = state.satisfy_shapes shapes s
 after_call (satisfy_at_path path shapes) s = at_path.satisfy_at_path path shapes s
+after_call (probe_key path key) s = probe.probe_key path key s
 after_call (hint_variant name) s = state.hint_variant name s
 after_call (hint_variant_for_tag tag name) s = state.hint_variant_for_tag tag name s
 

@@ -19,6 +19,8 @@ pub enum Call<'a> {
     SatisfyShapes(&'a [ShapeId]),
     /// A value at a path of names fits shapes: `Solver::satisfy_at_path`.
     SatisfyAtPath(&'a [&'a str], &'a [ShapeId]),
+    /// A key stands at a path of names: `Solver::probe_key`.
+    ProbeKey(&'a [&'a str], &'a str),
     /// A variant is hinted: `Solver::hint_variant`.
     HintVariant(&'a str),
     /// A variant is hinted by the name under a tag, which comes first: `Solver::hint_variant_for_tag`.
@@ -64,6 +66,9 @@ impl<'s, 'c, 'a> Solver<'s, 'c, 'a> {
             }
             Call::SatisfyAtPath(path, shapes) => {
                 self.satisfy_at_path(path, shapes);
+            }
+            Call::ProbeKey(path, key) => {
+                self.probe_key(alloc, path, key)?;
             }
             Call::HintVariant(name) => {
                 self.hint_variant(name);
