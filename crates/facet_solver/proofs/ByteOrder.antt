@@ -106,7 +106,7 @@ module _ {K : Type 0} {R : K → K → Ordering} (o : IsTotalOrder R) (same : fi
       ∙ keys_marked ys
 
 -- ---- names in byte order
-sorted-in_byte_order : (names : List Name) → IsStrictlySortedBy (slice_cmp nat_cmp) (in_byte_order names)
+pub sorted-in_byte_order : (names : List Name) → IsStrictlySortedBy (slice_cmp nat_cmp) (in_byte_order names)
 unfolding IsStrictlySortedBy
 sorted-in_byte_order [] = tt
 sorted-in_byte_order (name ∷ names) = sorted-insert_key nat_list_cmp_total (in_byte_order names) name (sorted-in_byte_order names)
@@ -135,3 +135,9 @@ list_in_order keys names sorted view =
 pub set_in_order : (keys : List (Bor Name)) (s : set.FinSet (slice_cmp nat_cmp)) → IsStrictlySortedBy name_ref_cmp keys → names_view keys ≡ s → names_of keys ≡ in_byte_order (set.items s)
 set_in_order keys s sorted view =
     names_sorted keys (set.items s) sorted (λ q. ap (λ s. set.contains s q) view ∙ set.contains-items s q)
+
+-- a set is that of its members in byte order
+pub items_in_order : (s : set.FinSet (slice_cmp nat_cmp)) → set.from_list (in_byte_order (set.items s)) ≡ s
+items_in_order s =
+    set.same_set nat_list_cmp_total name_cmp_same _ s
+    (λ q. set.contains-from_list nat_list_cmp_total (in_byte_order (set.items s)) q ∙ member-in_byte_order (set.items s) q ∙ sym (set.contains-items s q))

@@ -1,8 +1,8 @@
 -- What a resolution lacks, of some names.
-use Rattle.std.proofs.Common.{◌≡◌, Bool, true, false, List, [], ◌∷◌, Option, Some, None, filter, map, not, refl, ap, ◌∙◌, cond}
+use Rattle.std.proofs.Common.{◌≡◌, true, false, List, [], ◌∷◌, Option, Some, None, filter, map, not, refl, ap}
 use Rattle.std.specs.Cmp.Lexicographic.{slice_cmp}
 use Rattle.std.specs.FinSet as set
-use Rattle.std.specs.List.{cons_option, filter_map}
+use Rattle.std.specs.List.{filter_map}
 use Rattle.std.specs.Option.{option_map_or}
 use Rattle.std.specs.Ordering.{nat_cmp}
 use Rattle.facet_solver_shape.specs.Fields.{FieldView}

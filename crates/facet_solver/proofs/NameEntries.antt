@@ -1,6 +1,5 @@
 -- What the entries of a name in each category say of the resolutions.
-use Rattle.std.proofs.Common.{◌≡◌, ℕ, zero, suc, ◌≤◌, Bool, true, false, cond, ◌&&◌, ◌||◌, List, [], ◌∷◌, Option, Some, None, MatchOption, is_some, length, map, refl, ap, sym, ◌∙◌, arith}
-use Rattle.std.specs.Prelude.{slice_get}
+use Rattle.std.proofs.Common.{◌≡◌, ℕ, zero, suc, ◌≤◌, Bool, true, false, cond, ◌&&◌, ◌||◌, List, [], ◌∷◌, Option, Some, None, MatchOption, is_some, length, refl, ap, sym, ◌∙◌, arith}
 use Rattle.std.specs.FinMap as finite
 use Rattle.std.specs.List.{find, list_any}
 use Rattle.std.specs.Option.{option_and_then}
@@ -14,15 +13,14 @@ use Rattle.facet_solver_shape.proofs.Lists.{list_any-map}
 use Rattle.facet_solver.specs.Failure.{has_field_named}
 use Rattle.facet_solver.specs.IndexEntries.{entry_at, holds}
 use Rattle.facet_solver.specs.IndexSet.{IndexSet, has}
-use Rattle.facet_solver.specs.Indexed.{AgreesOn, Differs, IsEntry, IsEntryIfAny, IsIndexOf, Meant, fields_of_each, first_passing}
+use Rattle.facet_solver.specs.Indexed.{AgreesOn, Differs, IsEntryIfAny, IsIndexOf, Meant, fields_of_each, first_passing}
 use Rattle.facet_solver.specs.KeyResult.{field_at}
-use Rattle.facet_solver.specs.Slots.{Slot, categories, is_at, slot_in}
+use Rattle.facet_solver.specs.Slots.{categories, is_at, slot_in}
 use Rattle.facet_solver.specs.State.{field_by_key, has_key, passes}
 use Rattle.facet_solver_shape.specs.Keys.{Key}
 use Rattle.facet_solver.specs.declared.schema.index.Entry.{Entry}
 use Rattle.facet_solver.specs.declared.schema.index.Index.{Index}
 use Rattle.facet_solver.proofs.IndexSet.{has_passing}
-use Rattle.facet_solver.proofs.Kept.{members_mean}
 use Rattle.facet_solver.proofs.LookUps.{has_field}
 
 -- ---- two tests in either order

@@ -1,5 +1,5 @@
 -- What a report says of the number of viable candidates.
-use Rattle.std.proofs.Common.{◌≡◌, ◌<◌, ℕ, List, [], ◌∷◌, Some, None, length, ap, sym, ◌∙◌, refl, arith}
+use Rattle.std.proofs.Common.{◌≡◌, ◌<◌, ℕ, List, [], ◌∷◌, Some, length, refl, arith}
 use Rattle.facet_solver.specs.IndexSet.{HowMany, no_index, one_index, several_indices, how_many}
 use Rattle.facet_solver.specs.Report.{AmbiguityView, NoMatchView, ambiguous, no_match}
 use Rattle.facet_solver.specs.State.{State}

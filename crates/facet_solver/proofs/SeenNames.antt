@@ -1,5 +1,5 @@
 -- The names of the keys that pass a test, key by key.
-use Rattle.std.proofs.Common.{◌≡◌, Bool, true, false, List, [], ◌∷◌, filter, map, refl, ap}
+use Rattle.std.proofs.Common.{◌≡◌, Bool, true, false, List, [], ◌∷◌, map, refl, ap}
 use Rattle.facet_solver_shape.specs.Keys.{Key}
 use Rattle.facet_solver.specs.Failure.{names_where}
 

@@ -9,7 +9,7 @@ use Rattle.facet_solver_shape.specs.Names.{Name}
 use Rattle.facet_solver_shape.specs.Resolved.{description, Resolved}
 use Rattle.facet_solver.specs.declared.error.SolverError.{SolverError}
 use Rattle.facet_solver.specs.declared.solver.report.Report.{Report}
-use Rattle.facet_solver.specs.declared.error.SolverError.TheVariants.{NoMatch, Ambiguous, OutOfMemory}
+use Rattle.facet_solver.specs.declared.error.SolverError.TheVariants.{OutOfMemory}
 use Rattle.facet_solver.specs.Failure.{failure_of, has_field_named, in_byte_order, missing, missing_fields, names_where}
 pub use Rattle.facet_solver.specs.Failure.{names_among}
 use Rattle.facet_solver.specs.IndexSet.{HowMany, no_index, one_index, several_indices, how_many, upto}

@@ -1,5 +1,8 @@
-//! Laws of choices, walks, counts and told keys: each is the contract of a function that does nothing.
-ghost use Rattle.std.specs.Prelude.{◌≡◌, ◌≢◌, ◌++◌, [], ℕ, All, Bool, Contains, List, Some, length, slice_get, true};
+//! Laws of choices, walks, counts, told keys and reports: each is the contract of a function that does nothing.
+ghost use Rattle.std.specs.Prelude.{◌≡◌, ◌≢◌, ◌↔◌, ◌++◌, [], ℕ, All, Bool, Contains, List, Some, length, slice_get, true};
+ghost use Rattle.std.specs.Cmp.Lexicographic.{slice_cmp};
+ghost use Rattle.std.specs.List.Sorted.{IsStrictlySortedBy};
+ghost use Rattle.std.specs.Ordering.{nat_cmp};
 ghost use Rattle.facet_solver_shape.specs.Catalogues.{IsChecked};
 ghost use Rattle.facet_solver_shape.specs.Names.{Name};
 ghost use Rattle.facet_solver_shape.specs.Resolved.{Resolved, description};
@@ -9,6 +12,8 @@ ghost use Rattle.facet_solver_shape.specs.declared.shape.Field.{Field};
 ghost use Rattle.facet_solver_shape.specs.declared.shape.Variant.{Variant};
 ghost use Rattle.facet_solver.specs.Choice.{IsChoice, IsClash, IsResolution, ListsChoices, Enumerates, GoesByName};
 ghost use Rattle.facet_solver.specs.Count.{count_fields, count_fields_step, count_of_root};
+ghost use Rattle.facet_solver.specs.Failure.{missing_names};
+ghost use Rattle.facet_solver.specs.Verdict.{disambiguating, is_viable};
 ghost use Rattle.facet_solver.specs.Place.{Path};
 ghost use Rattle.facet_solver.specs.declared.build.place.Place.{Place};
 ghost use Rattle.facet_solver.specs.declared.build.representation.Format.TheVariants.{Dom, Flat};
@@ -174,4 +179,18 @@ pub fn unknown_keys_are_only_seen()
         → passing (has_key key) s ≡ [] → see_key key s ≡ mark_seen key s }
     ensures answer { (key : Key) (s : State)
         → passing (has_key key) s ≡ [] → key_result key s ≡ unknown }
+{}
+
+/// The names that tell viable resolutions apart, and those that a resolution lacks, are in byte order and once each.
+pub fn reports_name_in_byte_order()
+    ensures disambiguating { (resolutions : List Resolved)
+        → IsStrictlySortedBy (slice_cmp nat_cmp) (disambiguating resolutions) }
+    ensures missing { (seen : List Key) (r : Resolved)
+        → IsStrictlySortedBy (slice_cmp nat_cmp) (missing_names seen r) }
+{}
+
+/// A resolution is viable exactly if it lacks none of its required names.
+pub fn viable_resolutions_lack_no_name()
+    ensures { (seen : List Key) (r : Resolved)
+        → (is_viable seen r ≡ true) ↔ (missing_names seen r ≡ []) }
 {}

@@ -16,20 +16,23 @@ use std::str::SplitWhitespace;
 
 /// A schema, the solvers that are told keys now, and the error of the one before.
 #[derive(Drop)]
-pub struct Session<'s, 'c, 't> {
+pub struct Session<'s, 'c, 'r, 't> {
     catalogue: Catalogue<'c, 't>,
     schema: &'s Schema<'c>,
-    solver: Solver<'s, 'c, 't>,
+    solver: Solver<'s, 'c, 'r>,
     probing: Probing<'s, 'c>,
-    runs: Iter<'t, Vec<Step<'t>>>,
+    runs: Iter<'r, Vec<Step<'t>>>,
     error: Option<SolverError<'c>>,
 }
 
-impl<'s, 'c, 't> Session<'s, 'c, 't> {
+impl<'s, 'c, 'r, 't> Session<'s, 'c, 'r, 't>
+where
+    't: 'r,
+{
     pub fn new(
         catalogue: Catalogue<'c, 't>,
         schema: &'s Schema<'c>,
-        runs: &'t [Vec<Step<'t>>],
+        runs: &'r [Vec<Step<'t>>],
     ) -> Result<Self, AllocError> {
         Ok(Session {
             catalogue,

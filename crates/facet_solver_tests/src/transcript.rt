@@ -9,7 +9,6 @@ use crate::steps::{Step, steps};
 use crate::types::{Types, declares};
 use facet_solver::{CatalogueError, Schema, Shapes};
 use std::alloc::{AllocError, Global};
-use std::str::SplitWhitespace;
 
 /// The lines under one name.
 #[derive(Drop)]
@@ -151,9 +150,9 @@ fn on_solvers<'r, 'c, 't>(
 where
     't: 'r,
 {
-    let mut session: Session<'_, 'c, 'r> = Session::new(catalogue, schema, runs)?;
+    let mut session = Session::new(catalogue, schema, runs)?;
     for line in calls {
-        let mut words: SplitWhitespace<'r> = line.call_words();
+        let mut words = line.call_words();
         let came = session.answer(&mut words);
         line.expect(&mut words, came)?;
     }

@@ -18,7 +18,9 @@ use std::collections::BTreeSet;
 
 /// The indices of the candidates that are viable, rising.
 pub(crate) fn viable_indices(report: &Report<'_, '_, '_>) -> Result<Vec<usize>, AllocError>
-    ensures { IfOk result (λ indices. indices.items ≡ viable (state_of_report report.now)) }
+    ensures exact { IfOk result (λ indices. indices.items ≡ viable (state_of_report report.now)) }
+    ensures within { IfOk result (λ indices.
+        All (λ index. index < length report.now.schema.now.resolutions) indices.items) }
 {
     let is_viable = AtIndex {
         resolutions: report.schema.resolutions(),

@@ -1,6 +1,6 @@
-use Rattle.std.proofs.Common.{List, map, ap, ◌∙◌}
+use Rattle.std.proofs.Common.{map, ap, ◌∙◌}
 use Rattle.facet_solver_shape.specs.Keys.{key_of}
-use Rattle.facet_solver.specs.Report.{MissingView, NoMatchView, missing_view, no_match}
+use Rattle.facet_solver.specs.Report.{MissingView, missing_view, no_match}
 use Rattle.facet_solver.specs.Verdict.{closest, state_of_report}
 use Rattle.facet_solver.proofs.Missing.{told_names}
 use Rattle.facet_solver.proofs.SeenNames.{names_of_all}

@@ -1,4 +1,4 @@
-use Rattle.std.proofs.Common.{◌≡◌, ℕ, Bor, List, map, ap, refl, sym, ◌∙◌}
+use Rattle.std.proofs.Common.{ℕ, Bor, List, map, ap, refl, sym, ◌∙◌}
 use Rattle.std.specs.Cmp.Lexicographic.{slice_cmp}
 use Rattle.std.specs.FinSet.{FinSet, items}
 use Rattle.std.specs.Ordering.{nat_cmp}

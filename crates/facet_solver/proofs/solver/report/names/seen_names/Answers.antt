@@ -1,4 +1,4 @@
-use Rattle.std.proofs.Common.{◌∷◌, List, map, ap, sym, subst}
+use Rattle.std.proofs.Common.{◌∷◌, List, map, sym, subst}
 use Rattle.facet_solver_shape.specs.declared.resolution.key.FieldKey.{FieldKey}
 use Rattle.facet_solver_shape.specs.Keys.{Key, key_of}
 use Rattle.facet_solver_shape.specs.Names.{Name}
