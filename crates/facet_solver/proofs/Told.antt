@@ -1,33 +1,31 @@
 -- What keys leave of a new solver that are seen one after another.
-use Rattle.std.proofs.Common.{◌≡◌, ℕ, zero, suc, ◌+◌, ◌<◌, ◌≤◌, Bool, true, false, cond, not, ◌&&◌, ◌||◌, ◌⊎◌, inl, inr, List, [], ◌∷◌, Option, Some, None, All, Contains, filter, length, get_or, map, refl, ap, sym, subst, ◌∙◌, ⊎_elim, arith}
+use Rattle.std.proofs.Common.{◌≡◌, ℕ, zero, suc, ◌<◌, Bool, true, false, cond, ◌&&◌, ◌||◌, ◌⊎◌, List, [], ◌∷◌, Option, Some, None, Contains, filter, length, map, refl, ap, sym, subst, ◌∙◌, ⊎_elim, arith}
 use Rattle.std.specs.Prelude.{fold, slice_get, nat_eq}
 use Rattle.std.specs.BTreeSet.{insert_key}
 use Rattle.std.specs.Cmp.Lexicographic.{slice_cmp}
 use Rattle.std.specs.FinMap.{slice_cmp-IsAntisymmetric, nat_cmp-IsAntisymmetric}
 use Rattle.std.specs.FinSet as set
-use Rattle.std.specs.List.{AllZip, filter_map, list_all, list_any, cons_option}
+use Rattle.std.specs.List.{AllZip, filter_map, list_any, cons_option}
 use Rattle.std.specs.Option.{option_map, option_map_or}
 use Rattle.std.specs.Ordering.{eq_by_cmp, match_ordering, nat_cmp}
 use Rattle.std.specs.declared.cmp.Ordering.{Ordering}
 use Rattle.std.specs.declared.cmp.Ordering.TheVariants.{Less, Equal, Greater}
 use Rattle.std.proofs.lemmas.Bool.{and_from, and_parts, cases_Bool, false≢true, or_cases, or_left, or_parts, or_right}
 use Rattle.std.proofs.lemmas.Bool.Decides.{Decides-eqb}
-use Rattle.std.proofs.lemmas.Cmp.{nat_cmp_total, nat_list_cmp_total}
+use Rattle.std.proofs.lemmas.Cmp.{nat_list_cmp_total}
 use Rattle.std.proofs.lemmas.List.Elements.{filter_agree}
-use Rattle.std.proofs.lemmas.List.Folds.{Any-from_list_any}
 use Rattle.std.proofs.lemmas.Option.{none-some, same_Some, slice_get-get_or, slice_get-map, slice_get_within}
 use Rattle.facet_solver_shape.specs.Keys.{Key, key_cmp}
 use Rattle.facet_solver_shape.specs.Names.{Name}
 use Rattle.facet_solver_shape.specs.Resolved.{description, Resolved}
 use Rattle.facet_solver_shape.proofs.Keys.{key_cmp_same}
-use Rattle.facet_solver.specs.Build.{Build}
-use Rattle.facet_solver.specs.Choice.{Enumerates, IsResolution, ListsChoices}
+use Rattle.facet_solver.specs.Choice.{IsResolution, ListsChoices}
 use Rattle.facet_solver.specs.IndexSet.{has, how_many, upto}
 use Rattle.facet_solver.specs.KeyResult.{by_number, distinct_fields, key_result, unknown}
 use Rattle.facet_solver.specs.Schema.{IsOwnBuild, SchemaView}
 use Rattle.facet_solver.specs.State.{State, has_key, mark_seen, narrowed, new_solver, or_all, passes, passing, see_key, state_of}
-use Rattle.facet_solver.specs.Told.{accept, accepted_keys, ChoiceHasKey, EndsWithOrNames, has_keys, HasAllKnown, HaveSameKeys, indices_with, is_known, known_keys, see_keys, LeavesSome, TellsChoice}
-use Rattle.facet_solver.specs.Verdict.{descriptions, is_viable, names_among, viable}
+use Rattle.facet_solver.specs.Told.{accept, accepted_keys, EndsWithOrNames, has_keys, HasAllKnown, HaveSameKeys, indices_with, is_known, known_keys, see_keys, LeavesSome, TellsChoice}
+use Rattle.facet_solver.specs.Verdict.{is_viable, names_among, viable}
 use Rattle.facet_solver.proofs.Choice.{one_list, resolution-one}
 use Rattle.facet_solver.proofs.IndexSet.{filter_all, filter_filter, filter_none, has_inside}
 use Rattle.facet_solver.proofs.Kept.{or_all_some}

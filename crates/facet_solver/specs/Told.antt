@@ -1,14 +1,14 @@
 -- What keys leave of a new solver that are seen one after another.
-use Rattle.std.specs.Prelude.{◌≡◌, ℕ, Bool, true, List, [], ◌∷◌, Contains, Some, filter, fold, if◌then◌else◌, length, map, slice_get}
-use Rattle.std.specs.List.{filter_map, list_all, list_any}
+use Rattle.std.specs.Prelude.{◌≡◌, ℕ, Bool, true, List, [], ◌∷◌, Contains, Some, filter, fold, if◌then◌else◌, length, slice_get}
+use Rattle.std.specs.List.{list_all, list_any}
 use Rattle.facet_solver_shape.specs.Keys.{Key}
 use Rattle.facet_solver_shape.specs.Names.{Name}
-use Rattle.facet_solver_shape.specs.Resolved.{description, Resolved}
+use Rattle.facet_solver_shape.specs.Resolved.{Resolved}
 use Rattle.facet_solver.specs.Build.{Build}
 use Rattle.facet_solver.specs.Choice.{IsResolution}
 use Rattle.facet_solver.specs.Schema.{SchemaView}
 use Rattle.facet_solver.specs.State.{State, has_key, new_solver, passing, see_key}
-use Rattle.facet_solver.specs.Verdict.{is_viable, viable}
+use Rattle.facet_solver.specs.Verdict.{descriptions, is_viable, resolutions_at, viable}
 
 -- keys are seen, one after another
 abbrev pub see_keys : List Key → State → State
@@ -55,8 +55,7 @@ pub record EndsWithOrNames (s : State) (index : ℕ) (text : Name) : Type 0 wher
   pub alone : length (viable s) ≡ 1 → viable s ≡ index ∷ []
   pub place : ℕ
   pub at_place : slice_get (viable s) place ≡ Some index
-  pub described : slice_get (map (λ r. description r.picks)
-      (filter_map (slice_get s.schema.resolutions) (viable s))) place
+  pub described : slice_get (descriptions (resolutions_at s.schema.resolutions (viable s))) place
       ≡ Some text
 
 -- the resolution of a choice has a key

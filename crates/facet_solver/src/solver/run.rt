@@ -19,7 +19,7 @@ pub enum Call<'a> {
     SatisfyShapes(&'a [ShapeId]),
     /// A value at a path of names fits shapes: `Solver::satisfy_at_path`.
     SatisfyAtPath(&'a [&'a str], &'a [ShapeId]),
-    /// A key at a path of names is asked for: `Solver::probe_key`.
+    /// A key stands at a path of names: `Solver::probe_key`.
     ProbeKey(&'a [&'a str], &'a str),
     /// A variant is hinted: `Solver::hint_variant`.
     HintVariant(&'a str),
