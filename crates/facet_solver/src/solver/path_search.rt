@@ -7,7 +7,6 @@ ghost use Rattle.facet_solver_shape.specs.Names.{names_of};
 ghost use Rattle.facet_solver_shape.specs.Paths.{key_path_eq};
 ghost use Rattle.facet_solver_shape.specs.Resolved.{key_paths_view};
 ghost use Rattle.facet_solver.specs.KeyResult.{HoldsHandleOf, key_result_view, scored_view};
-ghost use Rattle.facet_solver.specs.Probe as probe;
 ghost use Rattle.facet_solver.specs.Probe.{below_first, by_shapes, fields_on_path, first_field, has_key_path, scored_at, shapes_at, whole_path};
 ghost use Rattle.facet_solver.specs.ShapeAtPath as at_path;
 ghost use Rattle.facet_solver.specs.State.{passes};

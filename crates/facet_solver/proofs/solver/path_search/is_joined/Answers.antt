@@ -1,4 +1,4 @@
-use Rattle.std.proofs.Common.{◌&&◌, ◌++◌, ◌∷◌, [], map, ap, sym, ◌∙◌}
+use Rattle.std.proofs.Common.{◌&&◌, ◌∷◌, [], ap, sym, ◌∙◌}
 use Rattle.std.proofs.lemmas.List.{map-append}
 use Rattle.facet_solver_shape.specs.Names.{names_of}
 use Rattle.facet_solver_shape.specs.Paths.{key_path_eq}

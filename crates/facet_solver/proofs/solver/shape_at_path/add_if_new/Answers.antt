@@ -1,6 +1,5 @@
 use Rattle.std.proofs.Common.{◌≡◌, ℕ, Bool, List, ◌∷◌, ◌++◌, [], nat_eq, sym, ◌∙◌, ap}
 use Rattle.std.specs.List.{list_any}
-use Rattle.facet_solver.specs.ShapeAtPath.{distinct}
 use Rattle.facet_solver.proofs.FirstOfEach.{first_of_each-told}
 use Rattle.facet_solver.proofs.solver.shape_at_path.add_if_new.Goals as goal
 

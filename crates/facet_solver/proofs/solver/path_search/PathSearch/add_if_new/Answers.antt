@@ -1,4 +1,4 @@
-use Rattle.std.proofs.Common.{◌≡◌, filter, map, ap, sym, ◌∙◌, ◌++◌, ◌∷◌, [], List, Some, ℕ}
+use Rattle.std.proofs.Common.{◌≡◌, filter, map, ap, sym, ◌∙◌, ◌++◌, ◌∷◌, [], Some, ℕ}
 use Rattle.std.proofs.lemmas.List.{map-append}
 use Rattle.facet_solver_shape.specs.Fields.{field_view, FieldView}
 use Rattle.facet_solver_shape.specs.Names.{names_of}

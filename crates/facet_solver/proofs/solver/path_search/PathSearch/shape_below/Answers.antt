@@ -1,4 +1,4 @@
-use Rattle.std.proofs.Common.{map, ap, sym, ◌∙◌}
+use Rattle.std.proofs.Common.{ap, sym, ◌∙◌}
 use Rattle.std.specs.Option.{option_and_then}
 use Rattle.facet_solver_shape.specs.Names.{names_of}
 use Rattle.facet_solver.specs.Probe.{below_first, whole_path}
