@@ -1,43 +1,18 @@
--- Keys at a path: whole paths, shapes at them, and the first field for each shape.
+-- Keys at a path: shapes at whole paths, and the first field for each shape.
 use Rattle.std.proofs.Common.{◌≡◌, ℕ, Bool, true, false, cond, ◌&&◌, List, [], ◌∷◌, ◌++◌, filter, map, nat_eq, refl, ap, sym, ◌∙◌, Option, Some, None, append-nil, length, slice_get, ◌≤◌, arith}
 use Rattle.std.specs.List.{filter_map, list_any}
 use Rattle.std.specs.Option.{option_and_then, option_map}
 use Rattle.facet_solver_shape.specs.Fields.{FieldView}
-use Rattle.facet_solver_shape.specs.Names.{Name, name_eq}
-use Rattle.facet_solver_shape.specs.Paths.{key_path_eq}
+use Rattle.facet_solver_shape.specs.Names.{Name}
 use Rattle.facet_solver_shape.specs.Resolved.{Resolved}
-use Rattle.facet_solver_shape.proofs.Finite.{and_false}
 use Rattle.facet_solver_shape.proofs.Lists.{list_any-map}
 use Rattle.facet_solver.specs.Build.{Catalogue}
 use Rattle.facet_solver.specs.KeyResult.{ambiguous, unambiguous, unknown}
-use Rattle.facet_solver.specs.Probe.{below_first, by_shapes, field_on_path, field_on_path_at, first_field, scored, whole_path}
+use Rattle.facet_solver.specs.Probe.{below_first, by_shapes, field_on_path, field_on_path_at, first_field, scored}
 use Rattle.facet_solver.specs.ShapeAtPath.{first_of_each, shape_below, shape_of_member}
 use Rattle.facet_solver.proofs.FirstOfEach.{first_of_each-told}
 use Rattle.facet_solver.proofs.IndexSet.{filter_more}
 use Rattle.facet_solver.proofs.KeyResultFields.{filter_map_found, filter_map_none}
-
--- ---- whole paths
-none_joined : (ps : List Name) (k : Name) → key_path_eq (whole_path ps k) [] ≡ false
-none_joined [] k = refl
-none_joined (p ∷ ps) k = refl
-
-joined_none : (qs : List Name) (l : Name) → key_path_eq [] (qs ++ l ∷ []) ≡ false
-joined_none [] l = refl
-joined_none (q ∷ qs) l = refl
-
-and_swap : (a b c : Bool) → (a && (b && c)) ≡ (b && (a && c))
-and_swap true b c = refl
-and_swap false b c = sym (and_false b)
-
--- two whole paths are one where their keys are, and the paths before them
-pub whole_path-eq : (ps qs : List Name) (k l : Name) → key_path_eq (whole_path ps k) (qs ++ l ∷ []) ≡ (name_eq k l && key_path_eq ps qs)
-whole_path-eq [] [] k l = refl
-whole_path-eq [] (q ∷ qs) k l =
-    ap (λ b. name_eq k q && b) (joined_none qs l) ∙ and_false (name_eq k q) ∙ sym (and_false (name_eq k l))
-whole_path-eq (p ∷ ps) [] k l =
-    ap (λ b. name_eq p l && b) (none_joined ps k) ∙ and_false (name_eq p l) ∙ sym (and_false (name_eq k l))
-whole_path-eq (p ∷ ps) (q ∷ qs) k l =
-    ap (λ b. name_eq p q && b) (whole_path-eq ps qs k l) ∙ and_swap (name_eq p q) (name_eq k l) (key_path_eq ps qs)
 
 -- ---- shapes at them
 and_then_some : (o : Option ℕ) → option_and_then (λ id. Some id) o ≡ o

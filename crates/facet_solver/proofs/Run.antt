@@ -6,7 +6,7 @@ use Rattle.std.proofs.lemmas.List.Sums.{fold_push}
 use Rattle.facet_solver_shape.specs.Keys.{Key}
 use Rattle.facet_solver_shape.specs.Resolved.{description}
 use Rattle.facet_solver.specs.Run.{after_call, after_calls, call_view, call_views, CallView, FindsToldChoices, see_key, mark_seen, satisfy_shapes, satisfy_at_path, probe_key, hint_variant, hint_variant_for_tag}
-use Rattle.facet_solver.specs.Probe.{has_key_path, whole_path}
+use Rattle.facet_solver.specs.KeyPath.{has_key_at}
 use Rattle.facet_solver.specs.ShapeAtPath.{has_shape_at_path}
 use Rattle.facet_solver.specs.State as state
 use Rattle.facet_solver.specs.State.{State, has_key, has_shape_among, has_tag_field, passing, picks_variant, where_any}
@@ -45,7 +45,7 @@ call_leaves (see_key key) s =
 call_leaves (mark_seen key) s = record { stays = λ i. true; left = all_stay s.candidates }
 call_leaves (satisfy_shapes shapes) s = narrowed_leaves true (has_shape_among shapes) s
 call_leaves (satisfy_at_path path shapes) s = narrowed_leaves true (has_shape_at_path s.schema.build.catalogue path shapes) s
-call_leaves (probe_key path key) s = narrowed_leaves true (has_key_path (whole_path path key)) s
+call_leaves (probe_key path key) s = narrowed_leaves true (has_key_at path key) s
 call_leaves (hint_variant name) s = narrowed_leaves false (picks_variant name) s
 call_leaves (hint_variant_for_tag tag name) s = go (passing (has_tag_field s.schema.build.catalogue tag) s)
   where

@@ -1,29 +1,21 @@
 -- What a solver does with a key that stands at a path of names, and what it answers.
-use Rattle.std.specs.Prelude.{ℕ, Bool, List, [], ◌∷◌, ◌++◌, Option, None, filter, map, slice_get, true}
-use Rattle.std.specs.FinSet as set
+use Rattle.std.specs.Prelude.{ℕ, List, [], ◌∷◌, Option, None, filter, map, slice_get, true}
 use Rattle.std.specs.List.{filter_map}
 use Rattle.std.specs.Option.{option_and_then, option_map}
 use Rattle.facet_solver_shape.specs.Fields.{FieldView}
 use Rattle.facet_solver_shape.specs.Names.{Name}
 use Rattle.facet_solver_shape.specs.Resolved.{Resolved}
 use Rattle.facet_solver.specs.Build.{Catalogue}
+use Rattle.facet_solver.specs.KeyPath.{has_key_at, has_key_path, whole_path}
 use Rattle.facet_solver.specs.IndexSet.{HowMany, no_index, one_index, several_indices, how_many}
 use Rattle.facet_solver.specs.KeyResult.{KeyResultView, unknown, solved, unambiguous, ambiguous, score_at}
 use Rattle.facet_solver.specs.Schema.{SchemaView}
 use Rattle.facet_solver.specs.ShapeAtPath.{field_by_name, first_of_each, shape_below}
 use Rattle.facet_solver.specs.State.{State, narrowed, passes}
 
--- the whole path of a key that stands at a path
-abbrev pub whole_path : List Name → Name → List Name
-whole_path path key = path ++ key ∷ []
-
--- whether a resolution has a whole key path
-abbrev pub has_key_path : List Name → Resolved → Bool
-has_key_path whole r = set.contains r.key_paths whole
-
 -- only the candidates stay that have the whole path of the key
 abbrev pub probe_key : List Name → Name → State → State
-probe_key path key s = narrowed true (has_key_path (whole_path path key)) s
+probe_key path key s = narrowed true (has_key_at path key) s
 
 -- the names of a path below the first
 abbrev pub below_first : List Name → List Name

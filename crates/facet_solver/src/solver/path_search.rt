@@ -1,25 +1,23 @@
 //! A key at a path of names, sought in the resolutions of a schema.
 ghost use Rattle.std.specs.Prelude.{◌≡◌, ◌∷◌, ◌++◌, [], IfOk, OnOk, List, ℕ, filter, map, slice_get};
-ghost use Rattle.std.specs.FinSet as set;
 ghost use Rattle.std.specs.Option.{option_and_then, option_map};
 ghost use Rattle.facet_solver_shape.specs.Fields.{field_view};
 ghost use Rattle.facet_solver_shape.specs.Names.{names_of};
-ghost use Rattle.facet_solver_shape.specs.Paths.{key_path_eq};
-ghost use Rattle.facet_solver_shape.specs.Resolved.{key_paths_view};
 ghost use Rattle.facet_solver.specs.KeyResult.{HoldsHandleOf, key_result_view, scored_view};
-ghost use Rattle.facet_solver.specs.Probe.{below_first, by_shapes, fields_on_path, first_field, has_key_path, scored_at, shapes_at, whole_path};
+ghost use Rattle.facet_solver.specs.KeyPath.{has_key_at, has_key_path, whole_path};
+ghost use Rattle.facet_solver.specs.Probe.{below_first, by_shapes, fields_on_path, first_field, scored_at, shapes_at};
 ghost use Rattle.facet_solver.specs.ShapeAtPath as at_path;
 ghost use Rattle.facet_solver.specs.State.{passes};
 
+use crate::key_path::has_key_at;
 use crate::schema::Schema;
 use crate::set::ResolutionSet;
 use crate::solver::conditions::Test;
 use crate::solver::distinct_fields::score_at;
 use crate::solver::key_result::KeyResult;
 use crate::solver::shape_at_path::{is_among, shape_below, shape_of_member};
-use facet_solver_shape::{FieldInfo, KeyPath, Resolution, ShapeId, Shapes};
+use facet_solver_shape::{FieldInfo, Resolution, ShapeId, Shapes};
 use std::alloc::{AllocError, Global};
-use std::collections::BTreeSet;
 
 /// A key at a path of names.
 #[derive(Clone, Copy)]
@@ -29,33 +27,10 @@ pub(crate) struct PathSearch<'p, 'n, 'k> {
 }
 
 impl Test for PathSearch<'_, '_, '_> {
-    ghost is_passed = { λ t. has_key_path (whole_path (names_of t.path.now) t.key.now) };
+    ghost is_passed = { λ t. has_key_at (names_of t.path.now) t.key.now };
 
     fn is_passed(&self, resolution: &Resolution<'_>) -> bool {
-        is_known(resolution.known_paths(), self.path, self.key)
-    }
-}
-
-fn is_known(known: &BTreeSet<KeyPath<'_>>, path: &[&str], key: &str) -> bool
-    ensures { result ≡ set.contains (key_paths_view known.now.keys)
-        (whole_path (names_of path.now) key.now) }
-{
-    for whole in known {
-        if is_joined(path, key, whole) {
-            return true;
-        }
-    }
-    false
-}
-
-// Whether a path and a key after it are the whole path.
-fn is_joined(path: &[&str], key: &str, whole: &KeyPath<'_>) -> bool
-    ensures { result
-        ≡ key_path_eq (whole_path (names_of path.now) key.now) (names_of whole.now.items) }
-{
-    match whole.split_last() {
-        Some((last, before)) => key == *last && path == before,
-        None => false,
+        has_key_at(resolution, self.path, self.key)
     }
 }
 

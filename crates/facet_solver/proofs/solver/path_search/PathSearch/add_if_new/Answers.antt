@@ -4,7 +4,8 @@ use Rattle.facet_solver_shape.specs.Fields.{field_view, FieldView}
 use Rattle.facet_solver_shape.specs.Names.{names_of}
 use Rattle.facet_solver.specs.Build.{Catalogue}
 use Rattle.facet_solver.specs.KeyResult.{scored_view}
-use Rattle.facet_solver.specs.Probe.{below_first, field_on_path_at, fields_on_path, has_key_path, scored, whole_path}
+use Rattle.facet_solver.specs.KeyPath.{has_key_path, whole_path}
+use Rattle.facet_solver.specs.Probe.{below_first, field_on_path_at, fields_on_path, scored}
 use Rattle.facet_solver.specs.ShapeAtPath.{shape_below}
 use Rattle.facet_solver.specs.State.{passes}
 use Rattle.facet_solver.proofs.Probe.{firsts_new, firsts_old, firsts_none, firsts_failed, on_path, on_path_from, told_of}
