@@ -26,7 +26,7 @@ use std::alloc::{AllocError, Global};
 use std::marker::Model;
 
 /// All resolutions of a type: one for each choice of variants, in order.
-#[derive(Debug, Drop)]
+#[derive(Debug)]
 pub struct Schema<'c> {
     shapes: &'c Shapes,
     root: ShapeId,
@@ -52,6 +52,23 @@ impl<'c> Model for Schema<'c> {
         (schema_view s.shapes.now s.root s.representation s.format s.resolutions.items)
         × AreOfFormat s.format s.resolutions.items
         × IsIndexOf (length s.resolutions.items) (fields_of_each s.resolutions.items) s.index };
+}
+
+// Written out: where a block drops a schema at its end, the borrow checker does not cover a derived drop beside a struct of
+// which a field was moved.
+impl Drop for Schema<'_> {
+    fn drop(self) {
+        let Schema {
+            shapes: _shapes,
+            root: _root,
+            representation: _representation,
+            format: _format,
+            resolutions,
+            index,
+        } = self;
+        drop(resolutions);
+        drop(index);
+    }
 }
 
 impl<'c> Schema<'c> {
