@@ -13,10 +13,10 @@ use crate::solver::report::Report;
 use std::alloc::Global;
 
 impl<'s, 'c, 'a> Solver<'s, 'c, 'a> {
-    /// The one candidate all of whose required names are names of seen keys. It takes no memory.
+    /// The one candidate all of whose required names are names of seen keys.
     ///
-    /// The error is `NoMatch` where there is none, and `Ambiguous` where there are several, or
-    /// `OutOfMemory` where memory for saying so is refused.
+    /// The error is `NoMatch` where there is none, and `Ambiguous` where there are several, each with all its
+    /// lists. It is `OutOfMemory` where memory for these is refused; an answer without error takes none.
     pub fn finish(self, alloc: Global) -> Result<ResolutionHandle<'s, 'c>, SolverError<'c>>
         ensures one { IsOk result ↔ (length (viable self.entry) ≡ 1) }
         ensures index { IfOk result (λ handle. viable self.entry ≡ index_of handle ∷ []) }
