@@ -7,7 +7,9 @@ use crate::line::Stop;
 use crate::public_names::public_types_have_their_derives;
 use crate::readme::keys_tell_the_payload;
 use crate::types::Types;
-use errors::{a_second_field_is_an_error_of_a_schema, refused_memory_has_a_text};
+use errors::{
+    a_second_field_is_an_error_of_a_schema, names_in_lists_are_escaped, refused_memory_has_a_text,
+};
 use facet_solver::{
     CatalogueError, FieldKey, FieldPath, PathSegment, ProbeResult, ProbingSolver, Resolution,
     ResolutionHandle, ScalarType, Schema, SchemaError, Shape, ShapeId, ShapeKind, Shapes, Solver,
@@ -85,13 +87,14 @@ pub enum Check {
     RefusedKey,
     RefusedRun,
     RefusedMemory,
+    Escapes,
     SecondField,
     PathSegments,
     Readme,
 }
 
 /// The checks, by name.
-pub const CHECKS: [(&str, Check); 15] = [
+pub const CHECKS: [(&str, Check); 16] = [
     ("public_types_have_their_derives", Check::PublicTypes),
     ("keys_have_names_and_an_order", Check::Keys),
     ("a_catalogue_gives_its_shapes", Check::Catalogue),
@@ -119,6 +122,7 @@ pub const CHECKS: [(&str, Check); 15] = [
     ),
     ("a_refused_run_has_made_the_calls_before", Check::RefusedRun),
     ("refused_memory_has_a_text", Check::RefusedMemory),
+    ("names_in_lists_are_escaped", Check::Escapes),
     ("a_second_field_is_an_error_of_a_schema", Check::SecondField),
     ("a_path_gives_its_segments", Check::PathSegments),
     ("the_sample_of_the_readme_holds", Check::Readme),
@@ -140,6 +144,7 @@ impl Check {
             Check::RefusedKey => a_refused_key_leaves_the_solver_as_it_was(alloc),
             Check::RefusedRun => a_refused_run_has_made_the_calls_before(alloc),
             Check::RefusedMemory => refused_memory_has_a_text(alloc),
+            Check::Escapes => names_in_lists_are_escaped(alloc),
             Check::SecondField => a_second_field_is_an_error_of_a_schema(alloc),
             Check::PathSegments => a_path_gives_its_segments(alloc),
             Check::Readme => keys_tell_the_payload(alloc),

@@ -11,6 +11,19 @@ pub fn refused_memory_has_a_text(alloc: Global) -> Result<(), Failure> {
     hold(solver.as_str() == "out of memory", "of a solver")
 }
 
+// A name with a tab or a line's end cannot stand in a transcript.
+pub fn names_in_lists_are_escaped(alloc: Global) -> Result<(), Failure> {
+    let name = String::from_str(alloc, "a\tb\nc\0d\u{1b}e\u{7f}f'g\"h\\i")?;
+    let error = SolverError::Ambiguous {
+        candidates: vec![in alloc; name]?,
+        disambiguating_fields: Vec::new(alloc),
+    };
+    let text = error.to_string(alloc)?;
+    let wanted = "Ambiguous: multiple resolutions match: \
+        [\"a\\tb\\nc\\0d\\u{1b}e\\u{7f}f'g\\\"h\\\\i\"]";
+    hold(text.as_str() == wanted, "their escapes")
+}
+
 pub fn a_second_field_is_an_error_of_a_schema(alloc: Global) -> Result<(), Failure> {
     let duplicate = DuplicateFieldError {
         field_name: "x",
