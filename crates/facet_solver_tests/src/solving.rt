@@ -7,7 +7,8 @@ use crate::resolution::{add_key, field, key, path};
 use crate::steps::Step;
 use crate::{errors, resolution};
 use facet_solver::{
-    KeyResult, ResolutionHandle, SatisfyResult, Schema, ShapeId, Solver, SolverError, Steps,
+    FieldInfo, KeyResult, ResolutionHandle, SatisfyResult, Schema, ShapeId, Solver, SolverError,
+    Steps,
 };
 use std::alloc::{AllocError, Global};
 use std::mem;
@@ -227,14 +228,19 @@ where
         Ok(shapes)
     }
 
-    // The fields are those of all words that are left.
-    fn satisfy(&mut self, words: &mut SplitWhitespace<'t>) -> Result<String, Stop> {
-        let alloc = self.catalogue.alloc;
-        let mut fields = Vec::new(alloc);
-        for word in &mut *words {
+    // The fields of all words that are left.
+    fn fields(&self, words: &mut SplitWhitespace<'t>) -> Result<Vec<&'s FieldInfo<'c>>, Stop> {
+        let mut fields = Vec::new(self.catalogue.alloc);
+        for word in words {
             fields.push(field(self.schema, word)?)?;
         }
-        Ok(satisfied(alloc, self.solver.satisfy(&fields))?)
+        Ok(fields)
+    }
+
+    fn satisfy(&mut self, words: &mut SplitWhitespace<'t>) -> Result<String, Stop> {
+        let fields = self.fields(words)?;
+        let answer = self.solver.satisfy(&fields);
+        Ok(satisfied(self.catalogue.alloc, answer)?)
     }
 
     fn satisfy_shapes(&mut self, words: &mut SplitWhitespace<'t>) -> Result<String, Stop> {
