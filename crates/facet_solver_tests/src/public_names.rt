@@ -80,8 +80,6 @@ fn wholes_are_printed() {
     is_printed::<Call<'static>>();
     is_printed::<KeyResult<'static, 'static>>();
     is_printed::<SatisfyResult<'static, 'static>>();
-    is_printed::<Call<'static>>();
-    is_printed::<ProbingSolver<'static, 'static>>();
     is_printed::<ProbeResult<'static, 'static>>();
     is_an_error::<SolverError<'static>>();
     is_an_error::<SchemaError<'static>>();

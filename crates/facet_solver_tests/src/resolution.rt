@@ -34,16 +34,6 @@ fn format_word(format: Format) -> &'static str {
     }
 }
 
-/// The field that a number and a name tell, as `0.host`: that of a resolution.
-pub fn field<'s, 'c>(schema: &'s Schema<'c>, word: &str) -> Result<&'s FieldInfo<'c>, Stop> {
-    let (index, name) = word.split_once('.').ok_or(Stop::Unread)?;
-    let resolution = schema
-        .resolutions()
-        .get(parsed(index)?)
-        .ok_or(Stop::Unread)?;
-    resolution.field_by_name(name).ok_or(Stop::Unread)
-}
-
 /// What a call answers that reads a resolution.
 pub fn of_resolution<'t>(
     catalogue: Catalogue<'_, 't>,

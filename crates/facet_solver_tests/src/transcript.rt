@@ -21,7 +21,7 @@ pub struct Transcript<'t> {
 /// The transcripts of a file. Empty lines and those that begin with `#` say nothing.
 pub fn transcripts(alloc: Global, file: &str) -> Result<Vec<Transcript<'_>>, AllocError> {
     let mut transcripts: Vec<Transcript<'_>> = Vec::new(alloc);
-    let mut rest = file;
+    let mut start = 0usize;
     let mut number = 0usize;
     let mut in_text = false;
     for line in file.split('\n') {
@@ -36,19 +36,13 @@ pub fn transcripts(alloc: Global, file: &str) -> Result<Vec<Transcript<'_>>, All
             if !in_text {
                 last.add(Line { number, text })?;
             } else if !was_in_text {
-                last.add(Line { number, text: rest })?;
+                let text = file.get(start..).unwrap_or("");
+                last.add(Line { number, text })?;
             }
         }
-        rest = behind_line(rest);
+        start = start.saturating_add(line.len()).saturating_add(1);
     }
     Ok(transcripts)
-}
-
-fn behind_line(text: &str) -> &str {
-    match text.split_once('\n') {
-        Some((_, rest)) => rest,
-        None => "",
-    }
 }
 
 impl<'t> Transcript<'t> {
