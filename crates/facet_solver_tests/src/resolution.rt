@@ -1,7 +1,7 @@
 //! Calls that are about a schema and its resolutions.
 
 use crate::catalogue::Catalogue;
-use crate::line::{Stop, add, number, parsed, word};
+use crate::line::{Stop, add, number, word};
 use facet_solver::{FieldCategory, FieldInfo, FieldKey, Format, Resolution, Schema, SchemaError};
 use std::alloc::{AllocError, Global};
 use std::collections::BTreeSet;
