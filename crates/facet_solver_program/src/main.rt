@@ -2,6 +2,10 @@
 #![tactic(auto)]
 
 mod answer;
+mod decode;
+mod document;
+mod fits;
+mod reading;
 mod exit;
 mod message;
 mod reply;
