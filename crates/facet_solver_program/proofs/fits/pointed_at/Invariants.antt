@@ -6,4 +6,4 @@ use Rattle.facet_solver_program.proofs.fits.pointed_at.Given as goal
 -- the steps that are left lead to the end of its pointers
 abbrev pub invariant-loop : goal.invariant-loop
 invariant-loop l =
-    LeadsOn (λ n id. end_within n l.shapes id) (length l.shapes) l.counter l.here (end_of l.shapes l.fn.id)
+    LeadsOn (λ n id. end_within l.shapes n id) (length l.shapes) l.counter l.here (end_of l.shapes l.fn.id)
