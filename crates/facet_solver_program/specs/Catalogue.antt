@@ -37,8 +37,13 @@ field d =
     given (flag_at (codes "metadata") d) (λ metadata.
     given (mark_at d) (λ dom.
     Some record {
-      name = name; rename = rename; shape = shape; flattened = flattened;
-      has_default = has_default; metadata = metadata; dom = dom;
+      name = name;
+      rename = rename;
+      shape = shape;
+      flattened = flattened;
+      has_default = has_default;
+      metadata = metadata;
+      dom = dom;
     })))))))
 
 -- the fields that a value lists
@@ -51,7 +56,7 @@ variant d =
     given (text_at (codes "name") d) (λ name.
     given (struct_kind_at (codes "kind") d) (λ kind.
     given (fields_at d) (λ fields.
-    Some record { name = name; kind = kind; fields = fields; })))
+    Some record { name = name; kind = kind; fields = fields })))
 
 -- a struct
 abbrev pub struct_of : Data → Option KindView
@@ -82,8 +87,10 @@ kind_said d =
     said_by ((codes "scalar", option_map (λ s. other (kinds.Scalar s)) (scalar_at d))
     ∷ (codes "struct", struct_of d) ∷ (codes "enum", enum_of d)
     ∷ (codes "option", kind_of_index (λ of. kinds.Option of) d)
-    ∷ (codes "pointer",
-      option_map (λ of. other (kinds.Pointer of)) (optional_index_at (codes "of") d))
+    ∷ (
+      codes "pointer",
+      option_map (λ of. other (kinds.Pointer of)) (optional_index_at (codes "of") d),
+    )
     ∷ (codes "list", kind_of_index (λ of. kinds.List of) d)
     ∷ (codes "array", kind_of_index (λ of. kinds.Array of) d)
     ∷ (codes "slice", kind_of_index (λ of. kinds.Slice of) d)
@@ -108,6 +115,12 @@ shape d =
     given (flag_at (codes "untagged") d) (λ untagged.
     given (flag_at (codes "metadata") d) (λ metadata_container.
     Some record {
-      name = name; kind = kind; inner = inner; proxy = proxy; tag = tag; content = content;
-      untagged = untagged; metadata_container = metadata_container;
+      name = name;
+      kind = kind;
+      inner = inner;
+      proxy = proxy;
+      tag = tag;
+      content = content;
+      untagged = untagged;
+      metadata_container = metadata_container;
     }))))))))

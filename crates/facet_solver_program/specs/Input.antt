@@ -47,4 +47,4 @@ decode d =
     given (index_at (codes "root") d) (λ root.
     given (builder_at d) (λ builder.
     given (document_at d) (λ document.
-    Some record { shapes = shapes; root = root; builder = builder; document = document; }))))
+    Some record { shapes = shapes; root = root; builder = builder; document = document }))))

@@ -80,4 +80,3 @@ shape_view s = record {
   untagged = s.untagged;
   metadata_container = s.metadata_container;
 }
-

@@ -76,11 +76,7 @@ fn add_member<'v>(
 }
 
 // A path with one more name.
-fn with_name<'v>(
-    alloc: Global,
-    path: &[&'v str],
-    name: &'v str,
-) -> Result<Vec<&'v str>, AllocError>
+fn with_name<'v>(alloc: Global, path: &[&'v str], name: &'v str) -> Result<Vec<&'v str>, AllocError>
     ensures { IfOk result (λ whole.
         names_of whole.items ≡ names_of path.now ++ name.now ∷ []) }
 {

@@ -4,10 +4,10 @@
 mod answer;
 mod decode;
 mod document;
-mod fits;
-mod reading;
 mod exit;
+mod fits;
 mod message;
+mod reading;
 mod reply;
 
 use answer::answer;

@@ -67,10 +67,7 @@ fn kind(alloc: Global, value: &Value) -> Result<ShapeKind, DecodeError>
         "array" => Ok(ShapeKind::Array(index_at(value, "of")?)),
         "slice" => Ok(ShapeKind::Slice(index_at(value, "of")?)),
         "set" => Ok(ShapeKind::Set(index_at(value, "of")?)),
-        "map" => Ok(ShapeKind::Map(
-            index_at(value, "key")?,
-            index_at(value, "value")?,
-        )),
+        "map" => Ok(ShapeKind::Map(index_at(value, "key")?, index_at(value, "value")?)),
         "dynamic" => Ok(ShapeKind::DynamicValue),
         "other" => Ok(ShapeKind::Other),
         _ => Err(DecodeError::BadInput),
