@@ -1,3 +1,11 @@
 pub mod Message
 pub mod Replies
 pub mod Exit
+pub mod ShapeView
+pub mod Members
+pub mod Words
+pub mod Catalogue
+pub mod Input
+pub mod Reading
+pub mod Fits
+pub mod Document

@@ -2,8 +2,12 @@
 #![tactic(auto)]
 
 mod answer;
+mod decode;
+mod document;
 mod exit;
+mod fits;
 mod message;
+mod reading;
 mod reply;
 
 use answer::answer;

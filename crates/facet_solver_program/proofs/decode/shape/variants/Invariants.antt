@@ -1,0 +1,13 @@
+use Rattle.std.proofs.Common.{◌≡◌, map, drop}
+use Rattle.serde_json.specs.View.{items_view}
+use Rattle.facet_solver_program.specs.ShapeView.{variant_view}
+use Rattle.facet_solver_program.specs.Catalogue as catalogue
+use Rattle.facet_solver_program.specs.Members.{each}
+use Rattle.facet_solver_program.proofs.Each.{behind}
+use Rattle.facet_solver_program.proofs.decode.shape.variants.Given as goal
+
+-- what all items say is what was decoded, and then what the rest says
+abbrev pub invariant-loop-item : goal.invariant-loop-item
+invariant-loop-item l =
+    each catalogue.variant (items_view l.items)
+    ≡ behind (map variant_view l.variants.items) (each catalogue.variant (items_view (drop l.item-index l.items)))

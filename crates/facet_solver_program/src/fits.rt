@@ -1,0 +1,204 @@
+//! Which values of JSON fit a shape.
+ghost use Rattle.std.specs.Prelude.{◌≡◌, ◌==◌, ℤ, length};
+ghost use Rattle.std.specs.Str.{chars};
+ghost use Rattle.serde_json.specs.View.{number_view, view};
+ghost use Rattle.facet_solver.specs.Pointers as pointers;
+ghost use Rattle.facet_solver.specs.Content as content;
+ghost use Rattle.facet_solver_program.specs.Fits as fits;
+
+use facet_solver::{Field, ScalarType, Shape, ShapeId, ShapeKind, Shapes, StructKind};
+use serde_json::{Number, Value};
+
+/// Whether a value fits the shape at an index.
+///
+/// The shape is followed to its end. At an option null fits, and else what fits the end of the option's inside.
+pub fn fits(shapes: &Shapes, id: ShapeId, value: &Value) -> bool
+    ensures { result ≡ fits.fits shapes.now id (view value.now) }
+{
+    let end = end_of(shapes, id);
+    match inside_at(shapes, end) {
+        Some(inside) => value.is_null() || fits_end(shapes, end_of(shapes, inside), value),
+        None => fits_end(shapes, end, value),
+    }
+}
+
+// The end of a shape: its effective shape, and from there pointers are followed.
+fn end_of(shapes: &Shapes, id: ShapeId) -> ShapeId
+    ensures { result ≡ fits.end_of shapes.now id }
+{
+    pointed_at(shapes, effective(shapes, id))
+}
+
+// The shape that `inner` and then `proxy` lead to, and so on to the end.
+fn effective(shapes: &Shapes, id: ShapeId) -> ShapeId
+    ensures { result ≡ content.effective shapes.now id }
+{
+    let mut here = id;
+    for _ in 0..shapes.len() {
+        match next_inside(shapes, here) {
+            Some(next) => here = next,
+            None => return here,
+        }
+    }
+    here
+}
+
+// Where a shape's `inner` leads to, or else its `proxy`.
+fn next_inside(shapes: &Shapes, id: ShapeId) -> Option<ShapeId>
+    ensures { result ≡ fits.next_inside_at shapes.now id }
+{
+    let shape = shapes.get(id)?;
+    shape.inner.or(shape.proxy)
+}
+
+// The shape that a pointer leads to, and so on to the end.
+fn pointed_at(shapes: &Shapes, id: ShapeId) -> ShapeId
+    ensures { result ≡ pointers.end_of shapes.now id }
+{
+    let mut here = id;
+    for _ in 0..shapes.len() {
+        match pointee_at(shapes, here) {
+            Some(next) => here = next,
+            None => return here,
+        }
+    }
+    here
+}
+
+// Where a pointer leads to.
+fn pointee_at(shapes: &Shapes, id: ShapeId) -> Option<ShapeId>
+    ensures { result ≡ pointers.pointee_at shapes.now id }
+{
+    match shapes.get(id)?.kind {
+        ShapeKind::Pointer(pointee) => pointee,
+        _ => None,
+    }
+}
+
+// The inside of an option.
+fn inside_at(shapes: &Shapes, id: ShapeId) -> Option<ShapeId>
+    ensures { result ≡ fits.inside_at shapes.now id }
+{
+    match shapes.get(id)?.kind {
+        ShapeKind::Option(inside) => Some(inside),
+        _ => None,
+    }
+}
+
+// Whether a value fits the shape at an index, which is an end.
+fn fits_end(shapes: &Shapes, end: ShapeId, value: &Value) -> bool
+    ensures { result ≡ fits.fits_end shapes.now end (view value.now) }
+{
+    match shapes.get(end) {
+        Some(shape) => is_metadata_container(shape) || fits_kind(&shape.kind, value),
+        None => true,
+    }
+}
+
+// Whether a shape is a metadata container: it is marked as one, and has a field that is no metadata.
+fn is_metadata_container(shape: &Shape) -> bool
+    ensures { result ≡ fits.is_metadata_container shape.now }
+{
+    match &shape.kind {
+        ShapeKind::Struct { fields, .. } => shape.metadata_container && has_plain_field(fields),
+        _ => false,
+    }
+}
+
+// Whether one of the fields is no metadata.
+fn has_plain_field(fields: &[Field]) -> bool
+    ensures { result ≡ fits.has_plain_field fields.now }
+{
+    fields.iter().any(|field| !field.metadata)
+}
+
+// Whether a value fits a kind of shape.
+fn fits_kind(kind: &ShapeKind, value: &Value) -> bool
+    ensures { result ≡ fits.fits_kind kind.now (view value.now) }
+{
+    match kind {
+        ShapeKind::Scalar(scalar) => fits_scalar(*scalar, value),
+        ShapeKind::Struct { kind, .. } => fits_struct(*kind, value),
+        ShapeKind::Map(..) => value.is_object(),
+        ShapeKind::List(_) | ShapeKind::Array(_) | ShapeKind::Slice(_) | ShapeKind::Set(_) => {
+            value.is_array()
+        }
+        ShapeKind::Enum { .. }
+        | ShapeKind::Option(_)
+        | ShapeKind::Pointer(_)
+        | ShapeKind::DynamicValue
+        | ShapeKind::Other => true,
+    }
+}
+
+// Whether a value fits a struct.
+fn fits_struct(kind: StructKind, value: &Value) -> bool
+    ensures { result ≡ fits.fits_struct kind (view value.now) }
+{
+    match kind {
+        StructKind::Unit => value.is_null(),
+        StructKind::Struct => value.is_object(),
+        StructKind::TupleStruct | StructKind::Tuple => value.is_array(),
+    }
+}
+
+// Whether a value fits a basic type.
+fn fits_scalar(scalar: ScalarType, value: &Value) -> bool
+    ensures { result ≡ fits.fits_scalar scalar (view value.now) }
+{
+    match scalar {
+        ScalarType::Other => true,
+        ScalarType::Unit => value.is_null(),
+        ScalarType::Bool => value.is_boolean(),
+        ScalarType::Str | ScalarType::String | ScalarType::CowStr => value.is_string(),
+        ScalarType::Char => value.as_str().is_some_and(has_one_char),
+        _ => match whole_number(value) {
+            Some(number) => is_in_range(scalar, number),
+            None => false,
+        },
+    }
+}
+
+// Whether a text has one character.
+fn has_one_char(text: &str) -> bool
+    ensures { result ≡ (length (chars text.now) == 1) }
+{
+    text.chars().count() == 1
+}
+
+// The whole number that a value is.
+fn whole_number(value: &Value) -> Option<i128>
+    ensures { result ≡ fits.whole_number (view value.now) }
+{
+    value.as_number().and_then(Number::as_i128)
+}
+
+// Whether a whole number is one of a type of numbers. It has at most 64 bits, as all numbers of an input.
+fn is_in_range(scalar: ScalarType, number: i128) -> bool
+    ensures { result ≡ fits.is_in_range scalar number }
+{
+    match scalar {
+        ScalarType::U8 => is_between(0, 255, number),
+        ScalarType::U16 => is_between(0, 65_535, number),
+        ScalarType::U32 => is_between(0, 4_294_967_295, number),
+        ScalarType::U64 | ScalarType::U128 | ScalarType::USize => {
+            is_between(0, 18_446_744_073_709_551_615, number)
+        }
+        ScalarType::I8 => is_between(-128, 127, number),
+        ScalarType::I16 => is_between(-32_768, 32_767, number),
+        ScalarType::I32 => is_between(-2_147_483_648, 2_147_483_647, number),
+        ScalarType::I64 | ScalarType::ISize => is_between(
+            -9_223_372_036_854_775_808,
+            9_223_372_036_854_775_807,
+            number,
+        ),
+        _ => true,
+    }
+}
+
+// Whether a number is one of those from one limit to another.
+fn is_between(low: i128, high: i128, number: i128) -> bool
+    ensures { result ≡ fits.is_between low high number }
+{
+    low <= number && number <= high
+}
