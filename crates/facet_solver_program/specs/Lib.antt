@@ -1,7 +1,7 @@
+pub mod ShapeView
 pub mod Message
 pub mod Replies
 pub mod Exit
-pub mod ShapeView
 pub mod Members
 pub mod Words
 pub mod Catalogue

@@ -1,7 +1,8 @@
 //! The built-in catalogue: a message with an identifier and a flattened payload, a text or binary.
 ghost use Rattle.std.specs.Prelude.{◌≡◌, ◌<◌, IfOk, length, map};
 ghost use Rattle.facet_solver_program.specs.Message as views;
-ghost use Rattle.facet_solver_program.specs.Message.{IsMessage, field_view, kind_view, shape_view, variant_view};
+ghost use Rattle.facet_solver_program.specs.Message.{IsMessage};
+ghost use Rattle.facet_solver_program.specs.ShapeView.{field_view, kind_view, shape_view, variant_view};
 
 use facet_solver::{DomMark, Field, ScalarType, Shape, ShapeId, ShapeKind, StructKind, Variant};
 use std::alloc::{AllocError, Global};
