@@ -147,7 +147,8 @@ impl<'s, 'c, 'a> Solver<'s, 'c, 'a> {
             ≤ steps.old.searches + length self.new.candidates }
         ensures no_search { IfOk result (λ answer. IsUnknownOrSolved (key_result_view answer)
             → steps.new.searches ≡ steps.old.searches) }
-        ensures agreed { (shape : ℕ) → HaveShape shape (key_of key.entry) self.old.schema.resolutions
+        ensures agreed { (shape : ℕ)
+            → HaveShape shape (key_of key.entry) self.old.schema.resolutions
             → steps.new.searches ≡ steps.old.searches }
     {
         let Some(entry) = self.schema.look_up(key) else {
