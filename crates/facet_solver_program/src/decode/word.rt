@@ -2,7 +2,7 @@
 ghost use Rattle.std.specs.Prelude.{◌≡◌};
 ghost use Rattle.facet_solver_program.specs.Words as words;
 
-use facet_solver::{DomMark, EnumRepr, ScalarType, StructKind};
+use facet_solver::{DomMark, ScalarType, StructKind};
 
 /// The way of writing fields that a word says.
 pub fn struct_kind(word: &str) -> Option<StructKind>
@@ -81,16 +81,5 @@ pub fn named_builder(word: &str) -> Option<Builder>
         "auto" => Some(Builder::Auto),
         "external" => Some(Builder::External),
         _ => None,
-    }
-}
-
-impl Builder {
-    /// The representation that it gives all flattened enums; none where each has its own.
-    pub fn representation(self) -> Option<EnumRepr<'static>> {
-        match self {
-            Builder::Flattened => Some(EnumRepr::Flattened),
-            Builder::Auto => None,
-            Builder::External => Some(EnumRepr::ExternallyTagged),
-        }
     }
 }
