@@ -1,7 +1,7 @@
 -- What the tests of the shapes of a list say of the whole list.
-use Rattle.std.proofs.Common.{◌≡◌, ℕ, ◌<◌, ◌≤◌, Bool, true, false, List, [], ◌∷◌, ◌++◌, length, Some, None, Option, slice_get, nat_le, refl, sym, ◌∙◌, inl, inr, ◌+◌, map, take, get_or, ap, arith, IsSomeAnd, ◌||◌}
+use Rattle.std.proofs.Common.{◌≡◌, ℕ, ◌<◌, ◌≤◌, Bool, true, false, List, [], ◌∷◌, ◌++◌, length, Some, None, Option, slice_get, nat_le, refl, sym, ◌∙◌, inl, inr, ◌+◌, map, take, get_or, ap, arith, IsSomeAnd, ◌||◌, ◌⊎◌}
 use Rattle.std.specs.List.{list_any, Any, flat_map}
-use Rattle.std.specs.Option.{option_to_list, IfSome, option_map, option_and_then, is_some}
+use Rattle.std.specs.Option.{option_to_list, IfSome, option_map, option_and_then, is_some, unwrap_or}
 use Rattle.std.proofs.lemmas.Bool.{false≢true, false_from_ne_true, leb-true, leb-false, le-leb, cases_lt, or_parts}
 use Rattle.std.proofs.lemmas.List.Folds.{list_any-append, Any-from_list_any, list_any-from_Any, list_any_at}
 use Rattle.facet_solver_shape.specs.declared.shape.Shape.{Shape}
@@ -18,8 +18,15 @@ use Rattle.std.proofs.lemmas.Option.{slice_get-map, slice_get_within, slice_get_
 use Rattle.std.proofs.lemmas.Slice.Eq.{bytes_eq-Decides}
 use Rattle.facet_solver_shape.specs.Names.{Name}
 use Rattle.facet_solver_shape.specs.declared.shape.catalogue.CatalogueError.{CatalogueError}
-use Rattle.facet_solver_shape.specs.Pointers.{pointee_at, pointee_after, NeverEnds}
-use Rattle.facet_solver_shape.proofs.Pointers.{within}
+use Rattle.facet_solver_shape.specs.Pointers.{pointee_at, pointee_after, NeverEnds, EndsBelow}
+use Rattle.facet_solver_shape.proofs.Pointers.{within, pointee_ends}
+use Rattle.facet_solver_shape.proofs.Finite.{same_value}
+use Rattle.std.specs.declared.cmp.Ordering.{Ordering}
+use Rattle.std.specs.declared.cmp.Ordering.TheVariants.{Less, Equal, Greater}
+use Rattle.std.specs.Ordering.{is_lt, is_le, ordering_reverse, nat_cmp}
+use Rattle.std.specs.Cmp.{tied_itself}
+use Rattle.std.specs.Cmp.Lexicographic.{slice_cmp, nat_list_cmp_total}
+use Rattle.std.specs.BTreeMap.Comparable.{le_lt_trans}
 
 -- a test of the indices that the fields of all variants name
 pub list_any-fields : (p : ℕ → Bool) (variants : List Variant) → list_any p (flat_map (λ v. field_indices v.fields.items) variants) ≡ list_any (λ v. list_any (λ f. p f.shape) v.fields.items) variants
@@ -117,6 +124,59 @@ found_earlier shapes checked index = go (slice_get shapes index) refl
 abbrev pub ApartBelow : List Name → ℕ → Type 0
 ApartBelow names n = (i j : ℕ) (name : Name) → i < j → j < n → slice_get names i ≡ Some name → ¬ (slice_get names j ≡ Some name)
 
+-- names below n of a list are at most this one, in the order of their bytes
+abbrev pub AtMostBelow : List Name → ℕ → Name → Type 0
+AtMostBelow names n highest = (k : ℕ) (name : Name) → k < n → slice_get names k ≡ Some name → is_le (slice_cmp nat_cmp name highest) ≡ true
+
+is_less : (r : Ordering) → is_lt r ≡ true → r ≡ Less
+is_less Less less = refl
+is_less Equal less = cc
+is_less Greater less = cc
+
+turned : (r : Ordering) → is_lt r ≡ false → is_le (ordering_reverse r) ≡ true
+turned Less other = cc
+turned Equal other = refl
+turned Greater other = refl
+
+-- the next name of a list, beside the highest before it
+module _ (names : List Name) (n : ℕ) (highest name : Name) (at : slice_get names n ≡ Some name) (below : AtMostBelow names n highest) where
+  -- the next one, or one before it
+  next_or_before : (k : ℕ) (q : Name) → k < n + 1 → slice_get names k ≡ Some q → (q ≡ name) ⊎ (k < n)
+  next_or_before k q low at_k = elim (cases_lt k n) [
+    | inl earlier ↦ inr earlier
+    | inr later ↦
+        let here : k ≡ n = omega (arith, low, later) in
+        let both : Some q ≡ Some name = sym at_k ∙ ap (slice_get names) here ∙ at in
+        inl (same_value q name both)
+  ]
+
+  module _ (above : is_lt (slice_cmp nat_cmp highest name) ≡ true) where
+    lower : (k : ℕ) (q : Name) → k < n → slice_get names k ≡ Some q → slice_cmp nat_cmp q name ≡ Less
+    lower k q less at_k = le_lt_trans nat_list_cmp_total q highest name (below k q less at_k) (is_less _ above)
+
+    -- where it is above that one, it is the highest
+    pub at_most_itself : AtMostBelow names (n + 1) name
+    at_most_itself k q low at_k = elim (next_or_before k q low at_k) [
+      | inl same ↦ rw same (ap is_le (tied_itself nat_list_cmp_total name))
+      | inr earlier ↦ ap is_le (lower k q earlier at_k)
+    ]
+
+    -- and another than all before it
+    pub apart_above : ApartBelow names n → ApartBelow names (n + 1)
+    apart_above apart i j q less low at_i at_j = elim (next_or_before j q low at_j) [
+      | inl same ↦
+          let twice : Less ≡ Equal = sym (lower i q (omega (arith, less, low)) at_i) ∙ ap (λ x. slice_cmp nat_cmp x name) same ∙ tied_itself nat_list_cmp_total name in
+          cc
+      | inr earlier ↦ apart i j q less earlier at_i at_j
+    ]
+
+  -- else that one stays
+  pub at_most_still : is_lt (slice_cmp nat_cmp highest name) ≡ false → AtMostBelow names (n + 1) highest
+  at_most_still not_above k q low at_k = elim (next_or_before k q low at_k) [
+    | inl same ↦ rw same (ap is_le (nat_list_cmp_total.antisymm name highest) ∙ turned _ not_above)
+    | inr earlier ↦ below k q earlier at_k
+  ]
+
 -- the names of the items of a list
 module _ {X : Type 0} (name_of : X → Name) (xs : List X) where
   -- whether an item before this index has the name
@@ -165,6 +225,20 @@ module _ {X : Type 0} (name_of : X → Name) (xs : List X) where
           let read : get_or (take index xs) i y ≡ y = get_or-take index xs i y before ∙ get_or_from_slice_get xs i y y is in
           let equal : bytes_eq (name_of (get_or (take index xs) i y)) (name_of x) ≡ true = rw read ((bytes_eq-Decides (name_of y) (name_of x)).1 same) in
           false≢true (sym not_given ∙ list_any_at (λ z. bytes_eq (name_of z) (name_of x)) (take index xs) i y within equal)
+
+  -- the next item's name beside the highest before it
+  module _ (index : ℕ) (x : X) (highest name : Name) (at : slice_get xs index ≡ Some x) (named : name ≡ name_of x) (below : AtMostBelow (map name_of xs) index highest) where
+    here : slice_get (map name_of xs) index ≡ Some name
+    here = named_at index x at ∙ ap Some (sym named)
+
+    pub highest_more : is_lt (slice_cmp nat_cmp highest name) ≡ true → AtMostBelow (map name_of xs) (index + 1) name
+    highest_more above = at_most_itself (map name_of xs) index highest name here below above
+
+    pub apart_from_lower : is_lt (slice_cmp nat_cmp highest name) ≡ true → ApartBelow (map name_of xs) index → ApartBelow (map name_of xs) (index + 1)
+    apart_from_lower above = apart_above (map name_of xs) index highest name here below above
+
+    pub highest_still : is_lt (slice_cmp nat_cmp highest name) ≡ false → AtMostBelow (map name_of xs) (index + 1) highest
+    highest_still not_above = at_most_still (map name_of xs) index highest name here below not_above
 
   pub not_repeated : (n : ℕ) → length xs ≤ n → ApartBelow (map name_of xs) n → ¬ RepeatsName (map name_of xs)
   not_repeated n all apart twice =
@@ -239,6 +313,21 @@ one_more shapes n below here k lt = elim (cases_lt k n) [
   | inl less ↦ below k less
   | inr more ↦ let same : k ≡ n = omega arith in rw same here
 ]
+
+-- pointees followed from before this index come to an end
+pub ends_below : (shapes : List Shape) (n : ℕ) → FaultlessBelow shapes n → EndsBelow shapes n
+ends_below shapes n below k lt = (below k lt).none (PointerCycle k) refl
+
+-- so do those from an index past the list
+pub ends_past : (shapes : List Shape) (n : ℕ) → length shapes ≤ n → ¬ NeverEnds shapes n
+ends_past shapes n past never = let inside = fault_within shapes (PointerCycle n) never in omega (arith, inside, past)
+
+-- and those from the pointee of a shape without fault, or else from what was kept before
+pub ends_still : (shapes : List Shape) (index : ℕ) (later : Option ℕ) (kept now : ℕ) → IsFaultlessAt shapes index → IfSome later (λ next. pointee_at shapes index ≡ Some next)
+    → ¬ NeverEnds shapes kept → now ≡ unwrap_or later kept → ¬ NeverEnds shapes now
+ends_still shapes index None kept now faultless leads known is = rw is known
+ends_still shapes index (Some next) kept now faultless leads known is =
+    rw is (pointee_ends shapes index next leads (faultless.none (PointerCycle index) refl))
 
 pub checked : (shapes : List Shape) (n : ℕ) → length shapes ≤ n → FaultlessBelow shapes n → IsChecked shapes
 checked shapes n all below = record {

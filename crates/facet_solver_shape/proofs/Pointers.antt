@@ -126,6 +126,18 @@ module _ (shapes : List Shape) where
       let over : pointee_after shapes (i + 1) index ≡ None = leads 1 ∙ ap (option_and_then (pointee_after shapes 0)) is in
       false≢true (sym (ap is_some over) ∙ never (i + 1))
 
+  -- a way has an end where it leads to an index from where there is one
+  pub ends_there : (i index here : ℕ) → LeadsTo i index here → ¬ NeverEnds shapes here → ¬ NeverEnds shapes index
+  ends_there i index here leads not never = not (λ n. sym (ap is_some (leads n)) ∙ never (i + n))
+
+  -- and from a pointee there is one where there is from the pointer
+  pub pointee_ends : (index next : ℕ) → pointee_at shapes index ≡ Some next → ¬ NeverEnds shapes index → ¬ NeverEnds shapes next
+  pointee_ends index next leads not never = not on
+    where
+      on : NeverEnds shapes index
+      on zero = refl
+      on (suc n) = ap (λ o. is_some (option_and_then (pointee_after shapes n) o)) leads ∙ never n
+
   still_on : (i index here next : ℕ) → LeadsTo i index here → length shapes ≤ i → pointee_at shapes here ≡ Some next → NeverEnds shapes index
   still_on i index here next leads far is =
       endless (i + 1) index next (omega (arith, far)) (leads 1 ∙ ap (option_and_then (pointee_after shapes 0)) is)

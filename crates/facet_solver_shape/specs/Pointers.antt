@@ -1,5 +1,5 @@
 -- Pointers, followed from shape to shape, and the ends of their chains.
-use Rattle.std.specs.Prelude.{ℕ, zero, suc, List, Option, Some, None, IsSome, slice_get, option_and_then, ◌≡◌, length}
+use Rattle.std.specs.Prelude.{ℕ, zero, suc, List, Option, Some, None, IsSome, slice_get, option_and_then, ◌≡◌, ◌<◌, length}
 use Rattle.facet_solver_shape.specs.declared.shape.Shape.{Shape}
 use Rattle.facet_solver_shape.specs.declared.shape.ShapeKind.{ShapeKind}
 use Rattle.facet_solver_shape.specs.declared.shape.ShapeKind.TheVariants.{Pointer}
@@ -22,6 +22,10 @@ pointee_after shapes (suc n) index = option_and_then (pointee_after shapes n) (p
 -- the way of pointees from an index has no end
 abbrev pub NeverEnds : List Shape → ℕ → Type 0
 NeverEnds shapes index = (n : ℕ) → IsSome (pointee_after shapes n index)
+
+-- the way of pointees from each index below this one has an end
+abbrev pub EndsBelow : List Shape → ℕ → Type 0
+EndsBelow shapes index = (k : ℕ) → k < index → ¬ NeverEnds shapes k
 
 -- the index reached from an index by following pointees, n at the most
 abbrev pub end_within : List Shape → ℕ → ℕ → ℕ

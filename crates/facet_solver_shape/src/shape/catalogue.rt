@@ -4,7 +4,7 @@ ghost use Rattle.std.specs.Option.{option_copied};
 ghost use Rattle.facet_solver_shape.specs.Catalogues.{IsEarlierThan, shape_of, number_of, fault_text, refusal_text, IsChecked, IsFirstFault};
 ghost use Rattle.facet_solver_shape.specs.Pointers.{pointee_at, end_of, IsEndOf, EveryShapeEnds};
 
-use super::check::check_shape;
+use super::check::{check_shape, later_pointee};
 use super::{Shape, ShapeId};
 use std::error::Error;
 use std::fmt;
@@ -127,8 +127,12 @@ impl Shapes {
         ensures ends { OnOk result (EveryShapeEnds shapes.items) }
         ensures refused { IfErr result (IsFirstFault shapes.items) }
     {
+        // From here pointees come to an end: at first there is no shape, then it is the pointee of
+        // the last pointer to a later index.
+        let mut ending = ShapeId::new(shapes.len());
         for index in 0..shapes.len() {
-            check_shape(&shapes, index)?;
+            check_shape(&shapes, index, ending)?;
+            ending = later_pointee(&shapes, index).unwrap_or(ending);
         }
         Ok(Shapes { shapes })
     }

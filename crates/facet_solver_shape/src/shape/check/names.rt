@@ -53,12 +53,17 @@ pub(super) fn repeats_variant_name(kind: &ShapeKind) -> bool
     }
 }
 
-// Whether two items have one name.
+// Whether two items have one name. A name above all before it is none of them, so names that rise
+// are compared once each.
 fn repeats_name<T: Named>(items: &[T]) -> bool
     ensures { IsTrue result ↔ RepeatsName (map T.name_of items.now) }
 {
+    let mut highest = "";
     for (index, item) in items.iter().enumerate() {
-        if has_name(&items[..index], item.declared_name()) {
+        let name = item.declared_name();
+        if highest < name {
+            highest = name;
+        } else if has_name(&items[..index], name) {
             return true;
         }
     }
