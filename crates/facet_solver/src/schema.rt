@@ -4,8 +4,8 @@ ghost use Rattle.std.specs.List.{list_any};
 ghost use Rattle.std.specs.Option.{option_copied};
 ghost use Rattle.facet_solver_shape.specs.Keys.{key_of};
 ghost use Rattle.facet_solver.specs.Build.{build_of, build_with};
-ghost use Rattle.facet_solver.specs.Choice.{IsRefusal};
-ghost use Rattle.facet_solver.specs.Count.{IsCountOf};
+ghost use Rattle.facet_solver.specs.Choice.{Enumerates, IsRefusal};
+ghost use Rattle.facet_solver.specs.Count.{IsCountOf, count_of_root};
 ghost use Rattle.facet_solver.specs.Indexed.{IsEntryIfAny};
 ghost use Rattle.facet_solver.specs.Failure.{has_field_named};
 ghost use Rattle.facet_solver.specs.KeyResult.{field_at};
@@ -211,6 +211,20 @@ impl<'c> Schema<'c> {
         ensures refused { IfErr result (IsRefusal (build_of build.entry) root) }
     {
         let made = resolutions(build, root)?;
+        Schema::indexed(build, root, made)
+    }
+
+    // The schema of the resolutions that a build made of a root. The only error is refused memory.
+    fn indexed(
+        build: Build<'c>,
+        root: ShapeId,
+        made: Vec<Resolution<'c>>,
+    ) -> Result<Schema<'c>, SchemaError<'c>>
+        requires enumerated { Enumerates (build_of build) root made.items }
+        requires counted { length made.items ≡ count_of_root (build_of build) root }
+        ensures built { IfOk result (IsBuilt (build_of build.entry) root) }
+        ensures refused { IfErr result (IsRefusal (build_of build.entry) root) }
+    {
         let index = Index::new(build.alloc, &made)?;
         Ok(Schema {
             shapes: build.shapes,

@@ -2,7 +2,7 @@
 ghost use Rattle.std.specs.Prelude.{map, Some, string_bytes};
 ghost use Rattle.std.specs.List.{flat_map};
 ghost use Rattle.facet_solver_shape.specs.Names.{optional_name};
-ghost use Rattle.facet_solver.specs.ErrorTexts.{failure_text, failure_names, closest_text, field_at_path, reasons_text, unknown_end};
+ghost use Rattle.facet_solver.specs.ErrorTexts.{failure_text, failure_names, at_paths_text, closest_text, field_at_path, reasons_text, unknown_end};
 ghost use Rattle.facet_solver.specs.QuotedNames.{where_ascii};
 ghost use Rattle.facet_solver.specs.Report.{failure_view, missing_view};
 
@@ -45,6 +45,22 @@ impl fmt::Display for AtPaths<'_, '_> {
     }
 }
 
+// Missing fields with their paths, if there are any.
+#[derive(Drop)]
+struct MissingEnd<'s, 'c>(&'s [MissingFieldInfo<'c>]);
+
+impl fmt::Display for MissingEnd<'_, '_> {
+    ghost output = { λ m. Some (at_paths_text (map missing_view m.0.now)) };
+
+    fn fmt<W: fmt::Write>(&self, f: &mut fmt::Formatter<W>) -> fmt::Result {
+        if self.0.is_empty() {
+            return Ok(());
+        }
+        let fields = AtPaths(self.0);
+        write!(f, "; missing required fields:{fields}")
+    }
+}
+
 // The closest resolution.
 #[derive(Drop)]
 struct Closest<'s>(&'s Option<String>);
@@ -79,12 +95,8 @@ impl fmt::Display for Reasons<'_, '_> {
             return write!(f, "\n\nNo variant matched:{failures}");
         }
         let closest = Closest(self.closest);
-        if self.missing.is_empty() {
-            write!(f, "{closest}")
-        } else {
-            let missing = AtPaths(self.missing);
-            write!(f, "{closest}; missing required fields:{missing}")
-        }
+        let missing = MissingEnd(self.missing);
+        write!(f, "{closest}{missing}")
     }
 }
 

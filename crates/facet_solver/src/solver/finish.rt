@@ -23,6 +23,16 @@ impl<'s, 'c, 'a> Solver<'s, 'c, 'a> {
         ensures handle { IfOk result (IsHandleOf self.entry.schema) }
         ensures refused { IfErr result (IsReportOn self.entry) }
     {
+        self.verdict(alloc)
+    }
+
+    // That answer. The solver is only read here, so that it is dropped in one place.
+    fn verdict(&self, alloc: Global) -> Result<ResolutionHandle<'s, 'c>, SolverError<'c>>
+        ensures one { IsOk result ↔ (length (viable self.now) ≡ 1) }
+        ensures index { IfOk result (λ handle. viable self.now ≡ index_of handle ∷ []) }
+        ensures handle { IfOk result (IsHandleOf self.now.schema) }
+        ensures refused { IfErr result (IsReportOn self.now) }
+    {
         match self.viable() {
             Matches::None => Err(self.report(alloc).no_match()?),
             Matches::One(index) => Ok(ResolutionHandle::new(self.schema, index)),

@@ -8,7 +8,7 @@ use facet_solver_shape::{FieldInfo, FieldKey, Resolution, ShapeId};
 use std::collections::BTreeMap;
 
 /// What has a shape. The functions below take a slice of a type parameter, for the checker has no rule yet for one of
-/// references to fields.
+/// references to a struct that names a lifetime, owns memory and has no model, as a field does.
 pub(crate) trait Shaped: Copy {
     ghost use Rattle.std.specs.Prelude.{ℕ};
 
