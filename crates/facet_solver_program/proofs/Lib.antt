@@ -1,2 +1,4 @@
 pub mod Each
 pub mod Steps
+pub mod Telling
+pub mod Endings

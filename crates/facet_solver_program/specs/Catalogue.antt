@@ -1,6 +1,6 @@
 -- The shapes that JSON says.
-use Rattle.std.specs.Prelude.{ℕ, Option, Some, None, codes, [], ◌∷◌, List, option_map, option_and_then}
-use Rattle.serde_json.specs.Data.{Data, Items}
+use Rattle.std.specs.Prelude.{ℕ, Option, Some, codes, [], ◌∷◌, List, option_map}
+use Rattle.serde_json.specs.Data.{Data}
 use Rattle.serde_json.specs.Find.{get, as_str}
 use Rattle.facet_solver.specs.Names.{Name}
 use Rattle.facet_solver.specs.declared.StructKind.{StructKind}

@@ -1,9 +1,8 @@
 -- The input that JSON says.
-use Rattle.std.specs.Prelude.{ℕ, List, Option, Some, None, codes, map, if◌then◌else◌}
+use Rattle.std.specs.Prelude.{ℕ, List, Option, Some, codes, map}
 use Rattle.serde_json.specs.Data.{Data, Members}
 use Rattle.serde_json.specs.Find.{get, as_str, as_array, as_object}
 use Rattle.serde_json.specs.View.{members_view}
-use Rattle.serde_json.specs.Written.{has_float}
 use Rattle.facet_solver_program.specs.declared.decode.word.Builder.{Builder}
 use Rattle.facet_solver_program.specs.declared.decode.word.Builder.TheVariants.{Flattened}
 use Rattle.facet_solver_program.specs.declared.decode.input.Input.{Input as Decoded}

@@ -1,7 +1,4 @@
 pub mod ShapeView
-pub mod Message
-pub mod Replies
-pub mod Exit
 pub mod Members
 pub mod Words
 pub mod Catalogue
@@ -9,3 +6,6 @@ pub mod Input
 pub mod Reading
 pub mod Fits
 pub mod Document
+pub mod Tell
+pub mod Answer
+pub mod Serve

@@ -1,22 +1,20 @@
-//! Solves a built-in message, and prints which variants its keys mean.
+//! Reads a catalogue of shapes and a document in JSON, and prints which variants the document means.
 #![tactic(auto)]
 
 mod answer;
 mod decode;
 mod document;
-mod exit;
 mod fits;
-mod message;
 mod reading;
-mod reply;
+mod serve;
+mod tell;
+#[cfg(test)]
+mod tests;
 
-use answer::answer;
-use exit::{exit_status, printed};
+use serve::serve;
 use std::process::ExitCode;
 
 fn main(rt: HostRuntime) -> ExitCode {
-    let answer = answer(rt.alloc());
-    let (text, status) = printed(&answer);
-    let written = println!(rt; "{text}");
-    ExitCode::from(exit_status(&written, status))
+    let status = serve(rt.alloc(), &mut rt.stdin(), &mut rt.stdout());
+    ExitCode::from(status)
 }

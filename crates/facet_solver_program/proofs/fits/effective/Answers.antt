@@ -1,4 +1,4 @@
-use Rattle.std.proofs.Common.{◌≡◌, ◌∙◌, sym, ap, length, refl, arith, Option}
+use Rattle.std.proofs.Common.{◌∙◌, sym, ap, length, arith}
 use Rattle.facet_solver.specs.Content.{effective_within, go_on}
 use Rattle.facet_solver_program.proofs.Steps.{none_made, one_more, no_more}
 use Rattle.facet_solver_program.proofs.fits.effective.Goals as goal

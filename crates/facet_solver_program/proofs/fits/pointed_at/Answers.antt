@@ -1,4 +1,4 @@
-use Rattle.std.proofs.Common.{◌≡◌, ◌∙◌, sym, ap, length, refl, arith, ℕ, Option}
+use Rattle.std.proofs.Common.{◌∙◌, sym, ap, length, arith, ℕ, Option}
 use Rattle.facet_solver.specs.Pointers.{end_within}
 use Rattle.std.specs.Option.{option_map_or}
 use Rattle.facet_solver_program.proofs.Steps.{none_made, one_more, no_more}
