@@ -14,6 +14,8 @@ pub mod Walk
 pub mod ChoiceResolutions
 pub mod NestedSets
 pub mod Nested
+pub mod NestedTable
+pub mod Marks
 pub mod Emissions
 pub mod SharedBits
 pub mod FieldCategories

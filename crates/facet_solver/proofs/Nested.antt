@@ -62,7 +62,7 @@ entered_same : (entered : Entered) (cat : Catalogue) (limit : ℕ) (g h : Under)
 entered_same entered cat limit g h agree id lt = ap (λ (ps : KeyPaths). if entered (kind_at cat id) then ps else no_paths) (agree id lt)
 
 module _ (entered : Entered) (cat : Catalogue) (checked : NamesEarlier cat) where
-  kind_at-below : (id : ℕ) → KindBelow id (kind_at cat id)
+  pub kind_at-below : (id : ℕ) → KindBelow id (kind_at cat id)
   kind_at-below id = kind_of-below cat checked id (slice_get cat id) refl
 
   -- more levels change nothing
@@ -93,7 +93,7 @@ module _ (entered : Entered) (cat : Catalogue) (checked : NamesEarlier cat) wher
     | inr past ↦ nothing_past n id past ∙ sym (nothing_past m id past)
   ]
 
-  under_shape-step : (id : ℕ) → under_shape entered cat id ≡ under_shape_step entered cat (under_shape entered cat) id
+  pub under_shape-step : (id : ℕ) → under_shape entered cat id ≡ under_shape_step entered cat (under_shape entered cat) id
   unfolding under_shape under_within
   under_shape-step id = enough_levels (suc (length cat)) (suc (suc (length cat))) id (omega arith) (omega arith)
 

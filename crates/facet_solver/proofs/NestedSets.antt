@@ -99,17 +99,20 @@ module _ (ps qs : KeyPaths) (there : (q : KeyPath) → Has ps q → Has qs q) (b
       go false true h k = k refl
       go false false h k = refl
 
-union-none : (ps : KeyPaths) → set.union ps no_paths ≡ ps
+pub union-none : (ps : KeyPaths) → set.union ps no_paths ≡ ps
 union-none ps = same_paths (set.union ps no_paths) ps (λ q h. elim (Has-union ps no_paths q h) [ inl a ↦ a | inr b ↦ Has-none q b ]) (λ q h. Has-left ps no_paths q h)
 
-union_assoc : (ps qs rs : KeyPaths) → set.union ps (set.union qs rs) ≡ set.union (set.union ps qs) rs
+pub none-union : (ps : KeyPaths) → set.union no_paths ps ≡ ps
+none-union ps = same_paths (set.union no_paths ps) ps (λ q h. elim (Has-union no_paths ps q h) [ inl a ↦ Has-none q a | inr b ↦ b ]) (λ q h. Has-right no_paths ps q h)
+
+pub union_assoc : (ps qs rs : KeyPaths) → set.union ps (set.union qs rs) ≡ set.union (set.union ps qs) rs
 union_assoc ps qs rs = set.same_set path_cmp_total path_cmp_same _ _ (λ q.
     set.contains-union path_cmp_total ps (set.union qs rs) q
     ∙ ap (λ b. set.contains ps q || b) (set.contains-union path_cmp_total qs rs q)
     ∙ sym (or_assoc (set.contains ps q) (set.contains qs q) (set.contains rs q))
     ∙ sym (set.contains-union path_cmp_total (set.union ps qs) rs q ∙ ap (λ b. b || set.contains rs q) (set.contains-union path_cmp_total ps qs q)))
 
-union-insert : (ps qs : KeyPaths) (p : KeyPath) → set.union ps (set.insert qs p) ≡ set.union (set.insert ps p) qs
+pub union-insert : (ps qs : KeyPaths) (p : KeyPath) → set.union ps (set.insert qs p) ≡ set.union (set.insert ps p) qs
 union-insert ps qs p = same_paths _ _
     (λ q h. elim (Has-union ps (set.insert qs p) q h) [
       | inl a ↦ Has-left (set.insert ps p) qs q (Has-other ps p q a)
@@ -126,7 +129,7 @@ union-insert ps qs p = same_paths _ _
       | inr b ↦ Has-right ps (set.insert qs p) q (Has-other qs p q b)
     ])
 
-behind_prefix-none : (prefix : KeyPath) → behind_prefix prefix no_paths ≡ no_paths
+pub behind_prefix-none : (prefix : KeyPath) → behind_prefix prefix no_paths ≡ no_paths
 behind_prefix-none prefix = same_paths _ _
     (λ q h. let r = Has-behind_from prefix no_paths q h in Has-none r.0 r.1)
     (λ q h. Has-none q h)
@@ -167,6 +170,47 @@ behind_prefix-named prefix name ps = same_paths _ _
           subst (Has (behind_prefix prefix (named name ps))) (sym (append_assoc prefix (name ∷ []) r.0) ∙ r.2)
           (Has-behind prefix (named name ps) (name ∷ r.0) (Has-other (behind_prefix (name ∷ []) ps) (name ∷ []) (name ∷ r.0) (Has-behind (name ∷ []) ps r.0 r.1))))
     ])
+
+behind_prefix-insert : (prefix : KeyPath) (ps : KeyPaths) (p : KeyPath) → behind_prefix prefix (set.insert ps p) ≡ set.insert (behind_prefix prefix ps) (prefix ++ p)
+behind_prefix-insert prefix ps p = same_paths _ _
+    (λ q h.
+    let r = Has-behind_from prefix (set.insert ps p) q h in
+    subst (Has (set.insert (behind_prefix prefix ps) (prefix ++ p))) r.2
+    (elim (Has-insert ps p r.0 r.1) [
+      | inl same ↦ subst (λ (x : KeyPath). Has (set.insert (behind_prefix prefix ps) (prefix ++ p)) (prefix ++ x)) (sym same) (Has-itself (behind_prefix prefix ps) (prefix ++ p))
+      | inr other ↦ Has-other (behind_prefix prefix ps) (prefix ++ p) (prefix ++ r.0) (Has-behind prefix ps r.0 other)
+    ]))
+    (λ q h. elim (Has-insert (behind_prefix prefix ps) (prefix ++ p) q h) [
+      | inl same ↦ subst (Has (behind_prefix prefix (set.insert ps p))) (sym same) (Has-behind prefix (set.insert ps p) p (Has-itself ps p))
+      | inr other ↦
+          (let r = Has-behind_from prefix ps q other in
+          subst (Has (behind_prefix prefix (set.insert ps p))) r.2 (Has-behind prefix (set.insert ps p) r.0 (Has-other ps p r.0 r.1)))
+    ])
+
+-- no prefix changes nothing
+pub behind_nothing : (ps : KeyPaths) → behind_prefix [] ps ≡ ps
+behind_nothing ps = same_paths _ _
+    (λ q h. let r = Has-behind_from [] ps q h in subst (Has ps) r.2 r.1)
+    (λ q h. Has-behind [] ps q h)
+
+-- a list of key paths with one more in front
+from_list-cons : (p : KeyPath) (ps : List KeyPath) → set.from_list {R = slice_cmp (slice_cmp nat_cmp)} (p ∷ ps) ≡ set.insert (set.from_list ps) p
+from_list-cons p ps = set.same_set path_cmp_total path_cmp_same _ _ (λ q.
+    set.contains-from_list path_cmp_total (p ∷ ps) q
+    ∙ sym (set.contains-insert path_cmp_total (set.from_list ps) p q
+    ∙ ap (λ b. is_path q p || b) (set.contains-from_list path_cmp_total ps q)))
+
+-- the key paths of a list, each behind a prefix: the first of them is added before the others
+module _ (prefix p : KeyPath) (ps : List KeyPath) where
+  first_behind : behind_prefix prefix (set.from_list (p ∷ ps)) ≡ set.insert (behind_prefix prefix (set.from_list ps)) (prefix ++ p)
+  first_behind = ap (behind_prefix prefix) (from_list-cons p ps) ∙ behind_prefix-insert prefix (set.from_list ps) p
+
+  pub added_behind : (old : KeyPaths) → set.union (set.insert old (prefix ++ p)) (behind_prefix prefix (set.from_list ps)) ≡ set.union old (behind_prefix prefix (set.from_list (p ∷ ps)))
+  added_behind old = sym (ap (λ (s : KeyPaths). set.union old s) first_behind ∙ union-insert old (behind_prefix prefix (set.from_list ps)) (prefix ++ p))
+
+-- at the end of the list nothing is left to add
+pub all_behind : (prefix : KeyPath) (old : KeyPaths) → set.union old (behind_prefix prefix (set.from_list [])) ≡ old
+all_behind prefix old = ap (λ (s : KeyPaths). set.union old s) (behind_prefix-none prefix) ∙ union-none old
 
 -- a resolution with more key paths
 module _ (r : Resolved) where
@@ -212,3 +256,7 @@ module _ {X : Type 0} (paths : X → KeyPaths) (prefix : KeyPath) (xs : List X) 
 
   pub behind-end : (r : Resolved) → length xs ≤ i → with_paths_behind r prefix (paths_of_each paths (drop i xs)) ≡ r
   behind-end r h = ap (λ (ys : List X). with_paths_behind r prefix (paths_of_each paths ys)) (drop_of_length-le xs h) ∙ behind-none r prefix
+
+-- a list of key paths, each behind a prefix, is added to a resolution: the first of them before the others
+pub shown_behind : (prefix p : KeyPath) (ps : List KeyPath) (r : Resolved) → with_paths_behind (with_key_path r (prefix ++ p)) prefix (set.from_list ps) ≡ with_paths_behind r prefix (set.from_list (p ∷ ps))
+shown_behind prefix p ps r = sym (ap (with_key_paths r) (first_behind prefix p ps) ∙ with_key_paths-insert r (behind_prefix prefix (set.from_list ps)) (prefix ++ p))

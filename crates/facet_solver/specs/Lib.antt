@@ -2,6 +2,7 @@ pub mod Build
 pub mod Representation
 pub mod Content
 pub mod Nested
+pub mod NestedTable
 pub mod Roles
 pub mod Place
 pub mod Emissions

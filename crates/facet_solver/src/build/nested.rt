@@ -6,13 +6,17 @@ ghost use Rattle.facet_solver.specs.Build.{kind_at};
 ghost use Rattle.facet_solver.specs.Nested as nested;
 ghost use Rattle.facet_solver.specs.Nested.{entered_view, with_paths_behind};
 
+pub(crate) mod marks;
+pub(crate) mod paths;
+pub(crate) mod table;
+
 use crate::build::Build;
 use facet_solver_shape::{Field, KeyPath, Resolution, ShapeId, ShapeKind, Shapes, Variant};
 use std::alloc::{AllocError, Global};
 
 /// Which shapes are entered, below a regular field and through a variant's single field `0`.
 #[derive(Clone, Copy)]
-enum Entered {
+pub(crate) enum Entered {
     /// Structs, and nothing else.
     StructsAlone,
     /// Every shape.

@@ -1,0 +1,48 @@
+-- Marks of shapes: more of them keep what is asked answered.
+use Rattle.std.proofs.Common.{◌≡◌, ◌<◌, ◌≤◌, ◌+◌, inl, inr, ℕ, zero, suc, List, [], ◌∷◌, Bool, true, refl, ap, ◌∙◌, sym, subst, slice_get, length, get_or, set, length-set, arith}
+use Rattle.std.proofs.lemmas.Bool.{cases_eq, cases_lt}
+use Rattle.std.proofs.lemmas.List.{get_or_default}
+use Rattle.facet_solver.specs.NestedTable.{IsMarked, IsMarkedMore}
+
+pub more-refl : (limit : ℕ) (ms : List Bool) → IsMarkedMore limit ms ms
+more-refl limit ms = record { same_length = refl; kept = λ id m. m; below = λ id le m. m }
+
+pub more-trans : (limit : ℕ) (a b c : List Bool) → IsMarkedMore limit a b → IsMarkedMore limit b c → IsMarkedMore limit a c
+more-trans limit a b c f g = record {
+  same_length = g.same_length ∙ f.same_length;
+  kept = λ id m. g.kept id (f.kept id m);
+  below = λ id le m. f.below id le (g.below id le m);
+}
+
+pub more-mono : (m n : ℕ) (a b : List Bool) → m ≤ n → IsMarkedMore m a b → IsMarkedMore n a b
+more-mono m n a b le f = record { same_length = f.same_length; kept = f.kept; below = λ id h x. f.below id (omega (arith, le, h)) x }
+
+-- a mark that is made
+pub set_same : (ms : List Bool) (i : ℕ) → i < length ms → IsMarked (set ms i true) i
+set_same [] i h = absurd (omega arith)
+set_same (m ∷ ms) zero h = refl
+set_same (m ∷ ms) (suc i) h = set_same ms i (omega arith)
+
+set_other : (ms : List Bool) (i k : ℕ) → (k ≡ i → ⊥) → slice_get (set ms i true) k ≡ slice_get ms k
+set_other [] i k apart = refl
+set_other (m ∷ ms) zero zero apart = absurd (apart refl)
+set_other (m ∷ ms) zero (suc k) apart = refl
+set_other (m ∷ ms) (suc i) zero apart = refl
+set_other (m ∷ ms) (suc i) (suc k) apart = set_other ms i k (λ e. apart (ap suc e))
+
+pub more-set : (ms : List Bool) (i : ℕ) → i < length ms → IsMarkedMore (i + 1) ms (set ms i true)
+more-set ms i lt = record {
+  same_length = length-set ms i true;
+  kept = λ id m. elim (cases_eq id i) [
+    | inl same ↦ subst (IsMarked (set ms i true)) (sym same) (set_same ms i lt)
+    | inr apart ↦ set_other ms i id apart ∙ m
+  ];
+  below = λ id le m. sym (set_other ms i id (λ e. omega (arith, e, le))) ∙ m;
+}
+
+-- what the items before one have, and that one, all have that are not behind it
+pub up_to_one : {X : Type 0} (P Q : X → Type 0) (xs : List X) (i : ℕ) (x : X) → x ≡ get_or xs i x → i < length xs → ((y : X) → P y → Q y) → Q x → ((j : ℕ) (d : X) → j < i → P (get_or xs j d)) → (j : ℕ) (d : X) → j < i + 1 → Q (get_or xs j d)
+up_to_one P Q xs i x is lt up q h j d l = elim (cases_lt j i) [
+  | inl before ↦ up (get_or xs j d) (h j d before)
+  | inr past ↦ (let same : j ≡ i = omega (arith, l, past) in subst (λ (k : ℕ). Q (get_or xs k d)) (sym same) (subst Q (is ∙ get_or_default xs i x d lt) q))
+]

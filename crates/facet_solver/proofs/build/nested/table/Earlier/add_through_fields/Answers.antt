@@ -1,0 +1,36 @@
+use Rattle.std.proofs.Common.{◌+◌, ◌∙◌, ap, arith, drop, sym}
+use Rattle.std.specs.FinSet.{union}
+use Rattle.facet_solver.specs.Nested.{KeyPaths, entered_view, through_field, through_fields}
+use Rattle.facet_solver.specs.NestedTable.{FieldAsks, IsFilled}
+use Rattle.facet_solver.proofs.NestedTable.{all_at, no_more, one_more}
+use Rattle.facet_solver.proofs.build.nested.table.Earlier.add_through_fields.Goals as goal
+
+pub add_through_field-requires-clause-asked : goal.add_through_field-requires-clause-asked
+add_through_field-requires-clause-asked c =
+    all_at (FieldAsks (IsFilled c.args.self.entries.now) (entered_view c.args.self.entered) c.args.self.shapes.now) c.args.fields.now c.loop-index.index c.visited.result.now c.requires.asked c.visited.ensures.field
+
+pub loop-index-preserved : goal.loop-index-preserved
+loop-index-preserved c =
+    let e = entered_view c.args.self.entered in
+    let cat = c.args.self.shapes.now in
+    let fs = c.args.fields.now in
+    let i = c.loop-index.index in
+    let visits = ap (λ s. s.visits) c.visited.ensures.steps in (
+      ap (λ (ps : KeyPaths). union ps (through_fields e cat (drop (i + 1) fs))) c.in_ok-add_through_field.ensures
+          ∙ one_more (through_field e cat) fs i c.loop-index.paths c.visited.result.now c.visited.ensures.field
+          ∙ c.loop-index.invariant.0,
+      omega (arith, visits, c.loop-index.invariant.1),
+    )
+
+pub returns-in_err-add_through_field-clause-visits :
+    goal.returns-in_err-add_through_field-clause-visits
+returns-in_err-add_through_field-clause-visits c =
+    let visits = ap (λ s. s.visits) c.visited.ensures.steps in
+    omega (arith, visits, c.loop-index.invariant.1, c.loop-index-test.true)
+
+pub returns-clause-paths : goal.returns-clause-paths
+returns-clause-paths c =
+    let e = entered_view c.args.self.entered in
+    let cat = c.args.self.shapes.now in
+    sym (no_more (through_field e cat) c.args.fields.now c.loop-index.index c.loop-index.paths c.loop-index-test.false)
+    ∙ c.loop-index.invariant.0

@@ -1,0 +1,14 @@
+use Rattle.std.proofs.Common.{◌≡◌, ◌+◌, ◌≤◌, drop, length, map, take}
+use Rattle.std.specs.Prelude.{sum_by}
+use Rattle.std.specs.FinSet.{union}
+use Rattle.facet_solver.specs.Nested.{entered_view, under_variant, under_variants}
+use Rattle.facet_solver.proofs.build.nested.table.Earlier.enum_entry.Given as goal
+
+-- those so far and those under the variants that are left
+abbrev pub invariant-loop-variant : goal.invariant-loop-variant
+invariant-loop-variant l =
+    let entered = entered_view l.self.entered in
+    let cat = l.self.shapes.now in
+    (union l.under (under_variants entered cat (drop l.variant-index l.variants)) ≡ under_variants entered cat l.variants)
+    × (l.each.items ≡ map (under_variant entered cat) (take l.variant-index l.variants))
+    × (l.steps.visits ≤ l.fn.steps.visits + sum_by (λ v. length v.fields.items) (take l.variant-index l.variants))

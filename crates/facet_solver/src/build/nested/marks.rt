@@ -1,0 +1,87 @@
+//! Marks of the shapes that nested key paths reach, by index.
+ghost use Rattle.std.specs.Prelude.{◌≡◌, ◌+◌, ◌<◌, ◌≤◌, ℕ, All, length};
+ghost use Rattle.facet_solver_shape.specs.Catalogues.{FieldsBelow, VariantsBelow};
+ghost use Rattle.facet_solver.specs.Build.{kind_at};
+ghost use Rattle.facet_solver.specs.Nested.{entered_view};
+ghost use Rattle.facet_solver.specs.NestedTable as table;
+ghost use Rattle.facet_solver.specs.NestedTable.{FieldAsks, IsClosed, IsMarked, IsMarkedMore, KindAsks, VariantAsks};
+
+use crate::build::nested::Entered;
+use facet_solver_shape::{Field, ShapeId, ShapeKind, Shapes, Variant};
+
+/// Marks every shape that a marked one asks for, from the last index down: what a shape asks for stands before it.
+pub(crate) fn close_marks(shapes: &Shapes, entered: Entered, marks: &mut [bool])
+    ensures all { length marks.new ≡ length marks.old }
+    ensures kept { (id : ℕ) → IsMarked marks.old id → IsMarked marks.new id }
+    ensures closed { IsClosed (entered_view entered) shapes.now marks.new }
+{
+    let mut left = marks.len();
+    while left > 0 {
+        left -= 1;
+        if marks[left] {
+            mark_asked(shapes, entered, left, marks);
+        }
+    }
+}
+
+/// Marks what the shape at an index asks for.
+fn mark_asked(shapes: &Shapes, entered: Entered, index: usize, marks: &mut [bool])
+    requires { index ≤ length marks.old }
+    ensures more { IsMarkedMore index marks.old marks.new }
+    ensures asked { KindAsks (IsMarked marks.new) (entered_view entered) shapes.now
+        (kind_at shapes.now index) }
+{
+    let Some(shape) = shapes.get(ShapeId::new(index)) else {
+        return;
+    };
+    match &shape.kind {
+        ShapeKind::Struct { fields, .. } => mark_fields(shapes, entered, fields, marks),
+        ShapeKind::Enum { variants } => mark_variants(shapes, entered, variants, marks),
+        _ => {}
+    }
+}
+
+/// Marks what variants ask for.
+fn mark_variants(shapes: &Shapes, entered: Entered, variants: &[Variant], marks: &mut [bool])
+    requires { VariantsBelow (length marks.old) variants.now }
+    ensures more { (limit : ℕ) → VariantsBelow limit variants.now
+        → IsMarkedMore limit marks.old marks.new }
+    ensures asked { All (VariantAsks (IsMarked marks.new) (entered_view entered) shapes.now)
+        variants.now }
+{
+    for variant in variants {
+        mark_fields(shapes, entered, &variant.fields, marks);
+    }
+}
+
+/// Marks what fields ask for.
+fn mark_fields(shapes: &Shapes, entered: Entered, fields: &[Field], marks: &mut [bool])
+    requires { FieldsBelow (length marks.old) fields.now }
+    ensures more { (limit : ℕ) → FieldsBelow limit fields.now
+        → IsMarkedMore limit marks.old marks.new }
+    ensures asked { All (FieldAsks (IsMarked marks.new) (entered_view entered) shapes.now)
+        fields.now }
+{
+    for field in fields {
+        mark_field(shapes, entered, field, marks);
+    }
+}
+
+/// Marks what a field asks for.
+fn mark_field(shapes: &Shapes, entered: Entered, field: &Field, marks: &mut [bool])
+    requires { field.now.shape < length marks.old }
+    ensures more { IsMarkedMore (field.now.shape + 1) marks.old marks.new }
+    ensures asked { FieldAsks (IsMarked marks.new) (entered_view entered) shapes.now field.now }
+{
+    if !asks(shapes, entered, field) {
+        return;
+    }
+    marks[field.shape.index()] = true;
+}
+
+/// Whether a field asks for the key paths under its shape.
+fn asks(shapes: &Shapes, entered: Entered, field: &Field) -> bool
+    ensures { result ≡ table.asks (entered_view entered) shapes.now field.now }
+{
+    field.flattened || entered.has(shapes, field.shape)
+}

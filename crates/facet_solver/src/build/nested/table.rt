@@ -1,0 +1,295 @@
+//! Nested key paths from a table by index: those under a shape are made from those under the shapes that its fields name,
+//! which stand before it. So each field is visited once.
+ghost use Rattle.std.specs.Prelude.{◌≡◌, ◌&&◌, ◌+◌, ◌∷◌, [], ◌<◌, ◌≤◌, ◌↔◌, ℕ, All, IfOk, IfSome, OnOk, true, length, map, slice_get, string_bytes, sum_by};
+ghost use Rattle.std.specs.FinSet as set;
+ghost use Rattle.std.specs.Option.{is_some};
+ghost use Rattle.facet_solver.specs.Build.{kind_at};
+ghost use Rattle.facet_solver.specs.Content.{is_zero};
+ghost use Rattle.facet_solver.specs.Nested as nested;
+ghost use Rattle.facet_solver.specs.Nested.{entered_view, if_entered, no_paths, under_fields_step, under_shape};
+ghost use Rattle.facet_solver.specs.NestedTable.{AreEntries, FieldAsks, IsClosed, IsEntry, IsFilled, IsMarked, IsSound, KindAsks, VariantAsks, field_count, fields_of_kind};
+
+use crate::build::Build;
+use crate::build::nested::Entered;
+use crate::build::nested::paths::KeyPaths;
+use facet_solver_shape::{Field, Shape, ShapeId, ShapeKind, Shapes, Steps, Variant};
+use std::alloc::{AllocError, Global};
+
+/// The nested key paths at an index.
+#[derive(Drop)]
+pub(crate) struct Entry<'c> {
+    /// Those under the shape.
+    under: KeyPaths<'c>,
+    /// Those under each variant, where the shape is an enum.
+    variants: Vec<KeyPaths<'c>>,
+}
+
+impl<'c> Entry<'c> {
+    /// No key path.
+    fn empty(alloc: Global) -> Entry<'c>
+        ensures under { result.under ≡ no_paths }
+        ensures variants { result.variants.items ≡ [] }
+    {
+        Entry {
+            under: KeyPaths::new(alloc),
+            variants: Vec::new(alloc),
+        }
+    }
+}
+
+/// The nested key paths under the marked shapes of a catalogue, by index.
+#[derive(Drop)]
+pub(crate) struct NestedTable<'c> {
+    by_index: Vec<Option<Entry<'c>>>,
+}
+
+impl<'c> NestedTable<'c> {
+    /// Makes the entries of the marked shapes in order. Each is made from earlier ones, for what a marked shape asks for is
+    /// marked. No other shape gets an entry.
+    pub(crate) fn new(
+        build: Build<'c>,
+        entered: Entered,
+        marks: &[bool],
+        steps: &mut Steps,
+    ) -> Result<NestedTable<'c>, AllocError>
+        requires all { length marks.now ≡ length build.shapes.now }
+        requires closed { IsClosed (entered_view entered) build.shapes.now marks.now }
+        ensures entries { IfOk result (λ table.
+            AreEntries (entered_view entered) build.entry.shapes.now table.by_index.items) }
+        ensures marked { IfOk result (λ table.
+            (id : ℕ) → IsMarked marks.now id ↔ IsFilled table.by_index.items id) }
+        ensures visits { steps.new.visits ≤ steps.old.visits + field_count build.entry.shapes.now }
+    {
+        let mut by_index = Vec::new(build.alloc);
+        while let Some(shape) = build.shapes.get(ShapeId::new(by_index.len())) {
+            let earlier = Earlier {
+                alloc: build.alloc,
+                shapes: build.shapes,
+                entered,
+                entries: by_index.as_slice(),
+            };
+            let entry = earlier.entry_if(marks[by_index.len()], shape, steps)?;
+            by_index.push(entry)?;
+        }
+        Ok(NestedTable { by_index })
+    }
+}
+
+/// What an entry is made from.
+#[derive(Clone, Copy)]
+struct Earlier<'t, 'c> {
+    alloc: Global,
+    shapes: &'c Shapes,
+    entered: Entered,
+    /// The entries at the indices before it.
+    entries: &'t [Option<Entry<'c>>],
+}
+
+impl<'t, 'c> Earlier<'t, 'c> {
+    /// The entry of a shape, if it is marked.
+    fn entry_if(
+        self,
+        is_marked: bool,
+        shape: &'c Shape,
+        steps: &mut Steps,
+    ) -> Result<Option<Entry<'c>>, AllocError>
+        requires sound { IsSound self }
+        requires asked { is_marked ≡ true
+            → KindAsks (IsFilled self.entries.now) (entered_view self.entered)
+            self.shapes.now shape.now.kind }
+        ensures marked { IfOk result (λ entry. is_some entry ≡ is_marked) }
+        ensures entry { IfOk result (λ entry. IfSome entry
+            (IsEntry (entered_view self.entry.entered) self.entry.shapes.now shape.now.kind)) }
+        ensures visits { steps.new.visits ≤ steps.old.visits + fields_of_kind shape.now.kind }
+    {
+        if is_marked {
+            Ok(Some(self.entry(shape, steps)?))
+        } else {
+            Ok(None)
+        }
+    }
+
+    /// The entry of a shape, by its kind.
+    fn entry(self, shape: &'c Shape, steps: &mut Steps) -> Result<Entry<'c>, AllocError>
+        requires sound { IsSound self }
+        requires asked { KindAsks (IsFilled self.entries.now) (entered_view self.entered)
+            self.shapes.now shape.now.kind }
+        ensures entry { IfOk result
+            (IsEntry (entered_view self.entry.entered) self.entry.shapes.now shape.now.kind) }
+        ensures visits { steps.new.visits ≤ steps.old.visits + fields_of_kind shape.now.kind }
+    {
+        match &shape.kind {
+            ShapeKind::Struct { fields, .. } => self.struct_entry(fields.as_slice(), steps),
+            ShapeKind::Enum { variants } => self.enum_entry(variants.as_slice(), steps),
+            _ => Ok(Entry::empty(self.alloc)),
+        }
+    }
+
+    /// The entry of a struct.
+    fn struct_entry(self, fields: &'c [Field], steps: &mut Steps) -> Result<Entry<'c>, AllocError>
+        requires sound { IsSound self }
+        requires asked { All (FieldAsks (IsFilled self.entries.now) (entered_view self.entered)
+            self.shapes.now) fields.now }
+        ensures under { IfOk result (λ entry. entry.under
+            ≡ nested.through_fields (entered_view self.entry.entered)
+            self.entry.shapes.now fields.now) }
+        ensures variants { IfOk result (λ entry. entry.variants.items ≡ []) }
+        ensures visits { steps.new.visits ≤ steps.old.visits + length fields.now }
+    {
+        let mut under = KeyPaths::new(self.alloc);
+        self.add_through_fields(fields, &mut under, steps)?;
+        Ok(Entry {
+            under,
+            variants: Vec::new(self.alloc),
+        })
+    }
+
+    /// The entry of an enum.
+    fn enum_entry(self, variants: &'c [Variant], steps: &mut Steps) -> Result<Entry<'c>, AllocError>
+        requires sound { IsSound self }
+        requires asked { All (VariantAsks (IsFilled self.entries.now) (entered_view self.entered)
+            self.shapes.now) variants.now }
+        ensures under { IfOk result (λ entry. entry.under
+            ≡ nested.under_variants (entered_view self.entry.entered)
+            self.entry.shapes.now variants.now) }
+        ensures variants { IfOk result (λ entry. entry.variants.items
+            ≡ map (nested.under_variant (entered_view self.entry.entered) self.entry.shapes.now)
+            variants.now) }
+        ensures visits { steps.new.visits
+            ≤ steps.old.visits + sum_by (λ v. length v.fields.items) variants.now }
+    {
+        let mut under = KeyPaths::new(self.alloc);
+        let mut each = Vec::new(self.alloc);
+        for variant in variants {
+            let paths = self.under_variant(variant, steps)?;
+            under.add_behind(self.alloc, &[], &paths)?;
+            each.push(paths)?;
+        }
+        Ok(Entry {
+            under,
+            variants: each,
+        })
+    }
+
+    /// Those under a variant.
+    fn under_variant(
+        self,
+        variant: &'c Variant,
+        steps: &mut Steps,
+    ) -> Result<KeyPaths<'c>, AllocError>
+        requires sound { IsSound self }
+        requires asked { VariantAsks (IsFilled self.entries.now) (entered_view self.entered)
+            self.shapes.now variant.now }
+        ensures paths { IfOk result (λ paths. paths
+            ≡ nested.under_variant (entered_view self.entry.entered)
+            self.entry.shapes.now variant.now) }
+        ensures visits { steps.new.visits
+            ≤ steps.old.visits + length variant.now.fields.items }
+    {
+        let mut paths = KeyPaths::new(self.alloc);
+        let fields = variant.fields.as_slice();
+        if fields.len() == 1 {
+            self.add_under_only_field(visited(fields, 0, steps), &mut paths)?;
+            return Ok(paths);
+        }
+        self.add_through_fields(fields, &mut paths, steps)?;
+        Ok(paths)
+    }
+
+    /// Adds those under a variant by its only field, which stands for its shape where it is named `0` and the shape is
+    /// entered.
+    fn add_under_only_field(
+        self,
+        field: &'c Field,
+        paths: &mut KeyPaths<'c>,
+    ) -> Result<(), AllocError>
+        requires sound { IsSound self }
+        requires asked { FieldAsks (IsFilled self.entries.now) (entered_view self.entered)
+            self.shapes.now field.now }
+        ensures { let entered = entered_view self.entry.entered in
+            let cat = self.entry.shapes.now in
+            let under = under_fields_step entered cat
+            (if_entered entered cat) (under_shape entered cat) (field.now ∷ []) in
+            OnOk result (paths.new ≡ set.union paths.old under) }
+    {
+        if self.is_entered_by(field) {
+            paths.add_behind(self.alloc, &[], self.under(field.shape))
+        } else {
+            self.add_through_field(field, paths)
+        }
+    }
+
+    /// Whether an only field stands for its shape.
+    fn is_entered_by(self, field: &Field) -> bool
+        ensures { result ≡ (is_zero (string_bytes field.now.name)
+            && entered_view self.entry.entered (kind_at self.entry.shapes.now field.now.shape)) }
+    {
+        field.name.as_str() == "0" && self.entered.has(self.shapes, field.shape)
+    }
+
+    /// Adds those through fields, one after another.
+    fn add_through_fields(
+        self,
+        fields: &'c [Field],
+        paths: &mut KeyPaths<'c>,
+        steps: &mut Steps,
+    ) -> Result<(), AllocError>
+        requires sound { IsSound self }
+        requires asked { All (FieldAsks (IsFilled self.entries.now) (entered_view self.entered)
+            self.shapes.now) fields.now }
+        ensures paths { let through =
+            nested.through_fields (entered_view self.entry.entered)
+            self.entry.shapes.now fields.now in
+            OnOk result (paths.new ≡ set.union paths.old through) }
+        ensures visits { steps.new.visits ≤ steps.old.visits + length fields.now }
+    {
+        for index in 0..fields.len() {
+            self.add_through_field(visited(fields, index, steps), paths)?;
+        }
+        Ok(())
+    }
+
+    /// Adds those through a field.
+    fn add_through_field(self, field: &'c Field, paths: &mut KeyPaths<'c>) -> Result<(), AllocError>
+        requires sound { IsSound self }
+        requires asked { FieldAsks (IsFilled self.entries.now) (entered_view self.entered)
+            self.shapes.now field.now }
+        ensures { let through =
+            nested.through_field (entered_view self.entry.entered)
+            self.entry.shapes.now field.now in
+            OnOk result (paths.new ≡ set.union paths.old through) }
+    {
+        if field.flattened {
+            return paths.add_behind(self.alloc, &[], self.under(field.shape));
+        }
+        let path = [field.effective_name()];
+        paths.insert(Vec::from_slice(self.alloc, &path)?)?;
+        if self.entered.has(self.shapes, field.shape) {
+            paths.add_behind(self.alloc, &path, self.under(field.shape))?;
+        }
+        Ok(())
+    }
+
+    /// Those under an earlier shape.
+    fn under(self, id: ShapeId) -> &'t KeyPaths<'c>
+        requires sound { IsSound self }
+        requires filled { IsFilled self.entries.now id }
+        ensures { result.now
+            ≡ under_shape (entered_view self.entry.entered) self.entry.shapes.now id }
+    {
+        match self.entries.get(id.index()) {
+            Some(Some(entry)) => &entry.under,
+            _ => unreachable!(),
+        }
+    }
+}
+
+/// The field at an index. The passes that make tables read fields by this call alone, which counts them.
+fn visited<'c>(fields: &'c [Field], index: usize, steps: &mut Steps) -> &'c Field
+    requires { index < length fields.now }
+    ensures field { slice_get fields.now index ≡ Some result.now }
+    ensures steps { steps.new ≡ record steps.old { visits = steps.old.visits + 1 } }
+{
+    steps.visit();
+    &fields[index]
+}
