@@ -73,7 +73,8 @@ abbrev pub IsFilled : List (Option Entry) → ℕ → Type 0
 IsFilled entries id = IsSome (entry_at entries id)
 
 -- an entry has the key paths under a kind of shape, and those under each of its variants
-pub record IsEntry (entered : Entered) (cat : Catalogue) (kind : ShapeKind) (entry : Entry) : Type 0 where
+pub record IsEntry (entered : Entered) (cat : Catalogue) (kind : ShapeKind)
+    (entry : Entry) : Type 0 where
   pub under : entry.under
       ≡ under_kind (through_fields entered cat) (under_variant entered cat) kind
   pub variants : entry.variants.items ≡ map (under_variant entered cat) (variants_of kind)
@@ -90,7 +91,8 @@ pub record IsSound (earlier : Earlier) : Type 0 where
   pub entries : AreEntries (entered_view earlier.entered) earlier.shapes.now earlier.entries.now
 
 -- the entries at the first indices: the marked shapes have one, and no others
-pub record AreFirstEntries (entered : Entered) (cat : Catalogue) (marks : List Bool) (entries : List (Option Entry)) : Type 0 where
+pub record AreFirstEntries (entered : Entered) (cat : Catalogue) (marks : List Bool)
+    (entries : List (Option Entry)) : Type 0 where
   pub within : length entries ≤ length cat
   pub each : AreEntries entered cat entries
   pub marked : (id : ℕ) → id < length entries → IsMarked marks id ↔ IsFilled entries id

@@ -49,6 +49,7 @@ fn read_all<R: Read>(alloc: Global, input: &mut R) -> Result<Vec<u8>, InputError
 {
     let mut bytes = Vec::new(alloc);
     let mut chunk = [0u8; CHUNK];
+    // The range is a bound that no input reaches: a loop has to end, also over one that never does.
     for _ in 0..u64::MAX {
         let Ok(count) = input.read(&mut chunk) else {
             return Err(InputError::Unread);
