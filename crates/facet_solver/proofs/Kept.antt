@@ -11,12 +11,12 @@ use Rattle.facet_solver_shape.specs.Keys.{Key, key_cmp, key_of}
 use Rattle.facet_solver_shape.specs.contracts.resolution.key.FieldKeyOrd.TheImpl as key_order
 use Rattle.facet_solver_shape.specs.declared.resolution.key.FieldKey.{FieldKey}
 use Rattle.facet_solver_shape.specs.Fields.{FieldView}
-use Rattle.facet_solver_shape.specs.Resolved.{Resolved}
+use Rattle.facet_solver_shape.specs.Resolved.{Resolved, field_by_key}
 use Rattle.facet_solver.specs.IndexSet.{HowMany, no_index, one_index, several_indices, how_many, IndexSet, has}
 use Rattle.facet_solver.specs.Indexed.{AgreesOn, Differs, IsEntry}
 use Rattle.facet_solver.specs.KeyResult.{HaveShape, unambiguous, unknown, by_number, distinct_fields, field_at, fields_by_key, first_of_each_shape, key_result, of_fields, with_score}
 use Rattle.facet_solver.specs.Schema.{SchemaView}
-use Rattle.facet_solver.specs.State.{State, field_by_key, has_key, or_all, passes, passing, see_key}
+use Rattle.facet_solver.specs.State.{State, has_key, or_all, passes, passing, see_key}
 use Rattle.facet_solver.specs.Build.{Catalogue}
 use Rattle.facet_solver.specs.declared.schema.index.Entry.{Entry}
 use Rattle.facet_solver.proofs.IndexSet.{has_passing, none_of_none}

@@ -6,8 +6,7 @@ use Rattle.std.proofs.lemmas.Cmp.{nat_eq_equiv}
 use Rattle.std.proofs.lemmas.List.{map-append}
 use Rattle.std.proofs.lemmas.List.Elements.{filter-append, filter_map-append}
 use Rattle.std.proofs.lemmas.Map.Views.{any-filter_same}
-use Rattle.facet_solver_shape.specs.Fields.{FieldView, field_view}
-use Rattle.facet_solver_shape.specs.declared.resolution.field.FieldInfo.{FieldInfo}
+use Rattle.facet_solver_shape.specs.Fields.{FieldView}
 use Rattle.facet_solver_shape.proofs.Lists.{list_any-map}
 use Rattle.facet_solver.specs.KeyResult.{first_of_each_shape, score_at, scored_view, with_score}
 use Rattle.facet_solver.specs.Build.{Catalogue}
@@ -40,7 +39,7 @@ first_of_each_shape-push (f ∷ fs) g =
     ∙ ap (λ b. cond (same || b) (f ∷ filter other firsts) ((f ∷ filter other firsts) ++ g ∷ [])) (sym left)
 
 -- whether a shape is among fields with scores
-pub among_scored : (cat : Catalogue) (items : List (Bor FieldInfo × ℕ)) (fs : List FieldView) (id : ℕ) → map scored_view items ≡ map (with_score cat) fs → list_any (λ (e : Bor FieldInfo × ℕ). nat_eq e.0.now.value_shape id) items ≡ is_shape_among id fs
+pub among_scored : (cat : Catalogue) (items : List (Bor FieldView × ℕ)) (fs : List FieldView) (id : ℕ) → map scored_view items ≡ map (with_score cat) fs → list_any (λ (e : Bor FieldView × ℕ). nat_eq e.0.now.shape id) items ≡ is_shape_among id fs
 among_scored cat items fs id e =
     let has_it : FieldView × ℕ → Bool = λ p. nat_eq p.0.shape id in
     sym (list_any-map has_it scored_view items) ∙ ap (list_any has_it) e ∙ list_any-map has_it (with_score cat) fs
@@ -52,15 +51,15 @@ filter_map_found h ys x y e = rw filter_map-append (rw e refl)
 pub filter_map_none : {X Y : Type 0} (h : X → Option Y) (ys : List X) (x : X) → h x ≡ None → filter_map h (ys ++ x ∷ []) ≡ filter_map h ys
 filter_map_none h ys x e = rw filter_map-append (rw e (append-nil (filter_map h ys)))
 
-module _ (cat : Catalogue) (h : ℕ → Option FieldView) (ys : List ℕ) (i : ℕ) (items : List (Bor FieldInfo × ℕ)) (so_far : map scored_view items ≡ map (with_score cat) (first_of_each_shape (filter_map h ys))) where
+module _ (cat : Catalogue) (h : ℕ → Option FieldView) (ys : List ℕ) (i : ℕ) (items : List (Bor FieldView × ℕ)) (so_far : map scored_view items ≡ map (with_score cat) (first_of_each_shape (filter_map h ys))) where
   abbrev firsts : List FieldView
   firsts = first_of_each_shape (filter_map h ys)
 
   -- a number with a field of a new shape
-  pub firsts_new : (e : Bor FieldInfo × ℕ) → h i ≡ Some (field_view e.0.now) → list_any (λ (d : Bor FieldInfo × ℕ). nat_eq d.0.now.value_shape e.0.now.value_shape) items ≡ false → e.1 ≡ score_at cat e.0.now.value_shape
+  pub firsts_new : (e : Bor FieldView × ℕ) → h i ≡ Some e.0.now → list_any (λ (d : Bor FieldView × ℕ). nat_eq d.0.now.shape e.0.now.shape) items ≡ false → e.1 ≡ score_at cat e.0.now.shape
       → map scored_view (items ++ e ∷ []) ≡ map (with_score cat) (first_of_each_shape (filter_map h (ys ++ i ∷ [])))
   firsts_new e found is_new score =
-      let g = field_view e.0.now in
+      let g = e.0.now in
       map-append scored_view items (e ∷ [])
       ∙ ap (λ k. k ++ scored_view e ∷ []) so_far
       ∙ ap (λ n. map (with_score cat) firsts ++ (g, n) ∷ []) score
@@ -71,7 +70,7 @@ module _ (cat : Catalogue) (h : ℕ → Option FieldView) (ys : List ℕ) (i : �
       ∙ ap (λ b. cond b firsts (firsts ++ g ∷ [])) (sym (among_scored cat items firsts g.shape so_far) ∙ is_new)))
 
   -- a number with a field of a shape that stands there already
-  pub firsts_old : (g : FieldView) → h i ≡ Some g → list_any (λ (d : Bor FieldInfo × ℕ). nat_eq d.0.now.value_shape g.shape) items ≡ true
+  pub firsts_old : (g : FieldView) → h i ≡ Some g → list_any (λ (d : Bor FieldView × ℕ). nat_eq d.0.now.shape g.shape) items ≡ true
       → map scored_view items ≡ map (with_score cat) (first_of_each_shape (filter_map h (ys ++ i ∷ [])))
   firsts_old g found is_old =
       so_far

@@ -13,11 +13,11 @@ use Rattle.facet_solver_shape.specs.declared.resolution.key.FieldCategory.TheVar
 use Rattle.facet_solver_shape.specs.Keys.{Key, category_index}
 use Rattle.facet_solver_shape.specs.Fields.{category_eq, is_unnamed, matches, means, takes_any_name, FieldView}
 use Rattle.facet_solver_shape.specs.Names.{Name, name_eq}
-use Rattle.facet_solver_shape.specs.Resolved.{Resolved}
+use Rattle.facet_solver_shape.specs.Resolved.{Resolved, field_by_key}
 use Rattle.facet_solver_shape.proofs.Keys.{category_cmp_same}
 use Rattle.facet_solver.specs.Indexed.{Meant, IsEntryIfAny, IsIndexOf, IsOfFormat, AreOfFormat, first_passing, fields_of_each}
 use Rattle.facet_solver.specs.KeyResult.{field_at}
-use Rattle.facet_solver.specs.State.{field_by_key, has_key, passes}
+use Rattle.facet_solver.specs.State.{has_key, passes}
 use Rattle.facet_solver.specs.IndexEntries.{entry_at}
 use Rattle.facet_solver.specs.Slots.{dom_slot, is_at, is_named, slot_of}
 use Rattle.facet_solver.specs.declared.build.representation.Format.{Format}

@@ -8,15 +8,15 @@ use Rattle.std.specs.Ordering.{nat_cmp}
 use Rattle.facet_solver_shape.specs.Fields.{FieldView}
 use Rattle.facet_solver_shape.specs.Keys.{Key}
 use Rattle.facet_solver_shape.specs.Names.{Name}
-use Rattle.facet_solver_shape.specs.Resolved.{Resolved}
+use Rattle.facet_solver_shape.specs.Resolved.{Resolved, field_by_name}
 use Rattle.facet_solver.specs.Build.{Catalogue}
-use Rattle.facet_solver.specs.Failure.{field_by_name, missing, missing_field, missing_fields}
+use Rattle.facet_solver.specs.Failure.{missing, missing_field, missing_fields}
 use Rattle.facet_solver.specs.Report.{MissingView}
 
 -- what is told of those names that were not seen
 abbrev pub missing_among : Catalogue → set.FinSet (slice_cmp nat_cmp) → Resolved → List Name → List MissingView
 missing_among catalogue seen r names =
-    map (missing_field catalogue) (filter_map (field_by_name r) (filter (λ name. not (set.contains seen name)) names))
+    map (missing_field catalogue) (filter_map (λ name. field_by_name name r) (filter (λ name. not (set.contains seen name)) names))
 
 module _ (catalogue : Catalogue) (seen : set.FinSet (slice_cmp nat_cmp)) (r : Resolved) (name : Name) (rest : List Name) where
   -- a name that was seen
@@ -24,11 +24,11 @@ module _ (catalogue : Catalogue) (seen : set.FinSet (slice_cmp nat_cmp)) (r : Re
   seen_left is = rw is refl
 
   -- a name that was not
-  pub missing_left : (f : FieldView) → set.contains seen name ≡ false → field_by_name r name ≡ Some f → missing_among catalogue seen r (name ∷ rest) ≡ missing_field catalogue f ∷ missing_among catalogue seen r rest
+  pub missing_left : (f : FieldView) → set.contains seen name ≡ false → field_by_name name r ≡ Some f → missing_among catalogue seen r (name ∷ rest) ≡ missing_field catalogue f ∷ missing_among catalogue seen r rest
   missing_left f is found = rw is (rw found refl)
 
   -- a name by which no field goes
-  pub fieldless_left : set.contains seen name ≡ false → field_by_name r name ≡ None → missing_among catalogue seen r (name ∷ rest) ≡ missing_among catalogue seen r rest
+  pub fieldless_left : set.contains seen name ≡ false → field_by_name name r ≡ None → missing_among catalogue seen r (name ∷ rest) ≡ missing_among catalogue seen r rest
   fieldless_left is none = rw is (rw none refl)
 
 names_told : (catalogue : Catalogue) (fields : List FieldView) → map (λ (m : MissingView). m.name) (map (missing_field catalogue) fields) ≡ map (λ (f : FieldView). f.name) fields

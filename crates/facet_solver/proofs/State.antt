@@ -6,13 +6,12 @@ use Rattle.std.specs.List.{list_any}
 use Rattle.std.specs.Ordering.{match_ordering}
 use Rattle.std.specs.declared.cmp.Ordering.{Ordering}
 use Rattle.std.specs.declared.cmp.Ordering.TheVariants.{Less, Equal, Greater}
-use Rattle.facet_solver_shape.specs.Fields.{entry_view, field_view, FieldView}
+use Rattle.facet_solver_shape.specs.Fields.{entry_view, FieldView}
 use Rattle.facet_solver_shape.specs.Keys.{Key, key_cmp, key_of}
 use Rattle.facet_solver_shape.specs.contracts.resolution.key.FieldKeyOrd.TheImpl as key_order
 use Rattle.facet_solver_shape.specs.declared.resolution.key.FieldKey.{FieldKey}
 use Rattle.facet_solver_shape.specs.Names.{Name, name_eq}
 use Rattle.facet_solver_shape.specs.Resolved.{Pick, pick_view}
-use Rattle.facet_solver_shape.specs.declared.resolution.field.FieldInfo.{FieldInfo}
 use Rattle.facet_solver_shape.specs.declared.resolution.field.VariantSelection.{VariantSelection}
 use Rattle.facet_solver_shape.proofs.Keys.{key_agrees}
 use Rattle.facet_solver_shape.proofs.Lists.{list_any-map}
@@ -38,11 +37,11 @@ pub variant_named : (picks : List VariantSelection) (name : Name) → list_any (
 variant_named picks name = sym (list_any-map (λ (pick : Pick). name_eq pick.variant_name name) pick_view picks)
 
 -- a test of the fields of a map
-pub any_field : (entries : List (FieldKey × FieldInfo)) (fields : finite.FinMap key_cmp FieldView) (test : FieldView → Bool) → map entry_view entries ≡ finite.entries fields → list_any (λ (e : FieldKey × FieldInfo). test (field_view e.1)) entries ≡ list_any test (finite.values fields)
+pub any_field : (entries : List (FieldKey × FieldView)) (fields : finite.FinMap key_cmp FieldView) (test : FieldView → Bool) → map entry_view entries ≡ finite.entries fields → list_any (λ (e : FieldKey × FieldView). test e.1) entries ≡ list_any test (finite.values fields)
 any_field entries fields test in_order =
     let of_entry : Key × FieldView → Bool = λ e. test e.1 in
     sym (list_any-map of_entry entry_view entries) ∙ ap (list_any of_entry) in_order ∙ sym (list_any-map test (λ (e : Key × FieldView). e.1) (finite.entries fields))
 
 -- a shape is among those of the fields
-pub shape_among : (entries : List (FieldKey × FieldInfo)) (fields : finite.FinMap key_cmp FieldView) (test : ℕ → Bool) → map entry_view entries ≡ finite.entries fields → list_any (λ (e : FieldKey × FieldInfo). test e.1.value_shape) entries ≡ list_any (λ (f : FieldView). test f.shape) (finite.values fields)
+pub shape_among : (entries : List (FieldKey × FieldView)) (fields : finite.FinMap key_cmp FieldView) (test : ℕ → Bool) → map entry_view entries ≡ finite.entries fields → list_any (λ (e : FieldKey × FieldView). test e.1.shape) entries ≡ list_any (λ (f : FieldView). test f.shape) (finite.values fields)
 shape_among entries fields test in_order = any_field entries fields (λ f. test f.shape) in_order

@@ -4,9 +4,8 @@ use Rattle.std.proofs.lemmas.Option.{slice_get-get_or}
 use Rattle.std.specs.Prelude.{if◌then◌else◌, Some, slice_get}
 use Rattle.std.specs.FinMap as finite
 use Rattle.std.specs.Option.{option_map_or}
-use Rattle.facet_solver_shape.specs.declared.resolution.field.FieldInfo.{FieldInfo}
 use Rattle.facet_solver_shape.specs.declared.resolution.key.FieldKey.{FieldKey}
-use Rattle.facet_solver_shape.specs.Fields.{entry_view, FieldView, field_view}
+use Rattle.facet_solver_shape.specs.Fields.{entry_view, FieldView}
 use Rattle.facet_solver_shape.specs.Resolved.{Resolved}
 use Rattle.facet_solver.specs.IndexEntries.{added, entry_at}
 use Rattle.facet_solver.specs.Indexed.{IsIndexOf, fields_of_each}
@@ -36,30 +35,30 @@ each_more (r ∷ resolutions) (suc i) within =
     rw e (ap (λ lists. finite.values r.fields ∷ lists) (each_more resolutions i (omega arith)))
 
 -- the fields of entries
-abbrev pub fields_in : List (FieldKey × FieldInfo) → List FieldView
+abbrev pub fields_in : List (FieldKey × FieldView) → List FieldView
 fields_in es = map (λ e. e.1) (map entry_view es)
 
 -- some of the fields of a resolution were added after those of the resolutions before it, and the others are still to come
-pub record IsUnderWay (bound : ℕ) (before : List (List FieldView)) (fields : List FieldView) (rest : List (FieldKey × FieldInfo)) (index : Index) : Type 0 where
+pub record IsUnderWay (bound : ℕ) (before : List (List FieldView)) (fields : List FieldView) (rest : List (FieldKey × FieldView)) (index : Index) : Type 0 where
   pub seen : List FieldView
   pub parts : seen ++ fields_in rest ≡ fields
   pub indexed : IsIndexOf bound (before ++ seen ∷ []) index
 
 -- none yet
-pub way_start : (bound : ℕ) (before : List (List FieldView)) (fields : List FieldView) (rest : List (FieldKey × FieldInfo)) (index : Index) → fields_in rest ≡ fields → IsIndexOf bound before index
+pub way_start : (bound : ℕ) (before : List (List FieldView)) (fields : List FieldView) (rest : List (FieldKey × FieldView)) (index : Index) → fields_in rest ≡ fields → IsIndexOf bound before index
     → IsUnderWay bound before fields rest index
 way_start bound before fields rest index all is = record { seen = []; parts = all; indexed = index_same bound before index is }
 
 -- one more
-pub way_more : (bound : ℕ) (before : List (List FieldView)) (fields : List FieldView) (key : FieldKey) (f : FieldInfo) (rest : List (FieldKey × FieldInfo)) (old new : Index) (i : ℕ) → length before ≡ i → i < bound
+pub way_more : (bound : ℕ) (before : List (List FieldView)) (fields : List FieldView) (key : FieldKey) (f : FieldView) (rest : List (FieldKey × FieldView)) (old new : Index) (i : ℕ) → length before ≡ i → i < bound
     → IsUnderWay bound before fields ((key, f) ∷ rest) old
     → ((slot : Slot) → entry_at new slot
-    ≡ (if is_at slot (field_view f) then Some (added (entry_at old slot) (record { index = i; bound = bound; shape = f.value_shape })) else entry_at old slot))
+    ≡ (if is_at slot f then Some (added (entry_at old slot) (record { index = i; bound = bound; shape = f.shape })) else entry_at old slot))
     → IsUnderWay bound before fields rest new
 way_more bound before fields key f rest old new i count within way step = record {
-  seen = way.seen ++ field_view f ∷ [];
-  parts = append_assoc way.seen (field_view f ∷ []) (fields_in rest) ∙ way.parts;
-  indexed = index_more bound before way.seen (field_view f) old new (rw count within) way.indexed (rw count step);
+  seen = way.seen ++ f ∷ [];
+  parts = append_assoc way.seen (f ∷ []) (fields_in rest) ∙ way.parts;
+  indexed = index_more bound before way.seen f old new (rw count within) way.indexed (rw count step);
 }
 
 -- all

@@ -1,5 +1,5 @@
 -- Why a resolution is not the answer: what it lacks, and which seen keys mean nothing in it.
-use Rattle.std.specs.Prelude.{ℕ, Bool, List, [], ◌∷◌, Option, filter, find, map, not, slice_get, string_bytes}
+use Rattle.std.specs.Prelude.{ℕ, Bool, List, [], ◌∷◌, Option, filter, map, not, slice_get, string_bytes}
 use Rattle.std.specs.BTreeSet.{insert_key}
 use Rattle.std.specs.Cmp.Lexicographic.{slice_cmp}
 use Rattle.std.specs.FinMap as finite
@@ -11,7 +11,7 @@ use Rattle.facet_solver_shape.specs.Fields.{has_name, FieldView}
 use Rattle.facet_solver_shape.specs.Keys.{Key}
 use Rattle.facet_solver_shape.specs.Names.{Name}
 use Rattle.facet_solver_shape.specs.Paths.{path_text}
-use Rattle.facet_solver_shape.specs.Resolved.{description, Resolved}
+use Rattle.facet_solver_shape.specs.Resolved.{description, field_by_name, Resolved}
 use Rattle.facet_solver.specs.Build.{Catalogue}
 use Rattle.facet_solver.specs.Report.{FailureView, MissingView}
 use Rattle.facet_solver.specs.State.{has_key}
@@ -29,10 +29,6 @@ names_among seen = set.from_list (map (λ k. k.name) seen)
 abbrev pub names_where : (Key → Bool) → List Key → List Name
 names_where test seen = map (λ k. k.name) (filter test seen)
 
--- of the fields of a resolution that have a name, the one of least stored key
-abbrev pub field_by_name : Resolved → Name → Option FieldView
-field_by_name r name = find (has_name name) (finite.values r.fields)
-
 -- whether a resolution has a field of the name
 abbrev pub has_field_named : Name → Resolved → Bool
 has_field_named name r = list_any (has_name name) (finite.values r.fields)
@@ -44,7 +40,7 @@ missing_names seen r =
 
 -- what a resolution lacks: for each of these names the field that goes by it
 abbrev pub missing : List Key → Resolved → List FieldView
-missing seen r = filter_map (field_by_name r) (missing_names seen r)
+missing seen r = filter_map (λ name. field_by_name name r) (missing_names seen r)
 
 -- the type identifier of a shape
 abbrev pub type_identifier : Catalogue → ℕ → Name

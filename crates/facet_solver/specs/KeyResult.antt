@@ -4,15 +4,14 @@ use Rattle.std.specs.List.{filter_map}
 use Rattle.std.specs.Option.{ForSome, option_and_then, option_map_or}
 use denote.Bor.{Bor}
 use Rattle.facet_solver_shape.specs.Keys.{Key}
-use Rattle.facet_solver_shape.specs.Fields.{FieldView, field_view}
-use Rattle.facet_solver_shape.specs.Resolved.{Resolved}
+use Rattle.facet_solver_shape.specs.Fields.{FieldView}
+use Rattle.facet_solver_shape.specs.Resolved.{Resolved, field_by_key}
 use Rattle.facet_solver_shape.specs.Scores.{score_of}
-use Rattle.facet_solver_shape.specs.declared.resolution.field.FieldInfo.{FieldInfo}
 use Rattle.facet_solver.specs.declared.solver.key_result.KeyResult.{KeyResult}
 use Rattle.facet_solver.specs.declared.solver.key_result.KeyResult.TheVariants.{Unambiguous, Ambiguous, Solved, Unknown}
 use Rattle.facet_solver.specs.Schema.{index_of, IsHandleOf, SchemaView}
 use Rattle.facet_solver.specs.IndexSet.{HowMany, no_index, one_index, several_indices, how_many}
-use Rattle.facet_solver.specs.State.{State, field_by_key, has_key, passing}
+use Rattle.facet_solver.specs.State.{State, has_key, passing}
 use Rattle.facet_solver.specs.Build.{Catalogue}
 
 -- no candidate has the key; one is left; the value has one shape; or it has one of several, each shown by a field with the
@@ -31,8 +30,8 @@ IsUnknownOrSolved (unambiguous shape) = ⊥
 IsUnknownOrSolved (ambiguous fields) = ⊥
 
 -- a field with a score, wherever the field lies
-abbrev pub scored_view : Bor FieldInfo × ℕ → FieldView × ℕ
-scored_view e = (field_view e.0.now, e.1)
+abbrev pub scored_view : Bor FieldView × ℕ → FieldView × ℕ
+scored_view e = (e.0.now, e.1)
 
 -- what the answer says
 abbrev pub key_result_view : KeyResult → KeyResultView

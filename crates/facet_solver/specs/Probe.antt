@@ -4,13 +4,13 @@ use Rattle.std.specs.List.{filter_map}
 use Rattle.std.specs.Option.{option_and_then, option_map}
 use Rattle.facet_solver_shape.specs.Fields.{FieldView}
 use Rattle.facet_solver_shape.specs.Names.{Name}
-use Rattle.facet_solver_shape.specs.Resolved.{Resolved}
+use Rattle.facet_solver_shape.specs.Resolved.{Resolved, field_by_name}
 use Rattle.facet_solver.specs.Build.{Catalogue}
 use Rattle.facet_solver.specs.KeyPath.{has_key_at, has_key_path, whole_path}
 use Rattle.facet_solver.specs.IndexSet.{HowMany, no_index, one_index, several_indices, how_many}
 use Rattle.facet_solver.specs.KeyResult.{KeyResultView, unknown, solved, unambiguous, ambiguous, score_at}
 use Rattle.facet_solver.specs.Schema.{SchemaView}
-use Rattle.facet_solver.specs.ShapeAtPath.{field_by_name, first_of_each, shape_below}
+use Rattle.facet_solver.specs.ShapeAtPath.{first_of_each, shape_below}
 use Rattle.facet_solver.specs.State.{State, narrowed, passes}
 
 -- only the candidates stay that have the whole path of the key

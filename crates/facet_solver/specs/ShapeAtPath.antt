@@ -1,20 +1,14 @@
 -- The shape of a resolution at a path of names, and what calls that go by it leave of a state.
 use Rattle.std.specs.Prelude.{ℕ, Bool, List, [], ◌∷◌, Option, Some, None, filter, find, nat_eq, not, slice_get, true, false}
-use Rattle.std.specs.FinMap as finite
 use Rattle.std.specs.List.{filter_map, list_any}
 use Rattle.std.specs.Option.{option_and_then, option_map, option_map_or}
 use Rattle.facet_solver_shape.specs.declared.shape.Field.{Field}
-use Rattle.facet_solver_shape.specs.Fields.{has_name, FieldView}
 use Rattle.facet_solver_shape.specs.Names.{Name, effective_name, name_eq}
-use Rattle.facet_solver_shape.specs.Resolved.{Resolved}
+use Rattle.facet_solver_shape.specs.Resolved.{Resolved, field_by_name}
 use Rattle.facet_solver.specs.Build.{Catalogue, kind_at}
 use Rattle.facet_solver.specs.Content.{struct_fields}
 use Rattle.facet_solver.specs.Schema.{SchemaView}
 use Rattle.facet_solver.specs.State.{State, narrowed}
-
--- of the fields of a resolution that have a name, the one of least stored key
-abbrev pub field_by_name : Name → Resolved → Option FieldView
-field_by_name name r = find (has_name name) (finite.values r.fields)
 
 -- the shape of the first field that goes by a name
 abbrev pub shape_of_field : Name → List Field → Option ℕ

@@ -1,19 +1,18 @@
 -- States of a solver, and what calls leave of them.
-use Rattle.std.specs.Prelude.{ℕ, Bool, List, [], ◌∷◌, ◌&&◌, Option, Some, None, filter, find, if◌then◌else◌, is_some, length, map, nat_eq, refl, slice_get, string_bytes, true, false}
+use Rattle.std.specs.Prelude.{ℕ, Bool, List, [], ◌∷◌, ◌&&◌, Option, Some, None, filter, if◌then◌else◌, is_some, length, map, nat_eq, refl, slice_get, string_bytes, true, false}
 use Rattle.std.specs.BTreeSet.{insert_key}
 use Rattle.std.specs.Coded.{Coded, code_by, coded×, coded_ℕ, coded_list}
 use Rattle.std.specs.FinMap as finite
 use Rattle.std.specs.List.{list_any}
 use Rattle.std.specs.Option.{option_and_then, option_map_or}
 use denote.Bor.{Bor}
-use Rattle.facet_solver_shape.specs.declared.resolution.field.FieldInfo.{FieldInfo}
 use Rattle.std.specs.declared.alloc.Global.{Global}
 use Rattle.std.specs.declared.string.String.{String}
 use Rattle.facet_solver_shape.specs.declared.shape.Shape.{Shape}
 use Rattle.facet_solver_shape.specs.Keys.{Key, key_cmp}
-use Rattle.facet_solver_shape.specs.Fields.{matches, FieldView}
+use Rattle.facet_solver_shape.specs.Fields.{FieldView}
 use Rattle.facet_solver_shape.specs.Names.{Name, name_eq}
-use Rattle.facet_solver_shape.specs.Resolved.{Resolved}
+use Rattle.facet_solver_shape.specs.Resolved.{Resolved, field_by_key}
 use Rattle.facet_solver_shape.specs.ResolvedCode.{key_code}
 use Rattle.facet_solver.specs.Build.{Catalogue}
 use Rattle.facet_solver.specs.IndexSet.{upto}
@@ -61,10 +60,6 @@ narrowed may_be_none test s = record s {
 -- a key is seen
 abbrev pub mark_seen : Key → State → State
 mark_seen key s = record s { seen = insert_key key_cmp s.seen key }
-
--- of the fields of a resolution that a key means, the one of least stored key
-abbrev pub field_by_key : Key → Resolved → Option FieldView
-field_by_key key r = find (matches key) (finite.values r.fields)
 
 -- whether a resolution has a field that the key means
 abbrev pub has_key : Key → Resolved → Bool
@@ -120,11 +115,11 @@ abbrev pub satisfy_shapes : List ℕ → State → State
 satisfy_shapes shapes s = narrowed true (has_shape_among shapes) s
 
 -- the shapes of fields behind references
-abbrev pub shapes_of : List (Bor FieldInfo) → List ℕ
-shapes_of fields = map (λ f. f.now.value_shape) fields
+abbrev pub shapes_of : List (Bor FieldView) → List ℕ
+shapes_of fields = map (λ f. f.now.shape) fields
 
 -- only the candidates stay that have a field of the shape of one of some fields
-abbrev pub satisfy : List (Bor FieldInfo) → State → State
+abbrev pub satisfy : List (Bor FieldView) → State → State
 satisfy fields s = satisfy_shapes (shapes_of fields) s
 
 -- whether a key of the name was seen

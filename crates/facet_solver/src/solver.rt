@@ -23,7 +23,6 @@ pub(crate) mod run;
 mod satisfy;
 pub(crate) mod satisfy_result;
 pub(crate) mod shape_at_path;
-pub(crate) mod shaped;
 
 use crate::schema::Schema;
 use crate::schema::handle::ResolutionHandle;

@@ -12,13 +12,12 @@ use Rattle.std.specs.BTreeMap.{insert_entry}
 use Rattle.std.specs.FinMap as finite
 use Rattle.std.specs.FinMap.{find as find_at}
 use Rattle.std.specs.FinMap.Entries.{below_all}
-use Rattle.facet_solver_shape.specs.declared.resolution.field.FieldInfo.{FieldInfo}
 use Rattle.facet_solver_shape.specs.declared.resolution.key.FieldKey.{FieldKey}
 use Rattle.facet_solver_shape.specs.contracts.resolution.key.FieldKeyOrd.TheImpl as key_order
 use Rattle.facet_solver_shape.specs.contracts.resolution.key.FieldCategoryOrd.TheImpl as category_order
 use Rattle.facet_solver_shape.specs.declared.resolution.key.FieldCategory.{FieldCategory}
 use Rattle.facet_solver_shape.specs.Keys.{Key, key_cmp, key_of, category_cmp, flat_key, stored_key}
-use Rattle.facet_solver_shape.specs.Fields.{FieldView, IsStored, as_optional, key_of_field, entry_view, IsFieldTable, field_view, field_entries_view, IsLeastIfAny, matches, has_name, means}
+use Rattle.facet_solver_shape.specs.Fields.{FieldView, IsStored, as_optional, key_of_field, entry_view, IsFieldTable, field_entries_view, IsLeastIfAny, matches, has_name, means}
 use Rattle.facet_solver_shape.proofs.Keys.{key_cmp_total, key_cmp_same, key_agrees, category_cmp_agrees}
 use Rattle.std.specs.Cmp.Lexicographic.{texts_ties}
 use Rattle.std.proofs.lemmas.Bool.{false≢true}
@@ -63,16 +62,16 @@ module _ {K X : Type 0} {R : K → K → Ordering} (o : IsTotalOrder R) (same : 
       ∙ finite.entries-from_sorted R es sorted
 
 -- the keys of viewed entries
-keys_viewed : (es : List (FieldKey × FieldInfo)) → map key_of (keys_of es) ≡ keys_of (map entry_view es)
+keys_viewed : (es : List (FieldKey × FieldView)) → map key_of (keys_of es) ≡ keys_of (map entry_view es)
 keys_viewed [] = refl
 keys_viewed (e ∷ es) = ap (λ ks. key_of e.0 ∷ ks) (keys_viewed es)
 
 -- what a map's own order says of viewed keys
-pub rising_viewed : (es : List (FieldKey × FieldInfo)) → IsStrictlySortedBy (key_order.ghosts).cmp (keys_of es) → IsStrictlySortedBy key_cmp (keys_of (map entry_view es))
+pub rising_viewed : (es : List (FieldKey × FieldView)) → IsStrictlySortedBy (key_order.ghosts).cmp (keys_of es) → IsStrictlySortedBy key_cmp (keys_of (map entry_view es))
 rising_viewed es rising = subst (IsStrictlySortedBy key_cmp) (keys_viewed es) (rising_seen (key_order.ghosts).cmp key_cmp key_of key_agrees (keys_of es) rising)
 
 -- a field is put under its stored key
-pub stored-insert_entry : (k : FieldKey) (f : FieldInfo) (es : List (FieldKey × FieldInfo)) → key_of k ≡ key_of_field (field_view f) → AllByRecursion IsStored (map entry_view es)
+pub stored-insert_entry : (k : FieldKey) (f : FieldView) (es : List (FieldKey × FieldView)) → key_of k ≡ key_of_field f → AllByRecursion IsStored (map entry_view es)
     → AllByRecursion IsStored (map entry_view (insert_entry (key_order.ghosts).cmp es k f))
 stored-insert_entry k f [] here all = (here, tt)
 stored-insert_entry k f (e ∷ es) here all = go ((key_order.ghosts).cmp k e.0) (sym (key_agrees k e.0)) (stored-insert_entry k f es here all.1)
@@ -84,7 +83,7 @@ stored-insert_entry k f (e ∷ es) here all = go ((key_order.ghosts).cmp k e.0) 
     go Greater is rest = (all.0, rest)
 
 -- the entries of a table, in order
-pub entries_of_table : (es : List (FieldKey × FieldInfo)) → IsFieldTable es → map entry_view es ≡ finite.entries (field_entries_view es)
+pub entries_of_table : (es : List (FieldKey × FieldView)) → IsFieldTable es → map entry_view es ≡ finite.entries (field_entries_view es)
 entries_of_table es table = sym (entries-from_entries key_cmp_total key_cmp_same (map entry_view es) (rising_test key_cmp (map entry_view es) table.rising))
 
 -- no entries
@@ -93,55 +92,56 @@ unfolding IsStrictlySortedBy
 empty_table = record { rising = tt; stored = tt }
 
 -- the fields of entries
-abbrev pub fields_of : List (FieldKey × FieldInfo) → List FieldView
+abbrev pub fields_of : List (FieldKey × FieldView) → List FieldView
 fields_of es = map (λ e. e.1) (map entry_view es)
 
 -- an entry whose field is not required
-abbrev pub optional_entry : FieldKey × FieldInfo → FieldKey × FieldInfo
-optional_entry e = (e.0, record e.1 { required = false })
+abbrev pub optional_entry : FieldKey × FieldView → FieldKey × FieldView
+optional_entry e = (e.0, as_optional e.1)
 
-keys_of_optional : (es : List (FieldKey × FieldInfo)) → keys_of (map entry_view es) ≡ keys_of (map entry_view (map optional_entry es))
+keys_of_optional : (es : List (FieldKey × FieldView)) → keys_of (map entry_view es) ≡ keys_of (map entry_view (map optional_entry es))
 keys_of_optional [] = refl
 keys_of_optional (e ∷ es) = ap (λ ks. key_of e.0 ∷ ks) (keys_of_optional es)
 
-stored_optional : (es : List (FieldKey × FieldInfo)) → AllByRecursion IsStored (map entry_view es) → AllByRecursion IsStored (map entry_view (map optional_entry es))
+stored_optional : (es : List (FieldKey × FieldView)) → AllByRecursion IsStored (map entry_view es) → AllByRecursion IsStored (map entry_view (map optional_entry es))
 stored_optional [] stored = tt
 stored_optional (e ∷ es) stored = (stored.0, stored_optional es stored.1)
 
 -- keys do not say what is required
-pub optional_table : (es : List (FieldKey × FieldInfo)) → IsFieldTable es → IsFieldTable (map optional_entry es)
+pub optional_table : (es : List (FieldKey × FieldView)) → IsFieldTable es → IsFieldTable (map optional_entry es)
 optional_table es table = record {
   rising = subst (IsStrictlySortedBy key_cmp) (keys_of_optional es) table.rising;
   stored = stored_optional es table.stored;
 }
 
-find_optional : (q : Key) (es : List (FieldKey × FieldInfo)) → find_at key_cmp q (map entry_view (map optional_entry es)) ≡ option_map as_optional (find_at key_cmp q (map entry_view es))
+find_optional : (q : Key) (es : List (FieldKey × FieldView)) → find_at key_cmp q (map entry_view (map optional_entry es)) ≡ option_map as_optional (find_at key_cmp q (map entry_view es))
 find_optional q [] = refl
-find_optional q (e ∷ es) = ap (cond (eq_by_cmp key_cmp q (key_of e.0)) (Some (as_optional (field_view e.1)))) (find_optional q es) ∙ moved (eq_by_cmp key_cmp q (key_of e.0)) (field_view e.1) _
+find_optional q (e ∷ es) = ap (cond (eq_by_cmp key_cmp q (key_of e.0)) (Some (as_optional e.1))) (find_optional q es) ∙ moved (eq_by_cmp key_cmp q (key_of e.0)) e.1 _
   where
     moved : (b : Bool) (x : FieldView) (r : Option FieldView) → cond b (Some (as_optional x)) (option_map as_optional r) ≡ option_map as_optional (cond b (Some x) r)
     moved true x r = refl
     moved false x r = refl
 
 -- what is found once nothing is required
-pub get_optional : (q : Key) (es : List (FieldKey × FieldInfo)) → finite.get (field_entries_view (map optional_entry es)) q ≡ option_map as_optional (finite.get (field_entries_view es) q)
+pub get_optional : (q : Key) (es : List (FieldKey × FieldView)) → finite.get (field_entries_view (map optional_entry es)) q ≡ option_map as_optional (finite.get (field_entries_view es) q)
 get_optional q es =
     finite.get-from_entries key_cmp_total (map entry_view (map optional_entry es)) q
     ∙ find_optional q es
     ∙ ap (option_map as_optional) (sym (finite.get-from_entries key_cmp_total (map entry_view es) q))
 
--- the entries of catch-alls, as they are seen
-abbrev pub catch_all_entries : List (FieldCategory × FieldInfo) → List (FieldCategory × FieldView)
-catch_all_entries es = map (λ e. (e.0, field_view e.1)) es
+keys_again : (cs : List FieldCategory) → map (λ c. c) cs ≡ cs
+keys_again [] = refl
+keys_again (c ∷ cs) = ap (λ rest. c ∷ rest) (keys_again cs)
 
-catch_all_keys : (es : List (FieldCategory × FieldInfo)) → map (λ c. c) (keys_of es) ≡ keys_of (catch_all_entries es)
-catch_all_keys [] = refl
-catch_all_keys (e ∷ es) = ap (λ ks. e.0 ∷ ks) (catch_all_keys es)
-
--- their categories rise
-pub catch_alls_rising : (es : List (FieldCategory × FieldInfo)) → IsStrictlySortedBy (category_order.ghosts).cmp (keys_of es) → T (finite.is_sorted category_cmp (catch_all_entries es))
+-- the categories of catch-alls rise
+pub catch_alls_rising : (es : List (FieldCategory × FieldView)) → IsStrictlySortedBy (category_order.ghosts).cmp (keys_of es) → T (finite.is_sorted category_cmp es)
 catch_alls_rising es rising =
-    rising_test category_cmp (catch_all_entries es) (subst (IsStrictlySortedBy category_cmp) (catch_all_keys es) (rising_seen (category_order.ghosts).cmp category_cmp (λ c. c) category_cmp_agrees (keys_of es) rising))
+    rising_test category_cmp es (subst (IsStrictlySortedBy category_cmp) (keys_again (keys_of es)) (rising_seen (category_order.ghosts).cmp category_cmp (λ c. c) category_cmp_agrees (keys_of es) rising))
+
+-- catch-alls are seen as they are
+pub entries_again : (es : List (FieldCategory × FieldView)) → map (λ e. (e.0, e.1)) es ≡ es
+entries_again [] = refl
+entries_again (e ∷ es) = ap (λ rest. e ∷ rest) (entries_again es)
 
 fields_in : List (Key × FieldView) → List FieldView
 fields_in es = map (λ e. e.1) es

@@ -5,7 +5,6 @@ use Rattle.std.specs.declared.cmp.Ordering.TheVariants.{Less, Equal, Greater}
 use Rattle.std.specs.Cmp.{IsTotalOrder}
 use Rattle.std.specs.Ordering.{eq_by_cmp, is_eq, match_ordering, ordering_then}
 use Rattle.std.specs.Cmp.Lexicographic.{slice_cmp}
-use Rattle.std.specs.Option.{option_map, option_copied}
 use Rattle.std.specs.Map.{lookup}
 use Rattle.std.specs.List.{list_any, AllByRecursion, IsDistinct}
 use Rattle.std.specs.BTreeMap.{insert_entry, is_at}
@@ -20,36 +19,31 @@ use Rattle.std.proofs.lemmas.Bool.{false≢true}
 use Rattle.facet_solver_shape.proofs.Finite.{insert-insert_same, insert-insert_other, insert_twice, insert_either_order, taken_back, kept, equal, and_false, cases_bool}
 
 module _ {K J : Type 0} {R : K → K → Ordering} {S : J → J → Ordering} (o : IsTotalOrder S) (same : finite.IsAntisymmetric S) (key : K → J) (agree : (x y : K) → R x y ≡ S (key x) (key y)) where
-  module _ {X Y : Type 0} (val : X → Y) where
-    abbrev pub viewed : List (K × X) → finite.FinMap S Y
-    viewed es = finite.from_entries (map (λ e. (key e.0, val e.1)) es)
+  module _ {X : Type 0} where
+    abbrev pub viewed : List (K × X) → finite.FinMap S X
+    viewed es = finite.from_entries (map (λ e. (key e.0, e.1)) es)
 
     -- what is found
-    pub get_viewed : (k : K) (es : List (K × X)) → finite.get (viewed es) (key k) ≡ option_map val (lookup (is_at (R k)) es)
+    pub get_viewed : (k : K) (es : List (K × X)) → finite.get (viewed es) (key k) ≡ lookup (is_at (R k)) es
     get_viewed k [] = finite.get-empty S (key k)
     get_viewed k (e ∷ es) =
-        finite.get-insert o (viewed es) (key e.0) (val e.1) (key k)
-        ∙ ap (λ r. cond (is_eq r) (Some (val e.1)) (finite.get (viewed es) (key k))) (sym (agree k e.0))
-        ∙ ap (cond (is_eq (R k e.0)) (Some (val e.1))) (get_viewed k es)
-        ∙ chosen (is_eq (R k e.0)) (lookup (is_at (R k)) es) e.1
-      where
-        chosen : (b : Bool) (r : Option X) (x : X) → cond b (Some (val x)) (option_map val r) ≡ option_map val (cond b (Some x) r)
-        chosen true r x = refl
-        chosen false r x = refl
+        finite.get-insert o (viewed es) (key e.0) e.1 (key k)
+        ∙ ap (λ r. cond (is_eq r) (Some e.1) (finite.get (viewed es) (key k))) (sym (agree k e.0))
+        ∙ ap (cond (is_eq (R k e.0)) (Some e.1)) (get_viewed k es)
 
     -- what an insertion makes
-    pub viewed-insert_entry : (k : K) (v : X) (es : List (K × X)) → viewed (insert_entry R es k v) ≡ finite.insert (viewed es) (key k) (val v)
+    pub viewed-insert_entry : (k : K) (v : X) (es : List (K × X)) → viewed (insert_entry R es k v) ≡ finite.insert (viewed es) (key k) v
     viewed-insert_entry k v [] = refl
     viewed-insert_entry k v (e ∷ es) = go (R k e.0) (sym (agree k e.0)) (viewed-insert_entry k v es)
       where
-        go : (r : Ordering) → S (key k) (key e.0) ≡ r → viewed (insert_entry R es k v) ≡ finite.insert (viewed es) (key k) (val v)
-            → viewed (match_ordering r ((k, v) ∷ e ∷ es) ((e.0, v) ∷ es) (e ∷ insert_entry R es k v)) ≡ finite.insert (viewed (e ∷ es)) (key k) (val v)
+        go : (r : Ordering) → S (key k) (key e.0) ≡ r → viewed (insert_entry R es k v) ≡ finite.insert (viewed es) (key k) v
+            → viewed (match_ordering r ((k, v) ∷ e ∷ es) ((e.0, v) ∷ es) (e ∷ insert_entry R es k v)) ≡ finite.insert (viewed (e ∷ es)) (key k) v
         go Less is rest = refl
         go Equal is rest =
-            rw (same _ _ is) (sym (insert-insert_same o same (viewed es) (key e.0) (val e.1) (val v)))
+            rw (same _ _ is) (sym (insert-insert_same o same (viewed es) (key e.0) e.1 v))
         go Greater is rest =
-            ap (λ m. finite.insert m (key e.0) (val e.1)) rest
-            ∙ sym (insert-insert_other o same (viewed es) (key e.0) (key k) (val e.1) (val v) (ap is_eq is))
+            ap (λ m. finite.insert m (key e.0) e.1) rest
+            ∙ sym (insert-insert_other o same (viewed es) (key e.0) (key k) e.1 v (ap is_eq is))
 
   abbrev pub viewed_set : List K → set.FinSet S
   viewed_set ks = set.from_list (map key ks)
@@ -103,11 +97,6 @@ module _ {K J : Type 0} {R : K → K → Ordering} {S : J → J → Ordering} (o
                 λ at_k at_x. false≢true (sym differs ∙ ap is_eq (agree k x) ∙ sym ((eq_by_cmp_equiv o).congr q (key k) (key x) at_k) ∙ at_x) in
                 rw differs (kept (eq_by_cmp S q (key k)) (eq_by_cmp S q (key x)) _ _ (left k xs (IsDistinct-tail (eq_by_cmp R) x xs distinct) q) apart)
           ]
-
--- a look-up through a reference
-pub viewed_copied : {X Y : Type 0} (val : X → Y) (r : Option (Bor X)) → option_map (λ x. val x.now) r ≡ option_map val (option_copied r)
-viewed_copied val None = refl
-viewed_copied val (Some x) = refl
 
 -- lists of keys behind references, in the order of what they say
 pub slice_cmp-map : {K J : Type 0} (S : J → J → Ordering) (key : K → J) (xs ys : List K) → slice_cmp (λ x y. S (key x) (key y)) xs ys ≡ slice_cmp S (map key xs) (map key ys)

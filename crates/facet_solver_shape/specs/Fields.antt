@@ -6,7 +6,6 @@ use Rattle.facet_solver_shape.specs.Names.{Name, name_eq}
 use Rattle.facet_solver_shape.specs.Keys.{Key, category_index, key_cmp, key_of, stored_key}
 use Rattle.std.specs.List.{AllByRecursion}
 use Rattle.std.specs.List.Sorted.{IsStrictlySortedBy}
-use Rattle.facet_solver_shape.specs.declared.resolution.field.FieldInfo.{FieldInfo}
 use Rattle.facet_solver_shape.specs.declared.resolution.key.FieldKey.{FieldKey}
 use Rattle.std.specs.declared.cmp.Ordering.TheVariants.{Less}
 use Rattle.std.specs.FinMap as finite
@@ -21,17 +20,6 @@ pub record FieldView : Type 0 where
   pub shape : ℕ
   pub field : Field
   pub category : FieldCategory
-
--- what a field says
-abbrev pub field_view : FieldInfo → FieldView
-field_view f = record {
-  name = f.serialized_name.now;
-  path = f.path;
-  is_required = f.required;
-  shape = f.value_shape;
-  field = f.field.now;
-  category = f.category;
-}
 
 -- the key of a field
 abbrev pub key_of_field : FieldView → Key
@@ -77,15 +65,15 @@ abbrev pub IsStored : Key × FieldView → Type 0
 IsStored e = e.0 ≡ key_of_field e.1
 
 -- what an entry says
-abbrev pub entry_view : FieldKey × FieldInfo → Key × FieldView
-entry_view e = (key_of e.0, field_view e.1)
+abbrev pub entry_view : FieldKey × FieldView → Key × FieldView
+entry_view e = (key_of e.0, e.1)
 
 -- entries of a map of fields
-abbrev pub field_entries_view : List (FieldKey × FieldInfo) → finite.FinMap key_cmp FieldView
-field_entries_view es = finite.from_entries (map (λ e. (key_of e.0, field_view e.1)) es)
+abbrev pub field_entries_view : List (FieldKey × FieldView) → finite.FinMap key_cmp FieldView
+field_entries_view es = finite.from_entries (map entry_view es)
 
 -- the keys rise, and each is that of its field
-pub record IsFieldTable (entries : List (FieldKey × FieldInfo)) : Type 0 where
+pub record IsFieldTable (entries : List (FieldKey × FieldView)) : Type 0 where
   pub rising : IsStrictlySortedBy key_cmp (map (λ e. e.0) (map entry_view entries))
   pub stored : AllByRecursion IsStored (map entry_view entries)
 

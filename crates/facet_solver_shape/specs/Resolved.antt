@@ -1,5 +1,5 @@
 -- What one choice of variants resolves to, with no word of where its names lie.
-use Rattle.std.specs.Prelude.{if◌then◌else◌, ◌≡◌, ◌↔◌, ℕ, List, [], ◌∷◌, ◌++◌, true, Some, None, IsSome, IsSomeAnd, codes, map, ⊤, Vec}
+use Rattle.std.specs.Prelude.{if◌then◌else◌, ◌≡◌, ◌↔◌, ℕ, List, [], ◌∷◌, ◌++◌, true, Some, None, IsSome, IsSomeAnd, codes, find, map, ⊤, Option, Vec}
 use Rattle.std.specs.Option.{option_or, option_map}
 use Rattle.std.specs.Ordering.{nat_cmp}
 use Rattle.std.specs.declared.cmp.Ordering.{Ordering}
@@ -13,11 +13,10 @@ use Rattle.facet_solver_shape.specs.Keys.{Key, key_cmp, category_cmp}
 use Rattle.std.specs.List.{flat_map}
 use denote.Bor.{Bor}
 use Rattle.std.specs.declared.alloc.Global.{Global}
-use Rattle.facet_solver_shape.specs.declared.resolution.field.FieldInfo.{FieldInfo}
 use Rattle.facet_solver_shape.specs.declared.resolution.field.VariantSelection.{VariantSelection}
 use Rattle.facet_solver_shape.specs.declared.resolution.error.SchemaError.{SchemaError}
 use Rattle.facet_solver_shape.specs.declared.resolution.error.SchemaError.TheVariants.{DuplicateField, OutOfMemory}
-use Rattle.facet_solver_shape.specs.Fields.{FieldView, as_optional, field_view, key_of_field}
+use Rattle.facet_solver_shape.specs.Fields.{FieldView, as_optional, has_name, key_of_field, matches}
 
 -- a variant that was picked for an enum
 pub record Pick : Type 0 where
@@ -54,10 +53,6 @@ names_view ns = set.from_list (names_of ns)
 abbrev pub key_paths_view : List (Vec (Bor Name) Global) → set.FinSet (slice_cmp (slice_cmp nat_cmp))
 key_paths_view ps = set.from_list (map (λ p. names_of p.items) ps)
 
--- entries of a map of catch-alls
-abbrev pub catch_alls_view : List (FieldCategory × FieldInfo) → finite.FinMap category_cmp FieldView
-catch_alls_view es = finite.from_entries (map (λ e. (e.0, field_view e.1)) es)
-
 -- some field of the name is required
 pub record IsRequiredName (fields : finite.FinMap key_cmp FieldView) (name : Name) : Type 0 where
   pub key : Key
@@ -85,6 +80,14 @@ with_field r f = record r {
 pub record IsAdded (old : Resolved) (f : FieldView) (new : Resolved) : Type 0 where
   pub fresh : finite.get old.fields (key_of_field f) ≡ None
   pub after : new ≡ with_field old f
+
+-- of the fields that have a name, the one of least stored key
+abbrev pub field_by_name : Name → Resolved → Option FieldView
+field_by_name name r = find (has_name name) (finite.values r.fields)
+
+-- of the fields that a key means, the one of least stored key
+abbrev pub field_by_key : Key → Resolved → Option FieldView
+field_by_key key r = find (matches key) (finite.values r.fields)
 
 -- a refusal of one more field: its key is taken, and these are the name and the two paths
 pub record IsFieldClash (old : Resolved) (f : FieldView) (name : Name) (first second : List Step) : Type 0 where

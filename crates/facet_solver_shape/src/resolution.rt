@@ -1,11 +1,11 @@
 //! What one choice of variants resolves to: paths, keys, fields, and the resolution itself.
-ghost use Rattle.std.specs.Prelude.{◌≡◌, IfOk, IfErr, OnOk, OnErr, IsTrue, All, find, map};
-ghost use Rattle.std.specs.Option.{option_map};
+ghost use Rattle.std.specs.Prelude.{◌≡◌, IfOk, IfErr, OnOk, OnErr, IsTrue, All, map};
+ghost use Rattle.std.specs.Option.{option_copied};
 ghost use Rattle.std.specs.String.{string_bytes};
 ghost use Rattle.std.specs.FinMap as finite;
 ghost use Rattle.std.specs.FinSet as set;
-ghost use Rattle.facet_solver_shape.specs.Resolved.{description, nothing, IsAdded, with_key_path, with_pick, with_catch_all, with_field, AreRequiredNames, AreApart, IsMerged, IsMadeOptional, pick_view, IsRefusalOf, IsMergeRefusalOf, names_view, key_paths_view};
-ghost use Rattle.facet_solver_shape.specs.Fields.{entry_view, matches, has_name, key_of_field, IsStored, field_view, field_entries_view};
+ghost use Rattle.facet_solver_shape.specs.Resolved.{description, field_by_key, field_by_name, nothing, IsAdded, with_key_path, with_pick, with_catch_all, with_field, AreRequiredNames, AreApart, IsMerged, IsMadeOptional, pick_view, IsRefusalOf, IsMergeRefusalOf, names_view, key_paths_view};
+ghost use Rattle.facet_solver_shape.specs.Fields.{entry_view, key_of_field, IsStored, field_entries_view};
 ghost use Rattle.facet_solver_shape.specs.Keys.{key_of};
 ghost use Rattle.facet_solver_shape.specs.Names.{names_of};
 ghost use Rattle.facet_solver_shape.specs.declared.resolution.error.SchemaError.TheVariants.{OutOfMemory};
@@ -113,24 +113,21 @@ impl<'c> Resolution<'c> {
 
     /// The field of least stored key among those that have the name.
     pub fn field_by_name(&self, name: &str) -> Option<&FieldInfo<'c>>
-        ensures { option_map (λ f. field_view f.now) result
-            ≡ find (has_name name.now) (finite.values self.now.fields) }
+        ensures { option_copied result ≡ field_by_name name.now self.now }
     {
         self.fields.first_named(name)
     }
 
     /// The field of least stored key among those that the key means.
     pub fn field_by_key(&self, key: &FieldKey) -> Option<&FieldInfo<'c>>
-        ensures { option_map (λ f. field_view f.now) result
-            ≡ find (matches (key_of key.now)) (finite.values self.now.fields) }
+        ensures { option_copied result ≡ field_by_key (key_of key.now) self.now }
     {
         self.fields.first_matched(key)
     }
 
     /// The field that takes what no other field of the category takes.
     pub fn catch_all_map(&self, category: FieldCategory) -> Option<&FieldInfo<'c>>
-        ensures { option_map (λ f. field_view f.now) result
-            ≡ finite.get self.now.catch_alls category }
+        ensures { option_copied result ≡ finite.get self.now.catch_alls category }
     {
         self.catch_alls.get(category)
     }
@@ -147,8 +144,8 @@ impl<'c> Resolution<'c> {
     /// A field of a key that is taken is refused, by its name and the two paths, that of the present field
     /// first. Refused memory is the only other error. After an error the resolution is as it was.
     pub fn add_field(&mut self, info: FieldInfo<'c>) -> Result<(), SchemaError<'c>>
-        ensures ok { OnOk result (IsAdded self.old (field_view info.entry) self.new) }
-        ensures refused { IfErr result (IsRefusalOf self.old (field_view info.entry)) }
+        ensures ok { OnOk result (IsAdded self.old info.entry self.new) }
+        ensures refused { IfErr result (IsRefusalOf self.old info.entry) }
         ensures err { OnErr result (self.new ≡ self.old) }
     {
         let key = info.key();
@@ -169,9 +166,9 @@ impl<'c> Resolution<'c> {
 
     // Adds a required field, whose key is new.
     fn add_required(&mut self, info: FieldInfo<'c>) -> Result<(), SchemaError<'c>>
-        requires fresh { finite.get self.old.fields (key_of_field (field_view info)) ≡ None }
-        requires required { IsTrue info.required }
-        ensures ok { OnOk result (self.new ≡ with_field self.old (field_view info.entry)) }
+        requires fresh { finite.get self.old.fields (key_of_field info) ≡ None }
+        requires required { IsTrue info.is_required }
+        ensures ok { OnOk result (self.new ≡ with_field self.old info.entry) }
         ensures refused { IfErr result (λ e. e ≡ OutOfMemory) }
         ensures err { OnErr result (self.new ≡ self.old) }
     {
@@ -224,7 +221,7 @@ impl<'c> Resolution<'c> {
         info: FieldInfo<'c>,
     ) -> Result<(), AllocError>
         ensures ok { OnOk result
-            (self.new ≡ with_catch_all self.old category (field_view info.entry)) }
+            (self.new ≡ with_catch_all self.old category info.entry) }
         ensures err { OnErr result (self.new ≡ self.old) }
     {
         self.catch_alls.insert(category, info)

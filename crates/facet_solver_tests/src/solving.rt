@@ -1,13 +1,14 @@
 //! Calls of a solver, and those about its schema.
 
 use crate::catalogue::Catalogue;
-use crate::line::{BAR, Stop, add, number, word};
+use crate::line::{BAR, Stop, add, number, parsed, word};
 use crate::probing::Probing;
 use crate::resolution::{add_key, key, path};
 use crate::steps::Step;
 use crate::{errors, resolution};
 use facet_solver::{
-    KeyResult, ResolutionHandle, SatisfyResult, Schema, ShapeId, Solver, SolverError, Steps,
+    FieldInfo, KeyResult, ResolutionHandle, SatisfyResult, Schema, ShapeId, Solver, SolverError,
+    Steps,
 };
 use std::alloc::{AllocError, Global};
 use std::mem;
@@ -76,6 +77,7 @@ where
             "probe" => self.probe(words),
             "hint_variant" => self.hint_variant(words),
             "hint_variant_for_tag" => self.hint_variant_for_tag(words),
+            "satisfy" => self.satisfy(words),
             "satisfy_shapes" => self.satisfy_shapes(words),
             "satisfy_at_path" => self.satisfy_at_path(words),
             "shapes_at_path" => self.shapes_at_path(words),
@@ -224,6 +226,24 @@ where
             shapes.push(self.catalogue.id_of(name)?)?;
         }
         Ok(shapes)
+    }
+
+    // The fields of all words that are left, each the number of a resolution and a name.
+    fn fields(&self, words: &mut SplitWhitespace<'t>) -> Result<Vec<&'s FieldInfo<'c>>, Stop> {
+        let mut fields = Vec::new(self.catalogue.alloc);
+        for word in words {
+            let (number, name) = word.split_once('.').ok_or(Stop::Unread)?;
+            let resolution = self.schema.resolutions().get(parsed(number)?);
+            let resolution = resolution.ok_or(Stop::Unread)?;
+            fields.push(resolution.field_by_name(name).ok_or(Stop::Unread)?)?;
+        }
+        Ok(fields)
+    }
+
+    fn satisfy(&mut self, words: &mut SplitWhitespace<'t>) -> Result<String, Stop> {
+        let fields = self.fields(words)?;
+        let answer = self.solver.satisfy(&fields);
+        Ok(satisfied(self.catalogue.alloc, answer)?)
     }
 
     fn satisfy_shapes(&mut self, words: &mut SplitWhitespace<'t>) -> Result<String, Stop> {

@@ -1,6 +1,5 @@
 //! What a walk emits, taken into a resolution.
 ghost use Rattle.std.specs.Prelude.{◌≡◌, ◌∷◌, [], map, IfOk, OnOk};
-ghost use Rattle.facet_solver_shape.specs.Fields.{field_view};
 ghost use Rattle.facet_solver.specs.Emissions as emissions;
 ghost use Rattle.facet_solver.specs.Nested.{no_paths, named, with_key_paths, content_paths};
 ghost use Rattle.facet_solver.specs.Place.{chosen_of};
@@ -35,7 +34,7 @@ fn add_with_path<'c>(
     info: FieldInfo<'c>,
     resolution: &mut Resolution<'c>,
 ) -> Result<(), SchemaError<'c>>
-    ensures { let emitted = emissions.field_and_paths (field_view info.entry) no_paths in
+    ensures { let emitted = emissions.field_and_paths info.entry no_paths in
         Gives (take_all resolution.old emitted) result resolution.new }
 {
     let path = key_path(walker.build.alloc, info.serialized_name)?;

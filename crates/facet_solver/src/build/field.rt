@@ -1,6 +1,5 @@
 //! The fields that a walk emits.
 ghost use Rattle.std.specs.Prelude.{◌≡◌, IfOk};
-ghost use Rattle.facet_solver_shape.specs.Fields.{field_view};
 ghost use Rattle.facet_solver.specs.Emissions as emissions;
 ghost use Rattle.facet_solver.specs.Place.{chosen_of};
 ghost use Rattle.facet_solver.specs.Build.{build_of};
@@ -18,8 +17,7 @@ pub(crate) fn regular_field<'c>(
     field: &'c Field,
     place: &Place<'c>,
 ) -> Result<FieldInfo<'c>, AllocError>
-    ensures { IfOk result
-        (λ info. field_view info
+    ensures { IfOk result (λ info. info
         ≡ emissions.regular_field (build_of build.entry) field.now place.now) }
 {
     Ok(FieldInfo {
@@ -40,8 +38,7 @@ pub(crate) fn catch_all_field<'c>(
     target: Target,
     place: &Place<'c>,
 ) -> Result<FieldInfo<'c>, AllocError>
-    ensures { IfOk result
-        (λ info. field_view info
+    ensures { IfOk result (λ info. info
         ≡ emissions.catch_all_field (build_of build.entry) field.now target place.now) }
 {
     Ok(FieldInfo {
@@ -62,8 +59,7 @@ pub(crate) fn leaf_field<'c>(
     target: Target,
     place: &Place<'c>,
 ) -> Result<FieldInfo<'c>, AllocError>
-    ensures { IfOk result
-        (λ info. field_view info
+    ensures { IfOk result (λ info. info
         ≡ emissions.leaf_field (build_of build.entry) field.now target place.now) }
 {
     Ok(FieldInfo {
@@ -87,7 +83,7 @@ pub(crate) fn selector_field<'c>(
     place: &Place<'c>,
 ) -> Result<FieldInfo<'c>, AllocError>
     ensures { let chosen = chosen_of chosen.now in
-        IfOk result (λ info. field_view info
+        IfOk result (λ info. info
         ≡ emissions.selector_field (build_of build.entry) name.now chosen place.now) }
 {
     Ok(FieldInfo {

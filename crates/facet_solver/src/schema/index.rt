@@ -3,7 +3,7 @@ ghost use Rattle.std.specs.Prelude.{◌≡◌, ◌+◌, ◌<◌, IfOk, List, Non
 ghost use Rattle.std.specs.List.{list_any};
 ghost use Rattle.std.specs.Option.{option_copied};
 ghost use Rattle.facet_solver_shape.specs.Keys.{key_of};
-ghost use Rattle.facet_solver_shape.specs.Fields.{takes_any_name, field_view};
+ghost use Rattle.facet_solver_shape.specs.Fields.{takes_any_name};
 ghost use Rattle.facet_solver_shape.specs.Names.{Name, name_eq};
 ghost use Rattle.facet_solver_shape.specs.Resolved.{Resolved};
 ghost use Rattle.facet_solver.specs.IndexEntries.{HasBound, added, category_of, entry_at, entry_in, entry_of_one, holds, named_entry, with_occurrence};
@@ -132,7 +132,7 @@ impl<'c> CategoryIndex<'c> {
         requires index { at.now.index < at.now.bound }
         requires bounds { (name : Option Name) → HasBound at.now.bound (entry_in self.old name) }
         ensures { OnOk result ((name : Option Name) → entry_in self.new name
-            ≡ (if is_named name (field_view field.now)
+            ≡ (if is_named name field.now
             then Some (added (entry_in self.old name) at.now)
             else entry_in self.old name)) }
     {
@@ -336,7 +336,7 @@ impl<'c> Index<'c> {
         requires index { at.now.index < at.now.bound }
         requires bounds { (slot : Slot) → HasBound at.now.bound (entry_at self.old slot) }
         ensures { OnOk result ((slot : Slot) → entry_at self.new slot
-            ≡ (if is_at slot (field_view field.now)
+            ≡ (if is_at slot field.now
             then Some (added (entry_at self.old slot) at.now)
             else entry_at self.old slot)) }
     {

@@ -8,6 +8,7 @@ ghost use Rattle.facet_solver_shape.specs.Names.{name_eq};
 ghost use Rattle.facet_solver.specs.State.{has_shape_among, passes, passing_at, picks_variant};
 ghost use Rattle.facet_solver.specs.Verdict as verdict;
 
+pub(crate) mod shape_of;
 pub(crate) mod tag_field;
 
 use crate::set::Condition;
@@ -100,7 +101,7 @@ fn has_shape_among(resolution: &Resolution<'_>, shapes: &[ShapeId]) -> bool
 
 fn have_shape_among(fields: &BTreeMap<FieldKey<'_>, FieldInfo<'_>>, shapes: &[ShapeId]) -> bool
     ensures { result
-        ≡ list_any (λ e. list_any (λ id. nat_eq id e.1.value_shape) shapes.now) fields.now.entries }
+        ≡ list_any (λ e. list_any (λ id. nat_eq id e.1.shape) shapes.now) fields.now.entries }
 {
     for (_, field) in fields {
         if has_shape(shapes, field.value_shape) {

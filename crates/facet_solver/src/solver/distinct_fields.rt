@@ -1,9 +1,8 @@
 //! The fields that a key means in the candidates of a solver.
 ghost use Rattle.std.specs.Prelude.{◌≡◌, ◌+◌, ◌++◌, ◌∷◌, [], ◌≤◌, ℕ, IfOk, List, OnOk, length, map, nat_eq};
 ghost use Rattle.std.specs.List.{list_any};
-ghost use Rattle.std.specs.Option.{option_map};
+ghost use Rattle.std.specs.Option.{option_copied};
 ghost use Rattle.facet_solver_shape.specs.Keys.{key_of};
-ghost use Rattle.facet_solver_shape.specs.Fields.{field_view};
 ghost use Rattle.facet_solver.specs.KeyResult as key_result;
 ghost use Rattle.facet_solver.specs.KeyResult.{field_at, scored_view};
 
@@ -22,7 +21,7 @@ pub(crate) struct KeySearch<'s, 'c, 'k> {
 impl<'s, 'c> KeySearch<'s, 'c, '_> {
     /// The field that the key means in the resolution at an index.
     pub(crate) fn field_at(&self, index: usize, steps: &mut Steps) -> Option<&'s FieldInfo<'c>>
-        ensures field { option_map (λ f. field_view f.now) result
+        ensures field { option_copied result
             ≡ field_at (key_of self.now.key) self.now.schema.now.resolutions index }
         ensures steps { steps.new ≡ record steps.old { searches = steps.old.searches + 1 } }
     {
@@ -84,7 +83,7 @@ fn add_if_new<'s, 'c>(
 
 // Whether one of the fields has the shape.
 fn has_shape(fields: &[(&FieldInfo<'_>, u64)], shape: ShapeId) -> bool
-    ensures { result ≡ list_any (λ e. nat_eq e.0.now.value_shape shape) fields.now }
+    ensures { result ≡ list_any (λ e. nat_eq e.0.now.shape shape) fields.now }
 {
     fields.iter().any(|(field, _)| field.value_shape == shape)
 }

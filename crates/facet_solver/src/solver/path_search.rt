@@ -1,11 +1,10 @@
 //! A key at a path of names, sought in the resolutions of a schema.
 ghost use Rattle.std.specs.Prelude.{◌≡◌, ◌∷◌, ◌++◌, [], IfOk, OnOk, List, ℕ, filter, map, slice_get};
-ghost use Rattle.std.specs.Option.{option_and_then, option_map};
-ghost use Rattle.facet_solver_shape.specs.Fields.{field_view};
+ghost use Rattle.std.specs.Option.{option_and_then, option_copied, option_map};
 ghost use Rattle.facet_solver_shape.specs.Names.{names_of};
 ghost use Rattle.facet_solver.specs.KeyResult.{HoldsHandleOf, key_result_view, scored_view};
 ghost use Rattle.facet_solver.specs.KeyPath.{has_key_at, has_key_path, whole_path};
-ghost use Rattle.facet_solver.specs.Probe.{below_first, by_shapes, fields_on_path, first_field, scored_at, shapes_at};
+ghost use Rattle.facet_solver.specs.Probe.{below_first, by_shapes, field_on_path_at, fields_on_path, first_field, scored_at, shapes_at};
 ghost use Rattle.facet_solver.specs.ShapeAtPath as at_path;
 ghost use Rattle.facet_solver.specs.State.{passes};
 
@@ -80,13 +79,10 @@ impl PathSearch<'_, '_, '_> {
             → map scored_view fields.old.items ≡ scored_at whole schema.now seen
             → map scored_view fields.new.items ≡ scored_at whole schema.now (seen ++ index ∷ [])) }
     {
-        let Some(field) = self.first_field_at(schema, index) else {
+        let Some(found) = self.field_on_path_at(schema, index) else {
             return Ok(());
         };
-        let catalogue = schema.shapes();
-        let Some(shape) = self.shape_below(catalogue, field.value_shape) else {
-            return Ok(());
-        };
+        let (field, shape) = found;
         if !is_among(shapes, shape) && self.is_at(schema, index) {
             shapes.push(shape)?;
             fields.push((field, score_at(schema, shape)))?;
@@ -105,6 +101,21 @@ impl PathSearch<'_, '_, '_> {
         }
     }
 
+    // Where the resolution at an index has a shape at the path: the field of the first name, with that shape.
+    fn field_on_path_at<'s, 'c>(
+        &self,
+        schema: &'s Schema<'c>,
+        index: usize,
+    ) -> Option<(&'s FieldInfo<'c>, ShapeId)>
+        ensures { let whole = whole_path (names_of self.now.path.now) self.now.key.now in
+            option_map (λ e. (e.0.now, e.1)) result
+            ≡ field_on_path_at schema.now.build.catalogue whole schema.now.resolutions index }
+    {
+        let field = self.first_field_at(schema, index)?;
+        let shape = self.shape_below(schema.shapes(), field.value_shape)?;
+        Some((field, shape))
+    }
+
     // The field of the first name in the resolution at an index.
     fn first_field_at<'s, 'c>(
         &self,
@@ -112,7 +123,7 @@ impl PathSearch<'_, '_, '_> {
         index: usize,
     ) -> Option<&'s FieldInfo<'c>>
         ensures { let whole = whole_path (names_of self.now.path.now) self.now.key.now in
-            option_map (λ f. field_view f.now) result
+            option_copied result
             ≡ option_and_then (first_field whole) (slice_get schema.now.resolutions index) }
     {
         self.first_field(schema.resolutions().get(index)?)
@@ -121,7 +132,7 @@ impl PathSearch<'_, '_, '_> {
     // The field of the first name.
     fn first_field<'s, 'c>(&self, resolution: &'s Resolution<'c>) -> Option<&'s FieldInfo<'c>>
         ensures { let whole = whole_path (names_of self.now.path.now) self.now.key.now in
-            option_map (λ f. field_view f.now) result ≡ first_field whole resolution.now }
+            option_copied result ≡ first_field whole resolution.now }
     {
         match self.path.first() {
             Some(name) => resolution.field_by_name(name),

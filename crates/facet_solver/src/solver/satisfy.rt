@@ -8,9 +8,9 @@ ghost use Rattle.facet_solver.specs.State as state;
 use crate::schema::handle::ResolutionHandle;
 use crate::solver::Solver;
 use crate::solver::conditions::HasShapeAmong;
+use crate::solver::conditions::shape_of::HasShapeOf;
 use crate::solver::satisfy_result::SatisfyResult;
 use crate::solver::shape_at_path::{HasShapeAtPath, distinct_shapes};
-use crate::solver::shaped::HasShapeOf;
 use facet_solver_shape::{FieldInfo, ShapeId};
 use std::alloc::{AllocError, Global};
 
@@ -24,7 +24,7 @@ impl<'s, 'c> Solver<'s, 'c, '_> {
         ensures handle { HoldsHandleOf self.old.schema result }
         ensures narrowed { self.new ≡ state.satisfy fields.now self.old }
     {
-        self.retain(HasShapeOf { items: fields });
+        self.retain(HasShapeOf { fields });
         self.satisfy_result()
     }
 

@@ -1,13 +1,14 @@
 //! Fields of a resolution, nested keys and picked variants.
 ghost use Rattle.std.specs.Prelude.{◌≡◌, ◌++◌, map, IfOk, OnOk};
 ghost use Rattle.facet_solver_shape.specs.Keys.{key_of};
-ghost use Rattle.facet_solver_shape.specs.Fields.{matches, key_of_field, field_view};
+ghost use Rattle.facet_solver_shape.specs.Fields.{matches, key_of_field};
 ghost use Rattle.facet_solver_shape.specs.Resolved.{pick_view};
 
 use crate::resolution::key::{FieldCategory, FieldKey};
 use crate::resolution::path::FieldPath;
 use crate::shape::{Field, ShapeId};
 use std::alloc::{AllocError, Global};
+use std::marker::Model;
 
 /// The names from the root to a nested key.
 pub type KeyPath<'c> = Vec<&'c str>;
@@ -29,6 +30,24 @@ pub struct FieldInfo<'c> {
     pub category: FieldCategory,
 }
 
+impl<'c> Model for FieldInfo<'c> {
+    ghost use Rattle.facet_solver_shape.specs.Fields.{FieldView};
+    ghost use Rattle.facet_solver_shape.specs.ResolvedCode.{field_view_code};
+
+    ghost Value = { FieldView };
+
+    ghost coded = { field_view_code };
+
+    ghost view = { λ f. record {
+      name = f.serialized_name.now;
+      path = f.path;
+      is_required = f.required;
+      shape = f.value_shape;
+      field = f.field.now;
+      category = f.category;
+    } };
+}
+
 /// A variant that was picked for an enum.
 #[derive(Debug, Drop)]
 pub struct VariantSelection<'c> {
@@ -44,7 +63,7 @@ impl<'c> FieldInfo<'c> {
     // The stored key, under which a resolution keeps the field: that of its name alone for a field of
     // category Flat, else that of its name in its category.
     pub(crate) fn key(&self) -> FieldKey<'c>
-        ensures { key_of result ≡ key_of_field (field_view self.now) }
+        ensures { key_of result ≡ key_of_field self.now }
     {
         match self.category {
             FieldCategory::Flat => FieldKey::Flat(self.serialized_name),
@@ -54,7 +73,7 @@ impl<'c> FieldInfo<'c> {
 
     // Whether a key of a document means the field.
     pub(crate) fn matched_by(&self, key: &FieldKey) -> bool
-        ensures { result ≡ matches (key_of key.now) (field_view self.now) }
+        ensures { result ≡ matches (key_of key.now) self.now }
     {
         let named = key.name() == self.serialized_name;
         match (self.category, *key) {
@@ -68,7 +87,7 @@ impl<'c> FieldInfo<'c> {
 
     // The same field, with a path in memory of its own.
     pub(crate) fn copied(&self, alloc: Global) -> Result<Self, AllocError>
-        ensures { IfOk result (λ made. field_view made ≡ field_view self.now) }
+        ensures { IfOk result (λ made. made ≡ self.now) }
     {
         Ok(FieldInfo {
             serialized_name: self.serialized_name,

@@ -1,7 +1,6 @@
 //! Whether a resolution has a field that holds the tag of an enum.
 ghost use Rattle.std.specs.Prelude.{◌≡◌};
 ghost use Rattle.std.specs.List.{list_any};
-ghost use Rattle.facet_solver_shape.specs.Fields.{field_view};
 ghost use Rattle.facet_solver.specs.State.{has_tag_alone, has_tag_field, is_tag_field};
 
 use crate::solver::conditions::Test;
@@ -35,7 +34,7 @@ fn have_tag_field(
     tag: &str,
 ) -> bool
     ensures { result
-        ≡ list_any (λ e. is_tag_field shapes.now tag.now (field_view e.1)) fields.now.entries }
+        ≡ list_any (λ e. is_tag_field shapes.now tag.now e.1) fields.now.entries }
 {
     for (_, field) in fields {
         if is_tag_field(field, shapes, tag) {
@@ -46,7 +45,7 @@ fn have_tag_field(
 }
 
 fn is_tag_field(field: &FieldInfo<'_>, shapes: &Shapes, tag: &str) -> bool
-    ensures { result ≡ is_tag_field shapes.now tag.now (field_view field.now) }
+    ensures { result ≡ is_tag_field shapes.now tag.now field.now }
 {
     if field.serialized_name != tag {
         return false;

@@ -1,7 +1,6 @@
 //! Why resolutions are not the answer.
 ghost use Rattle.std.specs.Prelude.{◌≡◌, ◌<◌, IfOk, List, Some, length, map, slice_get, string_bytes};
 ghost use Rattle.std.specs.Option.{option_map};
-ghost use Rattle.facet_solver_shape.specs.Fields.{field_view};
 ghost use Rattle.facet_solver_shape.specs.Keys.{Key};
 ghost use Rattle.facet_solver_shape.specs.Resolved.{names_view};
 ghost use Rattle.facet_solver.specs.Failure as spec;
@@ -95,7 +94,7 @@ fn missing_field<'c>(
     field: &FieldInfo<'c>,
 ) -> Result<MissingFieldInfo<'c>, AllocError>
     ensures { IfOk result (λ missing. missing_view missing
-        ≡ spec.missing_field shapes.now (field_view field.now)) }
+        ≡ spec.missing_field shapes.now field.now) }
 {
     Ok(MissingFieldInfo {
         name: field.serialized_name,

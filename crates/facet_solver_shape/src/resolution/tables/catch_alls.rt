@@ -1,9 +1,8 @@
 // Fields that take what no other field of their category takes, seen as a finite map.
 ghost use Rattle.std.specs.Prelude.{◌≡◌, OnOk, OnErr, IfOk};
-ghost use Rattle.std.specs.Option.{option_map};
+ghost use Rattle.std.specs.Option.{option_copied};
 ghost use Rattle.std.specs.FinMap as finite;
 ghost use Rattle.facet_solver_shape.specs.Resolved.{IsOverlaid};
-ghost use Rattle.facet_solver_shape.specs.Fields.{field_view};
 
 use crate::resolution::{FieldCategory, FieldInfo};
 use std::alloc::{AllocError, Global};
@@ -21,13 +20,12 @@ impl<'c> Model for CatchAlls<'c> {
     ghost use Rattle.facet_solver_shape.specs.Keys.{category_cmp};
     ghost use Rattle.facet_solver_shape.specs.Fields.{FieldView};
     ghost use Rattle.facet_solver_shape.specs.ResolvedCode.{catch_alls_code};
-    ghost use Rattle.facet_solver_shape.specs.Resolved.{catch_alls_view};
 
     ghost Value = { finite.FinMap category_cmp FieldView };
 
     ghost coded = { catch_alls_code };
 
-    ghost view = { λ m. catch_alls_view m.entries.entries };
+    ghost view = { λ m. finite.from_entries m.entries.entries };
 }
 
 impl<'c> CatchAlls<'c> {
@@ -40,7 +38,7 @@ impl<'c> CatchAlls<'c> {
     }
 
     pub(crate) fn get(&self, category: FieldCategory) -> Option<&FieldInfo<'c>>
-        ensures { option_map (λ f. field_view f.now) result ≡ finite.get self.now category }
+        ensures { option_copied result ≡ finite.get self.now category }
     {
         self.entries.get(&category)
     }
@@ -51,8 +49,7 @@ impl<'c> CatchAlls<'c> {
         category: FieldCategory,
         info: FieldInfo<'c>,
     ) -> Result<(), AllocError>
-        ensures ok { OnOk result
-            (self.new ≡ finite.insert self.old category (field_view info.entry)) }
+        ensures ok { OnOk result (self.new ≡ finite.insert self.old category info.entry) }
         ensures err { OnErr result (self.new ≡ self.old) }
     {
         self.entries.insert(category, info)?;

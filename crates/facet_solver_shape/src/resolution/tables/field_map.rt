@@ -1,8 +1,8 @@
 // Fields by stored key, seen as a finite map.
 ghost use Rattle.std.specs.Prelude.{◌≡◌, OnOk, OnErr, IfOk, All, false, find, map};
-ghost use Rattle.std.specs.Option.{option_map};
+ghost use Rattle.std.specs.Option.{option_copied, option_map};
 ghost use Rattle.std.specs.FinMap as finite;
-ghost use Rattle.facet_solver_shape.specs.Fields.{entry_view, matches, has_name, IsStored, as_optional, key_of_field, field_view, field_entries_view};
+ghost use Rattle.facet_solver_shape.specs.Fields.{entry_view, matches, has_name, IsStored, as_optional, key_of_field, field_entries_view};
 ghost use Rattle.facet_solver_shape.specs.Keys.{Key, key_of};
 ghost use Rattle.facet_solver_shape.specs.Resolved.{IsOverlaid};
 
@@ -50,7 +50,7 @@ impl<'c> FieldMap<'c> {
     }
 
     pub(crate) fn get(&self, key: &FieldKey<'c>) -> Option<&FieldInfo<'c>>
-        ensures { option_map (λ f. field_view f.now) result
+        ensures { option_copied result
             ≡ finite.get self.now (key_of key.now) }
     {
         self.entries.get(key)
@@ -58,7 +58,7 @@ impl<'c> FieldMap<'c> {
 
     // The first field that a key means.
     pub(crate) fn first_matched(&self, key: &FieldKey) -> Option<&FieldInfo<'c>>
-        ensures { option_map (λ f. field_view f.now) result
+        ensures { option_copied result
             ≡ find (matches (key_of key.now)) (finite.values self.now) }
     {
         for (_, info) in &self.entries {
@@ -71,7 +71,7 @@ impl<'c> FieldMap<'c> {
 
     // The first field of a name.
     pub(crate) fn first_named(&self, name: &str) -> Option<&FieldInfo<'c>>
-        ensures { option_map (λ f. field_view f.now) result
+        ensures { option_copied result
             ≡ find (has_name name.now) (finite.values self.now) }
     {
         for (_, info) in &self.entries {
@@ -84,8 +84,8 @@ impl<'c> FieldMap<'c> {
 
     // Puts a field under its stored key.
     pub(crate) fn insert(&mut self, info: FieldInfo<'c>) -> Result<(), AllocError>
-        ensures ok { let f = field_view info.entry in
-            OnOk result (self.new ≡ finite.insert self.old (key_of_field f) f) }
+        ensures ok { OnOk result
+            (self.new ≡ finite.insert self.old (key_of_field info.entry) info.entry) }
         ensures err { OnErr result (self.new ≡ self.old) }
     {
         let key = info.key();
@@ -125,7 +125,7 @@ impl<'c> FieldMap<'c> {
 
 fn make_optional<'c>(entries: &mut BTreeMap<FieldKey<'c>, FieldInfo<'c>>)
     ensures { entries.new.entries
-        ≡ map (λ e. (e.0, record e.1 { required = false })) entries.old.entries }
+        ≡ map (λ e. (e.0, as_optional e.1)) entries.old.entries }
 {
     entries.retain(|_, info| {
         info.required = false;

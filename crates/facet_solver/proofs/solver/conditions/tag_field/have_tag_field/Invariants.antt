@@ -1,7 +1,6 @@
 use Rattle.std.proofs.Common.{◌≡◌}
 use Rattle.std.specs.List.{list_any}
-use Rattle.facet_solver_shape.specs.Fields.{field_view}
-use Rattle.facet_solver_shape.specs.declared.resolution.field.FieldInfo.{FieldInfo}
+use Rattle.facet_solver_shape.specs.Fields.{FieldView}
 use Rattle.facet_solver_shape.specs.declared.resolution.key.FieldKey.{FieldKey}
 use Rattle.facet_solver.specs.State.{is_tag_field}
 use Rattle.facet_solver.proofs.solver.conditions.tag_field.have_tag_field.Given as goal
@@ -9,5 +8,5 @@ use Rattle.facet_solver.proofs.solver.conditions.tag_field.have_tag_field.Given 
 -- what is left decides
 abbrev pub invariant-loop-field : goal.invariant-loop-field
 invariant-loop-field l =
-    list_any (λ (e : FieldKey × FieldInfo). is_tag_field l.shapes l.tag (field_view e.1)) l.field-iterator
-    ≡ list_any (λ (e : FieldKey × FieldInfo). is_tag_field l.shapes l.tag (field_view e.1)) l.fields.entries
+    list_any (λ (e : FieldKey × FieldView). is_tag_field l.shapes l.tag e.1) l.field-iterator
+    ≡ list_any (λ (e : FieldKey × FieldView). is_tag_field l.shapes l.tag e.1) l.fields.entries

@@ -2,7 +2,6 @@ use Rattle.std.proofs.Common.{ℕ, Bor, List, map, ap, refl, sym, ◌∙◌}
 use Rattle.std.specs.Cmp.Lexicographic.{slice_cmp}
 use Rattle.std.specs.FinSet.{FinSet, items}
 use Rattle.std.specs.Ordering.{nat_cmp}
-use Rattle.facet_solver_shape.specs.Fields.{field_view}
 use Rattle.facet_solver_shape.specs.Names.{names_of}
 use Rattle.facet_solver_shape.specs.Resolved.{names_view, Resolved}
 use Rattle.facet_solver.specs.Build.{Catalogue}
@@ -39,7 +38,7 @@ pub loop-name-preserved-in_ok-push : goal.loop-name-preserved-in_ok-push
 loop-name-preserved-in_ok-push c =
     let seen = c.args.seen_names.now.keys in
     let name = c.in-Some.name.now in
-    let field = field_view c.in-Some-field_by_name.field.now in
+    let field = c.in-Some-field_by_name.field.now in
     left_one (lacked c.args.shapes.now (names_view seen) c.args.resolution.now) (map missing_view c.loop-name.fields.items) c.loop-name.name-iterator c.next.new.self name _
     c.loop-name.invariant c.in-Some.ensures.steps
     (map missing_view c.push.new.self.items) (missing_field c.args.shapes.now field)

@@ -1,5 +1,5 @@
 use Rattle.std.proofs.Common.{map, ap, ◌∙◌}
-use Rattle.facet_solver_shape.specs.Fields.{entry_view}
+use Rattle.facet_solver_shape.specs.Fields.{entry_view, FieldView}
 use Rattle.facet_solver_shape.specs.Names.{Name}
 use Rattle.std.proofs.Common.{List}
 use Rattle.facet_solver.specs.Verdict.{field_names}
@@ -13,8 +13,9 @@ loop-field-init c = λ q.
 
 pub loop-field-preserved : goal.loop-field-preserved
 loop-field-preserved c =
-    let before = rw c.in-Some.ensures.steps at c.loop-field.invariant in
-    fills_more c.loop-field.names.keys c.insert.new.self.keys c.in-Some.field.now.serialized_name _
+    let name = ap (λ (f : FieldView). f.name) c.field.view_is in
+    let before = rw (c.in-Some.ensures.steps, ← name) at c.loop-field.invariant in
+    fills_more c.loop-field.names.keys c.insert.new.self.keys c.field.inside.serialized_name _
     (in_both c.args.names.now.keys (field_names c.args.resolution.now)) before c.in_ok-insert.ensures.keys
 
 pub returns : goal.returns

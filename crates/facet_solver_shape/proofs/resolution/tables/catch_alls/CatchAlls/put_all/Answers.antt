@@ -1,5 +1,6 @@
 use Rattle.std.proofs.Common.{◌∙◌, ap}
-use Rattle.facet_solver_shape.specs.Resolved.{catch_alls_view}
+use Rattle.std.specs.FinMap.{from_entries}
+use Rattle.facet_solver_shape.specs.Keys.{category_cmp}
 use Rattle.facet_solver_shape.proofs.Fields.{catch_alls_rising}
 use Rattle.facet_solver_shape.proofs.Keys.{category_cmp_total}
 use Rattle.facet_solver_shape.proofs.Resolved.{at_start, one_put, at_end}
@@ -8,7 +9,7 @@ use Rattle.facet_solver_shape.proofs.resolution.tables.catch_alls.CatchAlls.put_
 pub loop-category-init : goal.loop-category-init
 loop-category-init c =
     let gives = c.into_iter-category-iterator.ensures.into_iter_gives in
-    (ap catch_alls_view gives.0 ∙ c.upper.view_is, at_start _ _ (rw gives.0 (catch_alls_rising _ gives.5)))
+    (ap (from_entries {R = category_cmp}) gives.0 ∙ c.upper.view_is, at_start _ _ (rw gives.0 (catch_alls_rising _ gives.5)))
 
 pub loop-category-preserved : goal.loop-category-preserved
 loop-category-preserved c =

@@ -1,13 +1,11 @@
 use Rattle.std.proofs.Common.{sym, ◌∙◌, ap}
 use Rattle.std.specs.FinMap.{get}
-use Rattle.std.specs.Option.{option_map}
 use Rattle.facet_solver_shape.specs.Keys.{key_of}
-use Rattle.facet_solver_shape.specs.Fields.{field_view}
 use Rattle.facet_solver_shape.proofs.Keys.{key_cmp_total, key_cmp_same, key_agrees}
-use Rattle.facet_solver_shape.proofs.Viewed.{get_viewed, viewed_copied}
+use Rattle.facet_solver_shape.proofs.Viewed.{get_viewed}
 use Rattle.facet_solver_shape.proofs.resolution.tables.field_map.FieldMap.get.Goals as goal
 
 pub returns : goal.returns
 returns c =
-    let found = get_viewed key_cmp_total key_cmp_same key_of key_agrees field_view c.args.key.now c.self.inside.entries.entries in
-    viewed_copied field_view c.get.result ∙ ap (option_map field_view) c.get.ensures.value ∙ sym found ∙ ap (λ m. get m (key_of c.args.key.now)) c.self.view_is
+    let found = get_viewed key_cmp_total key_cmp_same key_of key_agrees c.args.key.now c.self.inside.entries.entries in
+    c.get.ensures.value ∙ sym found ∙ ap (λ m. get m (key_of c.args.key.now)) c.self.view_is
