@@ -1,14 +1,13 @@
 -- Keys at a path: shapes at whole paths, and the first field for each shape.
-use Rattle.std.proofs.Common.{◌≡◌, ℕ, Bool, true, false, cond, ◌&&◌, List, [], ◌∷◌, ◌++◌, filter, map, nat_eq, refl, ap, sym, ◌∙◌, Option, Some, None, append-nil, length, slice_get, ◌≤◌, arith}
+use Rattle.std.proofs.Common.{◌≡◌, ℕ, Bool, true, false, cond, List, [], ◌∷◌, ◌++◌, filter, map, nat_eq, refl, ap, sym, ◌∙◌, Option, Some, None, append-nil, length, ◌≤◌, arith}
 use Rattle.std.specs.List.{filter_map, list_any}
-use Rattle.std.specs.Option.{option_and_then, option_map}
+use Rattle.std.specs.Option.{option_and_then}
 use Rattle.facet_solver_shape.specs.Fields.{FieldView}
 use Rattle.facet_solver_shape.specs.Names.{Name}
-use Rattle.facet_solver_shape.specs.Resolved.{Resolved}
 use Rattle.facet_solver_shape.proofs.Lists.{list_any-map}
 use Rattle.facet_solver.specs.Build.{Catalogue}
 use Rattle.facet_solver.specs.KeyResult.{ambiguous, unambiguous, unknown}
-use Rattle.facet_solver.specs.Probe.{below_first, by_shapes, field_on_path, field_on_path_at, first_field, scored}
+use Rattle.facet_solver.specs.Probe.{by_shapes, scored}
 use Rattle.facet_solver.specs.ShapeAtPath.{first_of_each, shape_below, shape_of_member}
 use Rattle.facet_solver.proofs.FirstOfEach.{first_of_each-told}
 use Rattle.facet_solver.proofs.IndexSet.{filter_more}
@@ -28,23 +27,6 @@ shape_below-push cat (p ∷ ps) k id = go (shape_of_member cat p id) (shape_belo
         → option_and_then (shape_below cat (ps ++ k ∷ [])) o ≡ option_and_then (shape_of_member cat k) (option_and_then (shape_below cat ps) o)
     go None later = refl
     go (Some next) later = later next
-
--- where a resolution has the field of the first name, or has not, the rest of the path decides
-pub on_path : (cat : Catalogue) (whole : List Name) (rs : List Resolved) (i : ℕ) (o : Option FieldView) → option_and_then (first_field whole) (slice_get rs i) ≡ o
-    → field_on_path_at cat whole rs i ≡ option_and_then (λ f. option_map (λ shape. (f, shape)) (shape_below cat (below_first whole) f.shape)) o
-on_path cat whole rs i o is = go (slice_get rs i) ∙ ap (option_and_then onward) is
-  where
-    onward : FieldView → Option (FieldView × ℕ)
-    onward f = option_map (λ shape. (f, shape)) (shape_below cat (below_first whole) f.shape)
-
-    go : (r : Option Resolved) → option_and_then (field_on_path cat whole) r ≡ option_and_then onward (option_and_then (first_field whole) r)
-    go None = refl
-    go (Some r) = refl
-
-pub on_path_from : (cat : Catalogue) (whole : List Name) (rs : List Resolved) (i : ℕ) (f : FieldView) (o : Option ℕ) → option_and_then (first_field whole) (slice_get rs i) ≡ Some f → shape_below cat (below_first whole) f.shape ≡ o
-    → field_on_path_at cat whole rs i ≡ option_map (λ shape. (f, shape)) o
-on_path_from cat whole rs i f o is below =
-    on_path cat whole rs i (Some f) is ∙ ap (option_map (λ (shape : ℕ). (f, shape))) below
 
 -- ---- the first field for each shape, of the indices that pass
 

@@ -1,5 +1,5 @@
 -- Why a resolution is not the answer: what it lacks, and which seen keys mean nothing in it.
-use Rattle.std.specs.Prelude.{ℕ, Bool, List, [], ◌∷◌, Option, filter, map, not, slice_get, string_bytes}
+use Rattle.std.specs.Prelude.{ℕ, Bool, List, [], ◌∷◌, filter, map, not, slice_get, string_bytes}
 use Rattle.std.specs.BTreeSet.{insert_key}
 use Rattle.std.specs.Cmp.Lexicographic.{slice_cmp}
 use Rattle.std.specs.FinMap as finite

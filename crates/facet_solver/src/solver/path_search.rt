@@ -82,6 +82,7 @@ impl PathSearch<'_, '_, '_> {
         let Some(found) = self.field_on_path_at(schema, index) else {
             return Ok(());
         };
+        // Taken apart on a line of its own: a proof follows no part of a pair in a pattern to the calls below.
         let (field, shape) = found;
         if !is_among(shapes, shape) && self.is_at(schema, index) {
             shapes.push(shape)?;

@@ -1,4 +1,4 @@
-use Rattle.std.proofs.Common.{◌≡◌, Bool, Option, List, filter, map, ap, sym, ◌∙◌, ◌++◌, ◌∷◌, [], ℕ}
+use Rattle.std.proofs.Common.{Bool, Option, List, filter, map, ap, sym, ◌∙◌, ◌++◌, ◌∷◌, [], ℕ}
 use Rattle.std.proofs.lemmas.List.{map-append}
 use Rattle.facet_solver_shape.specs.Fields.{FieldView}
 use Rattle.facet_solver_shape.specs.Names.{Name, names_of}
