@@ -1,6 +1,6 @@
 -- The number of choices: it is the length of their list, it follows the fields, and a table holds it.
 use Rattle.facet_solver.specs.Build.{Build, repr_for, Catalogue, kind_of}
-use Rattle.std.proofs.Common.{◌≡◌, ℕ, zero, suc, ◌+◌, ◌*◌, List, [], ◌∷◌, ◌++◌, map, Option, Some, None, Bool, true, false, sym, refl, ap, ◌∙◌, slice_get, length, length-append, ◌⊎◌, inl, inr, ◌<◌, ◌≤◌, subst, arith, get_or, take, add-one, Vec}
+use Rattle.std.proofs.Common.{◌≡◌, ℕ, zero, suc, ◌+◌, ◌*◌, List, [], ◌∷◌, ◌++◌, map, Option, Some, None, Bool, true, false, sym, refl, ap, ◌∙◌, slice_get, length, length-append, ◌⊎◌, inl, inr, ◌<◌, ◌≤◌, subst, arith, get_or, take, add-one}
 use Rattle.std.specs.Prelude.{sum_by, IsSome, if◌then◌else◌}
 use Rattle.std.proofs.lemmas.List.Sums.{sum_by-cons}
 use Rattle.std.proofs.Math.Nat.{zero-mul, suc-mul, add_comm, mul_assoc}
@@ -13,7 +13,7 @@ use Rattle.facet_solver.specs.Representation.{is_walked, Repr}
 use Rattle.facet_solver.specs.Roles.{Role, regular, block, alternatives, catch_all, leaf, role_of, target_of, role_of_target, role_by_kind}
 use Rattle.facet_solver.specs.Content.{content_of, content_or, struct_fields, newtype_fields, IsNewtypeOf}
 use Rattle.facet_solver.specs.Listing.{Choices, product, indexed, choices_of_variant, choices_of_role, choices_of_fields_step, choices_within, choices_of_fields, choices_of_root, choices_of_root_shape, choices_of_root_kind}
-use Rattle.facet_solver.specs.Count.{Count, count_variant, count_role, count_fields_step, count_within, count_fields, count_of_root, count_of_shape, count_kind, count_variants, below_2_64, IsCountOf, count_shape, count_field, count_content}
+use Rattle.facet_solver.specs.Count.{Count, count_variant, count_role, count_fields_step, count_within, count_fields, count_of_root, count_of_shape, count_kind, below_2_64, IsCountOf, count_shape, count_field, count_content}
 use Rattle.facet_solver_shape.specs.Catalogues.{FieldsBelow, VariantsBelow, NamesEarlier}
 use Rattle.facet_solver.proofs.Roles.{RoleBelow, role_of-below, content_of-below, IsLocal, one_step, target_in, target_in_role, target_in_role-le, FieldsBelow-mono}
 use Rattle.facet_solver.proofs.Outcome.{get_push}
@@ -25,7 +25,6 @@ use Rattle.std.specs.Option.{option_map_or}
 use Rattle.std.proofs.lemmas.Option.{slice_get-get_or}
 use Rattle.facet_solver.specs.declared.build.count.saturating.SaturatingCount.TheVariants.{Exact}
 use Rattle.facet_solver.specs.declared.build.role.Target.{Target}
-use Rattle.std.specs.declared.alloc.Global.{Global}
 
 -- ---- the number of choices is the length of their list
 length-map' : {X Y : Type 0} (f : X → Y) (xs : List X) → length (map f xs) ≡ length xs
@@ -289,28 +288,25 @@ module _ (build : Build) where
       ap (λ (gs : List Field). count_fields_step (count_fields build) build gs) (take_all n fs all)
       ∙ sym (count_fields-step build checked fs (FieldsBelow-mono (length counts) (length build.catalogue) fs counted.within h))
 
--- ---- the count of a root by its kind
+-- ---- the count of a root
 module _ (build : Build) (root : ℕ) where
   by_shape : (o : Option Shape) → slice_get build.catalogue root ≡ o → count_of_root build root ≡ count_of_shape build o
   unfolding count_of_root
   by_shape o e = ap (count_of_shape build) e
 
-  -- no shape stands there
-  pub absent-count : slice_get build.catalogue root ≡ None → count_of_root build root ≡ 0
-  absent-count e = by_shape None e
+  -- which is that of its shape, an enum's contents walked
+  pub root-count : (s : Shape) → slice_get build.catalogue root ≡ Some s → count_of_root build root ≡ count_kind build true s.kind
+  root-count s here = by_shape (Some s) here
 
-  -- an enum, whatever its representation
-  pub enum-count : (s : Shape) (vs : Vec Variant Global) → slice_get build.catalogue root ≡ Some s → s.kind ≡ Enum vs → count_of_root build root ≡ count_variants build true vs.items
-  enum-count s vs here is_enum = by_shape (Some s) here ∙ ap (count_kind build true) is_enum
+-- ---- the content of a variant with an only field
+module _ (build : Build) (checked : NamesEarlier build.catalogue) where
+  by_none : (fs : List Field) (v : Variant) (o : Option (List Field)) → v.fields.items ≡ fs → o ≡ None → (content_or v o).fields ≡ fs
+  by_none fs v o e none = ap (λ (o : Option (List Field)). (content_or v o).fields) none ∙ e
 
-  root_kind-count : (walked : Bool) (k : ShapeKind) → ((vs : Vec Variant Global) → k ≡ Enum vs → ⊥) → count_kind build true k ≡ count_kind build walked k
-  root_kind-count walked (Enum vs) no_enum = absurd (no_enum vs refl)
-  root_kind-count walked _ no_enum = refl
-
-  -- any other shape counts as where it is flattened
-  pub other-count : (s : Shape) → slice_get build.catalogue root ≡ Some s → ((vs : Vec Variant Global) → s.kind ≡ Enum vs → ⊥) → count_of_root build root ≡ count_at build root
-  unfolding count_at
-  other-count s here no_enum =
-      by_shape (Some s) here
-      ∙ root_kind-count (is_walked (repr_for build s)) s.kind no_enum
-      ∙ sym (ap (λ (o : Option Shape). option_map_or (count_shape build) o 1) here)
+  -- one that is no newtype is its field
+  pub only_field_counted : (v : Variant) (f : Field) (t : SaturatingCount) → v.fields.items ≡ f ∷ [] → newtype_fields build.catalogue (f ∷ []) ≡ None → f.shape < length build.catalogue → CountsTo t (count_field build f) → CountsTo t (count_content build v)
+  unfolding count_fields_step
+  only_field_counted v f t one none below h =
+      let own : (content_of build.catalogue v).fields ≡ f ∷ [] = by_none (f ∷ []) v (newtype_fields build.catalogue v.fields.items) one (ap (newtype_fields build.catalogue) one ∙ none) in
+      let single : count_fields build (f ∷ []) ≡ count_field build f * 1 = count_fields-step build checked (f ∷ []) (below, tt) in
+      subst (CountsTo t) (sym (ap (count_fields build) own ∙ single ∙ omega arith)) h

@@ -12,10 +12,13 @@ pub mod State
 pub mod Outcome
 pub mod Walk
 pub mod ChoiceResolutions
+pub mod NestedFields
 pub mod NestedSets
 pub mod Nested
 pub mod NestedTable
 pub mod Marks
+pub mod Reached
+pub mod Serving
 pub mod Emissions
 pub mod SharedBits
 pub mod FieldCategories

@@ -1,7 +1,8 @@
 -- Marks of shapes: more of them keep what is asked answered.
-use Rattle.std.proofs.Common.{◌≡◌, ◌<◌, ◌≤◌, ◌+◌, inl, inr, ℕ, zero, suc, List, [], ◌∷◌, Bool, true, refl, ap, ◌∙◌, sym, subst, slice_get, length, get_or, set, length-set, arith}
+use Rattle.std.proofs.Common.{◌≡◌, ◌<◌, ◌≤◌, ◌+◌, inl, inr, ℕ, zero, suc, List, [], ◌∷◌, Bool, Some, true, false, refl, ap, ◌∙◌, sym, subst, slice_get, length, get_or, set, length-set, arith}
 use Rattle.std.proofs.lemmas.Bool.{cases_eq, cases_lt}
 use Rattle.std.proofs.lemmas.List.{get_or_default}
+use Rattle.std.proofs.lemmas.Option.{slice_get-get_or, slice_get_within}
 use Rattle.facet_solver.specs.NestedTable.{IsMarked, IsMarkedMore}
 
 pub more-refl : (limit : ℕ) (ms : List Bool) → IsMarkedMore limit ms ms
@@ -46,3 +47,11 @@ up_to_one P Q xs i x is lt up q h j d l = elim (cases_lt j i) [
   | inl before ↦ up (get_or xs j d) (h j d before)
   | inr past ↦ (let same : j ≡ i = omega (arith, l, past) in subst (λ (k : ℕ). Q (get_or xs k d)) (sym same) (subst Q (is ∙ get_or_default xs i x d lt) q))
 ]
+
+-- an index where the mark is not made
+pub not_marked : (ms : List Bool) (i id : ℕ) → get_or ms i false ≡ false → i ≡ id → IsMarked ms id → ⊥
+not_marked ms i id e same m =
+    let here : IsMarked ms i = subst (IsMarked ms) (sym same) m in
+    let at : Some (get_or ms i false) ≡ Some true = sym (slice_get-get_or ms i false (slice_get_within ms i true here)) ∙ here in
+    let both : Some false ≡ Some true = sym (ap Some e) ∙ at in
+    cc

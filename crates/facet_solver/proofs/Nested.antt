@@ -3,12 +3,10 @@
 use Rattle.std.proofs.Common.{◌⊎◌, inl, inr, ◌≡◌, ℕ, zero, suc, ◌<◌, ◌≤◌, List, [], ◌∷◌, ◌++◌, Option, Bool, true, false, sym, refl, ap, ◌∙◌, slice_get, length, arith, string_bytes, subst}
 use Rattle.std.proofs.lemmas.Bool.{cases_lt}
 use Rattle.std.proofs.lemmas.Option.{slice_get_past}
-use Rattle.std.specs.Prelude.{if◌then◌else◌, ◌&&◌, Vec}
+use Rattle.std.specs.Prelude.{if◌then◌else◌, ◌&&◌}
 use Rattle.std.specs.FinSet as set
-use Rattle.std.specs.declared.alloc.Global.{Global}
 use Rattle.facet_solver_shape.specs.Names.{Name, effective_name}
 use Rattle.facet_solver_shape.specs.declared.shape.Shape.{Shape}
-use Rattle.facet_solver_shape.specs.declared.shape.StructKind.{StructKind}
 use Rattle.facet_solver_shape.specs.declared.shape.ShapeKind.{ShapeKind}
 use Rattle.facet_solver_shape.specs.declared.shape.ShapeKind.TheVariants.{Struct, Enum}
 use Rattle.facet_solver_shape.specs.declared.shape.Field.{Field}
@@ -16,8 +14,8 @@ use Rattle.facet_solver_shape.specs.declared.shape.Variant.{Variant}
 use Rattle.facet_solver_shape.specs.Catalogues.{FieldsBelow, VariantsBelow, KindBelow, NamesEarlier}
 use Rattle.facet_solver.specs.Build.{Catalogue, kind_of, kind_at}
 use Rattle.facet_solver.specs.Content.{is_zero}
-use Rattle.facet_solver.specs.Nested.{KeyPath, KeyPaths, no_paths, paths_of_each, behind_prefix, named, Under, Entered, structs_alone, every_kind, through_field_step, through_fields_step, under_fields_step, under_variant_step, under_struct, under_kind, if_entered_step, under_shape_step, under_within, under_shape, if_entered, through_fields, under_variant, under_variants, nested_paths, flattened_paths, variant_paths, content_paths_of_shape, content_paths, FollowsKinds, EndsByLength, HasNoGaps}
-use Rattle.facet_solver.proofs.Roles.{kind_of-below, limit_of, limit_of_variants, limit_of-le, limit_of_variants-le}
+use Rattle.facet_solver.specs.Nested.{KeyPath, KeyPaths, no_paths, paths_of_each, behind_prefix, named, Under, Entered, structs_alone, every_kind, through_field_step, through_fields_step, under_fields_step, under_variant_step, under_struct, under_kind, if_entered_step, under_shape_step, under_within, under_shape, if_entered, under_variant, nested_paths, flattened_paths, variant_paths, content_paths_of_shape, content_paths, FollowsKinds, EndsByLength, HasNoGaps}
+use Rattle.facet_solver.proofs.Roles.{kind_of-below}
 use Rattle.facet_solver.proofs.NestedSets.{Has, Has-none, Has-union, Has-left, Has-right, Has-insert, Has-other, Has-itself, Has-behind, Has-behind_from}
 
 -- two definitions agree on the indices below a limit
@@ -96,32 +94,6 @@ module _ (entered : Entered) (cat : Catalogue) (checked : NamesEarlier cat) wher
   pub under_shape-step : (id : ℕ) → under_shape entered cat id ≡ under_shape_step entered cat (under_shape entered cat) id
   unfolding under_shape under_within
   under_shape-step id = enough_levels (suc (length cat)) (suc (suc (length cat))) id (omega arith) (omega arith)
-
-  -- by the kind of the shape
-  module _ (id : ℕ) where
-    abbrev by_kind : ShapeKind → KeyPaths
-    by_kind = under_kind (through_fields entered cat) (under_variant entered cat)
-
-    pub at-struct : (kind : StructKind) (fs : Vec Field Global) → kind_at cat id ≡ Struct kind fs → under_shape entered cat id ≡ through_fields entered cat fs.items
-    at-struct kind fs e = under_shape-step id ∙ ap by_kind e
-
-    pub at-enum : (vs : Vec Variant Global) → kind_at cat id ≡ Enum vs → under_shape entered cat id ≡ under_variants entered cat vs.items
-    at-enum vs e = under_shape-step id ∙ ap by_kind e
-
-    pub at-other : ((kind : StructKind) (fs : Vec Field Global) → kind_at cat id ≡ Struct kind fs → ⊥) → ((vs : Vec Variant Global) → kind_at cat id ≡ Enum vs → ⊥) → under_shape entered cat id ≡ no_paths
-    at-other no_struct no_enum = under_shape-step id ∙ go (kind_at cat id) no_struct no_enum
-      where
-        go : (k : ShapeKind) → ((kind : StructKind) (fs : Vec Field Global) → k ≡ Struct kind fs → ⊥) → ((vs : Vec Variant Global) → k ≡ Enum vs → ⊥) → by_kind k ≡ no_paths
-        go (Struct kind fs) p q = absurd (p kind fs refl)
-        go (Enum vs) p q = absurd (q vs refl)
-        go _ p q = refl
-
-    -- what is named lies earlier
-    pub struct-limit : (kind : StructKind) (fs : Vec Field Global) → kind_at cat id ≡ Struct kind fs → limit_of fs.items ≤ id
-    struct-limit kind fs e = limit_of-le id fs.items (subst (KindBelow id) e (kind_at-below id))
-
-    pub enum-limit : (vs : Vec Variant Global) → kind_at cat id ≡ Enum vs → limit_of_variants vs.items ≤ id
-    enum-limit vs e = limit_of_variants-le id vs.items (subst (KindBelow id) e (kind_at-below id))
 
 -- a struct is entered among structs alone, and every kind is entered
 struct_by_kind : (through : List Field → KeyPaths) (under : Variant → KeyPaths) (k : ShapeKind) → (if structs_alone k then under_kind through under k else no_paths) ≡ under_struct through k

@@ -1,18 +1,16 @@
 -- Sets of key paths: what is in them, and what a resolution with more of them is.
-use Rattle.std.proofs.Common.{◌≡◌, ◌⊎◌, inl, inr, ◌||◌, ℕ, ◌+◌, ◌<◌, ◌≤◌, List, [], ◌∷◌, ◌++◌, map, refl, ap, sym, ◌∙◌, subst, length, get_or, drop, append_assoc, Bool, true, false}
+use Rattle.std.proofs.Common.{◌≡◌, ◌⊎◌, inl, inr, ◌||◌, List, [], ◌∷◌, ◌++◌, map, refl, ap, sym, ◌∙◌, subst, append_assoc, Bool, true, false}
 use Rattle.std.specs.List.{list_any}
 use Rattle.std.specs.Ordering.{nat_cmp, eq_by_cmp}
 use Rattle.std.specs.Cmp.Lexicographic.{slice_cmp}
 use Rattle.std.specs.FinSet as set
 use Rattle.std.proofs.Math.Bool.{or_assoc}
-use Rattle.std.proofs.Math.ListN.{drop_of_length-le}
-use Rattle.std.proofs.lemmas.List.{drop_more}
 use Rattle.std.proofs.lemmas.Cmp.{eq_by_cmp_equiv}
 use Rattle.facet_solver_shape.specs.Names.{Name}
 use Rattle.facet_solver_shape.specs.Resolved.{Resolved, with_key_path}
 use Rattle.facet_solver_shape.proofs.Finite.{equal}
 use Rattle.facet_solver_shape.proofs.Keys.{path_cmp_total, path_cmp_same}
-use Rattle.facet_solver.specs.Nested.{KeyPath, KeyPaths, no_paths, paths_of_each, behind_prefix, named, with_key_paths, with_paths_behind}
+use Rattle.facet_solver.specs.Nested.{KeyPath, KeyPaths, no_paths, behind_prefix, named, with_key_paths, with_paths_behind}
 
 -- whether two key paths are equal
 abbrev is_path : KeyPath → KeyPath → Bool
@@ -112,6 +110,21 @@ union_assoc ps qs rs = set.same_set path_cmp_total path_cmp_same _ _ (λ q.
     ∙ sym (or_assoc (set.contains ps q) (set.contains qs q) (set.contains rs q))
     ∙ sym (set.contains-union path_cmp_total (set.union ps qs) rs q ∙ ap (λ b. b || set.contains rs q) (set.contains-union path_cmp_total ps qs q)))
 
+pub union_comm : (ps qs : KeyPaths) → set.union ps qs ≡ set.union qs ps
+union_comm ps qs = same_paths _ _
+    (λ q h. elim (Has-union ps qs q h) [ inl a ↦ Has-right qs ps q a | inr b ↦ Has-left qs ps q b ])
+    (λ q h. elim (Has-union qs ps q h) [ inl a ↦ Has-right ps qs q a | inr b ↦ Has-left ps qs q b ])
+
+-- two sets are added in either order
+pub union_swap : (ps qs rs : KeyPaths) → set.union (set.union ps qs) rs ≡ set.union (set.union ps rs) qs
+union_swap ps qs rs = sym (union_assoc ps qs rs) ∙ ap (λ (s : KeyPaths). set.union ps s) (union_comm qs rs) ∙ union_assoc ps rs qs
+
+-- a set that is there already adds nothing
+pub union_within : (ps qs : KeyPaths) → ((q : KeyPath) → Has qs q → Has ps q) → set.union ps qs ≡ ps
+union_within ps qs within = same_paths _ _
+    (λ q h. elim (Has-union ps qs q h) [ inl a ↦ a | inr b ↦ within q b ])
+    (λ q h. Has-left ps qs q h)
+
 pub union-insert : (ps qs : KeyPaths) (p : KeyPath) → set.union ps (set.insert qs p) ≡ set.union (set.insert ps p) qs
 union-insert ps qs p = same_paths _ _
     (λ q h. elim (Has-union ps (set.insert qs p) q h) [
@@ -148,6 +161,40 @@ behind_prefix-union prefix ps qs = same_paths _ _
       | inr b ↦ (let r = Has-behind_from prefix qs q b in subst (Has (behind_prefix prefix (set.union ps qs))) r.2 (Has-behind prefix (set.union ps qs) r.0 (Has-right ps qs r.0 r.1)))
     ])
 
+-- a name, and what is behind it
+Has-named_from : (name : Name) (ps : KeyPaths) (q : KeyPath) → Has (named name ps) q → (q ≡ name ∷ []) ⊎ ((r : KeyPath) × Has ps r × (name ∷ r ≡ q))
+Has-named_from name ps q h = elim (Has-insert (behind_prefix (name ∷ []) ps) (name ∷ []) q h) [
+  | inl same ↦ inl same
+  | inr deeper ↦ inr (Has-behind_from (name ∷ []) ps q deeper)
+]
+
+Has-named : (name : Name) (ps : KeyPaths) (r : KeyPath) → Has ps r → Has (named name ps) (name ∷ r)
+Has-named name ps r h = Has-other (behind_prefix (name ∷ []) ps) (name ∷ []) (name ∷ r) (Has-behind (name ∷ []) ps r h)
+
+-- a name with two sets behind it
+pub named-union : (name : Name) (ps qs : KeyPaths) → named name (set.union ps qs) ≡ set.union (named name ps) (named name qs)
+named-union name ps qs =
+    let all = named name (set.union ps qs) in
+    let both = set.union (named name ps) (named name qs) in
+    same_paths _ _
+    (λ q h. elim (Has-named_from name (set.union ps qs) q h) [
+      | inl same ↦ subst (Has both) (sym same) (Has-left (named name ps) (named name qs) (name ∷ []) (Has-itself (behind_prefix (name ∷ []) ps) (name ∷ [])))
+      | inr r ↦ (subst (Has both) r.2 (elim (Has-union ps qs r.0 r.1) [
+        | inl a ↦ Has-left (named name ps) (named name qs) (name ∷ r.0) (Has-named name ps r.0 a)
+        | inr b ↦ Has-right (named name ps) (named name qs) (name ∷ r.0) (Has-named name qs r.0 b)
+      ]))
+    ])
+    (λ q h. elim (Has-union (named name ps) (named name qs) q h) [
+      | inl a ↦ (elim (Has-named_from name ps q a) [
+        | inl same ↦ subst (Has all) (sym same) (Has-itself (behind_prefix (name ∷ []) (set.union ps qs)) (name ∷ []))
+        | inr r ↦ subst (Has all) r.2 (Has-named name (set.union ps qs) r.0 (Has-left ps qs r.0 r.1))
+      ])
+      | inr b ↦ (elim (Has-named_from name qs q b) [
+        | inl same ↦ subst (Has all) (sym same) (Has-itself (behind_prefix (name ∷ []) (set.union ps qs)) (name ∷ []))
+        | inr r ↦ subst (Has all) r.2 (Has-named name (set.union ps qs) r.0 (Has-right ps qs r.0 r.1))
+      ])
+    ])
+
 -- a prefix with one more name
 behind_prefix-named : (prefix : KeyPath) (name : Name) (ps : KeyPaths) → behind_prefix prefix (named name ps) ≡ set.insert (behind_prefix (prefix ++ name ∷ []) ps) (prefix ++ name ∷ [])
 behind_prefix-named prefix name ps = same_paths _ _
@@ -171,47 +218,6 @@ behind_prefix-named prefix name ps = same_paths _ _
           (Has-behind prefix (named name ps) (name ∷ r.0) (Has-other (behind_prefix (name ∷ []) ps) (name ∷ []) (name ∷ r.0) (Has-behind (name ∷ []) ps r.0 r.1))))
     ])
 
-behind_prefix-insert : (prefix : KeyPath) (ps : KeyPaths) (p : KeyPath) → behind_prefix prefix (set.insert ps p) ≡ set.insert (behind_prefix prefix ps) (prefix ++ p)
-behind_prefix-insert prefix ps p = same_paths _ _
-    (λ q h.
-    let r = Has-behind_from prefix (set.insert ps p) q h in
-    subst (Has (set.insert (behind_prefix prefix ps) (prefix ++ p))) r.2
-    (elim (Has-insert ps p r.0 r.1) [
-      | inl same ↦ subst (λ (x : KeyPath). Has (set.insert (behind_prefix prefix ps) (prefix ++ p)) (prefix ++ x)) (sym same) (Has-itself (behind_prefix prefix ps) (prefix ++ p))
-      | inr other ↦ Has-other (behind_prefix prefix ps) (prefix ++ p) (prefix ++ r.0) (Has-behind prefix ps r.0 other)
-    ]))
-    (λ q h. elim (Has-insert (behind_prefix prefix ps) (prefix ++ p) q h) [
-      | inl same ↦ subst (Has (behind_prefix prefix (set.insert ps p))) (sym same) (Has-behind prefix (set.insert ps p) p (Has-itself ps p))
-      | inr other ↦
-          (let r = Has-behind_from prefix ps q other in
-          subst (Has (behind_prefix prefix (set.insert ps p))) r.2 (Has-behind prefix (set.insert ps p) r.0 (Has-other ps p r.0 r.1)))
-    ])
-
--- no prefix changes nothing
-pub behind_nothing : (ps : KeyPaths) → behind_prefix [] ps ≡ ps
-behind_nothing ps = same_paths _ _
-    (λ q h. let r = Has-behind_from [] ps q h in subst (Has ps) r.2 r.1)
-    (λ q h. Has-behind [] ps q h)
-
--- a list of key paths with one more in front
-from_list-cons : (p : KeyPath) (ps : List KeyPath) → set.from_list {R = slice_cmp (slice_cmp nat_cmp)} (p ∷ ps) ≡ set.insert (set.from_list ps) p
-from_list-cons p ps = set.same_set path_cmp_total path_cmp_same _ _ (λ q.
-    set.contains-from_list path_cmp_total (p ∷ ps) q
-    ∙ sym (set.contains-insert path_cmp_total (set.from_list ps) p q
-    ∙ ap (λ b. is_path q p || b) (set.contains-from_list path_cmp_total ps q)))
-
--- the key paths of a list, each behind a prefix: the first of them is added before the others
-module _ (prefix p : KeyPath) (ps : List KeyPath) where
-  first_behind : behind_prefix prefix (set.from_list (p ∷ ps)) ≡ set.insert (behind_prefix prefix (set.from_list ps)) (prefix ++ p)
-  first_behind = ap (behind_prefix prefix) (from_list-cons p ps) ∙ behind_prefix-insert prefix (set.from_list ps) p
-
-  pub added_behind : (old : KeyPaths) → set.union (set.insert old (prefix ++ p)) (behind_prefix prefix (set.from_list ps)) ≡ set.union old (behind_prefix prefix (set.from_list (p ∷ ps)))
-  added_behind old = sym (ap (λ (s : KeyPaths). set.union old s) first_behind ∙ union-insert old (behind_prefix prefix (set.from_list ps)) (prefix ++ p))
-
--- at the end of the list nothing is left to add
-pub all_behind : (prefix : KeyPath) (old : KeyPaths) → set.union old (behind_prefix prefix (set.from_list [])) ≡ old
-all_behind prefix old = ap (λ (s : KeyPaths). set.union old s) (behind_prefix-none prefix) ∙ union-none old
-
 -- a resolution with more key paths
 module _ (r : Resolved) where
   with_key_paths-union : (ps qs : KeyPaths) → with_key_paths r (set.union ps qs) ≡ with_key_paths (with_key_paths r ps) qs
@@ -230,7 +236,7 @@ module _ (r : Resolved) where
     pub behind-none : with_paths_behind r prefix no_paths ≡ r
     behind-none = ap (with_key_paths r) (behind_prefix-none prefix) ∙ with_key_paths-none
 
-    behind-union : (ps qs : KeyPaths) → with_paths_behind r prefix (set.union ps qs) ≡ with_paths_behind (with_paths_behind r prefix ps) prefix qs
+    pub behind-union : (ps qs : KeyPaths) → with_paths_behind r prefix (set.union ps qs) ≡ with_paths_behind (with_paths_behind r prefix ps) prefix qs
     behind-union ps qs = ap (with_key_paths r) (behind_prefix-union prefix ps qs) ∙ with_key_paths-union (behind_prefix prefix ps) (behind_prefix prefix qs)
 
     pub behind-named : (name : Name) (ps : KeyPaths) → with_paths_behind r prefix (named name ps) ≡ with_paths_behind (with_key_path r (prefix ++ name ∷ [])) (prefix ++ name ∷ []) ps
@@ -245,18 +251,3 @@ pub with-named : (r : Resolved) (name : Name) (ps : KeyPaths) → with_paths_beh
 with-named r name ps =
     ap (λ (s : Resolved). with_paths_behind s (name ∷ []) ps) (with-name r name)
     ∙ sym (with_key_paths-insert r (behind_prefix (name ∷ []) ps) (name ∷ []))
-
--- the key paths of the items from place i on
-module _ {X : Type 0} (paths : X → KeyPaths) (prefix : KeyPath) (xs : List X) (i : ℕ) where
-  pub behind-more : (r : Resolved) (x : X) → i < length xs → x ≡ get_or xs i x → with_paths_behind (with_paths_behind r prefix (paths x)) prefix (paths_of_each paths (drop (i + 1) xs)) ≡ with_paths_behind r prefix (paths_of_each paths (drop i xs))
-  behind-more r x h is =
-      sym (behind-union r prefix (paths x) (paths_of_each paths (drop (i + 1) xs)))
-      ∙ ap (λ (y : X). with_paths_behind r prefix (paths_of_each paths (y ∷ drop (i + 1) xs))) is
-      ∙ ap (λ (ys : List X). with_paths_behind r prefix (paths_of_each paths ys)) (sym (drop_more xs i x h))
-
-  pub behind-end : (r : Resolved) → length xs ≤ i → with_paths_behind r prefix (paths_of_each paths (drop i xs)) ≡ r
-  behind-end r h = ap (λ (ys : List X). with_paths_behind r prefix (paths_of_each paths ys)) (drop_of_length-le xs h) ∙ behind-none r prefix
-
--- a list of key paths, each behind a prefix, is added to a resolution: the first of them before the others
-pub shown_behind : (prefix p : KeyPath) (ps : List KeyPath) (r : Resolved) → with_paths_behind (with_key_path r (prefix ++ p)) prefix (set.from_list ps) ≡ with_paths_behind r prefix (set.from_list (p ∷ ps))
-shown_behind prefix p ps r = sym (ap (with_key_paths r) (first_behind prefix p ps) ∙ with_key_paths-insert r (behind_prefix prefix (set.from_list ps)) (prefix ++ p))

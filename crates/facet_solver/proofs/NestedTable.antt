@@ -1,14 +1,15 @@
 -- Tables of nested key paths: what is under a shape, from what is under those that its fields name.
-use Rattle.std.proofs.Common.{◌≡◌, ◌⊎◌, inl, inr, take, ◌<◌, ◌≤◌, ◌+◌, ℕ, zero, suc, List, [], ◌∷◌, ◌++◌, Option, Some, None, Bool, true, false, sym, refl, ap, ◌∙◌, subst, slice_get, length, get_or, drop, arith}
-use Rattle.std.specs.Prelude.{All, IfOk, IfSome, Vec, ◌↔◌, if◌then◌else◌, ◌&&◌, is_some, string_bytes, sum_by}
+use Rattle.std.proofs.Common.{◌≡◌, ◌⊎◌, inl, inr, map, take, ◌<◌, ◌≤◌, ◌+◌, ℕ, zero, suc, List, [], ◌∷◌, ◌++◌, Option, Some, None, Bool, true, false, sym, refl, ap, ◌∙◌, subst, slice_get, length, get_or, drop, arith}
+use Rattle.std.specs.List.{AllByRecursion}
+use Rattle.std.specs.Prelude.{All, IfOk, IfSome, OnOk, ⊤, Vec, ◌↔◌, if◌then◌else◌, ◌&&◌, ◌||◌, is_some, nat_lt, string_bytes, sum_by}
 use Rattle.std.specs.declared.alloc.Global.{Global}
 use Rattle.std.specs.declared.result.Result.{Result}
 use Rattle.std.specs.declared.result.Result.TheVariants.{Ok, Err}
 use Rattle.std.specs.FinSet as set
 use Rattle.std.proofs.Math.ListN.{drop_of_length-le}
-use Rattle.std.proofs.lemmas.Bool.{cases_lt}
+use Rattle.std.proofs.lemmas.Bool.{cases_lt, lt-ltb}
 use Rattle.std.proofs.lemmas.List.{drop_more, length_push}
-use Rattle.std.proofs.lemmas.List.Sums.{sum_by-take-le, sum_by_more}
+use Rattle.std.proofs.lemmas.List.Sums.{sum_by-cons, sum_by-take-le, sum_by_more}
 use Rattle.std.proofs.lemmas.Option.{slice_get-get_or, slice_get_past, slice_get_within}
 use Rattle.facet_solver_shape.specs.Names.{Name, effective_name}
 use Rattle.facet_solver_shape.specs.declared.shape.Field.{Field}
@@ -20,20 +21,24 @@ use Rattle.facet_solver_shape.specs.declared.shape.Variant.{Variant}
 use Rattle.facet_solver_shape.specs.Catalogues.{FieldsBelow, KindBelow, NamesEarlier}
 use Rattle.facet_solver.specs.Build.{Catalogue, kind_at}
 use Rattle.facet_solver.specs.Content.{is_zero}
-use Rattle.facet_solver.specs.Nested.{KeyPaths, Entered, Under, no_paths, paths_of_each, behind_prefix, named, through_field, through_fields_step, under_fields_step, if_entered, under_shape, entered_view}
-use Rattle.facet_solver.specs.NestedTable.{AreFirstEntries, FieldAsks, IsClosed, IsEntry, IsFilled, IsMarked, IsSound, KindAsks, entry_at, entry_if_any, field_count, fields_of_kind}
+use Rattle.facet_solver.specs.Nested.{KeyPaths, Entered, Under, no_paths, paths_of_each, named, through_field, through_fields_step, under_fields_step, if_entered, under_shape, entered_view}
+use Rattle.facet_solver.specs.FieldCount.{field_count, fields_of_kind}
+use Rattle.facet_solver.specs.NestedTable.{AreFieldsOf, AreFirstEntries, EntryLeadsTo, FieldAsks, HasMore, IsClosed, IsEntry, IsFilled, IsMade, IsMarked, IsSound, KindAsks, LeadTo, entry_at, entry_if_any, is_filled, paths_by_name, under_of}
+use Rattle.facet_solver.specs.declared.build.nested.by_name.FieldsByName.{FieldsByName}
 use Rattle.facet_solver.specs.declared.build.nested.table.Earlier.{Earlier}
 use Rattle.facet_solver.specs.declared.build.nested.table.Entry.{Entry}
 use Rattle.facet_solver.proofs.Nested.{kind_at-below, under_shape-step}
 use Rattle.facet_solver.proofs.Outcome.{get_push}
 use Rattle.facet_solver.proofs.Roles.{FieldsBelow-at, VariantsBelow-at}
-use Rattle.facet_solver.proofs.NestedSets.{union-none, union_assoc, union-insert, behind_prefix-none}
+use Rattle.facet_solver.proofs.NestedFields.{both_of, entry_leads_also, first_of, leads_also, second_of}
+use Rattle.facet_solver.proofs.NestedSets.{none-union, union-none, union_assoc}
 
--- an entry has what is under the shape at its index
-pub entry_under : (earlier : Earlier) (id : ℕ) (entry : Entry) → IsSound earlier → slice_get earlier.entries.now id ≡ Some (Some entry) → entry.under ≡ under_shape (entered_view earlier.entered) earlier.shapes.now id
-entry_under earlier id entry sound e =
-    (sound.entries id entry (ap entry_if_any e)).under
-    ∙ sym (under_shape-step (entered_view earlier.entered) earlier.shapes.now sound.checked id)
+-- an entry stands for what is under the shape at its index
+pub entry_stands : (earlier : Earlier) (id : ℕ) (entry : Entry) → IsSound earlier → slice_get earlier.entries.now id ≡ Some (Some entry) → AreFieldsOf earlier (under_of earlier id) entry.under
+entry_stands earlier id entry sound e = record {
+  stand = (sound.entries id entry (ap entry_if_any e)).under ∙ sym (under_shape-step (entered_view earlier.entered) earlier.shapes.now sound.checked id);
+  lead = leads_also _ _ (λ t h. second_of (nat_lt t id) (is_filled earlier.entries.now t) h) entry.under (sound.leads id entry (ap entry_if_any e)).under;
+}
 
 -- ---- through one field
 if_true : {X : Type 0} (b : Bool) (x y : X) → b ≡ true → (if b then x else y) ≡ x
@@ -57,16 +62,50 @@ module _ (entered : Entered) (cat : Catalogue) where
   pub through_regular : (f : Field) → f.flattened ≡ false → through_field entered cat f ≡ named (effective_name f) (if_entered entered cat f.shape)
   through_regular f e = if_false f.flattened (under_shape entered cat f.shape) (named (effective_name f) (if_entered entered cat f.shape)) e
 
--- a name, and then what is behind it
-pub added_named : (old : KeyPaths) (name : Name) (ps : KeyPaths) → set.union (set.insert old (name ∷ [])) (behind_prefix (name ∷ []) ps) ≡ set.union old (named name ps)
-added_named old name ps = sym (union-insert old (behind_prefix (name ∷ []) ps) (name ∷ []))
+-- a field asks for what is under its shape where that is entered
+pub asked_where_entered : (Holds : ℕ → Type 0) (entered : Entered) (cat : Catalogue) (f : Field) → FieldAsks Holds entered cat f → entered (kind_at cat f.shape) ≡ true → Holds f.shape
+asked_where_entered Holds entered cat f asked e = asked (either_true f.flattened (entered (kind_at cat f.shape)) e)
+  where
+    either_true : (a b : Bool) → b ≡ true → (a || b) ≡ true
+    either_true true b e = refl
+    either_true false b e = e
 
--- a name with nothing behind it
-pub added_alone : (old : KeyPaths) (name : Name) → set.insert old (name ∷ []) ≡ set.union old (named name no_paths)
-added_alone old name =
-    sym (union-none (set.insert old (name ∷ [])))
-    ∙ ap (λ (ps : KeyPaths). set.union (set.insert old (name ∷ [])) ps) (sym (behind_prefix-none (name ∷ [])))
-    ∙ added_named old name no_paths
+-- ---- fields that stand for more
+module _ (earlier : Earlier) (paths : KeyPaths) where
+  abbrev U : Under
+  U = under_of earlier
+
+  -- all of no fields and more
+  pub all_fields : (old new : FieldsByName) → paths_by_name U old ≡ no_paths → LeadTo (is_filled earlier.entries.now) old → HasMore earlier paths old new → AreFieldsOf earlier paths new
+  all_fields old new none lead more = record {
+    stand = more.stand ∙ ap (λ (ps : KeyPaths). set.union ps paths) none ∙ none-union paths;
+    lead = more.lead lead;
+  }
+
+  pub same_fields : (others : KeyPaths) (fields : FieldsByName) → paths ≡ others → AreFieldsOf earlier paths fields → AreFieldsOf earlier others fields
+  same_fields others fields e h = subst (λ (ps : KeyPaths). AreFieldsOf earlier ps fields) e h
+
+-- fields that were added and stand for these key paths
+pub more_if_ok : {E : Type 0} (earlier : Earlier) (paths : KeyPaths) (others old new : FieldsByName) (r : Result ⊤ E) → AreFieldsOf earlier paths others
+    → OnOk r ((under : Under) → paths_by_name under new ≡ set.union (paths_by_name under old) (paths_by_name under others))
+    → OnOk r ((passes : ℕ → Bool) → LeadTo passes old → LeadTo passes others → LeadTo passes new) → OnOk r (HasMore earlier paths old new)
+more_if_ok earlier paths others old new (Ok x) are stand lead = record {
+  stand = stand (under_of earlier) ∙ ap (λ (ps : KeyPaths). set.union (paths_by_name (under_of earlier) old) ps) are.stand;
+  lead = λ h. lead (is_filled earlier.entries.now) h are.lead;
+}
+more_if_ok earlier paths others old new (Err e) are stand lead = tt
+
+-- a name that was added with the shapes behind it
+pub named_if_ok : {E : Type 0} (earlier : Earlier) (name : Name) (shapes : List ℕ) (old new : FieldsByName) (r : Result ⊤ E)
+    → AllByRecursion (λ id. is_filled earlier.entries.now id ≡ true) shapes
+    → OnOk r ((under : Under) → paths_by_name under new ≡ set.union (paths_by_name under old) (named name (paths_of_each under shapes)))
+    → OnOk r ((passes : ℕ → Bool) → LeadTo passes old → AllByRecursion (λ id. passes id ≡ true) shapes → LeadTo passes new)
+    → OnOk r (HasMore earlier (named name (paths_of_each (under_of earlier) shapes)) old new)
+named_if_ok earlier name shapes old new (Ok x) filled stand lead = record {
+  stand = stand (under_of earlier);
+  lead = λ h. lead (is_filled earlier.entries.now) h filled;
+}
+named_if_ok earlier name shapes old new (Err e) filled stand lead = tt
 
 -- ---- through fields, one after another
 item_is : {X : Type 0} (xs : List X) (i : ℕ) (x : X) → slice_get xs i ≡ Some x → get_or xs i x ≡ x
@@ -85,18 +124,30 @@ module _ {X : Type 0} (paths : X → KeyPaths) (xs : List X) (i : ℕ) where
   pub no_more : (old : KeyPaths) → length xs ≤ i → set.union old (paths_of_each paths (drop i xs)) ≡ old
   no_more old h = ap (λ (ys : List X). set.union old (paths_of_each paths ys)) (drop_of_length-le xs h) ∙ union-none old
 
+pub map-push : {X Y : Type 0} (f : X → Y) (xs : List X) (x : X) → map f (xs ++ x ∷ []) ≡ map f xs ++ f x ∷ []
+map-push f [] x = refl
+map-push f (y ∷ xs) x = ap (λ ys. f y ∷ ys) (map-push f xs x)
+
 -- ---- under a variant
-one_field : (fs : List Field) (f : Field) → length fs ≡ 1 → slice_get fs 0 ≡ Some f → fs ≡ f ∷ []
-one_field [] f l e = absurd (omega arith)
-one_field (g ∷ []) f l e = cc
-one_field (g ∷ h ∷ fs) f l e = absurd (omega arith)
+pub one_item : {X : Type 0} (xs : List X) (x : X) → length xs ≡ 1 → slice_get xs 0 ≡ Some x → xs ≡ x ∷ []
+one_item [] x l e = absurd (omega arith)
+one_item (y ∷ []) x l e = cc
+one_item (y ∷ z ∷ xs) x l e = absurd (omega arith)
+
+pub no_items : {X : Type 0} (xs : List X) → length xs ≡ 0 → xs ≡ []
+no_items [] l = refl
+no_items (x ∷ xs) l = absurd (omega arith)
+
+pub on_ok : {X E P Q : Type 0} (r : Result X E) → (P → Q) → OnOk r P → OnOk r Q
+on_ok (Ok x) f h = f h
+on_ok (Err e) f h = tt
 
 module _ (entered : Entered) (cat : Catalogue) (regular flattened : Under) where
   abbrev under_fields : List Field → KeyPaths
   under_fields = under_fields_step entered cat regular flattened
 
   pub by_only_field : (fs : List Field) (f : Field) → length fs ≡ 1 → slice_get fs 0 ≡ Some f → under_fields (f ∷ []) ≡ under_fields fs
-  by_only_field fs f l e = ap under_fields (sym (one_field fs f l e))
+  by_only_field fs f l e = ap under_fields (sym (one_item fs f l e))
 
   pub by_all_fields : (fs : List Field) → (length fs ≡ 1 → ⊥) → under_fields fs ≡ through_fields_step regular flattened fs
   by_all_fields [] h = refl
@@ -108,11 +159,6 @@ module _ (entered : Entered) (cat : Catalogue) (regular flattened : Under) where
 
   pub by_field : (f : Field) → (is_zero (string_bytes f.name) && entered (kind_at cat f.shape)) ≡ false → under_fields (f ∷ []) ≡ through_fields_step regular flattened (f ∷ [])
   by_field f e = if_false (is_zero (string_bytes f.name) && entered (kind_at cat f.shape)) (regular f.shape) (through_fields_step regular flattened (f ∷ [])) e
-
--- the second of two that both hold
-pub second_of : (a b : Bool) → (a && b) ≡ true → b ≡ true
-second_of true b e = e
-second_of false b e = absurd (cc)
 
 -- ---- the visits of variants, one after another
 abbrev fields_of : Variant → ℕ
@@ -143,16 +189,38 @@ shape_visits_at_most cat i s start before after e h k =
     let le = sum_by-take-le (λ (s : Shape). fields_of_kind s.kind) cat (i + 1) in
     omega (arith, more, le)
 
+-- more shapes have no fewer fields
+pub fields_mono : (cat : Catalogue) (i m : ℕ) → i ≤ m → field_count (take i cat) ≤ field_count (take m cat)
+fields_mono cat zero m h = omega arith
+fields_mono [] (suc i) m h = omega arith
+fields_mono (s ∷ cat) (suc i) zero h = absurd (omega arith)
+fields_mono (s ∷ cat) (suc i) (suc m) h =
+    let count : Shape → ℕ = λ s. fields_of_kind s.kind in
+    let rest = fields_mono cat i m (omega arith) in
+    let fewer = sum_by-cons count s (take i cat) in
+    let all = sum_by-cons count s (take m cat) in
+    omega (arith, rest, fewer, all)
+
 -- ---- an entry, by the kind of its shape
 pub both_ok : {X E : Type 0} (P Q R : X → Type 0) (r : Result X E) → ((x : X) → P x → Q x → R x) → IfOk r P → IfOk r Q → IfOk r R
 both_ok P Q R (Ok x) f p q = f x p q
 both_ok P Q R (Err e) f p q = tt
 
+pub all_ok : {X E : Type 0} (P Q R S : X → Type 0) (r : Result X E) → ((x : X) → P x → Q x → R x → S x) → IfOk r P → IfOk r Q → IfOk r R → IfOk r S
+all_ok P Q R S (Ok x) f p q r = f x p q r
+all_ok P Q R S (Err e) f p q r = tt
+
+-- what an entry is made of
+pub made_of : (earlier : Earlier) (kind : ShapeKind) (o : Option Entry) → IfSome o (IsMade earlier kind)
+    → IfSome o (λ entry. IsEntry (entered_view earlier.entered) earlier.shapes.now kind entry × EntryLeadsTo (is_filled earlier.entries.now) entry)
+made_of earlier kind None h = tt
+made_of earlier kind (Some entry) h = (h.is_entry, h.lead)
+
 module _ (entered : Entered) (cat : Catalogue) where
-  pub entry_of_other : (k : ShapeKind) (entry : Entry) → entry.under ≡ no_paths → entry.variants.items ≡ [] → ((kind : StructKind) (fs : Vec Field Global) → k ≡ Struct kind fs → ⊥) → ((vs : Vec Variant Global) → k ≡ Enum vs → ⊥) → IsEntry entered cat k entry
+  pub entry_of_other : (k : ShapeKind) (entry : Entry) → paths_by_name (under_shape entered cat) entry.under ≡ no_paths → entry.variants.items ≡ [] → ((kind : StructKind) (fs : Vec Field Global) → k ≡ Struct kind fs → ⊥) → ((vs : Vec Variant Global) → k ≡ Enum vs → ⊥) → IsEntry entered cat k entry
   entry_of_other (Struct kind fs) entry u v p q = absurd (p kind fs refl)
   entry_of_other (Enum vs) entry u v p q = absurd (q vs refl)
-  entry_of_other _ entry u v p q = record { under = u; variants = v }
+  entry_of_other _ entry u v p q = record { under = u; variants = ap (λ (fs : List FieldsByName). map (paths_by_name (under_shape entered cat)) fs) v }
 
   -- what is asked of one property is asked of another that holds where the first does
   module _ (P Q : ℕ → Type 0) (limit : ℕ) (also : (id : ℕ) → id < limit → P id → Q id) where
@@ -183,6 +251,7 @@ module _ (entered : Entered) (cat : Catalogue) (marks : List Bool) where
   no_entries = record {
     within = omega arith;
     each = λ id entry e. absurd (cc);
+    leads = λ id entry e. absurd (cc);
     marked = λ id h. absurd (omega arith);
   }
 
@@ -194,14 +263,38 @@ module _ (entered : Entered) (cat : Catalogue) (marks : List Bool) where
         (kind_at-below entered cat checked (length ts))
         (closed (length ts) marked)
 
-    module _ (o : Option Entry) (b : Bool) (some : is_some o ≡ b) (mark : slice_get marks (length ts) ≡ Some b) (right : IfSome o (IsEntry entered cat (kind_at cat (length ts)))) where
-      is_right : (p : Option Entry) (entry : Entry) → p ≡ Some entry → IfSome p (IsEntry entered cat (kind_at cat (length ts))) → IsEntry entered cat (kind_at cat (length ts)) entry
+    -- what has an entry keeps it
+    filled_also : (o : Option Entry) (t : ℕ) → is_filled ts t ≡ true → (t < length ts) × (is_filled (ts ++ o ∷ []) t ≡ true)
+    filled_also o t h = elim (cases_lt t (length ts)) [
+      | inl lt ↦ (lt, ap (λ (p : Option (Option Entry)). is_some (entry_if_any p)) (before_end ts o t lt) ∙ h)
+      | inr past ↦ absurd (let e = ap (λ (p : Option (Option Entry)). is_some (entry_if_any p)) (slice_get_past ts t past) in cc)
+    ]
+
+    abbrev IsNext : Entry → Type 0
+    IsNext entry = IsEntry entered cat (kind_at cat (length ts)) entry × EntryLeadsTo (is_filled ts) entry
+
+    module _ (o : Option Entry) (b : Bool) (some : is_some o ≡ b) (mark : slice_get marks (length ts) ≡ Some b) (right : IfSome o IsNext) where
+      is_right : (p : Option Entry) (entry : Entry) → p ≡ Some entry → IfSome p IsNext → IsNext entry
       is_right None entry e h = absurd (cc)
-      is_right (Some x) entry e h = let same : x ≡ entry = cc in subst (IsEntry entered cat (kind_at cat (length ts))) same h
+      is_right (Some x) entry e h = let same : x ≡ entry = cc in subst IsNext same h
 
       entry_right : (id : ℕ) (entry : Entry) → (slice_get ts id ≡ Some (Some entry)) ⊎ ((id ≡ length ts) × (o ≡ Some entry)) → IsEntry entered cat (kind_at cat id) entry
       entry_right id entry (inl before) = first.each id entry (ap entry_if_any before)
-      entry_right id entry (inr last) = subst (λ (i : ℕ). IsEntry entered cat (kind_at cat i) entry) (sym last.0) (is_right o entry last.1 right)
+      entry_right id entry (inr last) = subst (λ (i : ℕ). IsEntry entered cat (kind_at cat i) entry) (sym last.0) (is_right o entry last.1 right).0
+
+      abbrev EarlierThan : ℕ → ℕ → Bool
+      EarlierThan id t = nat_lt t id && is_filled (ts ++ o ∷ []) t
+
+      entry_leads : (id : ℕ) (entry : Entry) → (slice_get ts id ≡ Some (Some entry)) ⊎ ((id ≡ length ts) × (o ≡ Some entry)) → EntryLeadsTo (EarlierThan id) entry
+      entry_leads id entry (inl before) =
+          entry_leads_also (λ t. nat_lt t id && is_filled ts t) (EarlierThan id)
+          (λ t h. both_of (nat_lt t id) _ (first_of (nat_lt t id) _ h) (filled_also o t (second_of (nat_lt t id) _ h)).1)
+          entry (first.leads id entry (ap entry_if_any before))
+      entry_leads id entry (inr last) =
+          subst (λ (i : ℕ). EntryLeadsTo (EarlierThan i) entry) (sym last.0)
+          (entry_leads_also (is_filled ts) (EarlierThan (length ts))
+          (λ t h. both_of (nat_lt t (length ts)) _ (lt-ltb t (length ts) (filled_also o t h).0) (filled_also o t h).1)
+          entry (is_right o entry last.1 right).1)
 
       entry_marked : (id : ℕ) → (id < length ts) ⊎ (id ≡ length ts) → IsMarked marks id ↔ IsFilled (ts ++ o ∷ []) id
       entry_marked id (inl lt) =
@@ -219,6 +312,7 @@ module _ (entered : Entered) (cat : Catalogue) (marks : List Bool) where
       one_entry lt = record {
         within = let l = length_push ts o in omega (arith, l);
         each = λ id entry e. entry_right id entry (get_push ts o (Some entry) id (has_entry (slice_get (ts ++ o ∷ []) id) entry e));
+        leads = λ id entry e. entry_leads id entry (get_push ts o (Some entry) id (has_entry (slice_get (ts ++ o ∷ []) id) entry e));
         marked = λ id h. entry_marked id (last_or id (let l = length_push ts o in omega (arith, l, h)));
       }
         where

@@ -8,6 +8,7 @@ use Rattle.std.specs.Option.{option_map_or}
 use Rattle.facet_solver.specs.Count.{count_shape}
 use Rattle.facet_solver_shape.specs.Catalogues.{NamesEarlier}
 use Rattle.facet_solver.specs.declared.build.walker.Walker.{Walker}
+use Rattle.facet_solver.specs.Reached.{AreTables}
 
 -- what a saturating count says of a number without bound: the number, or that it is 2^64 or more
 abbrev pub CountsTo : SaturatingCount → ℕ → Type 0
@@ -34,7 +35,8 @@ pub record AreCounts (build : Build) (counts : List SaturatingCount) : Type 0 wh
   pub all : length counts ≡ length build.catalogue
   pub first : AreFirstCounts build counts
 
--- a walker's catalogue is checked, and its counts are those of its build
+-- a walker's catalogue is checked, and its counts and tables are those of its build
 pub record IsReady (walker : Walker) : Type 0 where
   pub checked : NamesEarlier walker.build.shapes.now
   pub counted : AreCounts (build_of walker.build) walker.counts
+  pub tables : AreTables (build_of walker.build) walker.tables

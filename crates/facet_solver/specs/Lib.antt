@@ -2,6 +2,7 @@ pub mod Build
 pub mod Representation
 pub mod Content
 pub mod Nested
+pub mod FieldCount
 pub mod NestedTable
 pub mod Roles
 pub mod Place
@@ -19,6 +20,7 @@ pub mod KeyPath
 pub mod State
 pub mod KeyResult
 pub mod SatisfyResult
+pub mod Reached
 pub mod Report
 pub mod QuotedNames
 pub mod ErrorTexts

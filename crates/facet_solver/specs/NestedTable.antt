@@ -1,25 +1,18 @@
 -- Tables of nested key paths by the index of the shape, and what fields ask of them. Only private
 -- contracts and proofs speak of them.
-use Rattle.std.specs.Prelude.{◌≡◌, ◌↔◌, ◌||◌, ◌≤◌, ◌<◌, ℕ, Bool, true, List, [], Option, None, Some, IsSome, All, ⊤, length, map, slice_get, sum_by}
+use Rattle.std.specs.Prelude.{◌≡◌, ◌↔◌, ◌&&◌, ◌||◌, ◌≤◌, ◌<◌, ℕ, Bool, true, List, [], Option, None, Some, IsSome, is_some, All, ⊤, length, map, nat_lt, slice_get}
+use Rattle.std.specs.FinSet as set
+use Rattle.std.specs.List.{AllByRecursion}
 use Rattle.facet_solver_shape.specs.declared.shape.Field.{Field}
 use Rattle.facet_solver_shape.specs.declared.shape.ShapeKind.{ShapeKind}
 use Rattle.facet_solver_shape.specs.declared.shape.ShapeKind.TheVariants.{Enum, Struct}
 use Rattle.facet_solver_shape.specs.declared.shape.Variant.{Variant}
 use Rattle.facet_solver_shape.specs.Catalogues.{NamesEarlier}
 use Rattle.facet_solver.specs.Build.{Catalogue, kind_at}
-use Rattle.facet_solver.specs.Nested.{Entered, entered_view, through_fields, under_kind, under_variant}
+use Rattle.facet_solver.specs.Nested.{Entered, KeyPaths, Under, entered_view, named, paths_of_each, through_fields, under_kind, under_shape, under_variant}
+use Rattle.facet_solver.specs.declared.build.nested.by_name.FieldsByName.{FieldsByName}
 use Rattle.facet_solver.specs.declared.build.nested.table.Earlier.{Earlier}
 use Rattle.facet_solver.specs.declared.build.nested.table.Entry.{Entry}
-
--- how many fields a kind of shape has, in all its variants
-abbrev pub fields_of_kind : ShapeKind → ℕ
-fields_of_kind (Struct kind fields) = length fields.items
-fields_of_kind (Enum variants) = sum_by (λ v. length v.fields.items) variants.items
-fields_of_kind _ = 0
-
--- how many fields a catalogue holds
-abbrev pub field_count : Catalogue → ℕ
-field_count cat = sum_by (λ s. fields_of_kind s.kind) cat
 
 -- the variants of an enum; another kind has none
 abbrev pub variants_of : ShapeKind → List Variant
@@ -59,6 +52,16 @@ abbrev pub IsClosed : Entered → Catalogue → List Bool → Type 0
 IsClosed entered cat marks =
     (id : ℕ) → IsMarked marks id → KindAsks (IsMarked marks) entered cat (kind_at cat id)
 
+-- the key paths that fields by name stand for, from what is under the shapes behind each name
+abbrev pub paths_by_name : Under → FieldsByName → KeyPaths
+paths_by_name under fields =
+    paths_of_each (λ e. named e.0.now (paths_of_each under e.1.items)) fields.by_name.entries
+
+-- the shapes behind the names pass a test
+abbrev pub LeadTo : (ℕ → Bool) → FieldsByName → Type 0
+LeadTo passes fields = AllByRecursion
+    (λ e. AllByRecursion (λ id. passes id ≡ true) e.1.items) fields.by_name.entries
+
 -- the entry of an index that may be past the end
 abbrev pub entry_if_any : Option (Option Entry) → Option Entry
 entry_if_any None = None
@@ -68,16 +71,26 @@ entry_if_any (Some entry) = entry
 abbrev pub entry_at : List (Option Entry) → ℕ → Option Entry
 entry_at entries id = entry_if_any (slice_get entries id)
 
+-- whether there is an entry at an index
+abbrev pub is_filled : List (Option Entry) → ℕ → Bool
+is_filled entries id = is_some (entry_at entries id)
+
 -- there is an entry at an index
 abbrev pub IsFilled : List (Option Entry) → ℕ → Type 0
 IsFilled entries id = IsSome (entry_at entries id)
 
--- an entry has the key paths under a kind of shape, and those under each of its variants
+-- an entry stands for the key paths under a kind of shape, and for those under each of its variants
 pub record IsEntry (entered : Entered) (cat : Catalogue) (kind : ShapeKind)
     (entry : Entry) : Type 0 where
-  pub under : entry.under
+  pub under : paths_by_name (under_shape entered cat) entry.under
       ≡ under_kind (through_fields entered cat) (under_variant entered cat) kind
-  pub variants : entry.variants.items ≡ map (under_variant entered cat) (variants_of kind)
+  pub variants : map (paths_by_name (under_shape entered cat)) entry.variants.items
+      ≡ map (under_variant entered cat) (variants_of kind)
+
+-- the shapes behind the names of an entry pass a test
+pub record EntryLeadsTo (passes : ℕ → Bool) (entry : Entry) : Type 0 where
+  pub under : LeadTo passes entry.under
+  pub variants : AllByRecursion (LeadTo passes) entry.variants.items
 
 -- each entry is that of the shape at its index
 abbrev pub AreEntries : Entered → Catalogue → List (Option Entry) → Type 0
@@ -85,14 +98,49 @@ AreEntries entered cat entries =
     (id : ℕ) (entry : Entry) → entry_at entries id ≡ Some entry
     → IsEntry entered cat (kind_at cat id) entry
 
+-- each entry leads to earlier entries alone
+abbrev pub LeadEarlier : List (Option Entry) → Type 0
+LeadEarlier entries = (id : ℕ) (entry : Entry) → entry_at entries id ≡ Some entry
+    → EntryLeadsTo (λ t. nat_lt t id && is_filled entries t) entry
+
+-- each entry stands for the key paths under the shape at its index
+abbrev pub StandFor : Under → List (Option Entry) → Type 0
+StandFor under entries = (id : ℕ) (entry : Entry) → entry_at entries id ≡ Some entry
+    → paths_by_name under entry.under ≡ under id
+
 -- a catalogue is checked, and the entries are those of its shapes
 pub record IsSound (earlier : Earlier) : Type 0 where
   pub checked : NamesEarlier earlier.shapes.now
   pub entries : AreEntries (entered_view earlier.entered) earlier.shapes.now earlier.entries.now
+  pub leads : LeadEarlier earlier.entries.now
+
+-- what is under a shape, as entries are made
+abbrev pub under_of : Earlier → Under
+under_of earlier = under_shape (entered_view earlier.entered) earlier.shapes.now
+
+-- fields by name that also stand for these key paths
+pub record HasMore (earlier : Earlier) (paths : KeyPaths)
+    (old new : FieldsByName) : Type 0 where
+  pub stand : paths_by_name (under_of earlier) new
+      ≡ set.union (paths_by_name (under_of earlier) old) paths
+  pub lead : LeadTo (is_filled earlier.entries.now) old
+      → LeadTo (is_filled earlier.entries.now) new
+
+-- fields by name that stand for these key paths
+pub record AreFieldsOf (earlier : Earlier) (paths : KeyPaths)
+    (fields : FieldsByName) : Type 0 where
+  pub stand : paths_by_name (under_of earlier) fields ≡ paths
+  pub lead : LeadTo (is_filled earlier.entries.now) fields
+
+-- the entry of a kind of shape, from earlier ones
+pub record IsMade (earlier : Earlier) (kind : ShapeKind) (entry : Entry) : Type 0 where
+  pub is_entry : IsEntry (entered_view earlier.entered) earlier.shapes.now kind entry
+  pub lead : EntryLeadsTo (is_filled earlier.entries.now) entry
 
 -- the entries at the first indices: the marked shapes have one, and no others
 pub record AreFirstEntries (entered : Entered) (cat : Catalogue) (marks : List Bool)
     (entries : List (Option Entry)) : Type 0 where
   pub within : length entries ≤ length cat
   pub each : AreEntries entered cat entries
+  pub leads : LeadEarlier entries
   pub marked : (id : ℕ) → id < length entries → IsMarked marks id ↔ IsFilled entries id

@@ -1,5 +1,5 @@
 //! All resolutions of a type.
-ghost use Rattle.std.specs.Prelude.{◌≡◌, ◌<◌, IfErr, IfOk, None, Some, length};
+ghost use Rattle.std.specs.Prelude.{◌≡◌, ◌*◌, ◌+◌, ◌<◌, ◌≤◌, IfErr, IfOk, None, Some, length};
 ghost use Rattle.std.specs.List.{list_any};
 ghost use Rattle.std.specs.Option.{option_copied};
 ghost use Rattle.facet_solver_shape.specs.Keys.{key_of};
@@ -8,6 +8,7 @@ ghost use Rattle.facet_solver.specs.Choice.{Enumerates, IsRefusal};
 ghost use Rattle.facet_solver.specs.Count.{IsCountOf, count_of_root};
 ghost use Rattle.facet_solver.specs.Indexed.{IsEntryIfAny};
 ghost use Rattle.facet_solver.specs.Failure.{has_field_named};
+ghost use Rattle.facet_solver.specs.FieldCount.{field_count};
 ghost use Rattle.facet_solver.specs.KeyResult.{field_at};
 ghost use Rattle.facet_solver.specs.Representation.{asked_view, externally_tagged, flattened, repr_view};
 ghost use Rattle.facet_solver.specs.Schema.{IsBuilt, IsOwnBuild, flat_build};
@@ -21,7 +22,7 @@ use crate::build::count::count_of_root;
 use crate::build::representation::{EnumRepr, Format};
 use crate::build::resolve::resolutions;
 use crate::schema::index::{Entry, Index, holds};
-use facet_solver_shape::{FieldKey, Resolution, SchemaError, ShapeId, Shapes};
+use facet_solver_shape::{FieldKey, Resolution, SchemaError, ShapeId, Shapes, Steps};
 use std::alloc::{AllocError, Global};
 use std::marker::Model;
 
@@ -119,13 +120,14 @@ impl<'c> Schema<'c> {
         ensures refused { IfErr result
             (IsRefusal (flat_build shapes.now (Some (repr_view representation.entry))) root) }
     {
-        let build = Build {
+        Schema::build_counted(
             alloc,
             shapes,
-            representation: Some(representation),
-            format: Format::Flat,
-        };
-        Schema::of_build(build, root)
+            root,
+            Some(representation),
+            Format::Flat,
+            &mut Steps::new(),
+        )
     }
 
     /// The schema of a root, with the representation of each flattened enum that its own attributes ask for.
@@ -173,13 +175,36 @@ impl<'c> Schema<'c> {
         ensures built { IfOk result (IsBuilt (build_with shapes.now None format) root) }
         ensures refused { IfErr result (IsRefusal (build_with shapes.now None format) root) }
     {
+        Schema::build_counted(alloc, shapes, root, None, format, &mut Steps::new())
+    }
+
+    /// The schema of a root for documents of a format, with one representation for all flattened enums, or else that which
+    /// each enum's own attributes ask for.
+    ///
+    /// Nested key paths visit each field of the catalogue at most twice, by the visits of `steps`, also where the build
+    /// is refused. It is refused where two fields of one choice have one key, and where memory is refused.
+    pub fn build_counted(
+        alloc: Global,
+        shapes: &'c Shapes,
+        root: ShapeId,
+        representation: Option<EnumRepr<'c>>,
+        format: Format,
+        steps: &mut Steps,
+    ) -> Result<Schema<'c>, SchemaError<'c>>
+        requires { root < length shapes.now }
+        ensures built { IfOk result
+            (IsBuilt (build_with shapes.now (asked_view representation.entry) format) root) }
+        ensures refused { IfErr result
+            (IsRefusal (build_with shapes.now (asked_view representation.entry) format) root) }
+        ensures visits { steps.new.visits ≤ steps.old.visits + 2 * field_count shapes.now }
+    {
         let build = Build {
             alloc,
             shapes,
-            representation: None,
+            representation,
             format,
         };
-        Schema::of_build(build, root)
+        Schema::of_build(build, root, steps)
     }
 
     /// The number of resolutions that a schema of the root has, without building one: None from 2^64 on.
@@ -195,22 +220,47 @@ impl<'c> Schema<'c> {
         requires { root < length shapes.now }
         ensures { IfOk result (IsCountOf shapes.now root (asked_view representation.entry)) }
     {
+        Schema::resolution_count_counted(alloc, shapes, root, representation, &mut Steps::new())
+    }
+
+    /// The number of resolutions that a schema of the root has, without building one: None from 2^64 on.
+    ///
+    /// Each field of the catalogue is visited at most once, by the visits of `steps`, also where memory is refused, which is
+    /// the only error.
+    pub fn resolution_count_counted(
+        alloc: Global,
+        shapes: &Shapes,
+        root: ShapeId,
+        representation: Option<EnumRepr>,
+        steps: &mut Steps,
+    ) -> Result<Option<u64>, AllocError>
+        requires { root < length shapes.now }
+        ensures number { IfOk result
+            (IsCountOf shapes.now root (asked_view representation.entry)) }
+        ensures visits { steps.new.visits ≤ steps.old.visits + field_count shapes.now }
+    {
         let build = Build {
             alloc,
             shapes,
             representation,
             format: Format::Flat,
         };
-        count_of_root(build, root)
+        count_of_root(build, root, steps)
     }
 
     // The schema of a root, by what a build goes by.
-    pub(crate) fn of_build(build: Build<'c>, root: ShapeId) -> Result<Schema<'c>, SchemaError<'c>>
+    fn of_build(
+        build: Build<'c>,
+        root: ShapeId,
+        steps: &mut Steps,
+    ) -> Result<Schema<'c>, SchemaError<'c>>
         requires { root < length build.shapes.now }
         ensures built { IfOk result (IsBuilt (build_of build.entry) root) }
         ensures refused { IfErr result (IsRefusal (build_of build.entry) root) }
+        ensures visits { steps.new.visits
+            ≤ steps.old.visits + 2 * field_count build.entry.shapes.now }
     {
-        let made = resolutions(build, root)?;
+        let made = resolutions(build, root, steps)?;
         Schema::indexed(build, root, made)
     }
 

@@ -231,6 +231,41 @@ fn bytes_and_lists_are_read_up_to_a_limit(rt: HostRuntime) -> Result<(), Fail> {
     expect_answer(&rt, alloc, &bytes, (4, "bad input"))
 }
 
+/// An input whose root flattens enums of two variants, each with a field of its own.
+fn input_of_enums(alloc: Global, count: u8, document: &str) -> Result<String, AllocError> {
+    let mut shapes = String::from_str(alloc, r#"{"id":"u8","kind":"scalar","scalar":"u8"}"#)?;
+    let mut fields = String::new(alloc);
+    let mut comma = "";
+    for index in 0..usize::from(count) {
+        let shape = index + 1;
+        shapes.push_str(&format!(in alloc; r#",{{"id":"E{index}","kind":"enum","variants":[{{"name":"A{index}","fields":[{{"name":"a{index}","shape":0}}]}},{{"name":"B{index}","fields":[{{"name":"b{index}","shape":0}}]}}]}}"#)?)?;
+        fields.push_str(&format!(in alloc; r#"{comma}{{"name":"e{index}","shape":{shape},"flatten":true}}"#)?)?;
+        comma = ",";
+    }
+    let root = usize::from(count) + 1;
+    format!(in alloc; r#"{{"shapes":[{shapes},{{"id":"S","kind":"struct","fields":[{fields}]}}],"root":{root},"document":{document}}}"#)
+}
+
+#[test]
+fn enums_are_resolved_up_to_a_limit(rt: HostRuntime) -> Result<(), Fail> {
+    let alloc = rt.alloc();
+    let rows = [
+        (
+            12,
+            r#"{"a0":0,"a1":0,"a2":0,"a3":0,"a4":0,"a5":0,"a6":0,"a7":0,"a8":0,"a9":0,"a10":0,"a11":0}"#,
+            0,
+            "resolved 0: E0::A0 + E1::A1 + E2::A2 + E3::A3 + E4::A4 + E5::A5 + E6::A6 + E7::A7 + E8::A8 + E9::A9 + E10::A10 + E11::A11",
+        ),
+        (13, "{}", 2, "too many resolutions"),
+        (64, "{}", 2, "too many resolutions"),
+    ];
+    for (count, document, status, text) in rows {
+        let input = input_of_enums(alloc, count, document)?;
+        expect_answer(&rt, alloc, input.as_bytes(), (status, text))?;
+    }
+    Ok(())
+}
+
 /// Gives its bytes for some reads, and then fails.
 #[derive(Drop)]
 struct FailingInput<'b> {

@@ -3,8 +3,8 @@
 use crate::line::{Stop, add, number, word};
 use crate::types::place_of;
 use facet_solver::{
-    EnumRepr, Field, Format, Schema, SchemaError, Shape, ShapeId, ShapeKind, Shapes, Variant,
-    VariantFormat, VariantsByFormat, specificity_score,
+    EnumRepr, Field, Format, Schema, SchemaError, Shape, ShapeId, ShapeKind, Shapes, Steps,
+    Variant, VariantFormat, VariantsByFormat, specificity_score,
 };
 use std::alloc::{AllocError, Global};
 use std::str::SplitWhitespace;
@@ -93,6 +93,17 @@ impl<'c, 't> Catalogue<'c, 't> {
             Some("with") => {
                 let repr = repr(words)?;
                 Ok(Schema::build_with_repr(self.alloc, self.shapes, root, repr))
+            }
+            Some("counted") => {
+                let repr = Some(repr(words)?);
+                Ok(Schema::build_counted(
+                    self.alloc,
+                    self.shapes,
+                    root,
+                    repr,
+                    Format::Flat,
+                    &mut Steps::new(),
+                ))
             }
             Some(_) => Err(Stop::Unread),
         }

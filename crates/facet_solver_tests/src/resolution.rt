@@ -47,6 +47,7 @@ pub fn of_resolution<'t>(
         "keys" => Ok(keys(alloc, resolution)?),
         "required" => Ok(required(alloc, resolution)?),
         "paths" => Ok(paths(alloc, resolution)?),
+        "path_count" => Ok(format!(in alloc; "{}", resolution.known_paths().len())?),
         "has_path" => has_path(alloc, resolution, words),
         "picks" => Ok(picks(alloc, resolution)?),
         "field" => {

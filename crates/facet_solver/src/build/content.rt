@@ -1,5 +1,5 @@
 //! The content of a variant.
-ghost use Rattle.std.specs.Prelude.{◌≡◌, slice_get, MatchOption};
+ghost use Rattle.std.specs.Prelude.{◌≡◌, ◌∷◌, [], slice_get, MatchOption};
 ghost use Rattle.std.specs.Option.{option_copied, option_map};
 ghost use Rattle.facet_solver_shape.specs.Catalogues.{NamesEarlier};
 ghost use Rattle.facet_solver.specs.Content as content;
@@ -28,9 +28,18 @@ pub(crate) fn newtype_struct(shapes: &Shapes, fields: &[Field]) -> Option<ShapeI
     ensures { let found = content.newtype_fields shapes.now fields.now in
         MatchOption result (found ≡ None) (IsNewtypeOf shapes.now fields.now) }
 {
-    let [field] = fields else {
-        return None;
-    };
+    match fields {
+        [field] => newtype_of(shapes, field),
+        _ => None,
+    }
+}
+
+/// The struct behind a field that is a variant's only one, if it is named `0`.
+pub(crate) fn newtype_of(shapes: &Shapes, field: &Field) -> Option<ShapeId>
+    requires { NamesEarlier shapes.now }
+    ensures { let found = content.newtype_fields shapes.now (field.now ∷ []) in
+        MatchOption result (found ≡ None) (IsNewtypeOf shapes.now (field.now ∷ [])) }
+{
     if field.name.as_str() != "0" {
         return None;
     }

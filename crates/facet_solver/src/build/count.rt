@@ -1,18 +1,19 @@
 //! The number of choices of variants, from a table by index.
-ghost use Rattle.std.specs.Prelude.{◌≡◌, ◌<◌, length, IfOk};
+ghost use Rattle.std.specs.Prelude.{◌≡◌, ◌+◌, ◌<◌, ◌≤◌, length, take, IfOk};
 ghost use Rattle.facet_solver_shape.specs.Catalogues.{NamesEarlier, FieldsBelow};
 ghost use Rattle.facet_solver.specs.Count as count;
 ghost use Rattle.facet_solver.specs.Count.{below_2_64};
-ghost use Rattle.facet_solver.specs.Counts.{CountsTo, AreCounts};
+ghost use Rattle.facet_solver.specs.Counts.{AreCounts, AreFirstCounts, CountsTo};
 ghost use Rattle.facet_solver.specs.Build.{build_of};
+ghost use Rattle.facet_solver.specs.FieldCount.{field_count};
 
 pub(crate) mod saturating;
 pub(crate) mod table;
 
 use crate::build::Build;
 use crate::build::count::saturating::SaturatingCount;
-use crate::build::count::table::{count_fields, count_shape, count_variants};
-use facet_solver_shape::{Field, ShapeId, ShapeKind};
+use crate::build::count::table::{count_fields, count_shape};
+use facet_solver_shape::{Field, ShapeId, Steps};
 use std::alloc::AllocError;
 use std::marker::Model;
 
@@ -32,14 +33,28 @@ impl Model for Counts {
 }
 
 impl Counts {
-    /// Counts each shape once, in order: a shape names earlier ones alone.
+    /// Counts all shapes.
     pub(crate) fn new(build: Build) -> Result<Counts, AllocError>
         ensures checked { IfOk result (λ _. NamesEarlier build.entry.shapes.now) }
         ensures counted { IfOk result (AreCounts (build_of build.entry)) }
     {
+        Counts::before(build, build.shapes.len(), &mut Steps::new())
+    }
+
+    /// Counts the shapes before an index, each once and in order: a shape names earlier ones alone.
+    fn before(build: Build, limit: usize, steps: &mut Steps) -> Result<Counts, AllocError>
+        requires within { limit ≤ length build.shapes.now }
+        requires checked { NamesEarlier build.shapes.now }
+        ensures all { IfOk result (λ counts. length counts ≡ limit) }
+        ensures counted { IfOk result (AreFirstCounts (build_of build.entry)) }
+        ensures visits { steps.new.visits
+            ≤ steps.old.visits + field_count (take limit build.entry.shapes.now) }
+    {
         let mut by_index = Vec::new(build.alloc);
-        while let Some(shape) = build.shapes.get(ShapeId::new(by_index.len())) {
-            by_index.push(count_shape(build, by_index.as_slice(), shape))?;
+        while by_index.len() < limit {
+            let shape = build.shape(ShapeId::new(by_index.len()));
+            let walked = build.walks_content(shape);
+            by_index.push(count_shape(build, by_index.as_slice(), shape, walked, steps))?;
         }
         Ok(Counts { by_index })
     }
@@ -51,35 +66,25 @@ impl Counts {
         requires below { FieldsBelow (length build.shapes.now) fields.now }
         ensures { CountsTo result (count.count_fields (build_of build.entry) fields.now) }
     {
-        count_fields(build, self.by_index.as_slice(), fields)
-    }
-
-    /// The choices of a root: an enum's are those of its variants' contents, whatever its representation.
-    pub(crate) fn of_root(&self, build: Build, root: ShapeId) -> SaturatingCount
-        requires counted { AreCounts (build_of build) self.now }
-        ensures { CountsTo result (count.count_of_root (build_of build.entry) root) }
-    {
-        let Some(shape) = build.shapes.get(root) else {
-            return SaturatingCount::Exact(0);
-        };
-        let counts = self.by_index.as_slice();
-        match &shape.kind {
-            ShapeKind::Enum { variants } => count_variants(
-                build,
-                counts,
-                variants.as_slice(),
-                true,
-            ),
-            _ => counts[root.index()],
-        }
+        count_fields(build, self.by_index.as_slice(), fields, &mut Steps::new())
     }
 }
 
-/// The number of choices of a root where it is below 2^64.
-pub(crate) fn count_of_root(build: Build, root: ShapeId) -> Result<Option<u64>, AllocError>
-    ensures { IfOk result
+/// The number of choices of a root where it is below 2^64. An enum's are those of its variants' contents, whatever its
+/// representation.
+pub(crate) fn count_of_root(
+    build: Build,
+    root: ShapeId,
+    steps: &mut Steps,
+) -> Result<Option<u64>, AllocError>
+    requires { root < length build.shapes.now }
+    ensures number { IfOk result
         (λ number. number ≡ below_2_64 (count.count_of_root (build_of build.entry) root)) }
+    ensures visits { steps.new.visits
+        ≤ steps.old.visits + field_count build.entry.shapes.now }
 {
-    let counts = Counts::new(build)?;
-    Ok(counts.of_root(build, root).exact())
+    let shape = build.shape(root);
+    let counts = Counts::before(build, root.index(), steps)?;
+    let number = count_shape(build, counts.by_index.as_slice(), shape, true, steps);
+    Ok(number.exact())
 }

@@ -7,9 +7,10 @@ ghost use Rattle.facet_solver.specs.Outcome.{take_in, take_all, Gives};
 ghost use Rattle.facet_solver.specs.Build.{build_of};
 ghost use Rattle.facet_solver.specs.Roles.{role_view, IsPlain};
 ghost use Rattle.facet_solver.specs.Counts.{IsReady};
+ghost use Rattle.facet_solver.specs.NestedTable.{IsFilled};
+ghost use Rattle.facet_solver.specs.Reached.{IsChosen, ServesApart, ServesPlain, ServesRegular};
 
 use crate::build::field::{catch_all_field, leaf_field, regular_field, selector_field};
-use crate::build::nested::{add_content_paths, add_nested_paths};
 use crate::build::place::{Chosen, Place};
 use crate::build::representation::EnumRepr;
 use crate::build::role::{Role, Target};
@@ -51,18 +52,17 @@ fn emit_regular<'c>(
     resolution: &mut Resolution<'c>,
 ) -> Result<(), SchemaError<'c>>
     requires ready { IsReady walker.now }
+    requires serves { ServesRegular
+        walker.now.tables walker.now.build.shapes.now field.now.shape }
     ensures { let emitted =
         emissions.emit_regular (build_of walker.now.build) field.now place.now in
         Gives (take_all resolution.old emitted) result resolution.new }
 {
     let info = regular_field(walker.build, field, place)?;
     add_with_path(walker, info, resolution)?;
-    add_nested_paths(
-        walker.build,
-        field.effective_name(),
-        field.shape,
-        resolution,
-    )?;
+    walker
+        .tables
+        .add_nested_paths(walker.build, field, resolution)?;
     Ok(())
 }
 
@@ -111,6 +111,8 @@ pub(crate) fn emit_plain<'c>(
 ) -> Result<(), SchemaError<'c>>
     requires ready { IsReady walker.now }
     requires plain { IsPlain (role_view role.now) }
+    requires serves { ServesPlain
+        walker.now.tables walker.now.build.shapes.now field.now.shape (role_view role.now) }
     ensures { let emitted =
         emissions.emit_plain (build_of walker.now.build) field.now place.now (role_view role.now) in
         Gives (take_all resolution.old emitted) result resolution.new }
@@ -155,20 +157,25 @@ fn add_selector<'c>(
     add_with_path(walker, info, resolution)
 }
 
-/// Adds the key path of the name that holds a variant's content, and those under the content.
+/// Adds the key path of the name that holds a chosen variant's content, and those under the content.
 fn add_content<'c>(
     walker: &Walker<'c>,
     name: &'c str,
-    variant: &'c Variant,
+    chosen: &Chosen<'c>,
     resolution: &mut Resolution<'c>,
 ) -> Result<(), AllocError>
     requires ready { IsReady walker.now }
+    requires chosen { IsChosen walker.now.build.shapes.now chosen.now }
+    requires filled { IsFilled
+        walker.now.tables.contents.by_index.items chosen.now.target.shape }
     ensures ok { let paths =
-        named name.now (content_paths walker.now.build.shapes.now variant.now) in
+        named name.now (content_paths walker.now.build.shapes.now chosen.now.variant.now) in
         OnOk result (resolution.new ≡ with_key_paths resolution.old paths) }
 {
     resolution.add_key_path(key_path(walker.build.alloc, name)?)?;
-    add_content_paths(walker.build, name, variant, resolution)?;
+    walker
+        .tables
+        .add_content_paths(walker.build, name, chosen, resolution)?;
     Ok(())
 }
 
@@ -180,6 +187,9 @@ fn emit_selector<'c>(
     resolution: &mut Resolution<'c>,
 ) -> Result<(), SchemaError<'c>>
     requires ready { IsReady walker.now }
+    requires chosen { IsChosen walker.now.build.shapes.now chosen.now }
+    requires apart { ServesApart
+        walker.now.tables (build_of walker.now.build) chosen.now }
     ensures { let emitted =
         emissions.emit_selector (build_of walker.now.build) (chosen_of chosen.now) place.now in
         Gives (take_all resolution.old emitted) result resolution.new }
@@ -189,13 +199,15 @@ fn emit_selector<'c>(
         EnumRepr::Flattened => Ok(()),
         EnumRepr::ExternallyTagged => {
             add_selector(walker, &variant.name, chosen, place, resolution)?;
-            add_content_paths(walker.build, &variant.name, variant, resolution)?;
+            walker
+                .tables
+                .add_content_paths(walker.build, &variant.name, chosen, resolution)?;
             Ok(())
         }
         EnumRepr::InternallyTagged { tag } => add_selector(walker, tag, chosen, place, resolution),
         EnumRepr::AdjacentlyTagged { tag, content } => {
             add_selector(walker, tag, chosen, place, resolution)?;
-            add_content(walker, content, variant, resolution)?;
+            add_content(walker, content, chosen, resolution)?;
             Ok(())
         }
     }
@@ -209,6 +221,9 @@ pub(crate) fn emit_variant<'c>(
     resolution: &mut Resolution<'c>,
 ) -> Result<(), SchemaError<'c>>
     requires ready { IsReady walker.now }
+    requires chosen { IsChosen walker.now.build.shapes.now chosen.now }
+    requires apart { ServesApart
+        walker.now.tables (build_of walker.now.build) chosen.now }
     ensures { let emitted =
         emissions.emit_variant (build_of walker.now.build) (chosen_of chosen.now) place.now in
         Gives (take_all resolution.old emitted) result resolution.new }

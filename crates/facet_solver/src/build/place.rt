@@ -23,6 +23,8 @@ pub(crate) struct Chosen<'c> {
     pub(crate) field: &'c Field,
     pub(crate) target: Target,
     pub(crate) shape: &'c Shape,
+    /// The variant's index among those of the enum.
+    pub(crate) index: usize,
     pub(crate) variant: &'c Variant,
 }
 

@@ -1,36 +1,49 @@
 //! The resolutions of a root.
-ghost use Rattle.std.specs.Prelude.{◌≡◌, ◌<◌, ◌∷◌, [], IsSome, IfOk, IfErr, length};
+ghost use Rattle.std.specs.Prelude.{◌≡◌, ◌*◌, ◌+◌, ◌<◌, ◌≤◌, ◌∷◌, [], IsSome, IfOk, IfErr, length};
 ghost use Rattle.facet_solver_shape.specs.Catalogues.{FieldsBelow};
 ghost use Rattle.facet_solver.specs.Choice.{IsChoice, IsResolution, Enumerates, IsRefusal};
 ghost use Rattle.facet_solver.specs.Count.{count_of_root};
+ghost use Rattle.facet_solver.specs.FieldCount.{field_count};
 ghost use Rattle.facet_solver.specs.Outcome.{Walks, effect};
 ghost use Rattle.facet_solver.specs.Build.{build_of};
 ghost use Rattle.facet_solver.specs.Walk as walk;
 ghost use Rattle.facet_solver.specs.Counts.{IsReady};
+ghost use Rattle.facet_solver.specs.Reached.{ServesRoot, ServesVariant};
 
 use crate::build::Build;
 use crate::build::choices::choices_of_root;
 use crate::build::count::Counts;
 use crate::build::emit::add_pick;
+use crate::build::nested::tables::NestedTables;
 use crate::build::place::Place;
 use crate::build::walk::{next_variant, walk_content, walk_fields};
 use crate::build::walker::Walker;
-use facet_solver_shape::{FieldPath, Resolution, SchemaError, Shape, ShapeId, ShapeKind, Variant};
+use facet_solver_shape::{
+    FieldPath, Resolution, SchemaError, Shape, ShapeId, ShapeKind, Steps, Variant,
+};
 
 /// Exactly one resolution for each choice of variants of the root, in lexicographic order of the choices. Where two
 /// fields of one choice have one stored key, there is none: the error names them, the one emitted first first.
 pub(crate) fn resolutions<'c>(
     build: Build<'c>,
     root: ShapeId,
+    steps: &mut Steps,
 ) -> Result<Vec<Resolution<'c>>, SchemaError<'c>>
     requires { root < length build.shapes.now }
     ensures built { IfOk result (λ v. Enumerates (build_of build.entry) root v.items) }
     ensures counted { IfOk result
         (λ v. length v.items ≡ count_of_root (build_of build.entry) root) }
     ensures refused { IfErr result (IsRefusal (build_of build.entry) root) }
+    ensures visits { steps.new.visits
+        ≤ steps.old.visits + 2 * field_count build.entry.shapes.now }
 {
     let counts = Counts::new(build)?;
-    let walker = Walker { build, counts };
+    let tables = NestedTables::new(build, root, steps)?;
+    let walker = Walker {
+        build,
+        counts,
+        tables,
+    };
     let choices = choices_of_root(&walker, root)?;
     let mut resolutions = Vec::new(build.alloc);
     for choice in &choices {
@@ -48,6 +61,7 @@ fn resolve<'c>(
 ) -> Result<Resolution<'c>, SchemaError<'c>>
     requires ready { IsReady walker.now }
     requires has { root < length walker.now.build.shapes.now }
+    requires serves { ServesRoot (build_of walker.now.build) walker.now.tables root }
     requires choice { IsChoice (build_of walker.now.build) root choice.now }
     ensures resolved { IfOk result (IsResolution (build_of walker.now.build) root choice.now) }
     ensures refused { IfErr result (IsRefusal (build_of walker.now.build) root) }
@@ -66,6 +80,7 @@ fn walk_root<'c, 'n>(
 ) -> Result<&'n [usize], SchemaError<'c>>
     requires ready { IsReady walker.now }
     requires has { root < length walker.now.build.shapes.now }
+    requires serves { ServesRoot (build_of walker.now.build) walker.now.tables root }
     requires walked { IsSome (walk.walk_root (build_of walker.now.build) root indices.now) }
     ensures { let walked = walk.walk_root (build_of walker.now.build) root indices.now in
         Walks (effect resolution.old walked) result resolution.new }
@@ -94,6 +109,8 @@ fn walk_root_variant<'c, 'n>(
 ) -> Result<&'n [usize], SchemaError<'c>>
     requires ready { IsReady walker.now }
     requires below { FieldsBelow (length walker.now.build.shapes.now) variant.now.fields.items }
+    requires serves { ServesVariant
+        (build_of walker.now.build) walker.now.tables variant.now }
     requires walked { IsSome
         (walk.walk_root_variant (build_of walker.now.build) shape.now variant.now indices.now) }
     ensures { let walked =

@@ -6,6 +6,7 @@ ghost use Rattle.facet_solver.specs.Build.{build_of};
 ghost use Rattle.facet_solver.specs.Place.{chosen_of};
 ghost use Rattle.facet_solver.specs.Walk as walk;
 ghost use Rattle.facet_solver.specs.Counts.{IsReady};
+ghost use Rattle.facet_solver.specs.Reached.{IsChosen, ServesEnum, ServesField, ServesFields, ServesVariant};
 
 use crate::build::content::newtype_fields;
 use crate::build::emit::{emit_plain, emit_variant};
@@ -37,6 +38,7 @@ pub(crate) fn walk_fields<'c, 'n>(
 ) -> Result<&'n [usize], SchemaError<'c>>
     requires ready { IsReady walker.now }
     requires below { FieldsBelow (length walker.now.build.shapes.now) fields.now }
+    requires serves { ServesFields (build_of walker.now.build) walker.now.tables fields.now }
     requires walked { IsSome
         (walk.walk_fields (build_of walker.now.build) fields.now place.now indices.now) }
     ensures { let walked =
@@ -61,6 +63,7 @@ fn walk_field<'c, 'n>(
 ) -> Result<&'n [usize], SchemaError<'c>>
     requires ready { IsReady walker.now }
     requires below { field.now.shape < length walker.now.build.shapes.now }
+    requires serves { ServesField (build_of walker.now.build) walker.now.tables field.now }
     requires walked { IsSome
         (walk.walk_field (build_of walker.now.build) field.now place.now indices.now) }
     ensures { let walked =
@@ -79,6 +82,7 @@ fn walk_field<'c, 'n>(
                 field,
                 target,
                 shape,
+                index: indices[0],
                 variant,
             };
             walk_variant(walker, &chosen, place, rest, resolution)
@@ -102,6 +106,9 @@ fn walk_variant<'c, 'n>(
     requires ready { IsReady walker.now }
     requires below { FieldsBelow
         (length walker.now.build.shapes.now) chosen.now.variant.now.fields.items }
+    requires chosen { IsChosen walker.now.build.shapes.now chosen.now }
+    requires serves { ServesEnum
+        (build_of walker.now.build) walker.now.tables chosen.now.target.shape }
     requires walked { IsSome
         (walk.walk_variant (build_of walker.now.build)
         (chosen_of chosen.now) place.now indices.now) }
@@ -130,6 +137,8 @@ pub(crate) fn walk_content<'c, 'n>(
 ) -> Result<&'n [usize], SchemaError<'c>>
     requires ready { IsReady walker.now }
     requires below { FieldsBelow (length walker.now.build.shapes.now) variant.now.fields.items }
+    requires serves { ServesVariant
+        (build_of walker.now.build) walker.now.tables variant.now }
     requires walked { IsSome
         (walk.walk_content (build_of walker.now.build) variant.now place.now indices.now) }
     ensures { let walked =

@@ -1,6 +1,7 @@
 //! What the functions of one build's choices and walks share.
 use crate::build::Build;
 use crate::build::count::Counts;
+use crate::build::nested::tables::NestedTables;
 
 /// What the functions of one build's choices and walks share, so that none of them takes each part by itself.
 #[derive(Drop)]
@@ -8,4 +9,6 @@ pub(crate) struct Walker<'c> {
     pub(crate) build: Build<'c>,
     /// The number of choices at each shape.
     pub(crate) counts: Counts,
+    /// The nested key paths that the walks ask for.
+    pub(crate) tables: NestedTables<'c>,
 }

@@ -1,15 +1,17 @@
 //! The number of choices at an index of the catalogue, from those at the indices before it.
-ghost use Rattle.std.specs.Prelude.{◌≡◌, ◌<◌, length};
+ghost use Rattle.std.specs.Prelude.{◌≡◌, ◌+◌, ◌<◌, ◌≤◌, length, sum_by};
 ghost use Rattle.facet_solver_shape.specs.Catalogues.{NamesEarlier, FieldsBelow, VariantsBelow, KindBelow};
 ghost use Rattle.facet_solver.specs.Count as count;
 ghost use Rattle.facet_solver.specs.Counts.{CountsTo, AreFirstCounts};
 ghost use Rattle.facet_solver.specs.Build.{build_of};
+ghost use Rattle.facet_solver.specs.FieldCount.{fields_of_kind};
 
 use crate::build::Build;
-use crate::build::content::newtype_struct;
+use crate::build::content::newtype_of;
 use crate::build::count::saturating::SaturatingCount;
 use crate::build::role::{Role, role_of};
-use facet_solver_shape::{Field, Shape, ShapeKind, Variant};
+use crate::build::visit::visited;
+use facet_solver_shape::{Field, Shape, ShapeKind, Steps, Variant};
 
 /// The choices at one field.
 pub(crate) fn count_field(
@@ -33,52 +35,67 @@ pub(crate) fn count_fields(
     build: Build,
     counts: &[SaturatingCount],
     fields: &[Field],
+    steps: &mut Steps,
 ) -> SaturatingCount
     requires checked { NamesEarlier build.shapes.now }
     requires counted { AreFirstCounts (build_of build) counts.now }
     requires below { FieldsBelow (length counts.now) fields.now }
-    ensures { CountsTo result (count.count_fields (build_of build.entry) fields.now) }
+    ensures product { CountsTo result (count.count_fields (build_of build.entry) fields.now) }
+    ensures visits { steps.new.visits ≤ steps.old.visits + length fields.now }
 {
     let mut product = SaturatingCount::Exact(1);
-    for field in fields {
+    for index in 0..fields.len() {
+        let field = visited(fields, index, steps);
         product = product.times(count_field(build, counts, field));
     }
     product
 }
 
 /// The choices below the content of a variant.
-pub(crate) fn count_content(
+fn count_content(
     build: Build,
     counts: &[SaturatingCount],
     variant: &Variant,
+    steps: &mut Steps,
 ) -> SaturatingCount
     requires checked { NamesEarlier build.shapes.now }
     requires counted { AreFirstCounts (build_of build) counts.now }
     requires below { FieldsBelow (length counts.now) variant.now.fields.items }
-    ensures { CountsTo result (count.count_content (build_of build.entry) variant.now) }
+    ensures content { CountsTo result
+        (count.count_content (build_of build.entry) variant.now) }
+    ensures visits { steps.new.visits ≤ steps.old.visits + length variant.now.fields.items }
 {
-    match newtype_struct(build.shapes, variant.fields.as_slice()) {
+    let fields = variant.fields.as_slice();
+    if fields.len() != 1 {
+        return count_fields(build, counts, fields, steps);
+    }
+    let field = visited(fields, 0, steps);
+    match newtype_of(build.shapes, field) {
         Some(id) => counts[id.index()],
-        None => count_fields(build, counts, variant.fields.as_slice()),
+        None => count_field(build, counts, field),
     }
 }
 
 /// The choices among variants: the sum. A variant whose content isn't walked is one choice.
-pub(crate) fn count_variants(
+fn count_variants(
     build: Build,
     counts: &[SaturatingCount],
     variants: &[Variant],
     walked: bool,
+    steps: &mut Steps,
 ) -> SaturatingCount
     requires checked { NamesEarlier build.shapes.now }
     requires counted { AreFirstCounts (build_of build) counts.now }
     requires below { VariantsBelow (length counts.now) variants.now }
-    ensures { CountsTo result (count.count_variants (build_of build.entry) walked variants.now) }
+    ensures sum { CountsTo result
+        (count.count_variants (build_of build.entry) walked variants.now) }
+    ensures visits { steps.new.visits
+        ≤ steps.old.visits + sum_by (λ v. length v.fields.items) variants.now }
 {
     let mut sum = SaturatingCount::Exact(0);
     for variant in variants {
         let choices = if walked {
-            count_content(build, counts, variant)
+            count_content(build, counts, variant, steps)
         } else {
             SaturatingCount::Exact(1)
         };
@@ -87,25 +104,26 @@ pub(crate) fn count_variants(
     sum
 }
 
-/// The choices at a flattened field whose target is a shape.
+/// The choices at a shape, the contents of whose variants are walked or not.
 pub(crate) fn count_shape(
     build: Build,
     counts: &[SaturatingCount],
     shape: &Shape,
+    walked: bool,
+    steps: &mut Steps,
 ) -> SaturatingCount
     requires checked { NamesEarlier build.shapes.now }
     requires counted { AreFirstCounts (build_of build) counts.now }
     requires below { KindBelow (length counts.now) shape.now.kind }
-    ensures { CountsTo result (count.count_shape (build_of build.entry) shape.now) }
+    ensures shape { CountsTo result
+        (count.count_kind (build_of build.entry) walked shape.now.kind) }
+    ensures visits { steps.new.visits ≤ steps.old.visits + fields_of_kind shape.now.kind }
 {
     match &shape.kind {
-        ShapeKind::Struct { fields, .. } => count_fields(build, counts, fields.as_slice()),
-        ShapeKind::Enum { variants } => count_variants(
-            build,
-            counts,
-            variants.as_slice(),
-            build.repr_for(shape).walks_content(),
-        ),
+        ShapeKind::Struct { fields, .. } => count_fields(build, counts, fields.as_slice(), steps),
+        ShapeKind::Enum { variants } => {
+            count_variants(build, counts, variants.as_slice(), walked, steps)
+        }
         _ => SaturatingCount::Exact(1),
     }
 }

@@ -1,94 +1,97 @@
-//! Key paths, each once.
-ghost use Rattle.std.specs.Prelude.{◌≡◌, ◌++◌, IfOk, OnOk};
-ghost use Rattle.std.specs.FinSet as set;
+//! The key paths that fields by name stand for, from the entries of a table.
+ghost use Rattle.std.specs.Prelude.{◌≡◌, ◌++◌, ◌∷◌, [], ◌&&◌, ◌≤◌, ℕ, IfOk, OnOk, nat_lt, true};
+ghost use Rattle.std.specs.List.{AllByRecursion};
 ghost use Rattle.facet_solver_shape.specs.Names.{names_of};
-ghost use Rattle.facet_solver.specs.Nested.{behind_prefix, no_paths, with_paths_behind};
+ghost use Rattle.facet_solver.specs.Nested.{Under, paths_of_each, with_paths_behind};
+ghost use Rattle.facet_solver.specs.NestedTable.{is_filled, LeadEarlier, LeadTo, StandFor, paths_by_name};
 
-use facet_solver_shape::{KeyPath, Resolution};
+use crate::build::nested::by_name::FieldsByName;
+use crate::build::nested::table::NestedTable;
+use facet_solver_shape::{KeyPath, Resolution, ShapeId};
 use std::alloc::{AllocError, Global};
-use std::collections::BTreeSet;
-use std::marker::Model;
 
-/// Key paths, each once.
-#[derive(Drop)]
-pub(crate) struct KeyPaths<'c> {
-    paths: BTreeSet<KeyPath<'c>>,
-}
-
-impl<'c> Model for KeyPaths<'c> {
-    ghost use Rattle.facet_solver_shape.specs.Resolved.{key_paths_view};
-    ghost use Rattle.facet_solver_shape.specs.ResolvedCode.{key_path_set_code};
-    ghost use Rattle.facet_solver.specs.Nested as nested;
-
-    ghost Value = { nested.KeyPaths };
-
-    ghost coded = { key_path_set_code };
-
-    ghost view = { λ s. key_paths_view s.paths.keys };
-}
-
-impl<'c> KeyPaths<'c> {
-    /// No key path.
-    pub(crate) fn new(alloc: Global) -> Self
-        ensures { result ≡ no_paths }
-    {
-        KeyPaths {
-            paths: BTreeSet::new(alloc),
-        }
-    }
-
-    /// Adds a key path.
-    pub(crate) fn insert(&mut self, path: KeyPath<'c>) -> Result<(), AllocError>
-        ensures { OnOk result (self.new ≡ set.insert self.old (names_of path.entry.items)) }
-    {
-        self.paths.insert(path)?;
-        Ok(())
-    }
-
-    /// Adds other key paths, each behind a prefix. After an error some of them may have been added.
-    pub(crate) fn add_behind(
-        &mut self,
-        alloc: Global,
-        prefix: &[&'c str],
-        others: &KeyPaths<'c>,
-    ) -> Result<(), AllocError>
-        ensures { OnOk result
-            (self.new ≡ set.union self.old (behind_prefix (names_of prefix.now) others.now)) }
-    {
-        for path in &others.paths {
-            self.insert(joined(alloc, prefix, path)?)?;
-        }
-        Ok(())
-    }
-
-    /// Adds the key paths to a resolution, each behind a prefix. After an error some of them may have been added.
-    pub(crate) fn add_to(
+impl<'c> NestedTable<'c> {
+    /// Adds the key paths that fields stand for, each behind a prefix. After an error some of them may have been added.
+    #[cycle(paths)]
+    pub(crate) fn add_paths(
         &self,
         alloc: Global,
         prefix: &[&'c str],
+        fields: &FieldsByName<'c>,
         resolution: &mut Resolution<'c>,
     ) -> Result<(), AllocError>
-        ensures { OnOk result
-            (resolution.new ≡ with_paths_behind resolution.old (names_of prefix.now) self.now) }
+        requires earlier { LeadEarlier self.now.by_index.items }
+        requires filled { LeadTo (is_filled self.now.by_index.items) fields.now }
+        ensures { OnOk result ((under : Under) → StandFor under self.now.by_index.items
+            → resolution.new ≡ with_paths_behind resolution.old (names_of prefix.now)
+            (paths_by_name under fields.now)) }
     {
-        for path in &self.paths {
-            resolution.add_key_path(joined(alloc, prefix, path)?)?;
+        for (name, shapes) in &fields.by_name {
+            let path = joined(alloc, prefix, name)?;
+            resolution.add_key_path(Vec::from_slice(alloc, &path)?)?;
+            self.add_paths_under(alloc, &path, shapes, resolution)?;
         }
         Ok(())
     }
+
+    /// Adds the key paths under shapes. Those of several shapes are taken together first, so that each key path is made
+    /// once.
+    #[cycle(paths)]
+    fn add_paths_under(
+        &self,
+        alloc: Global,
+        prefix: &[&'c str],
+        shapes: &[ShapeId],
+        resolution: &mut Resolution<'c>,
+    ) -> Result<(), AllocError>
+        requires earlier { LeadEarlier self.now.by_index.items }
+        requires filled { AllByRecursion (λ id. is_filled self.now.by_index.items id ≡ true)
+            shapes.now }
+        ensures { OnOk result ((under : Under) → StandFor under self.now.by_index.items
+            → resolution.new ≡ with_paths_behind resolution.old (names_of prefix.now)
+            (paths_of_each under shapes.now)) }
+    {
+        match shapes {
+            [] => Ok(()),
+            [only] => self.add_paths(alloc, prefix, &self.entry(*only).under, resolution),
+            _ => {
+                let together = self.fields_under(alloc, shapes)?;
+                self.add_paths(alloc, prefix, &together, resolution)
+            }
+        }
+    }
+
+    /// The fields under shapes, taken together.
+    fn fields_under(
+        &self,
+        alloc: Global,
+        shapes: &[ShapeId],
+    ) -> Result<FieldsByName<'c>, AllocError>
+        requires earlier { LeadEarlier self.now.by_index.items }
+        requires filled { AllByRecursion (λ id. is_filled self.now.by_index.items id ≡ true)
+            shapes.now }
+        ensures paths { IfOk result (λ fields.
+            (under : Under) → StandFor under self.now.by_index.items
+            → paths_by_name under fields ≡ paths_of_each under shapes.now) }
+        ensures lead { IfOk result (λ fields.
+            (limit : ℕ) → AllByRecursion (λ id. id ≤ limit) shapes.now
+            → LeadTo (λ t. nat_lt t limit && is_filled self.now.by_index.items t) fields) }
+    {
+        let mut fields = FieldsByName::new(alloc);
+        for shape in shapes {
+            fields.unite(alloc, &self.entry(*shape).under)?;
+        }
+        Ok(fields)
+    }
 }
 
-/// A prefix with a key path behind it.
-fn joined<'c>(
-    alloc: Global,
-    prefix: &[&'c str],
-    path: &[&'c str],
-) -> Result<KeyPath<'c>, AllocError>
+/// A prefix with a name behind it.
+fn joined<'c>(alloc: Global, prefix: &[&'c str], name: &'c str) -> Result<KeyPath<'c>, AllocError>
     ensures { IfOk result
-        (λ made. names_of made.items ≡ names_of prefix.now ++ names_of path.now) }
+        (λ made. names_of made.items ≡ names_of prefix.now ++ name.now ∷ []) }
 {
-    let mut made = Vec::with_capacity(alloc, prefix.len() + path.len())?;
+    let mut made = Vec::with_capacity(alloc, prefix.len() + 1)?;
     made.extend_from_slice(prefix)?;
-    made.extend_from_slice(path)?;
+    made.push(name)?;
     Ok(made)
 }

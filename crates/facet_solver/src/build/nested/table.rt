@@ -1,43 +1,46 @@
-//! Nested key paths from a table by index: those under a shape are made from those under the shapes that its fields name,
-//! which stand before it. So each field is visited once.
-ghost use Rattle.std.specs.Prelude.{◌≡◌, ◌&&◌, ◌+◌, ◌∷◌, [], ◌<◌, ◌≤◌, ◌↔◌, ℕ, All, IfOk, IfSome, OnOk, true, length, map, slice_get, string_bytes, sum_by};
-ghost use Rattle.std.specs.FinSet as set;
+//! A table by index of the fields that nested key paths go through: those under a shape are made from those under the shapes
+//! that its flattened fields name, which stand before it. So each field is visited once.
+ghost use Rattle.std.specs.Prelude.{◌≡◌, ◌&&◌, ◌+◌, ◌∷◌, [], ◌<◌, ◌≤◌, ◌↔◌, ℕ, All, Bool, IfOk, IfSome, OnOk, Some, true, length, map, slice_get, string_bytes, sum_by};
+ghost use Rattle.std.specs.List.{AllByRecursion};
 ghost use Rattle.std.specs.Option.{is_some};
 ghost use Rattle.facet_solver.specs.Build.{kind_at};
 ghost use Rattle.facet_solver.specs.Content.{is_zero};
 ghost use Rattle.facet_solver.specs.Nested as nested;
-ghost use Rattle.facet_solver.specs.Nested.{entered_view, if_entered, no_paths, under_fields_step, under_shape};
-ghost use Rattle.facet_solver.specs.NestedTable.{AreEntries, FieldAsks, IsClosed, IsEntry, IsFilled, IsMarked, IsSound, KindAsks, VariantAsks, field_count, fields_of_kind};
+ghost use Rattle.facet_solver.specs.Nested.{entered_view, if_entered, no_paths, Under, under_fields_step, under_shape};
+ghost use Rattle.facet_solver.specs.FieldCount.{field_count, fields_of_kind};
+ghost use Rattle.facet_solver.specs.NestedTable.{AreEntries, AreFieldsOf, FieldAsks, HasMore, entry_at, IsClosed, is_filled, IsFilled, IsMade, IsMarked, IsSound, KindAsks, LeadEarlier, LeadTo, VariantAsks, paths_by_name, under_of};
 
 use crate::build::Build;
 use crate::build::nested::Entered;
-use crate::build::nested::paths::KeyPaths;
+use crate::build::nested::by_name::FieldsByName;
+use crate::build::visit::visited;
 use facet_solver_shape::{Field, Shape, ShapeId, ShapeKind, Shapes, Steps, Variant};
 use std::alloc::{AllocError, Global};
 
-/// The nested key paths at an index.
+/// The fields that nested key paths go through at an index.
 #[derive(Drop)]
 pub(crate) struct Entry<'c> {
     /// Those under the shape.
-    under: KeyPaths<'c>,
+    pub(crate) under: FieldsByName<'c>,
     /// Those under each variant, where the shape is an enum.
-    variants: Vec<KeyPaths<'c>>,
+    pub(crate) variants: Vec<FieldsByName<'c>>,
 }
 
 impl<'c> Entry<'c> {
-    /// No key path.
+    /// No field.
     fn empty(alloc: Global) -> Entry<'c>
-        ensures under { result.under ≡ no_paths }
+        ensures under { (under : Under) → paths_by_name under result.under ≡ no_paths }
+        ensures lead { (passes : ℕ → Bool) → LeadTo passes result.under }
         ensures variants { result.variants.items ≡ [] }
     {
         Entry {
-            under: KeyPaths::new(alloc),
+            under: FieldsByName::new(alloc),
             variants: Vec::new(alloc),
         }
     }
 }
 
-/// The nested key paths under the marked shapes of a catalogue, by index.
+/// The fields that nested key paths go through under the marked shapes of a catalogue, by index.
 #[derive(Drop)]
 pub(crate) struct NestedTable<'c> {
     by_index: Vec<Option<Entry<'c>>>,
@@ -56,6 +59,7 @@ impl<'c> NestedTable<'c> {
         requires closed { IsClosed (entered_view entered) build.shapes.now marks.now }
         ensures entries { IfOk result (λ table.
             AreEntries (entered_view entered) build.entry.shapes.now table.by_index.items) }
+        ensures earlier { IfOk result (λ table. LeadEarlier table.by_index.items) }
         ensures marked { IfOk result (λ table.
             (id : ℕ) → IsMarked marks.now id ↔ IsFilled table.by_index.items id) }
         ensures visits { steps.new.visits ≤ steps.old.visits + field_count build.entry.shapes.now }
@@ -72,6 +76,17 @@ impl<'c> NestedTable<'c> {
             by_index.push(entry)?;
         }
         Ok(NestedTable { by_index })
+    }
+
+    /// The entry of a shape that has one.
+    pub(crate) fn entry(&self, id: ShapeId) -> &Entry<'c>
+        requires { IsFilled self.now.by_index.items id }
+        ensures { entry_at self.now.by_index.items id ≡ Some result.now }
+    {
+        match self.by_index.get(id.index()) {
+            Some(Some(entry)) => entry,
+            _ => unreachable!(),
+        }
     }
 }
 
@@ -99,7 +114,7 @@ impl<'t, 'c> Earlier<'t, 'c> {
             self.shapes.now shape.now.kind }
         ensures marked { IfOk result (λ entry. is_some entry ≡ is_marked) }
         ensures entry { IfOk result (λ entry. IfSome entry
-            (IsEntry (entered_view self.entry.entered) self.entry.shapes.now shape.now.kind)) }
+            (IsMade self.entry shape.now.kind)) }
         ensures visits { steps.new.visits ≤ steps.old.visits + fields_of_kind shape.now.kind }
     {
         if is_marked {
@@ -114,8 +129,7 @@ impl<'t, 'c> Earlier<'t, 'c> {
         requires sound { IsSound self }
         requires asked { KindAsks (IsFilled self.entries.now) (entered_view self.entered)
             self.shapes.now shape.now.kind }
-        ensures entry { IfOk result
-            (IsEntry (entered_view self.entry.entered) self.entry.shapes.now shape.now.kind) }
+        ensures entry { IfOk result (IsMade self.entry shape.now.kind) }
         ensures visits { steps.new.visits ≤ steps.old.visits + fields_of_kind shape.now.kind }
     {
         match &shape.kind {
@@ -130,13 +144,14 @@ impl<'t, 'c> Earlier<'t, 'c> {
         requires sound { IsSound self }
         requires asked { All (FieldAsks (IsFilled self.entries.now) (entered_view self.entered)
             self.shapes.now) fields.now }
-        ensures under { IfOk result (λ entry. entry.under
-            ≡ nested.through_fields (entered_view self.entry.entered)
-            self.entry.shapes.now fields.now) }
+        ensures under { let through =
+            nested.through_fields (entered_view self.entry.entered)
+            self.entry.shapes.now fields.now in
+            IfOk result (λ entry. AreFieldsOf self.entry through entry.under) }
         ensures variants { IfOk result (λ entry. entry.variants.items ≡ []) }
         ensures visits { steps.new.visits ≤ steps.old.visits + length fields.now }
     {
-        let mut under = KeyPaths::new(self.alloc);
+        let mut under = FieldsByName::new(self.alloc);
         self.add_through_fields(fields, &mut under, steps)?;
         Ok(Entry {
             under,
@@ -149,21 +164,25 @@ impl<'t, 'c> Earlier<'t, 'c> {
         requires sound { IsSound self }
         requires asked { All (VariantAsks (IsFilled self.entries.now) (entered_view self.entered)
             self.shapes.now) variants.now }
-        ensures under { IfOk result (λ entry. entry.under
-            ≡ nested.under_variants (entered_view self.entry.entered)
-            self.entry.shapes.now variants.now) }
-        ensures variants { IfOk result (λ entry. entry.variants.items
+        ensures under { let paths =
+            nested.under_variants (entered_view self.entry.entered)
+            self.entry.shapes.now variants.now in
+            IfOk result (λ entry. AreFieldsOf self.entry paths entry.under) }
+        ensures variants { IfOk result (λ entry.
+            map (paths_by_name (under_of self.entry)) entry.variants.items
             ≡ map (nested.under_variant (entered_view self.entry.entered) self.entry.shapes.now)
             variants.now) }
+        ensures lead { IfOk result (λ entry.
+            AllByRecursion (LeadTo (is_filled self.entry.entries.now)) entry.variants.items) }
         ensures visits { steps.new.visits
             ≤ steps.old.visits + sum_by (λ v. length v.fields.items) variants.now }
     {
-        let mut under = KeyPaths::new(self.alloc);
+        let mut under = FieldsByName::new(self.alloc);
         let mut each = Vec::new(self.alloc);
         for variant in variants {
-            let paths = self.under_variant(variant, steps)?;
-            under.add_behind(self.alloc, &[], &paths)?;
-            each.push(paths)?;
+            let fields = self.under_variant(variant, steps)?;
+            under.unite(self.alloc, &fields)?;
+            each.push(fields)?;
         }
         Ok(Entry {
             under,
@@ -176,24 +195,25 @@ impl<'t, 'c> Earlier<'t, 'c> {
         self,
         variant: &'c Variant,
         steps: &mut Steps,
-    ) -> Result<KeyPaths<'c>, AllocError>
+    ) -> Result<FieldsByName<'c>, AllocError>
         requires sound { IsSound self }
         requires asked { VariantAsks (IsFilled self.entries.now) (entered_view self.entered)
             self.shapes.now variant.now }
-        ensures paths { IfOk result (λ paths. paths
-            ≡ nested.under_variant (entered_view self.entry.entered)
-            self.entry.shapes.now variant.now) }
+        ensures fields { let paths =
+            nested.under_variant (entered_view self.entry.entered)
+            self.entry.shapes.now variant.now in
+            IfOk result (AreFieldsOf self.entry paths) }
         ensures visits { steps.new.visits
             ≤ steps.old.visits + length variant.now.fields.items }
     {
-        let mut paths = KeyPaths::new(self.alloc);
+        let mut by_name = FieldsByName::new(self.alloc);
         let fields = variant.fields.as_slice();
         if fields.len() == 1 {
-            self.add_under_only_field(visited(fields, 0, steps), &mut paths)?;
-            return Ok(paths);
+            self.add_under_only_field(visited(fields, 0, steps), &mut by_name)?;
+            return Ok(by_name);
         }
-        self.add_through_fields(fields, &mut paths, steps)?;
-        Ok(paths)
+        self.add_through_fields(fields, &mut by_name, steps)?;
+        Ok(by_name)
     }
 
     /// Adds those under a variant by its only field, which stands for its shape where it is named `0` and the shape is
@@ -201,7 +221,7 @@ impl<'t, 'c> Earlier<'t, 'c> {
     fn add_under_only_field(
         self,
         field: &'c Field,
-        paths: &mut KeyPaths<'c>,
+        by_name: &mut FieldsByName<'c>,
     ) -> Result<(), AllocError>
         requires sound { IsSound self }
         requires asked { FieldAsks (IsFilled self.entries.now) (entered_view self.entered)
@@ -210,12 +230,12 @@ impl<'t, 'c> Earlier<'t, 'c> {
             let cat = self.entry.shapes.now in
             let under = under_fields_step entered cat
             (if_entered entered cat) (under_shape entered cat) (field.now ∷ []) in
-            OnOk result (paths.new ≡ set.union paths.old under) }
+            OnOk result (HasMore self.entry under by_name.old by_name.new) }
     {
         if self.is_entered_by(field) {
-            paths.add_behind(self.alloc, &[], self.under(field.shape))
+            by_name.unite(self.alloc, self.under(field.shape))
         } else {
-            self.add_through_field(field, paths)
+            self.add_through_field(field, by_name)
         }
     }
 
@@ -231,65 +251,58 @@ impl<'t, 'c> Earlier<'t, 'c> {
     fn add_through_fields(
         self,
         fields: &'c [Field],
-        paths: &mut KeyPaths<'c>,
+        by_name: &mut FieldsByName<'c>,
         steps: &mut Steps,
     ) -> Result<(), AllocError>
         requires sound { IsSound self }
         requires asked { All (FieldAsks (IsFilled self.entries.now) (entered_view self.entered)
             self.shapes.now) fields.now }
-        ensures paths { let through =
+        ensures more { let through =
             nested.through_fields (entered_view self.entry.entered)
             self.entry.shapes.now fields.now in
-            OnOk result (paths.new ≡ set.union paths.old through) }
+            OnOk result (HasMore self.entry through by_name.old by_name.new) }
         ensures visits { steps.new.visits ≤ steps.old.visits + length fields.now }
     {
         for index in 0..fields.len() {
-            self.add_through_field(visited(fields, index, steps), paths)?;
+            self.add_through_field(visited(fields, index, steps), by_name)?;
         }
         Ok(())
     }
 
     /// Adds those through a field.
-    fn add_through_field(self, field: &'c Field, paths: &mut KeyPaths<'c>) -> Result<(), AllocError>
+    fn add_through_field(
+        self,
+        field: &'c Field,
+        by_name: &mut FieldsByName<'c>,
+    ) -> Result<(), AllocError>
         requires sound { IsSound self }
         requires asked { FieldAsks (IsFilled self.entries.now) (entered_view self.entered)
             self.shapes.now field.now }
         ensures { let through =
             nested.through_field (entered_view self.entry.entered)
             self.entry.shapes.now field.now in
-            OnOk result (paths.new ≡ set.union paths.old through) }
+            OnOk result (HasMore self.entry through by_name.old by_name.new) }
     {
         if field.flattened {
-            return paths.add_behind(self.alloc, &[], self.under(field.shape));
+            return by_name.unite(self.alloc, self.under(field.shape));
         }
-        let path = [field.effective_name()];
-        paths.insert(Vec::from_slice(self.alloc, &path)?)?;
+        let name = field.effective_name();
         if self.entered.has(self.shapes, field.shape) {
-            paths.add_behind(self.alloc, &path, self.under(field.shape))?;
+            by_name.add(self.alloc, name, &[field.shape])
+        } else {
+            by_name.add(self.alloc, name, &[])
         }
-        Ok(())
     }
 
     /// Those under an earlier shape.
-    fn under(self, id: ShapeId) -> &'t KeyPaths<'c>
+    fn under(self, id: ShapeId) -> &'t FieldsByName<'c>
         requires sound { IsSound self }
         requires filled { IsFilled self.entries.now id }
-        ensures { result.now
-            ≡ under_shape (entered_view self.entry.entered) self.entry.shapes.now id }
+        ensures { AreFieldsOf self.entry (under_of self.entry id) result.now }
     {
         match self.entries.get(id.index()) {
             Some(Some(entry)) => &entry.under,
             _ => unreachable!(),
         }
     }
-}
-
-/// The field at an index. The passes that make tables read fields by this call alone, which counts them.
-fn visited<'c>(fields: &'c [Field], index: usize, steps: &mut Steps) -> &'c Field
-    requires { index < length fields.now }
-    ensures field { slice_get fields.now index ≡ Some result.now }
-    ensures steps { steps.new ≡ record steps.old { visits = steps.old.visits + 1 } }
-{
-    steps.visit();
-    &fields[index]
 }

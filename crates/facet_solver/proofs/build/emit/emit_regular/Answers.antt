@@ -13,7 +13,7 @@ returns-in_err-add_with_path c =
 pub returns : goal.returns
 returns c =
     let parts = regular-parts (build_of c.args.walker.now.build) c.args.field.now c.args.place.now c.args.resolution.now in
-    rw (parts, ← c.in_ok-info.ensures, ← c.effective_name.ensures)
+    rw (parts, ← c.in_ok-info.ensures)
     (take_all-both c.args.resolution.now c.add_with_path.new.resolution c.add_nested_paths.new.resolution _ _ c.in_ok-add_with_path.ensures
     (take_all-one c.add_with_path.new.resolution _
     ∙ taken-paths c.add_with_path.new.resolution c.add_nested_paths.new.resolution _ c.in_ok-add_nested_paths.ensures.ok))

@@ -1,5 +1,6 @@
-use Rattle.std.proofs.Common.{◌≡◌, List, length, ap, sym, ◌∙◌, subst, arith, IsSome, Some, None}
+use Rattle.std.proofs.Common.{◌≡◌, List, length, ap, sym, ◌∙◌, subst, arith, IsSome, Some, None, slice_get, get_or}
 use Rattle.facet_solver_shape.specs.declared.shape.Field.{Field}
+use Rattle.facet_solver_shape.specs.declared.shape.Variant.{Variant}
 use Rattle.facet_solver_shape.specs.Catalogues.{FieldsBelow}
 use Rattle.facet_solver.specs.Walk.{Walked, walk_fields}
 use Rattle.facet_solver.specs.Place.{chosen_of}
@@ -7,7 +8,9 @@ use Rattle.facet_solver.specs.declared.build.place.Place.{Place}
 use Rattle.facet_solver.specs.Content.{newtype_fields}
 use Rattle.facet_solver.specs.Outcome.{effect}
 use Rattle.facet_solver.specs.Build.{build_of}
-use Rattle.facet_solver.specs.Roles.{role_view}
+use Rattle.facet_solver.specs.Reached.{ServesFields}
+use Rattle.facet_solver.specs.Roles.{alternatives, role_view}
+use Rattle.facet_solver.proofs.Serving.{block_served, enum_served, field_served, newtype_served, own_served, role_of-target, variant_served}
 use Rattle.facet_solver.proofs.Roles.{plain_role, FieldsBelow-mono, limit_of, limit_of-le, limit_of-at, FieldsBelow-at}
 use Rattle.facet_solver.proofs.Listing.{block-below, alternatives-below}
 use Rattle.facet_solver.proofs.Walk.{walk-start, turn-walked, turn-left, turn-stops, turns-done, stops-emit, emit-done, walks-exit, walks-same, at-block, at-alternatives, at-plain, has_choice, choose-is, VariantsBelow-get, then-inside, then-alone, inside-some, stops-chosen, inside-newtype, inside-own, newtype-limits}
@@ -32,7 +35,10 @@ walk_fields-walk_field-requires t c =
         c.requires.ready,
         (
           omega arith,
-          turn-walked (build_of c.args.walker.now.build) c.args.place.now fs i c.loop-field.rest.now c.loop-field.resolution c.args.resolution.now _ c.requires.walked c.loop-field.invariant f c.loop-field-test.true c.field-item.is,
+          (
+            field_served (build_of c.args.walker.now.build) c.args.walker.now.tables fs i f c.loop-field-test.true c.field-item.is c.requires.serves,
+            turn-walked (build_of c.args.walker.now.build) c.args.place.now fs i c.loop-field.rest.now c.loop-field.resolution c.args.resolution.now _ c.requires.walked c.loop-field.invariant f c.loop-field-test.true c.field-item.is,
+          ),
         ),
       ),
     )
@@ -64,7 +70,10 @@ walk_field-walk_fields-requires t c =
         c.requires.ready,
         (
           FieldsBelow-mono f.shape (length cat) fs (omega (arith, c.requires.below)) b,
-          rw (c.in_ok-inside-in-Block.ensures, ← at-block (build_of c.args.walker.now.build) f c.args.place.now c.args.indices.now c.in-Block.target fs c.in-Block.ensures) c.requires.walked,
+          (
+            block_served (build_of c.args.walker.now.build) c.args.walker.now.tables f c.requires.serves c.in-Block.target fs c.in-Block.ensures,
+            rw (c.in_ok-inside-in-Block.ensures, ← at-block (build_of c.args.walker.now.build) f c.args.place.now c.args.indices.now c.in-Block.target fs c.in-Block.ensures) c.requires.walked,
+          ),
         ),
       ),
     )
@@ -92,13 +101,20 @@ walk_field-walk_variant-requires t c =
     let v = c.next_variant.result.0.now in
     let b = VariantsBelow-get f.shape vs _ v c.next_variant.ensures.variant (alternatives-below cat c.requires.ready.checked f c.in-Alternatives.target s vs c.in-Alternatives.ensures) in
     let l = limit_of-le f.shape v.fields.items b in
-    let e = at-alternatives build f c.args.place.now c.args.indices.now c.in-Alternatives.target s vs c.in-Alternatives.ensures ∙ choose-is vs c.args.indices.now _ v c.next_variant.result.1.now c.next_variant.ensures.variant c.next_variant.ensures.rest in (
+    let e = at-alternatives build f c.args.place.now c.args.indices.now c.in-Alternatives.target s vs c.in-Alternatives.ensures ∙ choose-is vs c.args.indices.now _ v c.next_variant.result.1.now c.next_variant.ensures.variant c.next_variant.ensures.rest in
+    let role = role_of-target cat f (alternatives c.in-Alternatives.target s vs) c.in-Alternatives.ensures in (
       omega arith,
       (
         c.requires.ready,
         (
           FieldsBelow-mono f.shape (length cat) v.fields.items (omega (arith, c.requires.below)) b,
-          subst (λ (w : Walked). IsSome w) e c.requires.walked,
+          (
+            record { variants = role.1.0; shape = role.0; kind = role.1.1.0; variant = ap (λ (ws : List Variant). slice_get ws (get_or c.args.indices.now 0 0)) role.1.1.1 ∙ c.next_variant.ensures.variant },
+            (
+              enum_served build c.args.walker.now.tables f c.requires.serves c.in-Alternatives.target s vs c.in-Alternatives.ensures,
+              subst (λ (w : Walked). IsSome w) e c.requires.walked,
+            ),
+          ),
         ),
       ),
     )
@@ -140,8 +156,11 @@ walk_variant-walk_content-requires t c = (
     c.requires.ready,
     (
       c.requires.below,
-      inside-some (build_of c.args.walker.now.build) (chosen_of c.args.chosen.now) c.args.place.now c.args.indices.now
-          c.args.resolution.now c.emit_variant.new.resolution c.in_ok-emit_variant.ensures c.in_ok-inside.inside c.in_ok-inside.ensures (sym c.walks_content.ensures ∙ c.if-walks_content.true) c.requires.walked,
+      (
+        variant_served (build_of c.args.walker.now.build) c.args.walker.now.tables c.args.chosen.now c.requires.chosen c.requires.serves (sym c.walks_content.ensures ∙ c.if-walks_content.true),
+        inside-some (build_of c.args.walker.now.build) (chosen_of c.args.chosen.now) c.args.place.now c.args.indices.now
+            c.args.resolution.now c.emit_variant.new.resolution c.in_ok-emit_variant.ensures c.in_ok-inside.inside c.in_ok-inside.ensures (sym c.walks_content.ensures ∙ c.if-walks_content.true) c.requires.walked,
+      ),
     ),
   ),
 )
@@ -171,9 +190,12 @@ walk_content-walk_fields-requires t c =
         c.requires.ready,
         (
           l.1,
-          subst (λ (w : Walked). IsSome w)
-              (inside-newtype build v c.args.place.now c.args.indices.now fs e ∙ ap (λ (place : Place). walk_fields build fs place c.args.indices.now) (sym c.in_ok-inside-in-Some.ensures))
-              c.requires.walked,
+          (
+            newtype_served build c.args.walker.now.tables v c.requires.serves fs e,
+            subst (λ (w : Walked). IsSome w)
+                (inside-newtype build v c.args.place.now c.args.indices.now fs e ∙ ap (λ (place : Place). walk_fields build fs place c.args.indices.now) (sym c.in_ok-inside-in-Some.ensures))
+                c.requires.walked,
+          ),
         ),
       ),
     )
@@ -202,9 +224,12 @@ walk_content-walk_fields-requires-in-None t c =
         c.requires.ready,
         (
           subst (FieldsBelow (length cat)) (sym d) c.requires.below,
-          subst (λ (w : Walked). IsSome w)
-              (inside-own build v c.args.place.now c.args.indices.now e ∙ ap (λ (fs : List Field). walk_fields build fs c.args.place.now c.args.indices.now) (sym d))
-              c.requires.walked,
+          (
+            subst (ServesFields build c.args.walker.now.tables) (sym d) (own_served build c.args.walker.now.tables v c.requires.serves e),
+            subst (λ (w : Walked). IsSome w)
+                (inside-own build v c.args.place.now c.args.indices.now e ∙ ap (λ (fs : List Field). walk_fields build fs c.args.place.now c.args.indices.now) (sym d))
+                c.requires.walked,
+          ),
         ),
       ),
     )

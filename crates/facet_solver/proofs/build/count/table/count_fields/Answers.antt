@@ -1,4 +1,5 @@
-use Rattle.std.proofs.Common.{◌<◌, ℕ, length, sym, subst, refl}
+use Rattle.std.proofs.Common.{◌<◌, ℕ, length, sym, subst, refl, ap, arith}
+use Rattle.std.proofs.lemmas.Option.{get_or_from_slice_get}
 use Rattle.facet_solver_shape.specs.declared.shape.Field.{Field}
 use Rattle.facet_solver.specs.Count.{count_fields_step, count_fields, count_field}
 use Rattle.facet_solver.specs.Counts.{CountsTo}
@@ -9,21 +10,30 @@ use Rattle.facet_solver.proofs.build.count.table.count_fields.Goals as goal
 
 pub count_field-requires-clause-below : goal.count_field-requires-clause-below
 count_field-requires-clause-below c =
-    let at = FieldsBelow-at (length c.args.counts.now) c.args.fields.now c.loop-field.field-index c.field-item.result c.loop-field-test.true c.requires.below in
-    subst (λ (f : Field). f.shape < length c.args.counts.now) (sym c.field-item.is) at
+    let fs = c.args.fields.now in
+    let f = c.visited-field.result.now in
+    let is = get_or_from_slice_get fs c.loop-index.index f f c.visited-field.ensures.field in
+    subst (λ (f : Field). f.shape < length c.args.counts.now) is (FieldsBelow-at (length c.args.counts.now) fs c.loop-index.index f c.loop-index-test.true c.requires.below)
 
-pub loop-field-init : goal.loop-field-init
+pub loop-index-init : goal.loop-index-init
 unfolding count_fields_step
-loop-field-init c = refl
+loop-index-init c = (refl, omega arith)
 
-pub loop-field-preserved : goal.loop-field-preserved
-loop-field-preserved c =
+pub loop-index-preserved : goal.loop-index-preserved
+loop-index-preserved c =
     let build = build_of c.args.build in
-    let one_more = count_fields_step-more build (count_fields build) c.args.fields.now c.loop-field.field-index c.field-item.result c.loop-field-test.true in
-    let factor = subst (λ (f : Field). CountsTo c.count_field.result (count_field build f)) c.field-item.is c.count_field.ensures in
-    subst (λ (n : ℕ). CountsTo c.times-product.result n) (sym one_more) (c.times-product.ensures _ _ c.loop-field.invariant factor)
+    let fs = c.args.fields.now in
+    let i = c.loop-index.index in
+    let f = c.visited-field.result.now in
+    let is = get_or_from_slice_get fs i f f c.visited-field.ensures.field in
+    let one_more = count_fields_step-more build (count_fields build) fs i f c.loop-index-test.true in
+    let factor = subst (λ (f : Field). CountsTo c.count_field.result (count_field build f)) (sym is) c.count_field.ensures in
+    let visits = ap (λ s. s.visits) c.visited-field.ensures.steps in (
+      subst (λ (n : ℕ). CountsTo c.times-product.result n) (sym one_more) (c.times-product.ensures _ _ c.loop-index.invariant.0 factor),
+      omega (arith, visits, c.loop-index.invariant.1),
+    )
 
-pub returns : goal.returns
-returns c =
+pub returns-clause-product : goal.returns-clause-product
+returns-clause-product c =
     let build = build_of c.args.build in
-    subst (λ (n : ℕ). CountsTo c.loop-field.product n) (count_fields_step-all build c.args.counts.now c.args.fields.now c.loop-field.field-index c.requires.checked c.requires.counted c.requires.below c.loop-field-test.false) c.loop-field.invariant
+    subst (λ (n : ℕ). CountsTo c.loop-index.product n) (count_fields_step-all build c.args.counts.now c.args.fields.now c.loop-index.index c.requires.checked c.requires.counted c.requires.below c.loop-index-test.false) c.loop-index.invariant.0

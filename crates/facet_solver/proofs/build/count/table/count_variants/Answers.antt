@@ -1,4 +1,4 @@
-use Rattle.std.proofs.Common.{ℕ, List, length, sym, subst}
+use Rattle.std.proofs.Common.{◌+◌, ◌≤◌, ℕ, List, arith, length, sym, subst}
 use Rattle.std.proofs.lemmas.List.{take_all}
 use Rattle.std.proofs.lemmas.List.Sums.{sum_by_more}
 use Rattle.facet_solver_shape.specs.declared.shape.Variant.{Variant}
@@ -7,6 +7,7 @@ use Rattle.facet_solver.specs.Count.{count_variant, count_fields, count_variants
 use Rattle.facet_solver.specs.Counts.{CountsTo}
 use Rattle.facet_solver.specs.Build.{build_of}
 use Rattle.facet_solver.proofs.Roles.{VariantsBelow-at}
+use Rattle.facet_solver.proofs.NestedTable.{visits_more}
 use Rattle.facet_solver.proofs.Count.{walked_counted, unwalked_counted}
 use Rattle.facet_solver.proofs.build.count.table.count_variants.Goals as goal
 use Rattle.facet_solver.proofs.build.count.table.count_variants.Goals.{then-walked, else-walked}
@@ -21,8 +22,16 @@ next : (c : goal.After-plus-sum) → CountsTo c.if-walked.choices (count_variant
 next c =
     let build = build_of c.args.build in
     elim c.if-walked.branch [
-      | then-walked w ↦ rw w.choices-is (walked_counted build c.args.walked c.variant-item.result _ w.if-walked.true w.count_content-choices.ensures)
+      | then-walked w ↦ rw w.choices-is (walked_counted build c.args.walked c.variant-item.result _ w.if-walked.true w.count_content-choices.ensures.content)
       | else-walked w ↦ rw w.choices-is (unwalked_counted build c.args.walked c.variant-item.result w.if-walked.false)
+    ]
+
+-- and how many fields it visited
+next_visits : (c : goal.After-plus-sum) → c.if-walked.steps.visits ≤ c.loop-variant.steps.visits + length c.variant-item.result.fields.items
+next_visits c =
+    elim c.if-walked.branch [
+      | then-walked w ↦ rw w.steps-is w.count_content-choices.ensures.visits
+      | else-walked w ↦ rw w.steps-is (omega arith)
     ]
 
 pub loop-variant-preserved : goal.loop-variant-preserved
@@ -31,9 +40,11 @@ loop-variant-preserved c =
     let count = count_variant (count_fields (build_of c.args.build)) cat c.args.walked in
     let one_more = sum_by_more count c.args.variants.now c.loop-variant.variant-index c.variant-item.result c.loop-variant-test.true in
     let summand = subst (λ (v : Variant). CountsTo c.if-walked.choices (count v)) c.variant-item.is (next c) in
-    subst (λ (n : ℕ). CountsTo c.plus-sum.result n) (sym one_more) (c.plus-sum.ensures _ _ c.loop-variant.invariant summand)
+    let counted = subst (λ (n : ℕ). CountsTo c.plus-sum.result n) (sym one_more) (c.plus-sum.ensures _ _ c.loop-variant.invariant.0 summand) in
+    let visits = visits_more c.args.variants.now c.loop-variant.variant-index c.variant-item.result _ _ _ c.loop-variant-test.true c.variant-item.is c.loop-variant.invariant.1 (next_visits c) in
+    (counted, visits)
 
-pub returns : goal.returns
-returns c =
+pub returns-clause-sum : goal.returns-clause-sum
+returns-clause-sum c =
     let build = build_of c.args.build in
-    subst (λ (vs : List Variant). CountsTo c.loop-variant.sum (count_variants build c.args.walked vs)) (take_all c.loop-variant.variant-index c.args.variants.now c.loop-variant-test.false) c.loop-variant.invariant
+    subst (λ (vs : List Variant). CountsTo c.loop-variant.sum (count_variants build c.args.walked vs)) (take_all c.loop-variant.variant-index c.args.variants.now c.loop-variant-test.false) c.loop-variant.invariant.0

@@ -1,46 +1,42 @@
-use Rattle.std.proofs.Common.{◌≡◌, [], ◌∷◌, ap, sym, ◌∙◌, subst}
+use Rattle.std.proofs.Common.{[], ◌∷◌, ap, sym, ◌∙◌, subst}
 use Rattle.std.specs.Prelude.{OnOk}
-use Rattle.std.specs.FinSet as set
-use Rattle.facet_solver_shape.specs.Names.{Name, names_of}
-use Rattle.facet_solver.specs.Nested.{KeyPath, KeyPaths, behind_prefix, entered_view, if_entered, named}
-use Rattle.facet_solver.proofs.NestedSets.{behind_nothing}
-use Rattle.facet_solver.proofs.NestedTable.{added_alone, added_named, through_flattened, through_regular, unless_entered, when_entered}
+use Rattle.facet_solver_shape.specs.Names.{Name}
+use Rattle.facet_solver.specs.Nested.{KeyPaths, entered_view, if_entered, named}
+use Rattle.facet_solver.specs.NestedTable.{HasMore, IsFilled, under_of}
+use Rattle.facet_solver.proofs.NestedSets.{union-none}
+use Rattle.facet_solver.proofs.NestedTable.{asked_where_entered, more_if_ok, named_if_ok, through_flattened, through_regular, unless_entered, when_entered}
 use Rattle.facet_solver.proofs.build.nested.table.Earlier.add_through_field.Goals as goal
 
 pub returns-then-field : goal.returns-then-field
 returns-then-field c =
-    let through = through_flattened (entered_view c.args.self.entered) c.args.self.shapes.now c.args.field.now c.if-field.true in
-    subst (λ (ps : KeyPaths). OnOk c.add_behind.result (c.add_behind.new.self ≡ set.union c.args.paths.now ps))
-    (behind_nothing c.under.result.now ∙ c.under.ensures ∙ sym through)
-    c.add_behind.ensures
-
-pub returns-in_ok-add_behind : goal.returns-in_ok-add_behind
-returns-in_ok-add_behind c =
-    let e = entered_view c.args.self.entered in
-    let cat = c.args.self.shapes.now in
+    let earlier = c.args.self in
     let f = c.args.field.now in
-    let old = c.args.paths.now in
-    let name = c.effective_name.result.now in
-    let under = c.under-then-has.result.now in
-    let inserted : c.insert.new.self ≡ set.insert old (name ∷ []) = c.in_ok-insert.ensures ∙ ap (λ (p : KeyPath). set.insert old p) (ap names_of c.in_ok-from_slice.ensures.items) in
-    let is_under = c.under-then-has.ensures ∙ sym (when_entered e cat f.shape (sym c.has.ensures ∙ c.if-has.true)) in
-    c.in_ok-add_behind.ensures
-    ∙ ap (λ (ps : KeyPaths). set.union ps (behind_prefix (name ∷ []) under)) inserted
-    ∙ added_named old name under
-    ∙ ap (λ (ps : KeyPaths). set.union old (named name ps)) is_under
-    ∙ ap (λ (n : Name). set.union old (named n (if_entered e cat f.shape))) c.effective_name.ensures
-    ∙ ap (λ (ps : KeyPaths). set.union old ps) (sym (through_regular e cat f c.if-field.false))
+    let through = through_flattened (entered_view earlier.entered) earlier.shapes.now f c.if-field.true in
+    subst (λ (ps : KeyPaths). OnOk c.unite.result (HasMore earlier ps c.args.by_name.now c.unite.new.self))
+    (sym through)
+    (more_if_ok earlier (under_of earlier f.shape) c.under.result.now c.args.by_name.now c.unite.new.self c.unite.result c.under.ensures c.unite.ensures.paths c.unite.ensures.lead)
+
+pub returns-then-has : goal.returns-then-has
+returns-then-has c =
+    let earlier = c.args.self in
+    let e = entered_view earlier.entered in
+    let cat = earlier.shapes.now in
+    let f = c.args.field.now in
+    let asked = asked_where_entered (IsFilled earlier.entries.now) e cat f c.requires.asked (sym c.has.ensures ∙ c.if-has.true) in
+    subst (λ (ps : KeyPaths). OnOk c.add.result (HasMore earlier ps c.args.by_name.now c.add.new.self))
+    (ap (λ (ps : KeyPaths). named c.effective_name-name.result.now ps) (union-none (under_of earlier f.shape) ∙ sym (when_entered e cat f.shape (sym c.has.ensures ∙ c.if-has.true)))
+    ∙ ap (λ (n : Name). named n (if_entered e cat f.shape)) c.effective_name-name.ensures
+    ∙ sym (through_regular e cat f c.if-field.false))
+    (named_if_ok earlier c.effective_name-name.result.now (f.shape ∷ []) c.args.by_name.now c.add.new.self c.add.result (asked, tt) c.add.ensures.paths c.add.ensures.lead)
 
 pub returns-else-has : goal.returns-else-has
 returns-else-has c =
-    let e = entered_view c.args.self.entered in
-    let cat = c.args.self.shapes.now in
+    let earlier = c.args.self in
+    let e = entered_view earlier.entered in
+    let cat = earlier.shapes.now in
     let f = c.args.field.now in
-    let old = c.args.paths.now in
-    let name = c.effective_name.result.now in
-    let inserted : c.insert.new.self ≡ set.insert old (name ∷ []) = c.in_ok-insert.ensures ∙ ap (λ (p : KeyPath). set.insert old p) (ap names_of c.in_ok-from_slice.ensures.items) in
-    inserted
-    ∙ added_alone old name
-    ∙ ap (λ (ps : KeyPaths). set.union old (named name ps)) (sym (unless_entered e cat f.shape (sym c.has.ensures ∙ c.if-has.false)))
-    ∙ ap (λ (n : Name). set.union old (named n (if_entered e cat f.shape))) c.effective_name.ensures
-    ∙ ap (λ (ps : KeyPaths). set.union old ps) (sym (through_regular e cat f c.if-field.false))
+    subst (λ (ps : KeyPaths). OnOk c.add-else-has.result (HasMore earlier ps c.args.by_name.now c.add-else-has.new.self))
+    (ap (λ (ps : KeyPaths). named c.effective_name-name.result.now ps) (sym (unless_entered e cat f.shape (sym c.has.ensures ∙ c.if-has.false)))
+    ∙ ap (λ (n : Name). named n (if_entered e cat f.shape)) c.effective_name-name.ensures
+    ∙ sym (through_regular e cat f c.if-field.false))
+    (named_if_ok earlier c.effective_name-name.result.now [] c.args.by_name.now c.add-else-has.new.self c.add-else-has.result tt c.add-else-has.ensures.paths c.add-else-has.ensures.lead)

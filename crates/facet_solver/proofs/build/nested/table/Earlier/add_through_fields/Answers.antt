@@ -1,7 +1,7 @@
 use Rattle.std.proofs.Common.{◌+◌, ◌∙◌, ap, arith, drop, sym}
 use Rattle.std.specs.FinSet.{union}
 use Rattle.facet_solver.specs.Nested.{KeyPaths, entered_view, through_field, through_fields}
-use Rattle.facet_solver.specs.NestedTable.{FieldAsks, IsFilled}
+use Rattle.facet_solver.specs.NestedTable.{FieldAsks, IsFilled, paths_by_name, under_of}
 use Rattle.facet_solver.proofs.NestedTable.{all_at, no_more, one_more}
 use Rattle.facet_solver.proofs.build.nested.table.Earlier.add_through_fields.Goals as goal
 
@@ -15,22 +15,28 @@ loop-index-preserved c =
     let cat = c.args.self.shapes.now in
     let fs = c.args.fields.now in
     let i = c.loop-index.index in
+    let more = c.in_ok-add_through_field.ensures in
     let visits = ap (λ s. s.visits) c.visited.ensures.steps in (
-      ap (λ (ps : KeyPaths). union ps (through_fields e cat (drop (i + 1) fs))) c.in_ok-add_through_field.ensures
-          ∙ one_more (through_field e cat) fs i c.loop-index.paths c.visited.result.now c.visited.ensures.field
+      ap (λ (ps : KeyPaths). union ps (through_fields e cat (drop (i + 1) fs))) more.stand
+          ∙ one_more (through_field e cat) fs i (paths_by_name (under_of c.args.self) c.loop-index.by_name) c.visited.result.now c.visited.ensures.field
           ∙ c.loop-index.invariant.0,
-      omega (arith, visits, c.loop-index.invariant.1),
+      λ before. more.lead (c.loop-index.invariant.1 before),
+      omega (arith, visits, c.loop-index.invariant.2),
     )
 
 pub returns-in_err-add_through_field-clause-visits :
     goal.returns-in_err-add_through_field-clause-visits
 returns-in_err-add_through_field-clause-visits c =
     let visits = ap (λ s. s.visits) c.visited.ensures.steps in
-    omega (arith, visits, c.loop-index.invariant.1, c.loop-index-test.true)
+    omega (arith, visits, c.loop-index.invariant.2, c.loop-index-test.true)
 
-pub returns-clause-paths : goal.returns-clause-paths
-returns-clause-paths c =
+pub returns-clause-more : goal.returns-clause-more
+returns-clause-more c =
     let e = entered_view c.args.self.entered in
     let cat = c.args.self.shapes.now in
-    sym (no_more (through_field e cat) c.args.fields.now c.loop-index.index c.loop-index.paths c.loop-index-test.false)
-    ∙ c.loop-index.invariant.0
+    record {
+      stand =
+          sym (no_more (through_field e cat) c.args.fields.now c.loop-index.index (paths_by_name (under_of c.args.self) c.loop-index.by_name) c.loop-index-test.false)
+          ∙ c.loop-index.invariant.0;
+      lead = c.loop-index.invariant.1;
+    }

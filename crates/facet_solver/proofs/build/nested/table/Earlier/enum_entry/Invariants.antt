@@ -1,7 +1,9 @@
 use Rattle.std.proofs.Common.{◌≡◌, ◌+◌, ◌≤◌, drop, length, map, take}
 use Rattle.std.specs.Prelude.{sum_by}
 use Rattle.std.specs.FinSet.{union}
+use Rattle.std.specs.List.{AllByRecursion}
 use Rattle.facet_solver.specs.Nested.{entered_view, under_variant, under_variants}
+use Rattle.facet_solver.specs.NestedTable.{LeadTo, is_filled, paths_by_name, under_of}
 use Rattle.facet_solver.proofs.build.nested.table.Earlier.enum_entry.Given as goal
 
 -- those so far and those under the variants that are left
@@ -9,6 +11,8 @@ abbrev pub invariant-loop-variant : goal.invariant-loop-variant
 invariant-loop-variant l =
     let entered = entered_view l.self.entered in
     let cat = l.self.shapes.now in
-    (union l.under (under_variants entered cat (drop l.variant-index l.variants)) ≡ under_variants entered cat l.variants)
-    × (l.each.items ≡ map (under_variant entered cat) (take l.variant-index l.variants))
+    let paths = paths_by_name (under_of l.self) in
+    (union (paths l.under) (under_variants entered cat (drop l.variant-index l.variants)) ≡ under_variants entered cat l.variants)
+    × (map paths l.each.items ≡ map (under_variant entered cat) (take l.variant-index l.variants))
+    × (LeadTo (is_filled l.self.entries.now) l.under × AllByRecursion (LeadTo (is_filled l.self.entries.now)) l.each.items)
     × (l.steps.visits ≤ l.fn.steps.visits + sum_by (λ v. length v.fields.items) (take l.variant-index l.variants))

@@ -6,9 +6,10 @@ use Rattle.facet_solver_shape.specs.declared.shape.ShapeKind.{ShapeKind}
 use Rattle.facet_solver_shape.proofs.Catalogues.{names_earlier}
 use Rattle.facet_solver.specs.Build.{kind_at, kind_of}
 use Rattle.facet_solver.specs.Nested.{entered_view}
-use Rattle.facet_solver.specs.NestedTable.{AreEntries, AreFirstEntries, IsEntry, IsFilled, KindAsks, field_count}
+use Rattle.facet_solver.specs.FieldCount.{field_count}
+use Rattle.facet_solver.specs.NestedTable.{AreEntries, AreFirstEntries, EntryLeadsTo, IsEntry, IsFilled, KindAsks, LeadEarlier, is_filled}
 use Rattle.facet_solver.specs.declared.build.nested.table.Entry.{Entry}
-use Rattle.facet_solver.proofs.NestedTable.{all_marked, asked_next, none_past, one_entry, shape_visits_at_most, shape_visits_more}
+use Rattle.facet_solver.proofs.NestedTable.{all_marked, asked_next, made_of, none_past, one_entry, shape_visits_at_most, shape_visits_more}
 use Rattle.facet_solver.proofs.build.nested.table.NestedTable.new.Goals as goal
 
 -- the mark of a shape
@@ -19,6 +20,7 @@ pub entry_if-requires-clause-sound : goal.entry_if-requires-clause-sound
 entry_if-requires-clause-sound c = record {
   checked = names_earlier c.args.build.shapes.now c.get.ensures.checked;
   entries = subst (AreEntries (entered_view c.args.entered) c.args.build.shapes.now) (sym c.as_slice.ensures.value) c.loop-shape.invariant.0.each;
+  leads = subst LeadEarlier (sym c.as_slice.ensures.value) c.loop-shape.invariant.0.leads;
 }
 
 pub entry_if-requires-clause-asked : goal.entry_if-requires-clause-asked
@@ -65,7 +67,10 @@ loop-shape-preserved c =
     let here = ap (slice_get cat) (sym index) ∙ sym c.in-Some.ensures.entry in
     let within = slice_get_within cat (length ts) c.in-Some.shape.now here in
     let mark = mark_at marks (length ts) (get_or marks c.len-in-Some.result false) (omega (arith, within, c.requires.all)) (ap (λ (i : ℕ). get_or marks i false) (sym at)) in
-    let right = subst (λ (k : ShapeKind). IfSome entry (IsEntry e cat k)) (sym (ap kind_of here)) c.in_ok-entry.ensures.entry in
+    let right =
+    subst (λ (k : ShapeKind). IfSome entry (λ entry. IsEntry e cat k entry × EntryLeadsTo (is_filled ts) entry)) (sym (ap kind_of here))
+    (subst (λ (us : List (Option Entry)). IfSome entry (λ entry. IsEntry e cat c.in-Some.shape.now.kind entry × EntryLeadsTo (is_filled us) entry)) c.as_slice.ensures.value
+    (made_of _ _ entry c.in_ok-entry.ensures.entry)) in
     let longer = ap length c.in_ok-push.ensures.items ∙ length_push ts entry in (
       subst (λ (us : List (Option Entry)). AreFirstEntries e cat marks us) (sym c.in_ok-push.ensures.items)
           (one_entry e cat marks ts c.loop-shape.invariant.0 entry (get_or marks c.len-in-Some.result false) c.in_ok-entry.ensures.marked mark right within),

@@ -1,6 +1,7 @@
 use Rattle.std.proofs.Common.{◌+◌, ◌-◌, ◌≤◌, length, take}
 use Rattle.facet_solver.specs.Nested.{entered_view}
-use Rattle.facet_solver.specs.NestedTable.{AreFirstEntries, field_count}
+use Rattle.facet_solver.specs.FieldCount.{field_count}
+use Rattle.facet_solver.specs.NestedTable.{AreFirstEntries}
 use Rattle.facet_solver.proofs.build.nested.table.NestedTable.new.Given as goal
 
 -- the entries so far, and the visits that they took

@@ -1,0 +1,228 @@
+-- Fields by name: which key paths they stand for as they grow, and where they lead.
+use Rattle.std.proofs.Common.{◌≡◌, ℕ, zero, suc, ◌≤◌, ◌<◌, List, [], ◌∷◌, ◌++◌, Some, None, Bool, true, false, cond, refl, sym, ap, ◌∙◌, subst, nat_eq, slice_get, length, arith, max, Bor}
+use Rattle.std.specs.Prelude.{◌&&◌, ◌||◌, Vec, nat_lt}
+use Rattle.std.specs.BTreeMap.{BTreeMap, insert_entry, is_at}
+use Rattle.std.specs.Cmp.Lexicographic.{slice_cmp}
+use Rattle.std.specs.FinSet as set
+use Rattle.std.specs.List.{AllByRecursion, list_any}
+use Rattle.std.specs.Map.{lookup, set_value}
+use Rattle.std.specs.Ordering.{is_eq, match_ordering, nat_cmp}
+use Rattle.std.specs.declared.alloc.Global.{Global}
+use Rattle.std.specs.declared.cmp.Ordering.{Ordering}
+use Rattle.std.specs.declared.cmp.Ordering.TheVariants.{Less, Equal, Greater}
+use Rattle.std.proofs.lemmas.Bool.{eqb-true, lt-ltb, ltb-true}
+use Rattle.std.proofs.lemmas.Map.Text.{is_eq-slice_cmp}
+use Rattle.std.proofs.lemmas.Slice.Eq.{bytes_eq-Decides}
+use Rattle.facet_solver_shape.specs.Names.{Name}
+use Rattle.facet_solver.specs.Nested.{KeyPath, KeyPaths, Under, named, no_paths, paths_of_each}
+use Rattle.facet_solver.specs.NestedTable.{EntryLeadsTo, LeadTo, paths_by_name}
+use Rattle.facet_solver.specs.declared.build.nested.by_name.FieldsByName.{FieldsByName}
+use Rattle.facet_solver.specs.declared.build.nested.table.Entry.{Entry}
+use Rattle.facet_solver.proofs.NestedSets.{Has, Has-left, Has-right, named-union, union_assoc, union_comm, union_swap, union_within}
+
+-- ---- the shapes behind a name
+module _ {X : Type 0} (paths : X → KeyPaths) where
+  pub of_each-push : (xs : List X) (x : X) → paths_of_each paths (xs ++ x ∷ []) ≡ set.union (paths_of_each paths xs) (paths x)
+  of_each-push [] x = union_comm (paths x) no_paths
+  of_each-push (y ∷ xs) x = ap (λ (s : KeyPaths). set.union (paths y) s) (of_each-push xs x) ∙ union_assoc (paths y) (paths_of_each paths xs) (paths x)
+
+module _ (under : Under) (id : ℕ) where
+  in_each : (ids : List ℕ) → list_any (λ y. nat_eq y id) ids ≡ true → (q : KeyPath) → Has (under id) q → Has (paths_of_each under ids) q
+  in_each [] e q h = absurd (cc)
+  in_each (k ∷ ids) e q h = go (nat_eq k id) refl e (λ later. in_each ids later q h)
+    where
+      go : (b : Bool) → nat_eq k id ≡ b → (b || list_any (λ y. nat_eq y id) ids) ≡ true → (list_any (λ y. nat_eq y id) ids ≡ true → Has (paths_of_each under ids) q) → Has (set.union (under k) (paths_of_each under ids)) q
+      go true is e rest = Has-left (under k) (paths_of_each under ids) q (subst (λ (i : ℕ). Has (under i) q) (sym (eqb-true k id is)) h)
+      go false is e rest = Has-right (under k) (paths_of_each under ids) q (rest e)
+
+  -- a shape that is known adds nothing
+  pub of_each-known : (ids : List ℕ) → list_any (λ y. nat_eq y id) ids ≡ true → set.union (paths_of_each under ids) (under id) ≡ paths_of_each under ids
+  of_each-known ids e = union_within (paths_of_each under ids) (under id) (in_each ids e)
+
+-- ---- what all have, each has
+module _ {X : Type 0} (P : X → Type 0) where
+  pub each_push : (xs : List X) (x : X) → AllByRecursion P xs → P x → AllByRecursion P (xs ++ x ∷ [])
+  each_push [] x h p = (p, tt)
+  each_push (y ∷ xs) x h p = (h.0, each_push xs x h.1 p)
+
+  pub each_at : (xs : List X) (i : ℕ) (x : X) → AllByRecursion P xs → slice_get xs i ≡ Some x → P x
+  each_at [] i x h e = absurd (cc)
+  each_at (y ∷ xs) zero x h e = let same : y ≡ x = cc in subst P same h.0
+  each_at (y ∷ xs) (suc i) x h e = each_at xs i x h.1 e
+
+  pub each_also : (Q : X → Type 0) → ((x : X) → P x → Q x) → (xs : List X) → AllByRecursion P xs → AllByRecursion Q xs
+  each_also Q f [] h = tt
+  each_also Q f (x ∷ xs) h = (f x h.0, each_also Q f xs h.1)
+
+-- ---- a map of names grows
+module _ {K X : Type 0} (paths : K × X → KeyPaths) where
+  -- a value is written that stands for more
+  pub paths-set_value : (test : K → Bool) (es : List (K × X)) (v w : X) (more : KeyPaths) → lookup test es ≡ Some v → ((k : K) → test k ≡ true → paths (k, w) ≡ set.union (paths (k, v)) more)
+      → paths_of_each paths (set_value test es w) ≡ set.union (paths_of_each paths es) more
+  paths-set_value test [] v w more at h = absurd (cc)
+  paths-set_value test (e ∷ es) v w more at h = go (test e.0) refl at (λ later. paths-set_value test es v w more later h)
+    where
+      go : (b : Bool) → test e.0 ≡ b → cond b (Some e.1) (lookup test es) ≡ Some v
+          → (lookup test es ≡ Some v → paths_of_each paths (set_value test es w) ≡ set.union (paths_of_each paths es) more)
+          → paths_of_each paths (cond b ((e.0, w) ∷ es) (e ∷ set_value test es w)) ≡ set.union (set.union (paths e) (paths_of_each paths es)) more
+      go true is at rest =
+          let same : e.1 ≡ v = cc in
+          ap (λ (s : KeyPaths). set.union s (paths_of_each paths es)) (h e.0 is ∙ ap (λ (x : X). set.union (paths (e.0, x)) more) (sym same))
+          ∙ union_swap (paths e) more (paths_of_each paths es)
+      go false is at rest = ap (λ (s : KeyPaths). set.union (paths e) s) (rest at) ∙ union_assoc (paths e) (paths_of_each paths es) more
+
+  -- a new key is put in
+  pub paths-insert_entry : (cmp : K → K → Ordering) (es : List (K × X)) (k : K) (v : X) → lookup (is_at (cmp k)) es ≡ None → paths_of_each paths (insert_entry cmp es k v) ≡ set.union (paths_of_each paths es) (paths (k, v))
+  paths-insert_entry cmp [] k v at = union_comm (paths (k, v)) no_paths
+  paths-insert_entry cmp (e ∷ es) k v at = go (cmp k e.0) at (λ later. paths-insert_entry cmp es k v later)
+    where
+      go : (o : Ordering) → cond (is_eq o) (Some e.1) (lookup (is_at (cmp k)) es) ≡ None
+          → (lookup (is_at (cmp k)) es ≡ None → paths_of_each paths (insert_entry cmp es k v) ≡ set.union (paths_of_each paths es) (paths (k, v)))
+          → paths_of_each paths (match_ordering o ((k, v) ∷ e ∷ es) ((e.0, v) ∷ es) (e ∷ insert_entry cmp es k v)) ≡ set.union (set.union (paths e) (paths_of_each paths es)) (paths (k, v))
+      go Less at rest = union_comm (paths (k, v)) (set.union (paths e) (paths_of_each paths es))
+      go Equal at rest = absurd (cc)
+      go Greater at rest = ap (λ (s : KeyPaths). set.union (paths e) s) (rest at) ∙ union_assoc (paths e) (paths_of_each paths es) (paths (k, v))
+
+module _ {K X : Type 0} (P : X → Type 0) where
+  pub each-set_value : (test : K → Bool) (es : List (K × X)) (w : X) → AllByRecursion (λ e. P e.1) es → P w → AllByRecursion (λ e. P e.1) (set_value test es w)
+  each-set_value test [] w h p = tt
+  each-set_value test (e ∷ es) w h p = go (test e.0) (each-set_value test es w h.1 p)
+    where
+      go : (b : Bool) → AllByRecursion (λ (e : K × X). P e.1) (set_value test es w) → AllByRecursion (λ (e : K × X). P e.1) (cond b ((e.0, w) ∷ es) (e ∷ set_value test es w))
+      go true rest = (p, h.1)
+      go false rest = (h.0, rest)
+
+  pub each-insert_entry : (cmp : K → K → Ordering) (es : List (K × X)) (k : K) (v : X) → AllByRecursion (λ e. P e.1) es → P v → AllByRecursion (λ e. P e.1) (insert_entry cmp es k v)
+  each-insert_entry cmp [] k v h p = (p, tt)
+  each-insert_entry cmp (e ∷ es) k v h p = go (cmp k e.0) (each-insert_entry cmp es k v h.1 p)
+    where
+      go : (o : Ordering) → AllByRecursion (λ (e : K × X). P e.1) (insert_entry cmp es k v) → AllByRecursion (λ (e : K × X). P e.1) (match_ordering o ((k, v) ∷ e ∷ es) ((e.0, v) ∷ es) (e ∷ insert_entry cmp es k v))
+      go Less rest = (p, h)
+      go Equal rest = (p, h.1)
+      go Greater rest = (h.0, rest)
+
+  pub each-lookup : (test : K → Bool) (es : List (K × X)) (v : X) → AllByRecursion (λ e. P e.1) es → lookup test es ≡ Some v → P v
+  each-lookup test [] v h at = absurd (cc)
+  each-lookup test (e ∷ es) v h at = go (test e.0) at (each-lookup test es v h.1)
+    where
+      go : (b : Bool) → cond b (Some e.1) (lookup test es) ≡ Some v → (lookup test es ≡ Some v → P v) → P v
+      go true at rest = let same : e.1 ≡ v = cc in subst P same h.0
+      go false at rest = rest at
+
+-- ---- where names lead
+-- of two that both hold
+pub first_of : (a b : Bool) → (a && b) ≡ true → a ≡ true
+first_of true b e = refl
+first_of false b e = e
+
+pub second_of : (a b : Bool) → (a && b) ≡ true → b ≡ true
+second_of true b e = e
+second_of false b e = absurd (cc)
+
+pub both_of : (a b : Bool) → a ≡ true → b ≡ true → (a && b) ≡ true
+both_of true b e f = f
+both_of false b e f = e
+
+module _ (p q : ℕ → Bool) (also : (id : ℕ) → p id ≡ true → q id ≡ true) where
+  pub leads_also : (fields : FieldsByName) → LeadTo p fields → LeadTo q fields
+  leads_also fields h = each_also _ _ (λ e. each_also _ _ also e.1.items) fields.by_name.entries h
+
+  pub entry_leads_also : (entry : Entry) → EntryLeadsTo p entry → EntryLeadsTo q entry
+  entry_leads_also entry h = record { under = leads_also entry.under h.under; variants = each_also (LeadTo p) (LeadTo q) leads_also entry.variants.items h.variants }
+
+-- ---- how far the shapes behind names reach: less than this
+unfoldable pub limit_of_shapes : List ℕ → ℕ
+limit_of_shapes [] = 0
+limit_of_shapes (id ∷ ids) = max (suc id) (limit_of_shapes ids)
+
+unfoldable pub limit_of_names : List (Bor Name × Vec ℕ Global) → ℕ
+limit_of_names [] = 0
+limit_of_names (e ∷ es) = max (limit_of_shapes e.1.items) (limit_of_names es)
+
+pub below_limit : (ids : List ℕ) (limit : ℕ) → limit_of_shapes ids ≤ suc limit → AllByRecursion (λ id. id ≤ limit) ids
+unfolding limit_of_shapes
+below_limit [] limit h = tt
+below_limit (id ∷ ids) limit h = (omega arith, below_limit ids limit (omega arith))
+
+pub limit-at : (ids : List ℕ) (i id : ℕ) → slice_get ids i ≡ Some id → id < limit_of_shapes ids
+unfolding limit_of_shapes
+limit-at [] i id e = absurd (cc)
+limit-at (k ∷ ids) zero id e = let same : k ≡ id = cc in omega (arith, same)
+limit-at (k ∷ ids) (suc i) id e = let rest = limit-at ids i id e in omega (arith, rest)
+
+pub limit-some : (ids : List ℕ) → 0 < length ids → 0 < limit_of_shapes ids
+unfolding limit_of_shapes
+limit-some [] h = absurd (omega arith)
+limit-some (id ∷ ids) h = omega arith
+
+module _ (limit : ℕ) (passes : ℕ → Bool) where
+  limit-shapes : (ids : List ℕ) → AllByRecursion (λ t. (nat_lt t limit && passes t) ≡ true) ids → limit_of_shapes ids ≤ limit
+  unfolding limit_of_shapes
+  limit-shapes [] h = omega arith
+  limit-shapes (id ∷ ids) h =
+      let rest = limit-shapes ids h.1 in
+      let below = ltb-true id limit (first_of (nat_lt id limit) (passes id) h.0) in
+      omega (arith, rest, below)
+
+  pub limit-names : (es : List (Bor Name × Vec ℕ Global)) → AllByRecursion (λ e. AllByRecursion (λ t. (nat_lt t limit && passes t) ≡ true) e.1.items) es → limit_of_names es ≤ limit
+  unfolding limit_of_names
+  limit-names [] h = omega arith
+  limit-names (e ∷ es) h =
+      let first = limit-shapes e.1.items h.0 in
+      let rest = limit-names es h.1 in
+      omega (arith, first, rest)
+
+pub limit-first : (e : Bor Name × Vec ℕ Global) (es : List (Bor Name × Vec ℕ Global)) (limit : ℕ) → limit_of_names (e ∷ es) ≤ limit → (limit_of_shapes e.1.items ≤ limit) × (limit_of_names es ≤ limit)
+unfolding limit_of_names
+limit-first e es limit h = (omega arith, omega arith)
+
+-- ---- fields of one more name
+module _ (m n : BTreeMap (Bor Name) (Vec ℕ Global)) (name : Name) (shapes : List ℕ) where
+  abbrev at_name : Bor Name → Bool
+  at_name = is_at (λ k. slice_cmp nat_cmp name k.now)
+
+  abbrev by : BTreeMap (Bor Name) (Vec ℕ Global) → FieldsByName
+  by entries = record { by_name = entries }
+
+  -- more shapes were written behind a name that is there
+  pub written_paths : (under : Under) (v w : Vec ℕ Global) → lookup at_name m.entries ≡ Some v → n.entries ≡ set_value at_name m.entries w
+      → paths_of_each under w.items ≡ set.union (paths_of_each under v.items) (paths_of_each under shapes)
+      → paths_by_name under (by n) ≡ set.union (paths_by_name under (by m)) (named name (paths_of_each under shapes))
+  written_paths under v w at is more =
+      ap (paths_of_each (λ (e : Bor Name × Vec ℕ Global). named e.0.now (paths_of_each under e.1.items))) is
+      ∙ paths-set_value _ at_name m.entries v w (named name (paths_of_each under shapes)) at
+      (λ k same.
+      let named_so : name ≡ k.now = (bytes_eq-Decides name k.now).0 (sym (is_eq-slice_cmp name k.now) ∙ same) in
+      ap (named k.now) more
+      ∙ named-union k.now (paths_of_each under v.items) (paths_of_each under shapes)
+      ∙ ap (λ (q : Name). set.union (named k.now (paths_of_each under v.items)) (named q (paths_of_each under shapes))) (sym named_so))
+
+  pub written_lead : (passes : ℕ → Bool) (v w : Vec ℕ Global) → lookup at_name m.entries ≡ Some v → n.entries ≡ set_value at_name m.entries w
+      → (AllByRecursion (λ id. passes id ≡ true) v.items → AllByRecursion (λ id. passes id ≡ true) w.items)
+      → LeadTo passes (by m) → LeadTo passes (by n)
+  written_lead passes v w at is more h =
+      let P : Vec ℕ Global → Type 0 = λ ids. AllByRecursion (λ id. passes id ≡ true) ids.items in
+      subst (λ (es : List (Bor Name × Vec ℕ Global)). AllByRecursion (λ (e : Bor Name × Vec ℕ Global). P e.1) es) (sym is)
+      (each-set_value P at_name m.entries w h (more (each-lookup P at_name m.entries v h at)))
+
+-- a name that is new was put in with its shapes
+module _ (m n : BTreeMap (Bor Name) (Vec ℕ Global)) (name : Bor Name) (w : Vec ℕ Global) (at : lookup (at_name m n name.now w.items) m.entries ≡ None)
+    (is : n.entries ≡ insert_entry (λ (x y : Bor Name). slice_cmp nat_cmp x.now y.now) m.entries name w) where
+  pub put_paths : (under : Under) → paths_by_name under (record { by_name = n }) ≡ set.union (paths_by_name under (record { by_name = m })) (named name.now (paths_of_each under w.items))
+  put_paths under =
+      ap (paths_of_each (λ (e : Bor Name × Vec ℕ Global). named e.0.now (paths_of_each under e.1.items))) is
+      ∙ paths-insert_entry _ (λ (x y : Bor Name). slice_cmp nat_cmp x.now y.now) m.entries name w at
+
+  pub put_lead : (passes : ℕ → Bool) → LeadTo passes (record { by_name = m }) → AllByRecursion (λ id. passes id ≡ true) w.items → LeadTo passes (record { by_name = n })
+  put_lead passes h p =
+      let P : Vec ℕ Global → Type 0 = λ ids. AllByRecursion (λ id. passes id ≡ true) ids.items in
+      subst (λ (es : List (Bor Name × Vec ℕ Global)). AllByRecursion (λ (e : Bor Name × Vec ℕ Global). P e.1) es) (sym is)
+      (each-insert_entry P (λ (x y : Bor Name). slice_cmp nat_cmp x.now y.now) m.entries name w h p)
+
+-- what leads to earlier shapes than one leads to earlier ones than a later one
+pub leads_below : (filled : ℕ → Bool) (id limit : ℕ) → id ≤ limit → (fields : FieldsByName) → LeadTo (λ t. nat_lt t id && filled t) fields → LeadTo (λ t. nat_lt t limit && filled t) fields
+leads_below filled id limit le =
+    leads_also _ _
+    (λ t h.
+    let lt = ltb-true t id (first_of (nat_lt t id) (filled t) h) in
+    both_of (nat_lt t limit) (filled t) (lt-ltb t limit (omega (arith, lt, le))) (second_of (nat_lt t id) (filled t) h))

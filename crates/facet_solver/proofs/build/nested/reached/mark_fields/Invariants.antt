@@ -1,0 +1,11 @@
+use Rattle.std.proofs.Common.{◌<◌, ℕ, get_or}
+use Rattle.facet_solver_shape.specs.Catalogues.{FieldsBelow}
+use Rattle.facet_solver_shape.specs.declared.shape.Field.{Field}
+use Rattle.facet_solver.specs.Reached.{FieldReached, IsReachedMore, reach}
+use Rattle.facet_solver.proofs.build.nested.reached.mark_fields.Given as goal
+
+-- what those so far lead to is marked
+abbrev pub invariant-loop-field : goal.invariant-loop-field
+invariant-loop-field l =
+    ((limit : ℕ) → FieldsBelow limit l.fields → IsReachedMore limit (reach l.fn.walked l.fn.structs) (reach l.walked l.structs))
+    × ((i : ℕ) (d : Field) → i < l.field-index → FieldReached (reach l.walked l.structs) l.shapes (get_or l.fields i d))

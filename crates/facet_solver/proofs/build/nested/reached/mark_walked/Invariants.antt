@@ -1,0 +1,16 @@
+use Rattle.std.proofs.Common.{◌≡◌, ◌≤◌, ℕ, length}
+use Rattle.facet_solver.specs.Build.{build_of}
+use Rattle.facet_solver.specs.NestedTable.{IsMarked}
+use Rattle.facet_solver.specs.Reached.{IsReachedAt, IsReachedMore, reach}
+use Rattle.facet_solver.proofs.build.nested.reached.mark_walked.Given as goal
+
+-- what the marked shapes from an index on lead to is marked
+abbrev pub invariant-loop-left : goal.invariant-loop-left
+invariant-loop-left l =
+    (l.left ≤ length l.fn.walked)
+    × IsReachedMore (length l.fn.walked) (reach l.fn.walked l.fn.structs) (reach l.walked l.structs)
+    × (length l.apart ≡ length l.fn.apart)
+    × ((id : ℕ) → l.left ≤ id → IsMarked l.walked id → IsReachedAt (reach l.walked l.structs) l.apart (build_of l.build) id)
+
+abbrev pub decreases-loop-left : goal.decreases-loop-left
+decreases-loop-left l = l.left

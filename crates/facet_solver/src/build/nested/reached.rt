@@ -1,0 +1,189 @@
+//! Marks, by index, of the shapes that the walks of a root's choices go through, and of those whose nested key paths they
+//! ask for.
+ghost use Rattle.std.specs.Prelude.{◌≡◌, ◌+◌, ◌<◌, ℕ, All, true, length};
+ghost use Rattle.facet_solver_shape.specs.Catalogues.{FieldsBelow, NamesEarlier, VariantsBelow};
+ghost use Rattle.facet_solver.specs.Build.{build_of, kind_at};
+ghost use Rattle.facet_solver.specs.Nested.{every_kind, structs_alone};
+ghost use Rattle.facet_solver.specs.NestedTable.{IsClosed, IsMarked, IsMarkedMore};
+ghost use Rattle.facet_solver.specs.Reached.{ContentReached, FieldReached, IsReachedAt, IsReachedMore, RootReached, VariantReached, reach};
+
+use crate::build::Build;
+use crate::build::content::newtype_struct;
+use crate::build::nested::Entered;
+use crate::build::nested::marks::close_marks;
+use crate::build::role::{Role, role_of};
+use facet_solver_shape::{Field, ShapeId, ShapeKind, Shapes, Variant};
+
+/// Marks what the walks of a root's choices go through: in `structs` the structs whose nested key paths they ask for, in
+/// `apart` the enums whose content is written apart, each with all shapes that its key paths are made from.
+pub(crate) fn mark_reached(
+    build: Build,
+    root: ShapeId,
+    walked: &mut [bool],
+    structs: &mut [bool],
+    apart: &mut [bool],
+)
+    requires root { root < length build.shapes.now }
+    requires walked { length walked.old ≡ length build.shapes.now }
+    requires structs { length structs.old ≡ length build.shapes.now }
+    requires apart { length apart.old ≡ length build.shapes.now }
+    ensures structs_length { length structs.new ≡ length build.entry.shapes.now }
+    ensures apart_length { length apart.new ≡ length build.entry.shapes.now }
+    ensures root { RootReached (reach walked.new structs.new) build.entry.shapes.now root }
+    ensures walked { (id : ℕ) → IsMarked walked.new id
+        → IsReachedAt (reach walked.new structs.new) apart.new (build_of build.entry) id }
+    ensures structs { IsClosed structs_alone build.entry.shapes.now structs.new }
+    ensures apart { IsClosed every_kind build.entry.shapes.now apart.new }
+{
+    mark_root(build, root, walked, structs);
+    mark_walked(build, walked, structs, apart);
+    close_marks(build.shapes, Entered::StructsAlone, structs);
+    close_marks(build.shapes, Entered::EveryKind, apart);
+}
+
+/// Marks what a root leads to. An enum's content is walked, whatever its representation.
+fn mark_root(build: Build, root: ShapeId, walked: &mut [bool], structs: &mut [bool])
+    requires root { root < length build.shapes.now }
+    requires walked { length walked.old ≡ length build.shapes.now }
+    requires structs { length structs.old ≡ length walked.old }
+    ensures more { IsReachedMore (length walked.old) (reach walked.old structs.old)
+        (reach walked.new structs.new) }
+    ensures checked { NamesEarlier build.entry.shapes.now }
+    ensures reached { RootReached (reach walked.new structs.new) build.entry.shapes.now root }
+{
+    match &build.shape(root).kind {
+        ShapeKind::Struct { fields, .. } => mark_fields(build.shapes, fields, walked, structs),
+        ShapeKind::Enum { variants } => mark_variants(build.shapes, variants, walked, structs),
+        _ => {}
+    }
+}
+
+/// Marks what the marked shapes lead to, from the last index down: what a shape leads to stands before it. An enum whose
+/// content is written apart is marked in `apart`.
+fn mark_walked(build: Build, walked: &mut [bool], structs: &mut [bool], apart: &mut [bool])
+    requires checked { NamesEarlier build.shapes.now }
+    requires structs { length structs.old ≡ length walked.old }
+    requires apart { length apart.old ≡ length walked.old }
+    ensures more { IsReachedMore (length walked.old) (reach walked.old structs.old)
+        (reach walked.new structs.new) }
+    ensures apart { length apart.new ≡ length apart.old }
+    ensures closed { (id : ℕ) → IsMarked walked.new id
+        → IsReachedAt (reach walked.new structs.new) apart.new (build_of build.entry) id }
+{
+    let mut left = walked.len();
+    while left > 0 {
+        left -= 1;
+        if walked[left] {
+            mark_shape(build, left, walked, structs, apart);
+        }
+    }
+}
+
+/// Marks what the shape at an index leads to, or the shape itself in `apart` where it is an enum whose content is written
+/// apart.
+fn mark_shape(
+    build: Build,
+    index: usize,
+    walked: &mut [bool],
+    structs: &mut [bool],
+    apart: &mut [bool],
+)
+    requires checked { NamesEarlier build.shapes.now }
+    requires within { index < length walked.old }
+    requires structs { length structs.old ≡ length walked.old }
+    requires apart { length apart.old ≡ length walked.old }
+    ensures more { IsReachedMore index (reach walked.old structs.old)
+        (reach walked.new structs.new) }
+    ensures apart { IsMarkedMore (index + 1) apart.old apart.new }
+    ensures reached { IsReachedAt (reach walked.new structs.new) apart.new
+        (build_of build.entry) index }
+{
+    let Some(shape) = build.shapes.get(ShapeId::new(index)) else {
+        return;
+    };
+    match &shape.kind {
+        ShapeKind::Struct { fields, .. } => mark_fields(build.shapes, fields, walked, structs),
+        ShapeKind::Enum { variants } => {
+            if build.walks_content(shape) {
+                mark_variants(build.shapes, variants, walked, structs);
+            } else {
+                apart[index] = true;
+            }
+        }
+        _ => {}
+    }
+}
+
+/// Marks what the content of variants leads to.
+fn mark_variants(shapes: &Shapes, variants: &[Variant], walked: &mut [bool], structs: &mut [bool])
+    requires checked { NamesEarlier shapes.now }
+    requires below { VariantsBelow (length walked.old) variants.now }
+    requires structs { length structs.old ≡ length walked.old }
+    ensures more { (limit : ℕ) → VariantsBelow limit variants.now
+        → IsReachedMore limit (reach walked.old structs.old) (reach walked.new structs.new) }
+    ensures reached { All (VariantReached (reach walked.new structs.new) shapes.now)
+        variants.now }
+{
+    for variant in variants {
+        mark_content(shapes, &variant.fields, walked, structs);
+    }
+}
+
+/// Marks what the content of a variant with these fields leads to: the struct of a newtype, or else what the fields do.
+fn mark_content(shapes: &Shapes, fields: &[Field], walked: &mut [bool], structs: &mut [bool])
+    requires checked { NamesEarlier shapes.now }
+    requires below { FieldsBelow (length walked.old) fields.now }
+    requires structs { length structs.old ≡ length walked.old }
+    ensures more { (limit : ℕ) → FieldsBelow limit fields.now
+        → IsReachedMore limit (reach walked.old structs.old) (reach walked.new structs.new) }
+    ensures reached { ContentReached (reach walked.new structs.new) shapes.now fields.now }
+{
+    match newtype_struct(shapes, fields) {
+        Some(id) => walked[id.index()] = true,
+        None => mark_fields(shapes, fields, walked, structs),
+    }
+}
+
+/// Marks what fields lead to.
+fn mark_fields(shapes: &Shapes, fields: &[Field], walked: &mut [bool], structs: &mut [bool])
+    requires checked { NamesEarlier shapes.now }
+    requires below { FieldsBelow (length walked.old) fields.now }
+    requires structs { length structs.old ≡ length walked.old }
+    ensures more { (limit : ℕ) → FieldsBelow limit fields.now
+        → IsReachedMore limit (reach walked.old structs.old) (reach walked.new structs.new) }
+    ensures reached { All (FieldReached (reach walked.new structs.new) shapes.now) fields.now }
+{
+    for field in fields {
+        mark_field(shapes, field, walked, structs);
+    }
+}
+
+/// Marks what a field leads to.
+fn mark_field(shapes: &Shapes, field: &Field, walked: &mut [bool], structs: &mut [bool])
+    requires checked { NamesEarlier shapes.now }
+    requires below { field.now.shape < length walked.old }
+    requires structs { length structs.old ≡ length walked.old }
+    ensures more { IsReachedMore (field.now.shape + 1) (reach walked.old structs.old)
+        (reach walked.new structs.new) }
+    ensures reached { FieldReached (reach walked.new structs.new) shapes.now field.now }
+{
+    match role_of(shapes, field) {
+        Role::Regular => mark_regular(shapes, field.shape, structs),
+        Role::Block(target, _) | Role::Alternatives(target, _, _) => {
+            walked[target.shape.index()] = true;
+        }
+        Role::CatchAll(_) | Role::Leaf(_) => {}
+    }
+}
+
+/// Marks the shape of a regular field where it is a struct.
+fn mark_regular(shapes: &Shapes, id: ShapeId, structs: &mut [bool])
+    requires { id < length structs.old }
+    ensures more { IsMarkedMore (id + 1) structs.old structs.new }
+    ensures reached { structs_alone (kind_at shapes.now id) ≡ true
+        → IsMarked structs.new id }
+{
+    if Entered::StructsAlone.has(shapes, id) {
+        structs[id.index()] = true;
+    }
+}
