@@ -238,12 +238,18 @@ fn input_of_enums(alloc: Global, count: u8, document: &str) -> Result<String, Al
     let mut comma = "";
     for index in 0..usize::from(count) {
         let shape = index + 1;
-        shapes.push_str(&format!(in alloc; r#",{{"id":"E{index}","kind":"enum","variants":[{{"name":"A{index}","fields":[{{"name":"a{index}","shape":0}}]}},{{"name":"B{index}","fields":[{{"name":"b{index}","shape":0}}]}}]}}"#)?)?;
-        fields.push_str(&format!(in alloc; r#"{comma}{{"name":"e{index}","shape":{shape},"flatten":true}}"#)?)?;
+        shapes.push_str(&format!(in alloc;
+            r#",{{"id":"E{index}","kind":"enum","variants":[{{"name":"A{index}","fields":[{{"name":"a{index}","shape":0}}]}},{{"name":"B{index}","fields":[{{"name":"b{index}","shape":0}}]}}]}}"#
+        )?)?;
+        fields.push_str(&format!(in alloc;
+            r#"{comma}{{"name":"e{index}","shape":{shape},"flatten":true}}"#
+        )?)?;
         comma = ",";
     }
     let root = usize::from(count) + 1;
-    format!(in alloc; r#"{{"shapes":[{shapes},{{"id":"S","kind":"struct","fields":[{fields}]}}],"root":{root},"document":{document}}}"#)
+    format!(in alloc;
+        r#"{{"shapes":[{shapes},{{"id":"S","kind":"struct","fields":[{fields}]}}],"root":{root},"document":{document}}}"#
+    )
 }
 
 #[test]
