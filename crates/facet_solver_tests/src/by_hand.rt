@@ -2,8 +2,8 @@
 
 use crate::catalogue::Catalogue;
 use crate::error_by_hand::ErrorByHand;
-use crate::line::{BAR, Stop, barred, word};
-use crate::resolution::{category_of, of_resolution, refusal};
+use crate::line::{BAR, Stop, barred, told, word};
+use crate::resolution::{category_of, of_resolution, refusal, whole};
 use facet_solver::{
     Field, FieldCategory, FieldInfo, FieldPath, KeyPath, PathSegment, Resolution, SchemaError,
     ShapeId,
@@ -42,7 +42,22 @@ where
         }
     }
 
-    /// What a call answers.
+    /// All that calls change: both resolutions and the path. It is tried twice.
+    pub fn state(&self) -> Result<String, AllocError> {
+        match self.whole() {
+            Err(AllocError) => self.whole(),
+            whole => whole,
+        }
+    }
+
+    fn whole(&self) -> Result<String, AllocError> {
+        let path = &self.path;
+        let resolution = whole(self.catalogue, &self.resolution)?;
+        let other = whole(self.catalogue, &self.other)?;
+        format!(in self.catalogue.alloc; "{path}, {resolution}, {other}")
+    }
+
+    /// What a call answers. Where memory is refused it may be made again: what it is about is as it was.
     pub fn answer(&mut self, words: &mut SplitWhitespace<'t>) -> Result<String, Stop> {
         match word(words)? {
             "add_field" => self.add_field(words),
@@ -75,8 +90,12 @@ where
     fn no_match(&mut self) -> Result<String, AllocError> {
         let alloc = self.catalogue.alloc;
         let lists = mem::replace(&mut self.error, ErrorByHand::new(alloc));
-        self.told = lists.into_error().to_string(alloc)?;
-        String::from_str(alloc, "ok")
+        let error = lists.into_error();
+        self.told = match error.to_string(alloc) {
+            Err(AllocError) => error.to_string(alloc)?,
+            Ok(told) => told,
+        };
+        told(alloc, "ok")
     }
 
     // What a call answers that is about the path, or that reads the resolution.
@@ -90,8 +109,9 @@ where
             "last" => return Ok(self.last()?),
             _ => return of_resolution(self.catalogue, &self.resolution, call, words),
         };
+        let answer = format!(in alloc; "{} {path}", path.depth())?;
         drop(mem::replace(&mut self.path, path));
-        Ok(format!(in alloc; "{} {}", self.path.depth(), self.path)?)
+        Ok(answer)
     }
 
     fn last(&self) -> Result<String, AllocError> {
@@ -105,7 +125,7 @@ where
 
     fn done(&mut self, outcome: Result<(), SchemaError<'c>>) -> Result<String, Stop> {
         match outcome {
-            Ok(()) => Ok(String::from_str(self.catalogue.alloc, "ok")?),
+            Ok(()) => Ok(told(self.catalogue.alloc, "ok")?),
             Err(error) => {
                 self.told = error.to_string(self.catalogue.alloc)?;
                 refusal(self.catalogue.alloc, &error)

@@ -60,6 +60,8 @@ impl<'c> ErrorByHand<'c> {
 
     // A failure of the missing and unknown fields so far, which are then none again.
     fn add_failure(&mut self, variant_name: String) -> Result<(), Stop> {
+        // The lists are moved, so nothing is to be refused behind that.
+        self.failures.reserve(1)?;
         self.failures.push(CandidateFailure {
             variant_name,
             missing_fields: mem::replace(&mut self.missing, Vec::new(self.alloc)),

@@ -1,7 +1,6 @@
-//! What only code can show: names, derives, how long values live, and what stays where memory is refused.
+//! What only code can show: names, derives, and how long values live.
 
 mod errors;
-mod refused;
 
 use crate::line::Stop;
 use crate::public_names::public_types_have_their_derives;
@@ -15,7 +14,6 @@ use facet_solver::{
     ResolutionHandle, ScalarType, Schema, SchemaError, Shape, ShapeId, ShapeKind, Shapes, Solver,
     SolverError, specificity_score,
 };
-use refused::{a_refused_key_leaves_the_solver_as_it_was, a_refused_run_has_made_the_calls_before};
 use std::alloc::{AllocError, AllocFailed, Global};
 
 /// Why a check does not hold.
@@ -43,7 +41,7 @@ impl From<Stop> for Failure {
     fn from(stop: Stop) -> Failure {
         match stop {
             Stop::Refused => Failure::Refused,
-            Stop::Unread => Failure::Broken("the types can't be read"),
+            Stop::Unread | Stop::Broken => Failure::Broken("the types can't be read"),
         }
     }
 }
@@ -84,8 +82,6 @@ pub enum Check {
     ShapeOutlives,
     EqualHandles,
     ProbedOutlives,
-    RefusedKey,
-    RefusedRun,
     RefusedMemory,
     Escapes,
     SecondField,
@@ -94,7 +90,7 @@ pub enum Check {
 }
 
 /// The checks, by name.
-pub const CHECKS: [(&str, Check); 16] = [
+pub const CHECKS: [(&str, Check); 14] = [
     ("public_types_have_their_derives", Check::PublicTypes),
     ("keys_have_names_and_an_order", Check::Keys),
     ("a_catalogue_gives_its_shapes", Check::Catalogue),
@@ -116,11 +112,6 @@ pub const CHECKS: [(&str, Check); 16] = [
         Check::ProbedOutlives,
     ),
     ("handles_are_equal_by_their_numbers", Check::EqualHandles),
-    (
-        "a_refused_key_leaves_the_solver_as_it_was",
-        Check::RefusedKey,
-    ),
-    ("a_refused_run_has_made_the_calls_before", Check::RefusedRun),
     ("refused_memory_has_a_text", Check::RefusedMemory),
     ("names_in_lists_are_escaped", Check::Escapes),
     ("a_second_field_is_an_error_of_a_schema", Check::SecondField),
@@ -141,8 +132,6 @@ impl Check {
             Check::ShapeOutlives => a_shape_outlives_its_schema(alloc),
             Check::EqualHandles => handles_are_equal_by_their_numbers(alloc),
             Check::ProbedOutlives => a_resolution_outlives_the_solver_that_was_probed(alloc),
-            Check::RefusedKey => a_refused_key_leaves_the_solver_as_it_was(alloc),
-            Check::RefusedRun => a_refused_run_has_made_the_calls_before(alloc),
             Check::RefusedMemory => refused_memory_has_a_text(alloc),
             Check::Escapes => names_in_lists_are_escaped(alloc),
             Check::SecondField => a_second_field_is_an_error_of_a_schema(alloc),

@@ -6,8 +6,10 @@ use std::str::SplitWhitespace;
 /// Why a line has no answer.
 #[derive(Drop)]
 pub enum Stop {
-    /// Memory was refused.
+    /// Memory was refused. What the line is about is as it was before.
     Refused,
+    /// A call that was refused memory left something else than it found, or had no need of memory.
+    Broken,
     /// A word is missing, or means nothing where it stands.
     Unread,
 }
@@ -29,6 +31,8 @@ impl<T: Drop> From<AllocFailed<T>> for Stop {
 pub enum End<'t> {
     /// Memory was refused.
     Refused,
+    /// A call of a line that was refused memory left something else than it found, or had no need of memory.
+    Broken(Line<'t>),
     /// A line has another answer than is wanted, or none where it can't be read.
     Wrong(Line<'t>, Option<String>),
 }
@@ -129,6 +133,7 @@ impl<'t> Line<'t> {
     pub fn end(&self, stop: Stop) -> End<'t> {
         match stop {
             Stop::Refused => End::Refused,
+            Stop::Broken => End::Broken(*self),
             Stop::Unread => End::Wrong(*self, None),
         }
     }
@@ -169,6 +174,14 @@ pub fn barred(alloc: Global, text: &str) -> Result<String, AllocError> {
         }
     }
     Ok(barred)
+}
+
+/// An answer of these words. It is tried twice, since the call behind it was made and is not to be made again.
+pub fn told(alloc: Global, words: &str) -> Result<String, AllocError> {
+    match String::from_str(alloc, words) {
+        Err(AllocError) => String::from_str(alloc, words),
+        told => told,
+    }
 }
 
 /// Adds a part to an answer, behind a blank.

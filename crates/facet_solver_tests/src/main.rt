@@ -1,4 +1,8 @@
-//! Runs the transcripts in the files that its arguments name, and then the checks that only code can make.
+//! Runs the transcripts in the files that its arguments name, and, for the argument `in_code`, the checks that only code can
+//! make.
+//!
+//! What it prints is the same where one request for memory is refused, whichever it is: what was refused is made again, and
+//! before that what was to change is compared with what it was.
 #![tactic(auto)]
 
 mod by_hand;
@@ -22,7 +26,10 @@ use std::io::ErrorKind;
 use std::process::ExitCode;
 use std::rt::{Env, Files};
 use std::{env, fs, io};
-use transcript::transcripts;
+use transcript::transcripts_twice;
+
+/// The argument that asks for the checks that only code can make.
+const IN_CODE: &str = "in_code";
 
 /// The status where a transcript or a check does not hold.
 const WRONG: u8 = 1;
@@ -51,7 +58,11 @@ impl Tally {
 }
 
 fn main(rt: HostRuntime) -> io::Result<ExitCode> {
-    match run(&rt) {
+    let outcome = match run(&rt) {
+        Err(error) if error.kind() == ErrorKind::OutOfMemory => run(&rt),
+        outcome => outcome,
+    };
+    match outcome {
         Ok(tally) => Ok(tally.status()),
         Err(error) if error.kind() == ErrorKind::OutOfMemory => {
             println!(rt; "refused")?;
@@ -66,13 +77,24 @@ fn run<R: Env + Files + AllocGlobal + Print>(rt: &R) -> io::Result<Tally> {
         wrong: 0,
         refused: 0,
     };
-    for file in env::args(rt)?.skip(1) {
-        run_file(rt, &mut tally, file.as_str())?;
-    }
-    for (name, check) in CHECKS {
-        report(rt, &mut tally, name, check.run(rt.alloc()))?;
+    for argument in env::args(rt)?.skip(1) {
+        match argument.as_str() {
+            IN_CODE => run_checks(rt, &mut tally)?,
+            file => run_file(rt, &mut tally, file)?,
+        }
     }
     Ok(tally)
+}
+
+fn run_checks<R: AllocGlobal + Print>(rt: &R, tally: &mut Tally) -> io::Result<()> {
+    for (name, check) in CHECKS {
+        let outcome = match check.run(rt.alloc()) {
+            Err(Failure::Refused) => check.run(rt.alloc()),
+            outcome => outcome,
+        };
+        report(rt, tally, name, outcome)?;
+    }
+    Ok(())
 }
 
 fn run_file<R: Files + AllocGlobal + Print>(
@@ -80,17 +102,23 @@ fn run_file<R: Files + AllocGlobal + Print>(
     tally: &mut Tally,
     file: &str,
 ) -> io::Result<()> {
-    let text = fs::read_to_string(rt, file)?;
-    let Ok(transcripts) = transcripts(rt.alloc(), text.as_str()) else {
-        tally.refused = tally.refused.saturating_add(1);
-        return println!(rt; "refused {file}");
-    };
-    for transcript in &transcripts {
-        match transcript.run(rt.alloc()) {
+    let text = read(rt, file)?;
+    for transcript in &transcripts_twice(rt.alloc(), text.as_str())? {
+        let end = match transcript.run(rt.alloc()) {
+            Err(End::Refused) => transcript.run(rt.alloc()),
+            end => end,
+        };
+        match end {
             Ok(()) => println!(rt; "ok {}", transcript.name)?,
             Err(End::Refused) => {
                 tally.refused = tally.refused.saturating_add(1);
                 println!(rt; "refused {}", transcript.name)?;
+            }
+            Err(End::Broken(line)) => {
+                tally.wrong = tally.wrong.saturating_add(1);
+                println!(rt; "wrong {}", transcript.name)?;
+                println!(rt; "  {file} line {}: {}", line.number, line.call())?;
+                println!(rt; "  was refused memory and changed something, or had no need of it")?;
             }
             Err(End::Wrong(line, came)) => {
                 tally.wrong = tally.wrong.saturating_add(1);
@@ -100,6 +128,13 @@ fn run_file<R: Files + AllocGlobal + Print>(
         }
     }
     Ok(())
+}
+
+fn read<R: Files + AllocGlobal>(rt: &R, file: &str) -> io::Result<String> {
+    match fs::read_to_string(rt, file) {
+        Err(error) if error.kind() == ErrorKind::OutOfMemory => fs::read_to_string(rt, file),
+        read => read,
+    }
 }
 
 // Says which line was wrong, what was wanted and what came.

@@ -1,6 +1,6 @@
 //! Calls of a solver that is only probed.
 
-use crate::line::{Stop, add, number, word};
+use crate::line::{Stop, add, number, told, word};
 use crate::resolution::path;
 use facet_solver::{ProbeResult, ProbingSolver, Schema};
 use std::alloc::{AllocError, Global};
@@ -34,14 +34,14 @@ impl<'s, 'c> Probing<'s, 'c> {
             "from" => self.from(words),
             "probe" => self.probe(words),
             "candidates" => Ok(self.candidates()?),
-            "finish" => Ok(probed(self.alloc, self.solver.finish())?),
+            "finish" => Ok(probed_told(self.alloc, &self.solver.finish())?),
             _ => Err(Stop::Unread),
         }
     }
 
     fn put(&mut self, solver: ProbingSolver<'s, 'c>) -> Result<String, AllocError> {
         drop(mem::replace(&mut self.solver, solver));
-        String::from_str(self.alloc, "ok")
+        told(self.alloc, "ok")
     }
 
     // A new solver of the resolutions from a number on.
@@ -55,7 +55,8 @@ impl<'s, 'c> Probing<'s, 'c> {
     fn probe(&mut self, words: &mut SplitWhitespace<'_>) -> Result<String, Stop> {
         let path = path(self.alloc, word(words)?)?;
         let (key, path) = path.split_last().ok_or(Stop::Unread)?;
-        Ok(probed(self.alloc, self.solver.probe_key(path, key))?)
+        let answer = self.solver.probe_key(path, key);
+        Ok(probed_told(self.alloc, &answer)?)
     }
 
     fn candidates(&self) -> Result<String, AllocError> {
@@ -67,8 +68,16 @@ impl<'s, 'c> Probing<'s, 'c> {
     }
 }
 
+// It is tried twice, since the call was made.
+fn probed_told(alloc: Global, answer: &ProbeResult<'_, '_>) -> Result<String, AllocError> {
+    match probed(alloc, answer) {
+        Err(AllocError) => probed(alloc, answer),
+        told => told,
+    }
+}
+
 // A resolution is told by its description.
-fn probed(alloc: Global, answer: ProbeResult<'_, '_>) -> Result<String, AllocError> {
+fn probed(alloc: Global, answer: &ProbeResult<'_, '_>) -> Result<String, AllocError> {
     match answer {
         ProbeResult::KeepGoing => String::from_str(alloc, "keep going"),
         ProbeResult::Solved(resolution) => {

@@ -102,6 +102,15 @@ fn category(word: &str) -> Option<FieldCategory> {
     }
 }
 
+const CATEGORIES: [FieldCategory; 6] = [
+    FieldCategory::Flat,
+    FieldCategory::Attribute,
+    FieldCategory::Element,
+    FieldCategory::Text,
+    FieldCategory::Tag,
+    FieldCategory::Elements,
+];
+
 fn category_word(category: FieldCategory) -> &'static str {
     match category {
         FieldCategory::Flat => "flat",
@@ -172,6 +181,26 @@ fn has_path(
         "no"
     };
     Ok(String::from_str(alloc, answer)?)
+}
+
+/// All of a resolution.
+pub fn whole(
+    catalogue: Catalogue<'_, '_>,
+    resolution: &Resolution<'_>,
+) -> Result<String, AllocError> {
+    let alloc = catalogue.alloc;
+    let mut text = keys(alloc, resolution)?;
+    for (_, field) in resolution.fields() {
+        add(&mut text, field_text(catalogue, Some(field))?.as_str())?;
+    }
+    for category in CATEGORIES {
+        let field = resolution.catch_all_map(category);
+        add(&mut text, field_text(catalogue, field)?.as_str())?;
+    }
+    add(&mut text, required(alloc, resolution)?.as_str())?;
+    add(&mut text, paths(alloc, resolution)?.as_str())?;
+    add(&mut text, picks(alloc, resolution)?.as_str())?;
+    Ok(text)
 }
 
 fn picks(alloc: Global, resolution: &Resolution<'_>) -> Result<String, AllocError> {

@@ -1,19 +1,45 @@
 //! Calls of a solver, and those about its schema.
 
 use crate::catalogue::Catalogue;
-use crate::line::{BAR, Stop, add, number, parsed, word};
+use crate::line::{BAR, Line, Stop, add, number, parsed, told, word};
 use crate::probing::Probing;
 use crate::resolution::{add_key, key, path};
 use crate::steps::Step;
 use crate::{errors, resolution};
 use facet_solver::{
-    FieldInfo, KeyResult, ResolutionHandle, SatisfyResult, Schema, ShapeId, Solver, SolverError,
-    Steps,
+    Call, FieldInfo, FieldKey, KeyResult, ResolutionHandle, SatisfyResult, Schema, ShapeId, Solver,
+    SolverError, Steps,
 };
 use std::alloc::{AllocError, Global};
 use std::mem;
-use std::slice::Iter;
 use std::str::SplitWhitespace;
+
+/// All that calls change of a solver: its candidates, and the keys that it has seen.
+#[derive(Drop)]
+pub struct State<'a> {
+    candidates: Vec<usize>,
+    seen: Vec<FieldKey<'a>>,
+}
+
+impl<'a> State<'a> {
+    fn of(alloc: Global, solver: &Solver<'_, '_, 'a>) -> Result<Self, AllocError> {
+        let mut candidates = Vec::new(alloc);
+        for index in solver.candidate_set().iter() {
+            candidates.push(index)?;
+        }
+        let mut seen = Vec::new(alloc);
+        for key in solver.seen_keys() {
+            seen.push(*key)?;
+        }
+        Ok(State { candidates, seen })
+    }
+
+    /// Whether it is the same as another.
+    pub fn is(&self, other: &State<'_>) -> bool {
+        self.candidates.as_slice() == other.candidates.as_slice()
+            && self.seen.as_slice() == other.seen.as_slice()
+    }
+}
 
 /// A schema, the solvers that are told keys now, and the error of the one before.
 #[derive(Drop)]
@@ -22,8 +48,19 @@ pub struct Session<'s, 'c, 'r, 't> {
     schema: &'s Schema<'c>,
     solver: Solver<'s, 'c, 'r>,
     probing: Probing<'s, 'c>,
-    runs: Iter<'r, Vec<Step<'t>>>,
+    calls: &'r [Line<'t>],
+    runs: &'r [Vec<Step<'t>>],
+    /// The calls and runs that the solver was made behind, and those that come next.
+    begun: Place,
+    next: Place,
     error: Option<SolverError<'c>>,
+}
+
+/// How many calls, and how many runs among them, were made.
+#[derive(Clone, Copy)]
+struct Place {
+    calls: usize,
+    runs: usize,
 }
 
 impl<'s, 'c, 'r, 't> Session<'s, 'c, 'r, 't>
@@ -34,20 +71,46 @@ where
         catalogue: Catalogue<'c, 't>,
         schema: &'s Schema<'c>,
         runs: &'r [Vec<Step<'t>>],
+        calls: &'r [Line<'t>],
     ) -> Result<Self, AllocError> {
+        let start = Place { calls: 0, runs: 0 };
         Ok(Session {
             catalogue,
             schema,
             solver: Solver::new(catalogue.alloc, schema)?,
             probing: Probing::new(catalogue.alloc, schema)?,
-            runs: runs.iter(),
+            calls,
+            runs,
+            begun: start,
+            next: start,
             error: None,
         })
     }
 
-    /// What a call answers.
-    pub fn answer(&mut self, words: &mut SplitWhitespace<'t>) -> Result<String, Stop> {
+    /// The state of the solver that is told keys. It is tried twice.
+    pub fn state(&self) -> Result<State<'r>, AllocError> {
+        match State::of(self.catalogue.alloc, &self.solver) {
+            Err(AllocError) => State::of(self.catalogue.alloc, &self.solver),
+            state => state,
+        }
+    }
+
+    /// What the call at an index answers. Where memory is refused it may be made again: the solver is as it was.
+    pub fn answer(
+        &mut self,
+        index: usize,
+        words: &mut SplitWhitespace<'t>,
+    ) -> Result<String, Stop> {
+        self.next.calls = index;
         match word(words)? {
+            "run" => self.run(words),
+            "finish" => self.finish(),
+            call => self.call_answer(call, words),
+        }
+    }
+
+    fn call_answer(&mut self, call: &str, words: &mut SplitWhitespace<'t>) -> Result<String, Stop> {
+        match call {
             "see" => self.see(words),
             "see_counted" => self.see_counted(words),
             "see_attribute" => self.see_attribute(words),
@@ -56,13 +119,11 @@ where
             "mark_seen" => self.mark_seen(words),
             "was_seen" => self.was_seen(words),
             "probing" => self.probing.answer(words),
-            "run" => self.run(words),
             "candidates" => Ok(self.candidates()?),
             "candidate_set" => Ok(self.candidate_set()?),
             "contains" => self.contains(words),
             "last" => Ok(self.last()?),
             "seen" => Ok(self.seen()?),
-            "finish" => Ok(self.finish()?),
             call => self.narrowing_answer(call, words),
         }
     }
@@ -90,7 +151,7 @@ where
     fn see(&mut self, words: &mut SplitWhitespace<'t>) -> Result<String, Stop> {
         let key = key(word(words)?)?;
         let answer = self.solver.see_key(self.catalogue.alloc, key)?;
-        Ok(self.key_answer(&answer)?)
+        Ok(self.key_told(&answer)?)
     }
 
     fn see_counted(&mut self, words: &mut SplitWhitespace<'t>) -> Result<String, Stop> {
@@ -99,29 +160,29 @@ where
         let answer = self
             .solver
             .see_key_counted(self.catalogue.alloc, key, &mut steps)?;
-        Ok(self.key_answer(&answer)?)
+        Ok(self.key_told(&answer)?)
     }
 
     fn see_attribute(&mut self, words: &mut SplitWhitespace<'t>) -> Result<String, Stop> {
         let name = word(words)?;
         let answer = self.solver.see_attribute(self.catalogue.alloc, name)?;
-        Ok(self.key_answer(&answer)?)
+        Ok(self.key_told(&answer)?)
     }
 
     fn see_element(&mut self, words: &mut SplitWhitespace<'t>) -> Result<String, Stop> {
         let name = word(words)?;
         let answer = self.solver.see_element(self.catalogue.alloc, name)?;
-        Ok(self.key_answer(&answer)?)
+        Ok(self.key_told(&answer)?)
     }
 
     fn see_text(&mut self) -> Result<String, AllocError> {
         let answer = self.solver.see_text(self.catalogue.alloc)?;
-        self.key_answer(&answer)
+        self.key_told(&answer)
     }
 
     fn mark_seen(&mut self, words: &mut SplitWhitespace<'t>) -> Result<String, Stop> {
         self.solver.mark_seen(key(word(words)?)?)?;
-        Ok(String::from_str(self.catalogue.alloc, "ok")?)
+        Ok(told(self.catalogue.alloc, "ok")?)
     }
 
     fn was_seen(&self, words: &mut SplitWhitespace<'t>) -> Result<String, Stop> {
@@ -145,20 +206,72 @@ where
         let path = path(alloc, word(words)?)?;
         let (key, path) = path.split_last().ok_or(Stop::Unread)?;
         let answer = self.solver.probe_key(alloc, path, key)?;
-        Ok(self.key_answer(&answer)?)
+        Ok(self.key_told(&answer)?)
     }
 
     // The calls were made of the words before.
     fn run(&mut self, words: &mut SplitWhitespace<'t>) -> Result<String, Stop> {
         let alloc = self.catalogue.alloc;
-        let mut calls = Vec::new(alloc);
-        for step in self.runs.next().ok_or(Stop::Unread)? {
+        let run = self.next.runs;
+        let steps = self.run_calls(run)?;
+        let calls = steps.as_slice();
+        for _ in &mut *words {}
+        if let Err(made) = self.solver.run(alloc, calls) {
+            self.run_rest(calls, made)?;
+        }
+        self.next.runs = run.saturating_add(1);
+        Ok(told(self.catalogue.alloc, "ok")?)
+    }
+
+    fn run_calls(&self, run: usize) -> Result<Vec<Call<'r>>, Stop> {
+        let runs: &'r [Vec<Step<'t>>] = self.runs;
+        let mut calls = Vec::new(self.catalogue.alloc);
+        for step in runs.get(run).ok_or(Stop::Unread)? {
             calls.push(step.call()?)?;
         }
-        for _ in &mut *words {}
-        match self.solver.run(alloc, &calls) {
-            Ok(()) => Ok(String::from_str(alloc, "ok")?),
-            Err(_made) => Err(Stop::Refused),
+        Ok(calls)
+    }
+
+    // Where a run was refused memory behind its first calls, the solver is as one that made these, and goes on from there.
+    fn run_rest(&mut self, calls: &[Call<'r>], made: usize) -> Result<(), Stop> {
+        let alloc = self.catalogue.alloc;
+        let refused = self.state()?;
+        let (first, rest) = calls.split_at_checked(made).ok_or(Stop::Broken)?;
+        self.tell_anew()?;
+        self.solver.run(alloc, first).ok().ok_or(Stop::Refused)?;
+        if !refused.is(&self.state()?) {
+            return Err(Stop::Broken);
+        }
+        self.solver.run(alloc, rest).ok().ok_or(Stop::Refused)
+    }
+
+    // Makes the calls since the last finish again, of a new solver.
+    fn tell_anew(&mut self) -> Result<(), Stop> {
+        let alloc = self.catalogue.alloc;
+        let calls: &'r [Line<'t>] = self.calls;
+        drop(mem::replace(&mut self.solver, Solver::new(alloc, self.schema)?));
+        let mut run = self.begun.runs;
+        for line in calls.get(self.begun.calls..self.next.calls).unwrap_or(&[]) {
+            let mut words = line.call_words();
+            match word(&mut words)? {
+                "run" => {
+                    let calls = self.run_calls(run)?;
+                    self.solver.run(alloc, &calls).ok().ok_or(Stop::Refused)?;
+                    run = run.saturating_add(1);
+                }
+                call => {
+                    let _answer = self.call_answer(call, &mut words)?;
+                }
+            }
+        }
+        Ok(())
+    }
+
+    // It is tried twice, since the call was made.
+    fn key_told(&self, answer: &KeyResult<'_, '_>) -> Result<String, AllocError> {
+        match self.key_answer(answer) {
+            Err(AllocError) => self.key_answer(answer),
+            told => told,
         }
     }
 
@@ -215,8 +328,7 @@ where
     }
 
     fn yes_or_no(&self, holds: bool) -> Result<String, AllocError> {
-        let answer = if holds { "yes" } else { "no" };
-        String::from_str(self.catalogue.alloc, answer)
+        told(self.catalogue.alloc, if holds { "yes" } else { "no" })
     }
 
     // The types of all words that are left.
@@ -243,20 +355,21 @@ where
     fn satisfy(&mut self, words: &mut SplitWhitespace<'t>) -> Result<String, Stop> {
         let fields = self.fields(words)?;
         let answer = self.solver.satisfy(&fields);
-        Ok(satisfied(self.catalogue.alloc, answer)?)
+        Ok(satisfied_told(self.catalogue.alloc, &answer)?)
     }
 
     fn satisfy_shapes(&mut self, words: &mut SplitWhitespace<'t>) -> Result<String, Stop> {
         let shapes = self.shapes(words)?;
         let answer = self.solver.satisfy_shapes(&shapes);
-        Ok(satisfied(self.catalogue.alloc, answer)?)
+        Ok(satisfied_told(self.catalogue.alloc, &answer)?)
     }
 
     fn satisfy_at_path(&mut self, words: &mut SplitWhitespace<'t>) -> Result<String, Stop> {
         let alloc = self.catalogue.alloc;
         let path = path(alloc, word(words)?)?;
         let shapes = self.shapes(words)?;
-        Ok(satisfied(alloc, self.solver.satisfy_at_path(&path, &shapes))?)
+        let answer = self.solver.satisfy_at_path(&path, &shapes);
+        Ok(satisfied_told(alloc, &answer)?)
     }
 
     fn shapes_at_path(&self, words: &mut SplitWhitespace<'t>) -> Result<String, Stop> {
@@ -286,19 +399,48 @@ where
         Ok(answer)
     }
 
-    // Finishes, and starts a new solver.
-    fn finish(&mut self) -> Result<String, AllocError> {
-        let alloc = self.catalogue.alloc;
+    // Finishes, and starts a new solver. Where memory is refused it is tried again on a solver that was told the same, and
+    // there was need of memory only if not one resolution is viable.
+    fn finish(&mut self) -> Result<String, Stop> {
+        let finished = match self.finished()? {
+            Err(SolverError::OutOfMemory) => {
+                self.tell_anew()?;
+                match self.finished()? {
+                    Ok(_handle) => return Err(Stop::Broken),
+                    finished => finished,
+                }
+            }
+            finished => finished,
+        };
+        self.begun = Place {
+            calls: self.next.calls.saturating_add(1),
+            runs: self.next.runs,
+        };
         self.error = None;
-        let next = Solver::new(alloc, self.schema)?;
-        let solver = mem::replace(&mut self.solver, next);
-        match solver.finish(alloc) {
-            Ok(handle) => self.solved(handle),
+        match finished {
+            Ok(handle) => Ok(self.solved_told(&handle)?),
             Err(error) => self.unsolved(error),
         }
     }
 
-    fn solved(&self, handle: ResolutionHandle<'_, '_>) -> Result<String, AllocError> {
+    fn finished(
+        &mut self,
+    ) -> Result<Result<ResolutionHandle<'s, 'c>, SolverError<'c>>, AllocError> {
+        let alloc = self.catalogue.alloc;
+        let next = Solver::new(alloc, self.schema)?;
+        let solver = mem::replace(&mut self.solver, next);
+        Ok(solver.finish(alloc))
+    }
+
+    // It is tried twice, since the solver was finished.
+    fn solved_told(&self, handle: &ResolutionHandle<'_, '_>) -> Result<String, AllocError> {
+        match self.solved(handle) {
+            Err(AllocError) => self.solved(handle),
+            told => told,
+        }
+    }
+
+    fn solved(&self, handle: &ResolutionHandle<'_, '_>) -> Result<String, AllocError> {
         let alloc = self.catalogue.alloc;
         let description = handle.resolution().describe(alloc)?;
         format!(in alloc; "{} {description}", handle.index())
@@ -309,10 +451,14 @@ where
     }
 
     // Keeps the error for the calls that read it.
-    fn unsolved(&mut self, error: SolverError<'c>) -> Result<String, AllocError> {
-        let answer = verdict(self.catalogue.alloc, &error)?;
+    fn unsolved(&mut self, error: SolverError<'c>) -> Result<String, Stop> {
+        let alloc = self.catalogue.alloc;
+        let answer = match verdict(alloc, &error) {
+            Err(AllocError) => verdict(alloc, &error),
+            told => told,
+        };
         self.error = Some(error);
-        Ok(answer)
+        Ok(answer?)
     }
 }
 
@@ -330,7 +476,15 @@ fn verdict(alloc: Global, error: &SolverError<'_>) -> Result<String, AllocError>
     }
 }
 
-fn satisfied(alloc: Global, answer: SatisfyResult<'_, '_>) -> Result<String, AllocError> {
+// It is tried twice, since the call was made.
+fn satisfied_told(alloc: Global, answer: &SatisfyResult<'_, '_>) -> Result<String, AllocError> {
+    match satisfied(alloc, answer) {
+        Err(AllocError) => satisfied(alloc, answer),
+        told => told,
+    }
+}
+
+fn satisfied(alloc: Global, answer: &SatisfyResult<'_, '_>) -> Result<String, AllocError> {
     match answer {
         SatisfyResult::Continue => String::from_str(alloc, "continue"),
         SatisfyResult::Solved(handle) => format!(in alloc; "solved {}", handle.index()),

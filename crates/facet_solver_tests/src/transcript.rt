@@ -2,12 +2,12 @@
 
 use crate::by_hand::Hand;
 use crate::catalogue::Catalogue;
-use crate::line::{BAR, End, Line, barred};
+use crate::line::{BAR, End, Line, Stop, barred, told};
 use crate::resolution::refusal;
 use crate::solving::Session;
 use crate::steps::{Step, steps};
 use crate::types::{Types, declares};
-use facet_solver::{CatalogueError, Schema, Shapes};
+use facet_solver::{CatalogueError, Schema, SchemaError, Shapes};
 use std::alloc::{AllocError, Global};
 
 /// The lines under one name.
@@ -19,7 +19,7 @@ pub struct Transcript<'t> {
 }
 
 /// The transcripts of a file. Empty lines and those that begin with `#` say nothing.
-pub fn transcripts(alloc: Global, file: &str) -> Result<Vec<Transcript<'_>>, AllocError> {
+fn transcripts(alloc: Global, file: &str) -> Result<Vec<Transcript<'_>>, AllocError> {
     let mut transcripts: Vec<Transcript<'_>> = Vec::new(alloc);
     let mut start = 0usize;
     let mut number = 0usize;
@@ -43,6 +43,14 @@ pub fn transcripts(alloc: Global, file: &str) -> Result<Vec<Transcript<'_>>, All
         start = start.saturating_add(line.len()).saturating_add(1);
     }
     Ok(transcripts)
+}
+
+/// The same, made again where memory is refused.
+pub fn transcripts_twice(alloc: Global, file: &str) -> Result<Vec<Transcript<'_>>, AllocError> {
+    match transcripts(alloc, file) {
+        Err(AllocError) => transcripts(alloc, file),
+        transcripts => transcripts,
+    }
 }
 
 impl<'t> Transcript<'t> {
@@ -101,9 +109,14 @@ fn on_catalogue<'t>(catalogue: Catalogue<'_, 't>, calls: &[Line<'t>]) -> Result<
         match line.keyword() {
             "build" => {
                 words.next();
-                let built = catalogue.build(&mut words).map_err(|stop| line.end(stop))?;
+                let mut built = catalogue.build(&mut words).map_err(|stop| line.end(stop))?;
+                if let Err(SchemaError::OutOfMemory) = built {
+                    words = line.call_words();
+                    words.next();
+                    built = catalogue.build(&mut words).map_err(|stop| line.end(stop))?;
+                }
                 let came = match &built {
-                    Ok(_) => Ok(String::from_str(catalogue.alloc, "ok")?),
+                    Ok(_) => Ok(told(catalogue.alloc, "ok")?),
                     Err(error) => refusal(catalogue.alloc, error),
                 };
                 line.expect(&mut words, came)?;
@@ -118,7 +131,11 @@ fn on_catalogue<'t>(catalogue: Catalogue<'_, 't>, calls: &[Line<'t>]) -> Result<
             }
             "by_hand" => return by_hand(catalogue, line, &calls[index + 1..]),
             _ => {
-                let came = catalogue.answer(&mut words);
+                let mut came = catalogue.answer(&mut words);
+                if let Err(Stop::Refused) = came {
+                    words = line.call_words();
+                    came = catalogue.answer(&mut words);
+                }
                 line.expect(&mut words, came)?;
             }
         }
@@ -139,15 +156,24 @@ fn on_solvers<'r, 'c, 't>(
     catalogue: Catalogue<'c, 't>,
     schema: &Schema<'c>,
     runs: &'r [Vec<Step<'t>>],
-    calls: &[Line<'t>],
+    calls: &'r [Line<'t>],
 ) -> Result<(), End<'t>>
 where
     't: 'r,
 {
-    let mut session = Session::new(catalogue, schema, runs)?;
-    for line in calls {
+    let mut session = Session::new(catalogue, schema, runs, calls)?;
+    for index in 0..calls.len() {
+        let line = &calls[index];
+        let before = session.state()?;
         let mut words = line.call_words();
-        let came = session.answer(&mut words);
+        let mut came = session.answer(index, &mut words);
+        if let Err(Stop::Refused) = came {
+            if !session.state()?.is(&before) {
+                return Err(End::Broken(*line));
+            }
+            words = line.call_words();
+            came = session.answer(index, &mut words);
+        }
         line.expect(&mut words, came)?;
     }
     Ok(())
@@ -181,8 +207,16 @@ fn by_hand<'t>(
         .map_err(|stop| line.end(stop))?;
     let mut hand = Hand::new(catalogue, field);
     for line in calls {
+        let before = hand.state()?;
         let mut words = line.call_words();
-        let came = hand.answer(&mut words);
+        let mut came = hand.answer(&mut words);
+        if let Err(Stop::Refused) = came {
+            if hand.state()?.as_str() != before.as_str() {
+                return Err(End::Broken(*line));
+            }
+            words = line.call_words();
+            came = hand.answer(&mut words);
+        }
         line.expect(&mut words, came)?;
     }
     Ok(())
