@@ -13,12 +13,14 @@ pub mod Outcome
 pub mod Walk
 pub mod ChoiceResolutions
 pub mod NestedFields
+pub mod Brings
 pub mod NestedSets
 pub mod Nested
 pub mod NestedTable
 pub mod Marks
 pub mod Reached
 pub mod Serving
+pub mod Brought
 pub mod Emissions
 pub mod SharedBits
 pub mod FieldCategories

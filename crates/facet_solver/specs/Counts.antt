@@ -8,6 +8,7 @@ use Rattle.std.specs.Option.{option_map_or}
 use Rattle.facet_solver.specs.Count.{count_shape}
 use Rattle.facet_solver_shape.specs.Catalogues.{NamesEarlier}
 use Rattle.facet_solver.specs.declared.build.walker.Walker.{Walker}
+use Rattle.facet_solver.specs.Brings.{AreBrought}
 use Rattle.facet_solver.specs.Reached.{AreTables}
 
 -- what a saturating count says of a number without bound: the number, or that it is 2^64 or more
@@ -39,4 +40,5 @@ pub record AreCounts (build : Build) (counts : List SaturatingCount) : Type 0 wh
 pub record IsReady (walker : Walker) : Type 0 where
   pub checked : NamesEarlier walker.build.shapes.now
   pub counted : AreCounts (build_of walker.build) walker.counts
+  pub brings : AreBrought walker.build.shapes.now walker.brings.by_index.items
   pub tables : AreTables (build_of walker.build) walker.tables

@@ -1,5 +1,5 @@
--- Tables of nested key paths by the index of the shape, and what fields ask of them. Only private
--- contracts and proofs speak of them.
+-- Tables by the index of the shape of the fields that nested key paths go through, and what fields
+-- ask of them. Only private contracts and proofs speak of them.
 use Rattle.std.specs.Prelude.{◌≡◌, ◌↔◌, ◌&&◌, ◌||◌, ◌≤◌, ◌<◌, ℕ, Bool, true, List, [], Option, None, Some, IsSome, is_some, All, ⊤, length, map, nat_lt, slice_get}
 use Rattle.std.specs.FinSet as set
 use Rattle.std.specs.List.{AllByRecursion}

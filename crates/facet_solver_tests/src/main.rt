@@ -58,6 +58,7 @@ impl Tally {
 }
 
 fn main(rt: HostRuntime) -> io::Result<ExitCode> {
+    // Only before the first line is printed can a run end so: what prints is made again by itself.
     let outcome = match run(&rt) {
         Err(error) if error.kind() == ErrorKind::OutOfMemory => run(&rt),
         outcome => outcome,

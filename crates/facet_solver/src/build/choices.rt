@@ -8,6 +8,7 @@ ghost use Rattle.facet_solver.specs.Count.{count_of_root};
 ghost use Rattle.facet_solver.specs.Counts.{IsReady};
 ghost use Rattle.facet_solver.specs.Build.{build_of};
 
+use crate::build::brings::Brings;
 use crate::build::content::content_fields;
 use crate::build::role::{Role, role_of};
 use crate::build::walker::Walker;
@@ -89,7 +90,10 @@ fn choices_of_field<'c>(walker: &Walker<'c>, field: &'c Field) -> Result<Vec<Cho
         (λ v. lists v.items ≡ listing.choices_of_field (build_of walker.now.build) field.now) }
 {
     match role_of(walker.build.shapes, field) {
-        Role::Block(_, fields) => choices_of_fields(walker, fields),
+        Role::Block(target, fields) => match walker.brings.of(target.shape) {
+            Brings::Variants => choices_of_fields(walker, fields),
+            Brings::Nothing | Brings::Emissions => no_choice(walker.build.alloc),
+        },
         Role::Alternatives(_, shape, variants) => {
             choices_of_variants(walker, walker.build.walks_content(shape), variants)
         }

@@ -11,6 +11,7 @@ ghost use Rattle.facet_solver.specs.Counts.{IsReady};
 ghost use Rattle.facet_solver.specs.Reached.{ServesRoot, ServesVariant};
 
 use crate::build::Build;
+use crate::build::brings::BringsTable;
 use crate::build::choices::choices_of_root;
 use crate::build::count::Counts;
 use crate::build::emit::add_pick;
@@ -38,10 +39,12 @@ pub(crate) fn resolutions<'c>(
         ≤ steps.old.visits + 2 * field_count build.entry.shapes.now }
 {
     let counts = Counts::new(build)?;
+    let brings = BringsTable::new(build)?;
     let tables = NestedTables::new(build, root, steps)?;
     let walker = Walker {
         build,
         counts,
+        brings,
         tables,
     };
     let choices = choices_of_root(&walker, root)?;

@@ -8,6 +8,7 @@ ghost use Rattle.facet_solver.specs.Walk as walk;
 ghost use Rattle.facet_solver.specs.Counts.{IsReady};
 ghost use Rattle.facet_solver.specs.Reached.{IsChosen, ServesEnum, ServesField, ServesFields, ServesVariant};
 
+use crate::build::brings::Brings;
 use crate::build::content::newtype_fields;
 use crate::build::emit::{emit_plain, emit_variant};
 use crate::build::place::{Chosen, Place};
@@ -73,6 +74,9 @@ fn walk_field<'c, 'n>(
     let role = role_of(walker.build.shapes, field);
     match role {
         Role::Block(target, fields) => {
+            if let Brings::Nothing = walker.brings.of(target.shape) {
+                return Ok(indices);
+            }
             let inside = place.inside_field(walker.build.alloc, field, target)?;
             walk_fields(walker, fields, &inside, indices, resolution)
         }

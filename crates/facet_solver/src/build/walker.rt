@@ -1,5 +1,6 @@
 //! What the functions of one build's choices and walks share.
 use crate::build::Build;
+use crate::build::brings::BringsTable;
 use crate::build::count::Counts;
 use crate::build::nested::tables::NestedTables;
 
@@ -9,6 +10,8 @@ pub(crate) struct Walker<'c> {
     pub(crate) build: Build<'c>,
     /// The number of choices at each shape.
     pub(crate) counts: Counts,
+    /// What each struct brings where it is flattened.
+    pub(crate) brings: BringsTable,
     /// The nested key paths that the walks ask for.
     pub(crate) tables: NestedTables<'c>,
 }

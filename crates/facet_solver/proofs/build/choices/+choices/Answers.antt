@@ -1,11 +1,15 @@
-use Rattle.std.proofs.Common.{◌≡◌, length, subst, ℕ, sym, ap, ◌∙◌, arith}
+use Rattle.std.proofs.Common.{◌≡◌, ◌⊎◌, inl, inr, length, subst, ℕ, sym, ap, ◌∙◌, arith}
 use Rattle.std.specs.Prelude.{Vec}
 use Rattle.std.specs.declared.alloc.Global.{Global}
 use Rattle.facet_solver_shape.specs.declared.shape.Field.{Field}
 use Rattle.facet_solver_shape.specs.declared.shape.Variant.{Variant}
 use Rattle.facet_solver_shape.specs.Catalogues.{FieldsBelow}
 use Rattle.facet_solver.specs.Listing.{choices_of_variant, choices_of_fields, lists}
+use Rattle.facet_solver.specs.Brings.{at}
 use Rattle.facet_solver.specs.Build.{build_of}
+use Rattle.facet_solver.specs.declared.build.brings.Brings.{Brings}
+use Rattle.facet_solver.specs.declared.build.brings.Brings.TheVariants.{Emissions, Nothing, Variants}
+use Rattle.facet_solver.proofs.Brought.{block_of_one}
 use Rattle.facet_solver.proofs.Roles.{content_of-below, FieldsBelow-mono, VariantsBelow-mono, limit_of, limit_of-le, limit_of_variants-le, limit_of-at, limit_of_variants-at, FieldsBelow-at, VariantsBelow-at, limit_of-content, plain_role}
 use Rattle.facet_solver.proofs.Listing.{at-block, at-alternatives, at-plain, among-start, among-more, among-end, variant-walked, variant-alone, block-below, alternatives-below, left-start, left-more, left-end}
 use Rattle.facet_solver.specs.Count.{count_fields}
@@ -14,10 +18,15 @@ use Rattle.facet_solver.specs.Roles.{role_view}
 use Rattle.facet_solver.proofs.build.choices.+choices.Goals as goal
 use Rattle.facet_solver.proofs.build.choices.+choices.Goals.{choices_of_variants-then-walked+in_ok-contents, choices_of_variants-else-walked+in_ok-contents-2}
 
+-- what brings nothing or emissions alone brings no variants
+fewer : (b : Brings) → (b ≡ Nothing) ⊎ (b ≡ Emissions) → b ≡ Variants → ⊥
+fewer b (inl e) v = let no : Nothing ≡ Variants = sym e ∙ v in cc
+fewer b (inr e) v = let no : Emissions ≡ Variants = sym e ∙ v in cc
+
 pub choices_of_field-choices_of_fields-requires : goal.choices_of_field-choices_of_fields-requires
 choices_of_field-choices_of_fields-requires t c =
     let f = c.args.field.now in
-    let b = block-below c.args.walker.now.build.shapes.now c.requires.ready.checked f c.in-Block.field-0 c.in-Block.fields.now c.in-Block.ensures in
+    let b = block-below c.args.walker.now.build.shapes.now c.requires.ready.checked f c.in-Block.target c.in-Block.fields.now c.in-Block.ensures in
     let l = limit_of-le f.shape c.in-Block.fields.now b in
     (omega arith, (c.requires.ready, (FieldsBelow-mono f.shape (length c.args.walker.now.build.shapes.now) c.in-Block.fields.now (omega (arith, c.requires.below)) b)))
 
@@ -29,9 +38,20 @@ choices_of_field-choices_of_variants-requires t c =
     let l = limit_of_variants-le f.shape vs b in
     (omega arith, (c.requires.ready, (VariantsBelow-mono f.shape (length c.args.walker.now.build.shapes.now) vs (omega (arith, c.requires.below)) b)))
 
-pub choices_of_field-returns-in-Block : goal.choices_of_field-returns-in-Block
-choices_of_field-returns-in-Block t c =
-    rw (at-block (build_of c.args.walker.now.build) c.args.field.now c.in-Block.field-0 c.in-Block.fields.now c.in-Block.ensures) c.choices_of_fields.ensures
+pub choices_of_field-returns-in-Variants : goal.choices_of_field-returns-in-Variants
+choices_of_field-returns-in-Variants t c =
+    rw (at-block (build_of c.args.walker.now.build) c.args.field.now c.in-Block.target c.in-Block.fields.now c.in-Block.ensures) c.choices_of_fields.ensures
+
+pub choices_of_field-returns-in-Nothing : goal.choices_of_field-returns-in-Nothing
+choices_of_field-returns-in-Nothing t c =
+    let build = build_of c.args.walker.now.build in
+    let table = c.args.walker.now.brings.by_index.items in
+    let f = c.args.field.now in
+    let target = c.in-Block.target in
+    let fs = c.in-Block.fields.now in
+    let none : at table target.shape ≡ Variants → ⊥ = λ v. fewer c.of.result c.in-Nothing.is (c.of.ensures ∙ v) in
+    rw (at-block build f target fs c.in-Block.ensures, block_of_one build c.requires.ready.checked table c.requires.ready.brings f target fs (omega (arith, c.requires.below)) c.in-Block.ensures none)
+    c.no_choice.ensures
 
 pub choices_of_field-returns-in-Alternatives : goal.choices_of_field-returns-in-Alternatives
 choices_of_field-returns-in-Alternatives t c =
@@ -43,7 +63,7 @@ choices_of_field-returns-in-Alternatives t c =
 pub choices_of_field-returns-in-Regular : goal.choices_of_field-returns-in-Regular
 choices_of_field-returns-in-Regular t c =
     let by_role = at-plain (build_of c.args.walker.now.build) c.args.field.now (role_view c.role_of.result) c.role_of.ensures (plain_role c.role_of.result c.in-Regular.is) in
-    rw by_role c.no_choice.ensures
+    rw by_role c.no_choice-in-Regular.ensures
 
 pub choices_of_fields-returns-then-is_zero : goal.choices_of_fields-returns-then-is_zero
 choices_of_fields-returns-then-is_zero t c =
