@@ -207,11 +207,11 @@ map_nothing : (ds : Choices) → map (λ d. [] ++ d) ds ≡ ds
 map_nothing [] = refl
 map_nothing (d ∷ ds) = ap (λ (xs : Choices). d ∷ xs) (map_nothing ds)
 
-product-one_left : (ds : Choices) → product no_choice ds ≡ ds
+pub product-one_left : (ds : Choices) → product no_choice ds ≡ ds
 unfolding product
 product-one_left ds = append-nil (map (λ d. [] ++ d) ds) ∙ map_nothing ds
 
-product-one_right : (cs : Choices) → product cs no_choice ≡ cs
+pub product-one_right : (cs : Choices) → product cs no_choice ≡ cs
 unfolding product
 product-one_right [] = refl
 product-one_right (c ∷ cs) = ap (λ (x : List ℕ). x ∷ product cs no_choice) (append-nil c) ∙ ap (λ (xs : Choices). c ∷ xs) (product-one_right cs)

@@ -88,3 +88,8 @@ choices_of_variants build walked vs =
 -- choices, wherever they lie
 abbrev pub lists : List (Vec ℕ Global) → List (List ℕ)
 lists vs = map (λ v. v.items) vs
+
+-- choices that were found; none found is nothing to choose
+abbrev pub choices_found : Option (Vec (Vec ℕ Global) Global) → Choices
+choices_found None = no_choice
+choices_found (Some v) = lists v.items

@@ -1,9 +1,9 @@
 //! The choices of variants of a root, as lists of the indices of variants.
-ghost use Rattle.std.specs.Prelude.{◌≡◌, ◌++◌, ◌<◌, map, length, IfOk, OnOk};
+ghost use Rattle.std.specs.Prelude.{◌≡◌, ◌++◌, ◌<◌, ◌∷◌, map, length, IfOk, OnOk};
 ghost use Rattle.facet_solver_shape.specs.Catalogues.{FieldsBelow, VariantsBelow};
 ghost use Rattle.facet_solver.specs.Listing as listing;
 ghost use Rattle.facet_solver.specs.Choice.{ListsChoices};
-ghost use Rattle.facet_solver.specs.Listing.{lists};
+ghost use Rattle.facet_solver.specs.Listing.{lists, choices_found};
 ghost use Rattle.facet_solver.specs.Count.{count_of_root};
 ghost use Rattle.facet_solver.specs.Counts.{IsReady};
 ghost use Rattle.facet_solver.specs.Build.{build_of};
@@ -29,7 +29,8 @@ fn append_each(
         OnOk result (lists found.new.items ≡ lists found.old.items ++ added) }
 {
     for second in seconds {
-        let mut choice = Vec::from_slice(alloc, first)?;
+        let mut choice = Vec::with_capacity(alloc, first.len() + second.len())?;
+        choice.extend_from_slice(first)?;
         choice.extend_from_slice(second)?;
         found.push(choice)?;
     }
@@ -49,55 +50,85 @@ fn product(alloc: Global, firsts: &[Choice], seconds: &[Choice]) -> Result<Vec<C
     Ok(found)
 }
 
-/// The one choice where there is nothing to choose.
-fn no_choice(alloc: Global) -> Result<Vec<Choice>, AllocError>
-    ensures { IfOk result (λ v. lists v.items ≡ listing.no_choice) }
+/// The same where there may be nothing to choose, which is `None`, on either side.
+fn product_found(
+    alloc: Global,
+    firsts: Option<Vec<Choice>>,
+    seconds: Option<Vec<Choice>>,
+) -> Result<Option<Vec<Choice>>, AllocError>
+    ensures { IfOk result (λ found. choices_found found
+        ≡ listing.product (choices_found firsts) (choices_found seconds)) }
 {
-    let mut found = Vec::new(alloc);
-    found.push(Vec::new(alloc))?;
-    Ok(found)
+    match (firsts, seconds) {
+        (Some(firsts), Some(seconds)) => Ok(Some(product(alloc, &firsts, &seconds)?)),
+        (Some(firsts), None) => Ok(Some(firsts)),
+        (None, seconds) => Ok(seconds),
+    }
 }
 
-/// The choices at a list of fields: those at each field before those at the fields behind it. Where one of them has
-/// none, the others are not gone through.
+/// Adds `index` before each of `contents`, or alone where there is nothing to choose behind it.
+fn append_variant(
+    alloc: Global,
+    found: &mut Vec<Choice>,
+    index: usize,
+    contents: Option<Vec<Choice>>,
+) -> Result<(), AllocError>
+    ensures { let added = map (λ d. index ∷ d) (choices_found contents) in
+        OnOk result (lists found.new.items ≡ lists found.old.items ++ added) }
+{
+    match contents {
+        Some(contents) => append_each(alloc, found, &[index], &contents),
+        None => {
+            found.push(Vec::from_slice(alloc, &[index])?)?;
+            Ok(())
+        }
+    }
+}
+
+/// The choices at a list of fields, `None` where there is nothing to choose: those at each field before those at the
+/// fields behind it. Where one of them has none, the others are not gone through.
 #[cycle(choices)]
 fn choices_of_fields<'c>(
     walker: &Walker<'c>,
     fields: &'c [Field],
-) -> Result<Vec<Choice>, AllocError>
+) -> Result<Option<Vec<Choice>>, AllocError>
     requires ready { IsReady walker.now }
     requires below { FieldsBelow (length walker.now.build.shapes.now) fields.now }
-    ensures { IfOk result
-        (λ v. lists v.items ≡ listing.choices_of_fields (build_of walker.now.build) fields.now) }
+    ensures { IfOk result (λ found. choices_found found
+        ≡ listing.choices_of_fields (build_of walker.now.build) fields.now) }
 {
     if walker.counts.of_fields(walker.build, fields).is_zero() {
-        return Ok(Vec::new(walker.build.alloc));
+        return Ok(Some(Vec::new(walker.build.alloc)));
     }
-    let mut found = no_choice(walker.build.alloc)?;
+    let mut found = None;
     for field in fields {
         let alternatives = choices_of_field(walker, field)?;
-        found = product(walker.build.alloc, &found, &alternatives)?;
+        found = product_found(walker.build.alloc, found, alternatives)?;
     }
     Ok(found)
 }
 
-/// The choices at one field.
+/// The choices at one field, `None` where there is nothing to choose.
 #[cycle(choices)]
-fn choices_of_field<'c>(walker: &Walker<'c>, field: &'c Field) -> Result<Vec<Choice>, AllocError>
+fn choices_of_field<'c>(
+    walker: &Walker<'c>,
+    field: &'c Field,
+) -> Result<Option<Vec<Choice>>, AllocError>
     requires ready { IsReady walker.now }
     requires below { field.now.shape < length walker.now.build.shapes.now }
-    ensures { IfOk result
-        (λ v. lists v.items ≡ listing.choices_of_field (build_of walker.now.build) field.now) }
+    ensures { IfOk result (λ found. choices_found found
+        ≡ listing.choices_of_field (build_of walker.now.build) field.now) }
 {
     match role_of(walker.build.shapes, field) {
         Role::Block(target, fields) => match walker.brings.of(target.shape) {
             Brings::Variants => choices_of_fields(walker, fields),
-            Brings::Nothing | Brings::Emissions => no_choice(walker.build.alloc),
+            Brings::Nothing | Brings::Emissions => Ok(None),
         },
         Role::Alternatives(_, shape, variants) => {
-            choices_of_variants(walker, walker.build.walks_content(shape), variants)
+            let walked = walker.build.walks_content(shape);
+            Ok(Some(choices_of_variants(walker, walked, variants)?))
         }
-        Role::Regular | Role::CatchAll(_) | Role::Leaf(_) => no_choice(walker.build.alloc),
+        Role::Regular | Role::CatchAll(_) | Role::Leaf(_) => Ok(None),
     }
 }
 
@@ -119,10 +150,19 @@ fn choices_of_variants<'c>(
         let contents = if walked {
             choices_of_fields(walker, content_fields(walker.build.shapes, variant))?
         } else {
-            no_choice(walker.build.alloc)?
+            None
         };
-        append_each(walker.build.alloc, &mut found, &[index], &contents)?;
+        append_variant(walker.build.alloc, &mut found, index, contents)?;
     }
+    Ok(found)
+}
+
+/// The one choice where there is nothing to choose.
+fn no_choice(alloc: Global) -> Result<Vec<Choice>, AllocError>
+    ensures { IfOk result (λ v. lists v.items ≡ listing.no_choice) }
+{
+    let mut found = Vec::new(alloc);
+    found.push(Vec::new(alloc))?;
     Ok(found)
 }
 
@@ -140,7 +180,10 @@ pub(crate) fn choices_of_root<'c>(
 {
     let shape = walker.build.shape(root);
     match &shape.kind {
-        ShapeKind::Struct { fields, .. } => choices_of_fields(walker, fields),
+        ShapeKind::Struct { fields, .. } => match choices_of_fields(walker, fields)? {
+            Some(found) => Ok(found),
+            None => no_choice(walker.build.alloc),
+        },
         ShapeKind::Enum { variants } => choices_of_variants(walker, true, variants),
         _ => no_choice(walker.build.alloc),
     }

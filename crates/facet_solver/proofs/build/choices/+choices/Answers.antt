@@ -1,10 +1,8 @@
-use Rattle.std.proofs.Common.{◌≡◌, ◌⊎◌, inl, inr, length, subst, ℕ, sym, ap, ◌∙◌, arith}
-use Rattle.std.specs.Prelude.{Vec}
-use Rattle.std.specs.declared.alloc.Global.{Global}
+use Rattle.std.proofs.Common.{refl, ◌≡◌, ◌⊎◌, inl, inr, length, subst, sym, ap, ◌∙◌, arith}
 use Rattle.facet_solver_shape.specs.declared.shape.Field.{Field}
 use Rattle.facet_solver_shape.specs.declared.shape.Variant.{Variant}
 use Rattle.facet_solver_shape.specs.Catalogues.{FieldsBelow}
-use Rattle.facet_solver.specs.Listing.{choices_of_variant, choices_of_fields, lists}
+use Rattle.facet_solver.specs.Listing.{choices_of_variant, choices_of_fields, lists, choices_found}
 use Rattle.facet_solver.specs.Brings.{at}
 use Rattle.facet_solver.specs.Build.{build_of}
 use Rattle.facet_solver.specs.declared.build.brings.Brings.{Brings}
@@ -16,7 +14,7 @@ use Rattle.facet_solver.specs.Count.{count_fields}
 use Rattle.facet_solver.proofs.Choice.{none_below}
 use Rattle.facet_solver.specs.Roles.{role_view}
 use Rattle.facet_solver.proofs.build.choices.+choices.Goals as goal
-use Rattle.facet_solver.proofs.build.choices.+choices.Goals.{choices_of_variants-then-walked+in_ok-contents, choices_of_variants-else-walked+in_ok-contents-2}
+use Rattle.facet_solver.proofs.build.choices.+choices.Goals.{choices_of_variants-then-walked+in_ok-contents, choices_of_variants-else-walked}
 
 -- what brings nothing or emissions alone brings no variants
 fewer : (b : Brings) → (b ≡ Nothing) ⊎ (b ≡ Emissions) → b ≡ Variants → ⊥
@@ -51,19 +49,19 @@ choices_of_field-returns-in-Nothing t c =
     let fs = c.in-Block.fields.now in
     let none : at table target.shape ≡ Variants → ⊥ = λ v. fewer c.of.result c.in-Nothing.is (c.of.ensures ∙ v) in
     rw (at-block build f target fs c.in-Block.ensures, block_of_one build c.requires.ready.checked table c.requires.ready.brings f target fs (omega (arith, c.requires.below)) c.in-Block.ensures none)
-    c.no_choice.ensures
+    refl
 
-pub choices_of_field-returns-in-Alternatives : goal.choices_of_field-returns-in-Alternatives
-choices_of_field-returns-in-Alternatives t c =
+pub choices_of_field-returns-in_ok-choices_of_variants-in-Alternatives : goal.choices_of_field-returns-in_ok-choices_of_variants-in-Alternatives
+choices_of_field-returns-in_ok-choices_of_variants-in-Alternatives t c =
     rw (
       at-alternatives (build_of c.args.walker.now.build) c.args.field.now c.in-Alternatives.field-0 c.in-Alternatives.shape.now c.in-Alternatives.variants.now c.in-Alternatives.ensures,
-      ← c.walks_content.ensures,
-    ) c.choices_of_variants.ensures
+      ← c.walks_content-walked.ensures,
+    ) c.in_ok-choices_of_variants-in-Alternatives.ensures
 
 pub choices_of_field-returns-in-Regular : goal.choices_of_field-returns-in-Regular
 choices_of_field-returns-in-Regular t c =
     let by_role = at-plain (build_of c.args.walker.now.build) c.args.field.now (role_view c.role_of.result) c.role_of.ensures (plain_role c.role_of.result c.in-Regular.is) in
-    rw by_role c.no_choice-in-Regular.ensures
+    rw by_role refl
 
 pub choices_of_fields-returns-then-is_zero : goal.choices_of_fields-returns-then-is_zero
 choices_of_fields-returns-then-is_zero t c =
@@ -72,7 +70,7 @@ choices_of_fields-returns-then-is_zero t c =
 
 pub choices_of_fields-loop-field-init : goal.choices_of_fields-loop-field-init
 choices_of_fields-loop-field-init t c =
-    rw c.in_ok-found.ensures (left-start (build_of c.args.walker.now.build) c.args.fields.now c.requires.ready.checked c.requires.below)
+    left-start (build_of c.args.walker.now.build) c.args.fields.now c.requires.ready.checked c.requires.below
 
 pub choices_of_fields-choices_of_field-requires : goal.choices_of_fields-choices_of_field-requires
 choices_of_fields-choices_of_field-requires t c =
@@ -86,14 +84,13 @@ choices_of_fields-choices_of_field-requires t c =
 
 pub choices_of_fields-loop-field-preserved : goal.choices_of_fields-loop-field-preserved
 choices_of_fields-loop-field-preserved t c =
-    let found = c.loop-field.found.items in
-    rw (c.in_ok-found-2.ensures, c.deref.ensures.value, c.deref-in-loop-field.ensures.value, c.in_ok-alternatives.ensures)
-    (left-more (build_of c.args.walker.now.build) (lists found) c.args.fields.now c.loop-field.field-index c.field-item.result c.loop-field-test.true c.field-item.is
+    rw (c.in_ok-found.ensures, c.in_ok-alternatives.ensures)
+    (left-more (build_of c.args.walker.now.build) (choices_found c.loop-field.found) c.args.fields.now c.loop-field.field-index c.field-item.result c.loop-field-test.true c.field-item.is
     ∙ c.loop-field.invariant)
 
 pub choices_of_fields-returns : goal.choices_of_fields-returns
 choices_of_fields-returns t c =
-    let e = left-end (build_of c.args.walker.now.build) (lists c.loop-field.found.items) c.args.fields.now c.loop-field.field-index c.loop-field-test.false in
+    let e = left-end (build_of c.args.walker.now.build) (choices_found c.loop-field.found) c.args.fields.now c.loop-field.field-index c.loop-field-test.false in
     sym e ∙ c.loop-field.invariant
 
 pub choices_of_variants-loop-index-init : goal.choices_of_variants-loop-index-init
@@ -119,16 +116,15 @@ choices_of_variants-loop-index-preserved t c =
     let cat = c.args.walker.now.build.shapes.now in
     let build = build_of c.args.walker.now.build in
     let v = c.index-variants-index.result in
-    let cs = lists c.if-walked.contents.items in
+    let cs = choices_found c.if-walked.contents in
     let e : cs ≡ choices_of_variant (choices_of_fields build) cat c.args.walked v = elim c.if-walked.branch [
       | choices_of_variants-then-walked+in_ok-contents w ↦
           variant-walked build v c.args.walked cs w.if-walked.true
-          (ap (λ (x : Vec (Vec ℕ Global) Global). lists x.items) w.contents-is ∙ w.in_ok-contents.ensures ∙ ap (choices_of_fields build) w.content_fields.ensures)
-      | choices_of_variants-else-walked+in_ok-contents-2 w ↦
-          variant-alone build v c.args.walked cs w.if-walked.false
-          (ap (λ (x : Vec (Vec ℕ Global) Global). lists x.items) w.contents-is ∙ w.in_ok-contents-2.ensures)
+          (ap choices_found w.contents-is ∙ w.in_ok-contents.ensures ∙ ap (choices_of_fields build) w.content_fields.ensures)
+      | choices_of_variants-else-walked w ↦
+          variant-alone build v c.args.walked cs w.if-walked.false (ap choices_found w.contents-is)
     ] in
-    rw (c.in_ok-append_each.ensures, c.deref.ensures.value)
+    rw c.in_ok-append_variant.ensures
     (among-more build c.args.walked (lists c.loop-index.found.items) c.args.variants.now c.loop-index.index v cs c.loop-index-test.true c.index-variants-index.is e
     ∙ c.loop-index.invariant)
 

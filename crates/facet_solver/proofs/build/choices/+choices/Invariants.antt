@@ -1,5 +1,5 @@
 use Rattle.std.proofs.Common.{◌≡◌, ◌++◌, drop, ◌+◌, ◌*◌}
-use Rattle.facet_solver.specs.Listing.{product, indexed, choices_of_fields, choices_of_variant, choices_of_variants, lists}
+use Rattle.facet_solver.specs.Listing.{product, indexed, choices_of_fields, choices_of_variant, choices_of_variants, lists, choices_found}
 use Rattle.facet_solver.specs.Build.{build_of}
 use Rattle.facet_solver.proofs.Roles.{limit_of, limit_of_variants}
 use Rattle.facet_solver.proofs.Listing.{choices_left}
@@ -16,7 +16,7 @@ decreases-choices_of_variants l = 3 * limit_of_variants l.variants.now + 2
 
 abbrev pub invariant-choices_of_fields-loop-field : goal.invariant-choices_of_fields-loop-field
 invariant-choices_of_fields-loop-field l =
-    product (lists l.found.items) (choices_left (build_of l.walker.build) (drop l.field-index l.fields))
+    product (choices_found l.found) (choices_left (build_of l.walker.build) (drop l.field-index l.fields))
     ≡ choices_of_fields (build_of l.walker.build) l.fields
 
 abbrev pub invariant-choices_of_variants-loop-index : goal.invariant-choices_of_variants-loop-index

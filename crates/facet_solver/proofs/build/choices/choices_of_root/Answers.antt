@@ -1,11 +1,11 @@
-use Rattle.std.proofs.Common.{◌≡◌, ℕ, subst, sym, ap, ◌∙◌, length, Result, IfOk}
+use Rattle.std.proofs.Common.{Ok, ◌≡◌, ℕ, subst, sym, ap, ◌∙◌, length, Result, IfOk}
 use Rattle.std.proofs.lemmas.Result.{IfOk-weaker}
 use Rattle.std.specs.Prelude.{Vec}
 use Rattle.std.specs.declared.alloc.Global.{Global}
 use Rattle.std.specs.declared.alloc.AllocError.{AllocError}
 use Rattle.facet_solver.specs.Choice.{ListsChoices}
 use Rattle.facet_solver.specs.Count.{count_of_root}
-use Rattle.facet_solver.specs.Listing.{Choices, choices_of_root, lists}
+use Rattle.facet_solver.specs.Listing.{Choices, choices_found, choices_of_root, lists}
 use Rattle.facet_solver.specs.Build.{Build, build_of}
 use Rattle.facet_solver.proofs.Choice.{choices_listed}
 use Rattle.facet_solver.proofs.Count.{root_count}
@@ -35,17 +35,33 @@ pub choices_of_variants-requires-clause-below : goal.choices_of_variants-require
 choices_of_variants-requires-clause-below c =
     rw c.deref-in-Enum.ensures.value (enum-below c.args.walker.now.build.shapes.now c.shape-shape.ensures.checked c.args.root c.shape-shape.result.now c.shape-shape.ensures.found c.in-Enum.variants c.in-Enum.is)
 
-pub returns-in-Struct-clause-listed : goal.returns-in-Struct-clause-listed
-returns-in-Struct-clause-listed c =
-    listed (build_of c.args.walker.now.build) c.args.root _ _
+pub returns-in-Some-clause-listed : goal.returns-in-Some-clause-listed
+returns-in-Some-clause-listed c =
+    listed (build_of c.args.walker.now.build) c.args.root (Ok c.in-Some.found) _
     (root-struct (build_of c.args.walker.now.build) c.args.root c.shape-shape.result.now c.shape-shape.ensures.found c.in-Struct.kind c.in-Struct.fields c.in-Struct.is)
-    (rw c.deref.ensures.value at c.choices_of_fields.ensures)
+    (ap choices_found (sym c.in-Some.is) ∙ (rw c.deref.ensures.value at c.in_ok-found-in-Struct.ensures))
 
-pub returns-in-Struct-clause-counted : goal.returns-in-Struct-clause-counted
-returns-in-Struct-clause-counted c =
-    counted_so (build_of c.args.walker.now.build) c.args.root _ _
+pub returns-in-None-clause-listed : goal.returns-in-None-clause-listed
+returns-in-None-clause-listed c =
+    listed (build_of c.args.walker.now.build) c.args.root _ _
+    (ap choices_found (sym c.in-None.is)
+    ∙ (rw c.deref.ensures.value at c.in_ok-found-in-Struct.ensures)
+    ∙ root-struct (build_of c.args.walker.now.build) c.args.root c.shape-shape.result.now c.shape-shape.ensures.found c.in-Struct.kind c.in-Struct.fields c.in-Struct.is)
+    c.no_choice.ensures
+
+pub returns-in-Some-clause-counted : goal.returns-in-Some-clause-counted
+returns-in-Some-clause-counted c =
+    counted_so (build_of c.args.walker.now.build) c.args.root (Ok c.in-Some.found) _
     (root-struct (build_of c.args.walker.now.build) c.args.root c.shape-shape.result.now c.shape-shape.ensures.found c.in-Struct.kind c.in-Struct.fields c.in-Struct.is)
-    (rw c.deref.ensures.value at c.choices_of_fields.ensures)
+    (ap choices_found (sym c.in-Some.is) ∙ (rw c.deref.ensures.value at c.in_ok-found-in-Struct.ensures))
+
+pub returns-in-None-clause-counted : goal.returns-in-None-clause-counted
+returns-in-None-clause-counted c =
+    counted_so (build_of c.args.walker.now.build) c.args.root _ _
+    (ap choices_found (sym c.in-None.is)
+    ∙ (rw c.deref.ensures.value at c.in_ok-found-in-Struct.ensures)
+    ∙ root-struct (build_of c.args.walker.now.build) c.args.root c.shape-shape.result.now c.shape-shape.ensures.found c.in-Struct.kind c.in-Struct.fields c.in-Struct.is)
+    c.no_choice.ensures
 
 pub returns-in-Enum-clause-listed : goal.returns-in-Enum-clause-listed
 returns-in-Enum-clause-listed c =
@@ -64,11 +80,11 @@ returns-in_default-clause-listed c =
     listed (build_of c.args.walker.now.build) c.args.root _ _
     (root-other (build_of c.args.walker.now.build) c.args.root c.shape-shape.result.now c.shape-shape.ensures.found
     c.in_default.not-Struct c.in_default.not-Enum)
-    c.no_choice.ensures
+    c.no_choice-in_default.ensures
 
 pub returns-in_default-clause-counted : goal.returns-in_default-clause-counted
 returns-in_default-clause-counted c =
     counted_so (build_of c.args.walker.now.build) c.args.root _ _
     (root-other (build_of c.args.walker.now.build) c.args.root c.shape-shape.result.now c.shape-shape.ensures.found
     c.in_default.not-Struct c.in_default.not-Enum)
-    c.no_choice.ensures
+    c.no_choice-in_default.ensures
