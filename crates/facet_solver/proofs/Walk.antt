@@ -23,7 +23,7 @@ use Rattle.facet_solver_shape.specs.declared.shape.Shape.{Shape}
 use Rattle.facet_solver_shape.specs.declared.shape.Field.{Field}
 use Rattle.facet_solver_shape.specs.declared.shape.Variant.{Variant}
 use Rattle.facet_solver.proofs.Outcome.{take_all-nil, effect-put_before, effect-and_then, effect-and_then-stopped, effect-stopped, put_before-some, take_all-one}
-use Rattle.facet_solver.proofs.WalkSteps.{walk_step}
+use Rattle.facet_solver.proofs.WalkSteps.{walk_step, walk-is_step}
 use Rattle.facet_solver.specs.declared.build.place.Place.{Place}
 use Rattle.facet_solver.specs.declared.build.role.Target.{Target}
 use Rattle.std.specs.declared.alloc.Global.{Global}
@@ -187,6 +187,14 @@ module _ (build : Build) (v : Variant) (place : Place) (ns : List ℕ) where
     newtype-below (length build.catalogue) checked fs e b,
   )
 
+  -- that of a variant with no fields is nothing
+  pub content-nothing : NamesEarlier build.catalogue → v.fields.items ≡ [] → walk_content build v place ns ≡ Some ([], ns)
+  unfolding walk_fields_step
+  content-nothing checked empty =
+      inside-own (sym (ap (newtype_fields build.catalogue) empty))
+      ∙ ap (λ (fs : List Field). walk_fields build fs place ns) empty
+      ∙ walk-is_step build checked [] place ns
+
 -- one turn of the loop over fields: what is left has the effect of the whole
 module _ (build : Build) (place : Place) (fs : List Field) (i : ℕ) (ns : List ℕ) (r r0 : Resolved) (whole : Walked) (walked : IsSome whole)
     (left : effect r (walk_left build (drop i fs) place ns) ≡ effect r0 whole) where
@@ -230,6 +238,16 @@ module _ (build : Build) (chosen : Chosen) (place : Place) (ns : List ℕ) where
         ap (effect r) (chosen-alone build chosen place ns alone)
         ∙ effect-put_before r t (emit_variant build chosen place) (Some ([], ns)) done
         ∙ ap (λ (o : Outcome). Some (o, ns)) (take_all-nil t)
+
+    pub then-nothing : NamesEarlier build.catalogue → chosen.variant.fields.items ≡ [] → effect r (walk_variant build chosen place ns) ≡ Some (resolved t, ns)
+    then-nothing checked empty = go (is_walked (repr_for build chosen.shape)) refl
+      where
+        go : (b : Bool) → is_walked (repr_for build chosen.shape) ≡ b → effect r (walk_variant build chosen place ns) ≡ Some (resolved t, ns)
+        go true walked =
+            then-inside (inside_variant place chosen) refl walked
+            ∙ ap (effect t) (content-nothing build chosen.variant (inside_variant place chosen) ns checked empty)
+            ∙ ap (λ (o : Outcome). Some (o, ns)) (take_all-nil t)
+        go false alone = then-alone alone
 
     pub inside-some : (inside : Place) → inside ≡ inside_variant place chosen → is_walked (repr_for build chosen.shape) ≡ true
         → IsSome (walk_variant build chosen place ns) → IsSome (walk_content build chosen.variant inside ns)

@@ -122,6 +122,9 @@ fn walk_variant<'c, 'n>(
         Walks (effect resolution.old walked) result resolution.new }
 {
     emit_variant(walker, chosen, place, resolution)?;
+    if chosen.variant.fields.is_empty() {
+        return Ok(indices);
+    }
     if walker.build.walks_content(chosen.shape) {
         let inside = place.inside_variant(walker.build.alloc, chosen)?;
         walk_content(walker, chosen.variant, &inside, indices, resolution)

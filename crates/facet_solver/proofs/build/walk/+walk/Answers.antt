@@ -1,4 +1,6 @@
 use Rattle.std.proofs.Common.{◌≡◌, List, length, ap, sym, ◌∙◌, subst, arith, IsSome, Some, None, slice_get, get_or, [], refl}
+use Rattle.std.proofs.lemmas.Bool.{eqb-true}
+use Rattle.std.proofs.lemmas.List.{nil_from_length}
 use Rattle.facet_solver_shape.specs.declared.shape.Field.{Field}
 use Rattle.facet_solver_shape.specs.declared.shape.Variant.{Variant}
 use Rattle.facet_solver_shape.specs.Catalogues.{FieldsBelow}
@@ -13,7 +15,7 @@ use Rattle.facet_solver.specs.Roles.{alternatives, role_view}
 use Rattle.facet_solver.proofs.Serving.{block_served, enum_served, field_served, newtype_served, own_served, role_of-target, variant_served}
 use Rattle.facet_solver.proofs.Roles.{plain_role, FieldsBelow-mono, limit_of, limit_of-le, limit_of-at, FieldsBelow-at}
 use Rattle.facet_solver.proofs.Listing.{block-below, alternatives-below}
-use Rattle.facet_solver.proofs.Walk.{walk-start, turn-walked, turn-left, turn-stops, turns-done, stops-emit, emit-done, walks-exit, walks-same, at-block, at-alternatives, at-plain, has_choice, choose-is, VariantsBelow-get, then-inside, then-alone, inside-some, stops-chosen, inside-newtype, inside-own, newtype-limits}
+use Rattle.facet_solver.proofs.Walk.{walk-start, turn-walked, turn-left, turn-stops, turns-done, stops-emit, emit-done, walks-exit, walks-same, at-block, at-alternatives, at-plain, has_choice, choose-is, VariantsBelow-get, then-inside, then-alone, then-nothing, inside-some, stops-chosen, inside-newtype, inside-own, newtype-limits}
 use Rattle.facet_solver.proofs.Brought.{block_of_nothing}
 use Rattle.facet_solver.proofs.build.walk.+walk.Goals as goal
 
@@ -162,6 +164,13 @@ walk_variant-returns-in_err-emit_variant t c =
     walks-exit c.from_residual.result c.emit_variant.new.resolution _ _ c.from_residual.ensures.1
     (stops-chosen (build_of c.args.walker.now.build) (chosen_of c.args.chosen.now) c.args.place.now c.args.indices.now
     c.args.resolution.now _ c.requires.walked c.in_err-emit_variant.ensures)
+
+pub walk_variant-returns-then-is_empty : goal.walk_variant-returns-then-is_empty
+walk_variant-returns-then-is_empty t c =
+    let fields = c.args.chosen.now.variant.now.fields in
+    then-nothing (build_of c.args.walker.now.build) (chosen_of c.args.chosen.now) c.args.place.now c.args.indices.now
+    c.args.resolution.now c.emit_variant.new.resolution c.in_ok-emit_variant.ensures c.requires.ready.checked
+    (nil_from_length fields.items (sym fields.ok.0 ∙ eqb-true fields.len 0 (sym c.is_empty.ensures ∙ c.if-is_empty.true)))
 
 pub walk_variant-walk_content-requires : goal.walk_variant-walk_content-requires
 walk_variant-walk_content-requires t c = (
