@@ -6,7 +6,7 @@ use Rattle.facet_solver_shape.specs.declared.shape.ShapeKind.{ShapeKind}
 use Rattle.facet_solver_shape.specs.declared.shape.ShapeKind.TheVariants.{Enum, Struct}
 use Rattle.facet_solver.specs.declared.build.brings.Brings.{Brings}
 use Rattle.facet_solver.specs.declared.build.brings.Brings.TheVariants.{Nothing, Emissions, Variants}
-use Rattle.facet_solver.specs.declared.build.place.Place.{Place}
+use Rattle.facet_solver.specs.Place.{Place}
 use Rattle.facet_solver.specs.declared.build.role.Target.{Target}
 use Rattle.facet_solver.specs.Brings.{AreBrought, at, field_brings, fields_bring, kind_brings, most, role_brings}
 use Rattle.facet_solver.specs.Build.{Build, kind_at}

@@ -15,7 +15,7 @@ use Rattle.facet_solver.specs.Roles.{Role, regular, block, alternatives, catch_a
 use Rattle.facet_solver.specs.Listing.{Choices, no_choice, product, indexed, choices_of_variant, choices_of_role, choices_of_fields_step, choices_within, choices_of_fields, choices_of_root, choices_of_root_shape, choices_of_root_kind}
 use Rattle.facet_solver.specs.Choice.{ListsChoices, Emits, IsChoice, IsResolution, Enumerates, HasNoClash, IsClash, resolution_of}
 use Rattle.facet_solver.proofs.Listing.{In, In-append, In-map_from, In-product_from, IsExact, IsExact-none, IsExact-emit, IsExact-put_before, IsExact-and_then, IsExact-choose}
-use Rattle.facet_solver.specs.declared.build.place.Place.{Place}
+use Rattle.facet_solver.specs.Place.{Place}
 use Rattle.std.specs.Cmp.Lexicographic.{slice_cmp}
 use Rattle.std.specs.Ordering.{nat_cmp, ordering_then, ordering_reverse}
 use Rattle.std.specs.List.{AllByRecursion, AllZip}

@@ -10,7 +10,7 @@ use Rattle.facet_solver.specs.Outcome.{take_all}
 use Rattle.facet_solver.proofs.Outcome.{take_all-field_and_paths}
 use Rattle.facet_solver.specs.Place.{Chosen}
 use Rattle.facet_solver.specs.Emissions.{some_key_paths, a_catch_all, field_and_paths, regular_field, catch_all_field, selector_field, emit_regular, emit_catch_all, emit_selector_by}
-use Rattle.facet_solver.specs.declared.build.place.Place.{Place}
+use Rattle.facet_solver.specs.Place.{Place}
 use Rattle.facet_solver.specs.declared.build.role.Target.{Target}
 
 module _ (build : Build) (f : Field) (place : Place) where

@@ -35,7 +35,7 @@ use Rattle.facet_solver.specs.Walk.{Walked, Walk, put_before, and_then, emit, ch
 use Rattle.facet_solver.specs.Choice.{with_emission, resolution_of, IsResolution, GoesByName}
 use Rattle.facet_solver.specs.Indexed.{AreOfFormat, IsOfFormat}
 use Rattle.facet_solver.specs.Schema.{IsBuilt, SchemaView}
-use Rattle.facet_solver.specs.declared.build.place.Place.{Place}
+use Rattle.facet_solver.specs.Place.{Place}
 
 -- all categories that fields and selectors get in a format
 pub record HasCategories (P : FieldCategory → Type 0) (format : Format) : Type 0 where

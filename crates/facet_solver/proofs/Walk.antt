@@ -24,7 +24,7 @@ use Rattle.facet_solver_shape.specs.declared.shape.Field.{Field}
 use Rattle.facet_solver_shape.specs.declared.shape.Variant.{Variant}
 use Rattle.facet_solver.proofs.Outcome.{take_all-nil, effect-put_before, effect-and_then, effect-and_then-stopped, effect-stopped, put_before-some, take_all-one}
 use Rattle.facet_solver.proofs.WalkSteps.{walk_step, walk-is_step}
-use Rattle.facet_solver.specs.declared.build.place.Place.{Place}
+use Rattle.facet_solver.specs.Place.{Place}
 use Rattle.facet_solver.specs.declared.build.role.Target.{Target}
 use Rattle.std.specs.declared.alloc.Global.{Global}
 use Rattle.facet_solver_shape.specs.declared.shape.StructKind.{StructKind}

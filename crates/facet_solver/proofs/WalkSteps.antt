@@ -14,7 +14,7 @@ use Rattle.facet_solver.specs.Representation.{is_walked}
 use Rattle.facet_solver.specs.Roles.{Role, regular, block, alternatives, catch_all, leaf, role_of, target_of, role_of_target, IsPlain}
 use Rattle.facet_solver.specs.Listing.{Choices, product, indexed, choices_of_variant, choices_of_role, choices_of_fields_step, choices_within, choices_of_fields}
 use Rattle.facet_solver.proofs.Roles.{RoleBelow, role_of-below, content_of-below, IsLocal, one_step, role_of_target-below, same_levels}
-use Rattle.facet_solver.specs.declared.build.place.Place.{Place}
+use Rattle.facet_solver.specs.Place.{Place}
 use Rattle.std.proofs.lemmas.Option.{slice_get_within}
 use Rattle.facet_solver.specs.Count.{Count, count_role, count_fields_step, count_within, count_fields}
 use Rattle.facet_solver.proofs.Count.{count_role-same, count-local, count-step}

@@ -6,7 +6,7 @@ use Rattle.facet_solver_shape.specs.declared.shape.Variant.{Variant}
 use Rattle.facet_solver_shape.specs.Names.{Name, effective_name}
 use Rattle.facet_solver_shape.specs.Fields.{FieldView}
 use Rattle.facet_solver_shape.specs.Resolved.{Pick}
-use Rattle.facet_solver.specs.declared.build.place.Place.{Place}
+use Rattle.facet_solver.specs.Place.{Place}
 use Rattle.facet_solver.specs.declared.build.role.Target.{Target}
 use Rattle.facet_solver.specs.Build.{Build, repr_for}
 use Rattle.facet_solver.specs.Roles.{is_option, Role, regular, block, alternatives, catch_all, leaf}

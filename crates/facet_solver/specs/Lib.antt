@@ -7,6 +7,8 @@ pub mod FieldCount
 pub mod NestedTable
 pub mod Roles
 pub mod Place
+pub mod PlaceView
+pub mod PlaceDepth
 pub mod Emissions
 pub mod Walk
 pub mod Choice

@@ -5,12 +5,16 @@ use Rattle.facet_solver_shape.specs.declared.shape.Field.{Field}
 use Rattle.facet_solver_shape.specs.declared.shape.Variant.{Variant}
 use Rattle.facet_solver_shape.specs.Paths.{Step, by_field, by_variant}
 use Rattle.facet_solver.specs.declared.build.place.Chosen as code
-use Rattle.facet_solver.specs.declared.build.place.Place.{Place}
 use Rattle.facet_solver.specs.declared.build.role.Target.{Target}
 
 -- the steps from the root
 abbrev pub Path : Type 0
 Path = List Step
+
+-- where fields stand: the path to them, and whether an option was unwrapped on the way
+pub record Place : Type 0 where
+  pub path : Path
+  pub unwrapped : Bool
 
 -- where the fields of a root struct stand
 abbrev pub at_root : Place

@@ -14,7 +14,7 @@ ghost use Rattle.facet_solver.specs.Choice.{IsChoice, IsClash, IsResolution, Lis
 ghost use Rattle.facet_solver.specs.Count.{count_fields, count_fields_step, count_of_root};
 ghost use Rattle.facet_solver.specs.Failure.{missing_names};
 ghost use Rattle.facet_solver.specs.Place.{Path};
-ghost use Rattle.facet_solver.specs.declared.build.place.Place.{Place};
+ghost use Rattle.facet_solver.specs.Place.{Place};
 ghost use Rattle.facet_solver.specs.declared.build.representation.Format.TheVariants.{Dom, Flat};
 ghost use Rattle.facet_solver.specs.Nested.{nested_paths, flattened_paths, variant_paths};
 ghost use Rattle.facet_solver.specs.Nested.{content_paths_of_shape, content_paths};

@@ -48,7 +48,7 @@ fn add_with_path<'c>(
 fn emit_regular<'c>(
     walker: &Walker<'c>,
     field: &'c Field,
-    place: &Place<'c>,
+    place: &Place<'_, 'c>,
     resolution: &mut Resolution<'c>,
 ) -> Result<(), SchemaError<'c>>
     requires ready { IsReady walker.now }
@@ -71,7 +71,7 @@ fn emit_catch_all<'c>(
     walker: &Walker<'c>,
     field: &'c Field,
     target: Target,
-    place: &Place<'c>,
+    place: &Place<'_, 'c>,
     resolution: &mut Resolution<'c>,
 ) -> Result<(), SchemaError<'c>>
     ensures { let emitted =
@@ -89,7 +89,7 @@ fn emit_leaf<'c>(
     walker: &Walker<'c>,
     field: &'c Field,
     target: Target,
-    place: &Place<'c>,
+    place: &Place<'_, 'c>,
     resolution: &mut Resolution<'c>,
 ) -> Result<(), SchemaError<'c>>
     ensures { let emitted =
@@ -106,7 +106,7 @@ pub(crate) fn emit_plain<'c>(
     walker: &Walker<'c>,
     role: &Role<'c>,
     field: &'c Field,
-    place: &Place<'c>,
+    place: &Place<'_, 'c>,
     resolution: &mut Resolution<'c>,
 ) -> Result<(), SchemaError<'c>>
     requires ready { IsReady walker.now }
@@ -144,7 +144,7 @@ fn add_selector<'c>(
     walker: &Walker<'c>,
     name: &'c str,
     chosen: &Chosen<'c>,
-    place: &Place<'c>,
+    place: &Place<'_, 'c>,
     resolution: &mut Resolution<'c>,
 ) -> Result<(), SchemaError<'c>>
     ensures { let field =
@@ -183,7 +183,7 @@ fn add_content<'c>(
 fn emit_selector<'c>(
     walker: &Walker<'c>,
     chosen: &Chosen<'c>,
-    place: &Place<'c>,
+    place: &Place<'_, 'c>,
     resolution: &mut Resolution<'c>,
 ) -> Result<(), SchemaError<'c>>
     requires ready { IsReady walker.now }
@@ -217,7 +217,7 @@ fn emit_selector<'c>(
 pub(crate) fn emit_variant<'c>(
     walker: &Walker<'c>,
     chosen: &Chosen<'c>,
-    place: &Place<'c>,
+    place: &Place<'_, 'c>,
     resolution: &mut Resolution<'c>,
 ) -> Result<(), SchemaError<'c>>
     requires ready { IsReady walker.now }

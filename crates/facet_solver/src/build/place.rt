@@ -1,20 +1,52 @@
 //! Where the walk of one choice stands, and what was chosen there.
-ghost use Rattle.std.specs.Prelude.{◌≡◌, ◌∷◌, [], codes, IfOk};
-ghost use Rattle.facet_solver_shape.specs.Paths.{by_field};
+ghost use Rattle.std.specs.Prelude.{◌≡◌, ◌∷◌, ◌++◌, [], codes, map, IfOk, OnOk};
+ghost use Rattle.facet_solver_shape.specs.Paths.{by_field, step_of};
 ghost use Rattle.facet_solver.specs.Place as places;
 ghost use Rattle.facet_solver.specs.Place.{chosen_of};
 
 use crate::build::role::Target;
-use facet_solver_shape::{Field, FieldPath, Shape, Variant};
+use facet_solver_shape::{Field, FieldPath, PathSegment, Shape, Variant};
 use std::alloc::{AllocError, Global};
+use std::marker::Model;
 
-/// Where fields stand.
+/// How a place lies in the place outside it.
+#[cycle(place)]
 #[derive(Drop)]
-pub(crate) struct Place<'c> {
-    /// The path to them.
-    pub(crate) path: FieldPath<'c>,
+pub(crate) enum Way<'p, 'c> {
+    /// There is none outside it.
+    Root,
+    /// It lies one segment inside another place, or two.
+    Inside(&'p Place<'p, 'c>, PathSegment<'c>, Option<PathSegment<'c>>),
+}
+
+/// Where fields stand, seen as the path to them and whether an option was unwrapped on the way. It refers to the place
+/// outside it, so that it takes no memory: a path is made only where one is emitted.
+#[cycle(place)]
+#[derive(Drop)]
+pub(crate) struct Place<'p, 'c> {
+    way: Way<'p, 'c>,
     /// Whether an option was unwrapped on the way to them.
     pub(crate) unwrapped: bool,
+    /// How many segments the path has, by which room is made for it.
+    depth: usize,
+}
+
+impl<'p, 'c> Model for Place<'p, 'c> {
+    ghost use Rattle.std.specs.Prelude.{length};
+    ghost use Rattle.facet_solver.specs.Place as places;
+
+    ghost Value = { places.Place };
+
+    ghost use Rattle.facet_solver.specs.PlaceView.{place_of};
+
+    ghost view = { λ a. place_of a.way a.unwrapped };
+
+    ghost size = { λ v. length v.path };
+
+    ghost use Rattle.std.proofs.Common.{arith};
+    ghost use Rattle.facet_solver.specs.PlaceDepth.{deeper};
+
+    ghost size_decreases = { λ a h. omega (arith, deeper a.way) };
 }
 
 /// A variant that is chosen for the enum of a flattened field.
@@ -28,26 +60,28 @@ pub(crate) struct Chosen<'c> {
     pub(crate) variant: &'c Variant,
 }
 
-impl<'c> Place<'c> {
+impl<'p, 'c> Place<'p, 'c> {
     /// Where the fields of a root struct stand.
-    pub(crate) fn root(alloc: Global) -> Place<'c>
+    pub(crate) fn root() -> Place<'p, 'c>
         ensures { result ≡ places.at_root }
     {
         Place {
-            path: FieldPath::empty(alloc),
+            way: Way::Root,
             unwrapped: false,
+            depth: 0,
         }
     }
 
-    /// Where the fields of a root enum's variant stand.
-    pub(crate) fn root_variant(alloc: Global, variant: &'c Variant) -> Result<Place<'c>, AllocError>
-        ensures { IfOk result (λ inside. inside ≡ places.at_root_variant variant.now) }
+    /// Where the fields of a root enum's variant stand, inside the root.
+    pub(crate) fn inside_root<'q>(&'q self, variant: &'c Variant) -> Place<'q, 'c>
+        requires { self.now ≡ places.at_root }
+        ensures { result ≡ places.at_root_variant variant.now }
     {
-        let path = FieldPath::empty(alloc);
-        Ok(Place {
-            path: path.push_variant(alloc, "", &variant.name)?,
+        Place {
+            way: Way::Inside(&*self, PathSegment::Variant("", &variant.name), None),
             unwrapped: false,
-        })
+            depth: self.depth.saturating_add(1),
+        }
     }
 
     /// Whether an option was unwrapped at a flattened field or further out.
@@ -55,6 +89,24 @@ impl<'c> Place<'c> {
         ensures { result ≡ places.unwrapped_at self.now target }
     {
         self.unwrapped || target.optional
+    }
+
+    /// Adds the segments of the path to these.
+    fn push_segments(&self, segments: &mut Vec<PathSegment<'c>>) -> Result<(), AllocError>
+        ensures { let path = map step_of segments.old.items ++ self.now.path in
+            OnOk result (map step_of segments.new.items ≡ path) }
+    {
+        match self.way {
+            Way::Root => Ok(()),
+            Way::Inside(outer, segment, second) => {
+                outer.push_segments(segments)?;
+                segments.push(segment)?;
+                if let Some(second) = second {
+                    segments.push(second)?;
+                }
+                Ok(())
+            }
+        }
     }
 
     /// The path of a field here.
@@ -65,7 +117,10 @@ impl<'c> Place<'c> {
     ) -> Result<FieldPath<'c>, AllocError>
         ensures { IfOk result (λ path. path ≡ places.field_path self.now field.now) }
     {
-        self.path.push_field(alloc, &field.name)
+        let mut segments = Vec::with_capacity(alloc, self.depth.saturating_add(1))?;
+        self.push_segments(&mut segments)?;
+        segments.push(PathSegment::Field(&field.name))?;
+        Ok(FieldPath::from(segments))
     }
 
     /// The path of a chosen variant's alternative.
@@ -77,48 +132,45 @@ impl<'c> Place<'c> {
         ensures { IfOk result (λ path. path ≡ places.variant_path self.now (chosen_of chosen.now)) }
     {
         let field = chosen.field;
-        self.field_path(alloc, field)?
-            .push_variant(alloc, &field.name, &chosen.variant.name)
+        let mut segments = Vec::with_capacity(alloc, self.depth.saturating_add(2))?;
+        self.push_segments(&mut segments)?;
+        segments.push(PathSegment::Field(&field.name))?;
+        segments.push(PathSegment::Variant(&field.name, &chosen.variant.name))?;
+        Ok(FieldPath::from(segments))
     }
 
     /// Where the fields stand that a field here flattens.
-    pub(crate) fn inside_field(
-        &self,
-        alloc: Global,
-        field: &'c Field,
-        target: Target,
-    ) -> Result<Place<'c>, AllocError>
-        ensures { IfOk result (λ inside. inside ≡ places.inside_field self.now field.now target) }
+    pub(crate) fn inside_field<'q>(&'q self, field: &'c Field, target: Target) -> Place<'q, 'c>
+        ensures { result ≡ places.inside_field self.now field.now target }
     {
-        Ok(Place {
-            path: self.field_path(alloc, field)?,
+        Place {
+            way: Way::Inside(&*self, PathSegment::Field(&field.name), None),
             unwrapped: self.unwrapped_at(target),
-        })
+            depth: self.depth.saturating_add(1),
+        }
     }
 
     /// Where the fields of a chosen variant stand.
-    pub(crate) fn inside_variant(
-        &self,
-        alloc: Global,
-        chosen: &Chosen<'c>,
-    ) -> Result<Place<'c>, AllocError>
-        ensures { IfOk result
-            (λ inside. inside ≡ places.inside_variant self.now (chosen_of chosen.now)) }
+    pub(crate) fn inside_variant<'q>(&'q self, chosen: &Chosen<'c>) -> Place<'q, 'c>
+        ensures { result ≡ places.inside_variant self.now (chosen_of chosen.now) }
     {
-        Ok(Place {
-            path: self.variant_path(alloc, chosen)?,
+        let field = chosen.field;
+        let alternative = PathSegment::Variant(&field.name, &chosen.variant.name);
+        Place {
+            way: Way::Inside(&*self, PathSegment::Field(&field.name), Some(alternative)),
             unwrapped: self.unwrapped_at(chosen.target),
-        })
+            depth: self.depth.saturating_add(2),
+        }
     }
 
     /// Where the fields of the struct stand that is the only field, `0`, of a variant here.
-    pub(crate) fn inside_newtype(&self, alloc: Global) -> Result<Place<'c>, AllocError>
-        ensures { IfOk result
-            (λ inside. inside ≡ places.further self.now (by_field (codes "0") ∷ [])) }
+    pub(crate) fn inside_newtype<'q>(&'q self) -> Place<'q, 'c>
+        ensures { result ≡ places.further self.now (by_field (codes "0") ∷ []) }
     {
-        Ok(Place {
-            path: self.path.push_field(alloc, "0")?,
+        Place {
+            way: Way::Inside(&*self, PathSegment::Field("0"), None),
             unwrapped: self.unwrapped,
-        })
+            depth: self.depth.saturating_add(1),
+        }
     }
 }

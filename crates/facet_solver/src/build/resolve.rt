@@ -91,7 +91,7 @@ fn walk_root<'c, 'n>(
     let shape = walker.build.shape(root);
     match &shape.kind {
         ShapeKind::Struct { fields, .. } => {
-            let place = Place::root(walker.build.alloc);
+            let place = Place::root();
             walk_fields(walker, fields, &place, indices, resolution)
         }
         ShapeKind::Enum { variants } => {
@@ -120,7 +120,8 @@ fn walk_root_variant<'c, 'n>(
         walk.walk_root_variant (build_of walker.now.build) shape.now variant.now indices.now in
         Walks (effect resolution.old walked) result resolution.new }
 {
-    let inside = Place::root_variant(walker.build.alloc, variant)?;
+    let place = Place::root();
+    let inside = place.inside_root(variant);
     add_pick(
         FieldPath::empty(walker.build.alloc),
         shape,

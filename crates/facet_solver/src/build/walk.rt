@@ -33,7 +33,7 @@ pub(crate) fn next_variant<'c, 'n>(
 pub(crate) fn walk_fields<'c, 'n>(
     walker: &Walker<'c>,
     fields: &'c [Field],
-    place: &Place<'c>,
+    place: &Place<'_, 'c>,
     indices: &'n [usize],
     resolution: &mut Resolution<'c>,
 ) -> Result<&'n [usize], SchemaError<'c>>
@@ -58,7 +58,7 @@ pub(crate) fn walk_fields<'c, 'n>(
 fn walk_field<'c, 'n>(
     walker: &Walker<'c>,
     field: &'c Field,
-    place: &Place<'c>,
+    place: &Place<'_, 'c>,
     indices: &'n [usize],
     resolution: &mut Resolution<'c>,
 ) -> Result<&'n [usize], SchemaError<'c>>
@@ -77,7 +77,7 @@ fn walk_field<'c, 'n>(
             if let Brings::Nothing = walker.brings.of(target.shape) {
                 return Ok(indices);
             }
-            let inside = place.inside_field(walker.build.alloc, field, target)?;
+            let inside = place.inside_field(field, target);
             walk_fields(walker, fields, &inside, indices, resolution)
         }
         Role::Alternatives(target, shape, variants) => {
@@ -103,7 +103,7 @@ fn walk_field<'c, 'n>(
 fn walk_variant<'c, 'n>(
     walker: &Walker<'c>,
     chosen: &Chosen<'c>,
-    place: &Place<'c>,
+    place: &Place<'_, 'c>,
     indices: &'n [usize],
     resolution: &mut Resolution<'c>,
 ) -> Result<&'n [usize], SchemaError<'c>>
@@ -126,7 +126,7 @@ fn walk_variant<'c, 'n>(
         return Ok(indices);
     }
     if walker.build.walks_content(chosen.shape) {
-        let inside = place.inside_variant(walker.build.alloc, chosen)?;
+        let inside = place.inside_variant(chosen);
         walk_content(walker, chosen.variant, &inside, indices, resolution)
     } else {
         Ok(indices)
@@ -138,7 +138,7 @@ fn walk_variant<'c, 'n>(
 pub(crate) fn walk_content<'c, 'n>(
     walker: &Walker<'c>,
     variant: &'c Variant,
-    place: &Place<'c>,
+    place: &Place<'_, 'c>,
     indices: &'n [usize],
     resolution: &mut Resolution<'c>,
 ) -> Result<&'n [usize], SchemaError<'c>>
@@ -154,7 +154,7 @@ pub(crate) fn walk_content<'c, 'n>(
 {
     match newtype_fields(walker.build.shapes, &variant.fields) {
         Some(fields) => {
-            let inside = place.inside_newtype(walker.build.alloc)?;
+            let inside = place.inside_newtype();
             walk_fields(walker, fields, &inside, indices, resolution)
         }
         None => walk_fields(walker, &variant.fields, place, indices, resolution),

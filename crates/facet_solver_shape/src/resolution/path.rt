@@ -50,6 +50,15 @@ impl Eq for FieldPath<'_> {
     ghost laws = { path_eq_equiv };
 }
 
+/// The path of these segments, from the root on.
+impl<'c> From<Vec<PathSegment<'c>>> for FieldPath<'c> {
+    ghost from_gives = { λ segments path. path ≡ map step_of segments.items };
+
+    fn from(segments: Vec<PathSegment<'c>>) -> FieldPath<'c> {
+        FieldPath { segments }
+    }
+}
+
 impl<'c> FieldPath<'c> {
     /// The path of the root, which has no segments.
     pub fn empty(alloc: Global) -> Self

@@ -1,7 +1,7 @@
 use Rattle.std.proofs.Common.{ap, ◌∙◌, sym, subst, List, length, Some, IsSome}
 use Rattle.facet_solver_shape.specs.declared.shape.Field.{Field}
 use Rattle.facet_solver_shape.specs.declared.shape.Variant.{Variant}
-use Rattle.facet_solver.specs.declared.build.place.Place.{Place}
+use Rattle.facet_solver.specs.Place.{Place}
 use Rattle.facet_solver.specs.Place.{at_root}
 use Rattle.facet_solver.specs.Walk.{Walked, walk_fields, choose, walk_root_variant}
 use Rattle.facet_solver.specs.Outcome.{Outcome, effect}

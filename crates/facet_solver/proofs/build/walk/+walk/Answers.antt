@@ -6,7 +6,7 @@ use Rattle.facet_solver_shape.specs.declared.shape.Variant.{Variant}
 use Rattle.facet_solver_shape.specs.Catalogues.{FieldsBelow}
 use Rattle.facet_solver.specs.Walk.{Walked, walk_fields}
 use Rattle.facet_solver.specs.Place.{chosen_of, inside_field}
-use Rattle.facet_solver.specs.declared.build.place.Place.{Place}
+use Rattle.facet_solver.specs.Place.{Place}
 use Rattle.facet_solver.specs.Content.{newtype_fields}
 use Rattle.facet_solver.specs.Outcome.{effect, take_all}
 use Rattle.facet_solver.specs.Build.{build_of}
@@ -75,18 +75,18 @@ walk_field-walk_fields-requires t c =
           FieldsBelow-mono f.shape (length cat) fs (omega (arith, c.requires.below)) b,
           (
             block_served (build_of c.args.walker.now.build) c.args.walker.now.tables f c.requires.serves c.in-Block.target fs c.in-Block.ensures,
-            rw (c.in_ok-inside-in-Block.ensures, ← at-block (build_of c.args.walker.now.build) f c.args.place.now c.args.indices.now c.in-Block.target fs c.in-Block.ensures) c.requires.walked,
+            rw (c.inside_field-inside.ensures, ← at-block (build_of c.args.walker.now.build) f c.args.place.now c.args.indices.now c.in-Block.target fs c.in-Block.ensures) c.requires.walked,
           ),
         ),
       ),
     )
 
-pub walk_field-returns-in_ok-inside-in-Block : goal.walk_field-returns-in_ok-inside-in-Block
-walk_field-returns-in_ok-inside-in-Block t c =
+pub walk_field-returns-in_default : goal.walk_field-returns-in_default
+walk_field-returns-in_default t c =
     let fs = c.in-Block.fields.now in
     rw (
       at-block (build_of c.args.walker.now.build) c.args.field.now c.args.place.now c.args.indices.now c.in-Block.target fs c.in-Block.ensures,
-      ← c.in_ok-inside-in-Block.ensures,
+      ← c.inside_field-inside.ensures,
     ) c.walk_fields.ensures
 
 pub walk_field-returns-in-Nothing : goal.walk_field-returns-in-Nothing
@@ -150,7 +150,7 @@ walk_field-returns-in_err-emit_plain-in-Regular t c =
     let r = c.args.resolution.now in
     let e = at-plain (build_of c.args.walker.now.build) c.args.field.now c.args.place.now c.args.indices.now (role_view c.role_of-role.result) c.role_of-role.ensures (plain_role c.role_of-role.result c.in-Regular.is) in
     walks-same _ c.emit_plain.new.resolution _ _ (ap (effect r) e)
-    (walks-exit c.from_residual-in_err-emit_plain-in-Regular.result c.emit_plain.new.resolution _ _ c.from_residual-in_err-emit_plain-in-Regular.ensures.1
+    (walks-exit c.from_residual.result c.emit_plain.new.resolution _ _ c.from_residual.ensures.1
     (stops-emit r _ c.args.indices.now _ c.in_err-emit_plain-in-Regular.ensures))
 
 pub walk_field-returns-in_ok-emit_plain-in-Regular : goal.walk_field-returns-in_ok-emit_plain-in-Regular
@@ -182,17 +182,17 @@ walk_variant-walk_content-requires t c = (
       (
         variant_served (build_of c.args.walker.now.build) c.args.walker.now.tables c.args.chosen.now c.requires.chosen c.requires.serves (sym c.walks_content.ensures ∙ c.if-walks_content.true),
         inside-some (build_of c.args.walker.now.build) (chosen_of c.args.chosen.now) c.args.place.now c.args.indices.now
-            c.args.resolution.now c.emit_variant.new.resolution c.in_ok-emit_variant.ensures c.in_ok-inside.inside c.in_ok-inside.ensures (sym c.walks_content.ensures ∙ c.if-walks_content.true) c.requires.walked,
+            c.args.resolution.now c.emit_variant.new.resolution c.in_ok-emit_variant.ensures c.inside_variant-inside.result c.inside_variant-inside.ensures (sym c.walks_content.ensures ∙ c.if-walks_content.true) c.requires.walked,
       ),
     ),
   ),
 )
 
-pub walk_variant-returns-in_ok-inside : goal.walk_variant-returns-in_ok-inside
-walk_variant-returns-in_ok-inside t c =
+pub walk_variant-returns-then-walks_content : goal.walk_variant-returns-then-walks_content
+walk_variant-returns-then-walks_content t c =
     walks-same c.walk_content.result c.walk_content.new.resolution _ _
     (then-inside (build_of c.args.walker.now.build) (chosen_of c.args.chosen.now) c.args.place.now c.args.indices.now
-    c.args.resolution.now c.emit_variant.new.resolution c.in_ok-emit_variant.ensures c.in_ok-inside.inside c.in_ok-inside.ensures (sym c.walks_content.ensures ∙ c.if-walks_content.true))
+    c.args.resolution.now c.emit_variant.new.resolution c.in_ok-emit_variant.ensures c.inside_variant-inside.result c.inside_variant-inside.ensures (sym c.walks_content.ensures ∙ c.if-walks_content.true))
     c.walk_content.ensures
 
 pub walk_variant-returns-else-walks_content : goal.walk_variant-returns-else-walks_content
@@ -216,22 +216,22 @@ walk_content-walk_fields-requires t c =
           (
             newtype_served build c.args.walker.now.tables v c.requires.serves fs e,
             subst (λ (w : Walked). IsSome w)
-                (inside-newtype build v c.args.place.now c.args.indices.now fs e ∙ ap (λ (place : Place). walk_fields build fs place c.args.indices.now) (sym c.in_ok-inside-in-Some.ensures))
+                (inside-newtype build v c.args.place.now c.args.indices.now fs e ∙ ap (λ (place : Place). walk_fields build fs place c.args.indices.now) (sym c.inside_newtype-inside.ensures))
                 c.requires.walked,
           ),
         ),
       ),
     )
 
-pub walk_content-returns-in_ok-inside-in-Some : goal.walk_content-returns-in_ok-inside-in-Some
-walk_content-returns-in_ok-inside-in-Some t c =
+pub walk_content-returns-in-Some : goal.walk_content-returns-in-Some
+walk_content-returns-in-Some t c =
     let build = build_of c.args.walker.now.build in
     let cat = c.args.walker.now.build.shapes.now in
     let v = c.args.variant.now in
     let fs = c.in-Some.fields.now in
     let e : Some fs ≡ newtype_fields cat v.fields.items = c.in-Some.ensures ∙ ap (newtype_fields cat) c.deref.ensures.value in
     walks-same c.walk_fields.result c.walk_fields.new.resolution _ _
-    (ap (effect c.args.resolution.now) (inside-newtype build v c.args.place.now c.args.indices.now fs e ∙ ap (λ (place : Place). walk_fields build fs place c.args.indices.now) (sym c.in_ok-inside-in-Some.ensures)))
+    (ap (effect c.args.resolution.now) (inside-newtype build v c.args.place.now c.args.indices.now fs e ∙ ap (λ (place : Place). walk_fields build fs place c.args.indices.now) (sym c.inside_newtype-inside.ensures)))
     c.walk_fields.ensures
 
 pub walk_content-walk_fields-requires-in-None : goal.walk_content-walk_fields-requires-in-None
