@@ -21,6 +21,7 @@ pub mod Marks
 pub mod Reached
 pub mod Serving
 pub mod Brought
+pub mod CatchAlls
 pub mod Emissions
 pub mod SharedBits
 pub mod FieldCategories

@@ -30,6 +30,12 @@ pub VariantsBelow-mono : (m n : ℕ) (vs : List Variant) → m ≤ n → Variant
 VariantsBelow-mono m n [] le h = tt
 VariantsBelow-mono m n (v ∷ vs) le h = (FieldsBelow-mono m n v.fields.items le h.0, VariantsBelow-mono m n vs le h.1)
 
+pub KindBelow-mono : (m n : ℕ) (k : ShapeKind) → m ≤ n → KindBelow m k → KindBelow n k
+KindBelow-mono m n (Struct kind fs) le h = FieldsBelow-mono m n fs.items le h
+KindBelow-mono m n (Enum vs) le h = VariantsBelow-mono m n vs.items le h
+KindBelow-mono m n (OptionOf inside) le h = omega (arith, h)
+KindBelow-mono m n _ le h = tt
+
 -- what a flattened field leads to names shapes below the limit
 abbrev pub RoleBelow : ℕ → Role → Type 0
 RoleBelow limit regular = ⊤
@@ -136,12 +142,6 @@ module _ (cat : Catalogue) (checked : NamesEarlier cat) where
   struct_fields-below limit (Enum vs) v h b = h
   struct_fields-below limit _ v h b = h
 
-  KindBelow-mono : (m n : ℕ) (k : ShapeKind) → m ≤ n → KindBelow m k → KindBelow n k
-  KindBelow-mono m n (Struct kind fs) le h = FieldsBelow-mono m n fs.items le h
-  KindBelow-mono m n (Enum vs) le h = VariantsBelow-mono m n vs.items le h
-  KindBelow-mono m n (OptionOf i) le h = omega arith
-  KindBelow-mono m n _ le h = tt
-
   pub content_of-below : (limit : ℕ) (v : Variant) → FieldsBelow limit v.fields.items → FieldsBelow limit (content_of cat v).fields
   content_of-below limit v h = go v.fields.items h
     where
@@ -219,7 +219,7 @@ limit_of_variants-at [] i d h = absurd (omega arith)
 limit_of_variants-at (v ∷ vs) zero d h = omega arith
 limit_of_variants-at (v ∷ vs) (suc i) d h = let k = limit_of_variants-at vs i d (omega arith) in omega arith
 
-FieldsBelow-limit : (fs : List Field) → FieldsBelow (limit_of fs) fs
+pub FieldsBelow-limit : (fs : List Field) → FieldsBelow (limit_of fs) fs
 unfolding limit_of
 FieldsBelow-limit [] = tt
 FieldsBelow-limit (f ∷ fs) = (omega arith, FieldsBelow-mono (limit_of fs) _ fs (omega arith) (FieldsBelow-limit fs))

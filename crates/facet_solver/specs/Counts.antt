@@ -40,5 +40,5 @@ pub record AreCounts (build : Build) (counts : List SaturatingCount) : Type 0 wh
 pub record IsReady (walker : Walker) : Type 0 where
   pub checked : NamesEarlier walker.build.shapes.now
   pub counted : AreCounts (build_of walker.build) walker.counts
-  pub brings : AreBrought walker.build.shapes.now walker.brings.by_index.items
+  pub brings : AreBrought (build_of walker.build) walker.brings.by_index.items
   pub tables : AreTables (build_of walker.build) walker.tables

@@ -11,6 +11,7 @@ pub mod PlaceView
 pub mod PlaceDepth
 pub mod Emissions
 pub mod Walk
+pub mod CatchAlls
 pub mod Choice
 pub mod Count
 pub mod Listing

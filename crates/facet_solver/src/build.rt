@@ -6,6 +6,7 @@ ghost use Rattle.facet_solver.specs.Representation as representation;
 ghost use Rattle.facet_solver.specs.Representation.{repr_view};
 
 pub(crate) mod brings;
+pub(crate) mod catch_alls;
 pub(crate) mod category;
 pub(crate) mod choices;
 pub(crate) mod content;

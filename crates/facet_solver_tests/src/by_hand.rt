@@ -185,12 +185,5 @@ where
 }
 
 fn copied<'c>(alloc: Global, path: &FieldPath<'c>) -> Result<FieldPath<'c>, AllocError> {
-    let mut copy = FieldPath::empty(alloc);
-    for segment in path.segments() {
-        copy = match *segment {
-            PathSegment::Field(name) => copy.push_field(alloc, name)?,
-            PathSegment::Variant(field, name) => copy.push_variant(alloc, field, name)?,
-        };
-    }
-    Ok(copy)
+    Ok(FieldPath::from(Vec::from_slice(alloc, path.segments())?))
 }

@@ -1,34 +1,51 @@
-//! What structs bring where they are flattened, found once for each struct. So nothing is gone through again and again that
-//! brings nothing, however often it is flattened.
+//! What structs bring where they are flattened, found once for each struct. So a struct is not gone through again and again
+//! whose fields emit nothing that stays, however often it is flattened.
 ghost use Rattle.std.specs.Prelude.{◌≡◌, IfOk};
 ghost use Rattle.facet_solver.specs.Brings as brings;
 ghost use Rattle.facet_solver.specs.Brings.{AreBrought};
+ghost use Rattle.facet_solver.specs.Build.{build_of};
+
+pub(crate) mod categories;
 
 use crate::build::Build;
 use crate::build::role::{Role, role_of};
-use facet_solver_shape::{Field, ShapeId, ShapeKind, Shapes};
+use categories::Categories;
+use facet_solver_shape::{Field, FieldCategory, ShapeId, ShapeKind};
 use std::alloc::AllocError;
 
 /// What the walk of a struct's fields brings.
 #[derive(Clone, Copy)]
 pub(crate) enum Brings {
-    /// Nothing is emitted, and nothing is to be chosen.
-    Nothing,
-    /// Something may be emitted, and nothing is to be chosen.
+    /// Catch-alls alone are emitted, of these categories, and nothing is to be chosen.
+    CatchAlls(Categories),
+    /// Something else may be emitted, and nothing is to be chosen.
     Emissions,
     /// Variants may be to be chosen.
     Variants,
 }
 
 impl Brings {
-    /// The more of two.
-    fn most(self, other: Brings) -> Brings
-        ensures { result ≡ brings.most self other }
+    /// What both bring.
+    fn both(self, other: Brings) -> Brings
+        ensures { result ≡ brings.both self other }
     {
         match (self, other) {
-            (Brings::Nothing, other) => other,
-            (Brings::Emissions, Brings::Nothing | Brings::Emissions) => Brings::Emissions,
+            (Brings::CatchAlls(first), Brings::CatchAlls(second)) => {
+                Brings::CatchAlls(first.union(second))
+            }
+            (Brings::CatchAlls(_), other) => other,
+            (Brings::Emissions, Brings::CatchAlls(_) | Brings::Emissions) => Brings::Emissions,
             (Brings::Emissions, Brings::Variants) | (Brings::Variants, _) => Brings::Variants,
+        }
+    }
+
+    /// Whether catch-alls alone are brought, and one of the category.
+    pub(crate) fn has_last(self, category: FieldCategory) -> bool
+        ensures { result ≡ brings.has_last category self }
+    {
+        match self {
+            Brings::CatchAlls(categories) => categories.has(category),
+            Brings::Emissions | Brings::Variants => false,
         }
     }
 }
@@ -42,11 +59,11 @@ pub(crate) struct BringsTable {
 impl BringsTable {
     /// Finds them in order: the fields of a struct name earlier shapes.
     pub(crate) fn new(build: Build<'_>) -> Result<BringsTable, AllocError>
-        ensures { IfOk result (λ table. AreBrought build.entry.shapes.now table.by_index.items) }
+        ensures { IfOk result (λ table. AreBrought (build_of build.entry) table.by_index.items) }
     {
         let mut by_index = Vec::new(build.alloc);
         while let Some(shape) = build.shapes.get(ShapeId::new(by_index.len())) {
-            let brings = kind_brings(build.shapes, &shape.kind, &by_index);
+            let brings = kind_brings(build, &shape.kind, &by_index);
             by_index.push(brings)?;
         }
         Ok(BringsTable { by_index })
@@ -57,6 +74,14 @@ impl BringsTable {
         ensures { result ≡ brings.at self.now.by_index.items id }
     {
         at(&self.by_index, id)
+    }
+
+    /// What a field brings.
+    pub(crate) fn of_field(&self, build: Build<'_>, field: &Field) -> Brings
+        ensures { result
+            ≡ brings.field_brings self.now.by_index.items (build_of build.entry) field.now }
+    {
+        field_brings(build, field, &self.by_index)
     }
 }
 
@@ -70,33 +95,36 @@ fn at(table: &[Brings], id: ShapeId) -> Brings
 }
 
 /// What a shape brings by its kind.
-fn kind_brings(shapes: &Shapes, kind: &ShapeKind, earlier: &[Brings]) -> Brings
-    ensures { result ≡ brings.kind_brings earlier.now shapes.now kind.now }
+fn kind_brings(build: Build<'_>, kind: &ShapeKind, earlier: &[Brings]) -> Brings
+    ensures { result ≡ brings.kind_brings earlier.now (build_of build.entry) kind.now }
 {
     match kind {
-        ShapeKind::Struct { fields, .. } => fields_bring(shapes, fields, earlier),
+        ShapeKind::Struct { fields, .. } => fields_bring(build, fields, earlier),
         _ => Brings::Variants,
     }
 }
 
 /// What fields bring together.
-fn fields_bring(shapes: &Shapes, fields: &[Field], earlier: &[Brings]) -> Brings
-    ensures { result ≡ brings.fields_bring earlier.now shapes.now fields.now }
+fn fields_bring(build: Build<'_>, fields: &[Field], earlier: &[Brings]) -> Brings
+    ensures { result ≡ brings.fields_bring earlier.now (build_of build.entry) fields.now }
 {
-    let mut brings = Brings::Nothing;
+    let mut brings = Brings::CatchAlls(Categories::none());
     for field in fields {
-        brings = brings.most(field_brings(shapes, field, earlier));
+        brings = brings.both(field_brings(build, field, earlier));
     }
     brings
 }
 
 /// What a field brings.
-fn field_brings(shapes: &Shapes, field: &Field, earlier: &[Brings]) -> Brings
-    ensures { result ≡ brings.field_brings earlier.now shapes.now field.now }
+fn field_brings(build: Build<'_>, field: &Field, earlier: &[Brings]) -> Brings
+    ensures { result ≡ brings.field_brings earlier.now (build_of build.entry) field.now }
 {
-    match role_of(shapes, field) {
+    match role_of(build.shapes, field) {
         Role::Block(target, _) => at(earlier, target.shape),
         Role::Alternatives(_, _, _) => Brings::Variants,
-        Role::Regular | Role::CatchAll(_) | Role::Leaf(_) => Brings::Emissions,
+        Role::CatchAll(_) => {
+            Brings::CatchAlls(Categories::only(build.format.catch_all_category(field.dom)))
+        }
+        Role::Regular | Role::Leaf(_) => Brings::Emissions,
     }
 }

@@ -122,7 +122,7 @@ fn choices_of_field<'c>(
     match role_of(walker.build.shapes, field) {
         Role::Block(target, fields) => match walker.brings.of(target.shape) {
             Brings::Variants => choices_of_fields(walker, fields),
-            Brings::Nothing | Brings::Emissions => Ok(None),
+            Brings::CatchAlls(_) | Brings::Emissions => Ok(None),
         },
         Role::Alternatives(_, shape, variants) => {
             let walked = walker.build.walks_content(shape);

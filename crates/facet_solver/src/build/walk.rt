@@ -9,6 +9,7 @@ ghost use Rattle.facet_solver.specs.Counts.{IsReady};
 ghost use Rattle.facet_solver.specs.Reached.{IsChosen, ServesEnum, ServesField, ServesFields, ServesVariant};
 
 use crate::build::brings::Brings;
+use crate::build::catch_alls::walk_catch_alls;
 use crate::build::content::newtype_fields;
 use crate::build::emit::{emit_plain, emit_variant};
 use crate::build::place::{Chosen, Place};
@@ -74,8 +75,9 @@ fn walk_field<'c, 'n>(
     let role = role_of(walker.build.shapes, field);
     match role {
         Role::Block(target, fields) => {
-            if let Brings::Nothing = walker.brings.of(target.shape) {
-                return Ok(indices);
+            if let Brings::CatchAlls(_) = walker.brings.of(target.shape) {
+                let inside = place.inside_field(field, target);
+                return walk_catch_alls(walker, fields, &inside, indices, resolution);
             }
             let inside = place.inside_field(field, target);
             walk_fields(walker, fields, &inside, indices, resolution)

@@ -6,7 +6,8 @@ use Rattle.facet_solver.specs.Listing.{choices_of_variant, choices_of_fields, li
 use Rattle.facet_solver.specs.Brings.{at}
 use Rattle.facet_solver.specs.Build.{build_of}
 use Rattle.facet_solver.specs.declared.build.brings.Brings.{Brings}
-use Rattle.facet_solver.specs.declared.build.brings.Brings.TheVariants.{Emissions, Nothing, Variants}
+use Rattle.facet_solver.specs.declared.build.brings.Brings.TheVariants.{CatchAlls, Emissions, Variants}
+use Rattle.facet_solver.specs.declared.build.brings.categories.Categories.{Categories}
 use Rattle.facet_solver.proofs.Brought.{block_of_one}
 use Rattle.facet_solver.proofs.Roles.{content_of-below, FieldsBelow-mono, VariantsBelow-mono, limit_of, limit_of-le, limit_of_variants-le, limit_of-at, limit_of_variants-at, FieldsBelow-at, VariantsBelow-at, limit_of-content, plain_role}
 use Rattle.facet_solver.proofs.Listing.{at-block, at-alternatives, at-plain, among-start, among-more, among-end, variant-walked, variant-alone, block-below, alternatives-below, left-start, left-more, left-end}
@@ -16,9 +17,9 @@ use Rattle.facet_solver.specs.Roles.{role_view}
 use Rattle.facet_solver.proofs.build.choices.+choices.Goals as goal
 use Rattle.facet_solver.proofs.build.choices.+choices.Goals.{choices_of_variants-then-walked+in_ok-contents, choices_of_variants-else-walked}
 
--- what brings nothing or emissions alone brings no variants
-fewer : (b : Brings) → (b ≡ Nothing) ⊎ (b ≡ Emissions) → b ≡ Variants → ⊥
-fewer b (inl e) v = let no : Nothing ≡ Variants = sym e ∙ v in cc
+-- what brings catch-alls or other emissions alone brings no variants
+fewer : (b : Brings) → ((a : Categories) × (b ≡ CatchAlls a)) ⊎ (b ≡ Emissions) → b ≡ Variants → ⊥
+fewer b (inl e) v = let no : CatchAlls e.0 ≡ Variants = sym e.1 ∙ v in cc
 fewer b (inr e) v = let no : Emissions ≡ Variants = sym e ∙ v in cc
 
 pub choices_of_field-choices_of_fields-requires : goal.choices_of_field-choices_of_fields-requires
@@ -40,14 +41,14 @@ pub choices_of_field-returns-in-Variants : goal.choices_of_field-returns-in-Vari
 choices_of_field-returns-in-Variants t c =
     rw (at-block (build_of c.args.walker.now.build) c.args.field.now c.in-Block.target c.in-Block.fields.now c.in-Block.ensures) c.choices_of_fields.ensures
 
-pub choices_of_field-returns-in-Nothing : goal.choices_of_field-returns-in-Nothing
-choices_of_field-returns-in-Nothing t c =
+pub choices_of_field-returns-in-CatchAlls : goal.choices_of_field-returns-in-CatchAlls
+choices_of_field-returns-in-CatchAlls t c =
     let build = build_of c.args.walker.now.build in
     let table = c.args.walker.now.brings.by_index.items in
     let f = c.args.field.now in
     let target = c.in-Block.target in
     let fs = c.in-Block.fields.now in
-    let none : at table target.shape ≡ Variants → ⊥ = λ v. fewer c.of.result c.in-Nothing.is (c.of.ensures ∙ v) in
+    let none : at table target.shape ≡ Variants → ⊥ = λ v. fewer c.of.result c.in-CatchAlls.is (c.of.ensures ∙ v) in
     rw (at-block build f target fs c.in-Block.ensures, block_of_one build c.requires.ready.checked table c.requires.ready.brings f target fs (omega (arith, c.requires.below)) c.in-Block.ensures none)
     refl
 

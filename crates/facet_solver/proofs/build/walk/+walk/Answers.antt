@@ -1,14 +1,14 @@
-use Rattle.std.proofs.Common.{◌≡◌, List, length, ap, sym, ◌∙◌, subst, arith, IsSome, Some, None, slice_get, get_or, [], refl}
+use Rattle.std.proofs.Common.{◌≡◌, List, length, ap, sym, ◌∙◌, subst, arith, IsSome, Some, None, slice_get, get_or}
 use Rattle.std.proofs.lemmas.Bool.{eqb-true}
 use Rattle.std.proofs.lemmas.List.{nil_from_length}
 use Rattle.facet_solver_shape.specs.declared.shape.Field.{Field}
 use Rattle.facet_solver_shape.specs.declared.shape.Variant.{Variant}
 use Rattle.facet_solver_shape.specs.Catalogues.{FieldsBelow}
 use Rattle.facet_solver.specs.Walk.{Walked, walk_fields}
-use Rattle.facet_solver.specs.Place.{chosen_of, inside_field}
+use Rattle.facet_solver.specs.Place.{chosen_of}
 use Rattle.facet_solver.specs.Place.{Place}
 use Rattle.facet_solver.specs.Content.{newtype_fields}
-use Rattle.facet_solver.specs.Outcome.{effect, take_all}
+use Rattle.facet_solver.specs.Outcome.{effect}
 use Rattle.facet_solver.specs.Build.{build_of}
 use Rattle.facet_solver.specs.Reached.{ServesFields}
 use Rattle.facet_solver.specs.Roles.{alternatives, role_view}
@@ -16,7 +16,7 @@ use Rattle.facet_solver.proofs.Serving.{block_served, enum_served, field_served,
 use Rattle.facet_solver.proofs.Roles.{plain_role, FieldsBelow-mono, limit_of, limit_of-le, limit_of-at, FieldsBelow-at}
 use Rattle.facet_solver.proofs.Listing.{block-below, alternatives-below}
 use Rattle.facet_solver.proofs.Walk.{walk-start, turn-walked, turn-left, turn-stops, turns-done, stops-emit, emit-done, walks-exit, walks-same, at-block, at-alternatives, at-plain, has_choice, choose-is, VariantsBelow-get, then-inside, then-alone, then-nothing, inside-some, stops-chosen, inside-newtype, inside-own, newtype-limits}
-use Rattle.facet_solver.proofs.Brought.{block_of_nothing}
+use Rattle.facet_solver.proofs.CatchAlls.{struct-alone}
 use Rattle.facet_solver.proofs.build.walk.+walk.Goals as goal
 
 pub walk_fields-loop-field-init : goal.walk_fields-loop-field-init
@@ -75,32 +75,38 @@ walk_field-walk_fields-requires t c =
           FieldsBelow-mono f.shape (length cat) fs (omega (arith, c.requires.below)) b,
           (
             block_served (build_of c.args.walker.now.build) c.args.walker.now.tables f c.requires.serves c.in-Block.target fs c.in-Block.ensures,
-            rw (c.inside_field-inside.ensures, ← at-block (build_of c.args.walker.now.build) f c.args.place.now c.args.indices.now c.in-Block.target fs c.in-Block.ensures) c.requires.walked,
+            rw (c.inside_field-inside-in-Block.ensures, ← at-block (build_of c.args.walker.now.build) f c.args.place.now c.args.indices.now c.in-Block.target fs c.in-Block.ensures) c.requires.walked,
           ),
         ),
       ),
     )
+
+pub walk_field-walk_catch_alls-requires : goal.walk_field-walk_catch_alls-requires
+walk_field-walk_catch_alls-requires t c =
+    let build = build_of c.args.walker.now.build in
+    let f = c.args.field.now in
+    let fs = c.in-Block.fields.now in
+    record {
+      ready = c.requires.ready;
+      below = FieldsBelow-mono f.shape (length build.catalogue) fs (omega (arith, c.requires.below)) (block-below build.catalogue c.requires.ready.checked f c.in-Block.target fs c.in-Block.ensures);
+      alone = struct-alone build c.requires.ready.checked c.args.walker.now.brings.by_index.items c.requires.ready.brings f c.in-Block.target fs c.in-CatchAlls.field-0 c.in-Block.ensures (sym c.of.ensures ∙ c.in-CatchAlls.is);
+    }
+
+pub walk_field-returns-in-CatchAlls : goal.walk_field-returns-in-CatchAlls
+walk_field-returns-in-CatchAlls t c =
+    let fs = c.in-Block.fields.now in
+    rw (
+      at-block (build_of c.args.walker.now.build) c.args.field.now c.args.place.now c.args.indices.now c.in-Block.target fs c.in-Block.ensures,
+      ← c.inside_field-inside.ensures,
+    ) c.walk_catch_alls.ensures
 
 pub walk_field-returns-in_default : goal.walk_field-returns-in_default
 walk_field-returns-in_default t c =
     let fs = c.in-Block.fields.now in
     rw (
       at-block (build_of c.args.walker.now.build) c.args.field.now c.args.place.now c.args.indices.now c.in-Block.target fs c.in-Block.ensures,
-      ← c.inside_field-inside.ensures,
+      ← c.inside_field-inside-in-Block.ensures,
     ) c.walk_fields.ensures
-
-pub walk_field-returns-in-Nothing : goal.walk_field-returns-in-Nothing
-unfolding take_all
-walk_field-returns-in-Nothing t c =
-    let walker = c.args.walker.now in
-    let build = build_of walker.build in
-    let f = c.args.field.now in
-    let place = c.args.place.now in
-    let ns = c.args.indices.now in
-    let target = c.in-Block.target in
-    let fs = c.in-Block.fields.now in
-    let nothing = block_of_nothing build c.requires.ready.checked walker.brings.by_index.items c.requires.ready.brings f target fs (inside_field place f target) ns c.in-Block.ensures (sym c.of.ensures ∙ c.in-Nothing.is) in
-    emit-done c.args.resolution.now c.args.resolution.now _ [] ns (at-block build f place ns target fs c.in-Block.ensures ∙ nothing) refl
 
 pub walk_field-next_variant-requires : goal.walk_field-next_variant-requires
 walk_field-next_variant-requires t c =

@@ -4,7 +4,7 @@ use Rattle.std.proofs.lemmas.Option.{slice_get_within}
 use Rattle.facet_solver_shape.proofs.Catalogues.{names_earlier}
 use Rattle.facet_solver.specs.declared.build.brings.Brings.{Brings}
 use Rattle.facet_solver.specs.Brings.{kind_brings}
-use Rattle.facet_solver.specs.Build.{kind_at, kind_of}
+use Rattle.facet_solver.specs.Build.{build_of, kind_at, kind_of}
 use Rattle.facet_solver.proofs.Brings.{AreFirstBrought, one_brought}
 use Rattle.facet_solver.proofs.build.brings.BringsTable.new.Goals as goal
 
@@ -25,9 +25,10 @@ loop-shape-preserved c =
     let index : c.new.result ≡ length ts = omega (arith, c.loop-shape.by_index.ok.0) in
     let here = ap (slice_get cat) (sym index) ∙ sym c.in-Some.ensures.entry in
     let within = slice_get_within cat (length ts) c.in-Some.shape.now here in
-    let is : b ≡ kind_brings ts cat (kind_at cat (length ts)) =
+    let build = build_of c.args.build in
+    let is : b ≡ kind_brings ts build (kind_at cat (length ts)) =
     c.kind_brings-brings.ensures
-    ∙ ap (λ (us : List Brings). kind_brings us cat c.in-Some.shape.now.kind) c.deref.ensures.value
-    ∙ ap (kind_brings ts cat) (sym (ap kind_of here)) in
-    subst (AreFirstBrought cat) (sym c.in_ok-push.ensures.items)
-    (one_brought cat (names_earlier cat c.get.ensures.checked) ts c.loop-shape.invariant within b is)
+    ∙ ap (λ (us : List Brings). kind_brings us build c.in-Some.shape.now.kind) c.deref.ensures.value
+    ∙ ap (kind_brings ts build) (sym (ap kind_of here)) in
+    subst (AreFirstBrought build) (sym c.in_ok-push.ensures.items)
+    (one_brought build (names_earlier cat c.get.ensures.checked) ts c.loop-shape.invariant within b is)

@@ -1,0 +1,96 @@
+//! The catch-alls of a struct that emits nothing else. Each takes the place of the one of its category before it, so only the
+//! last of each category is looked for, however often it is flattened.
+ghost use Rattle.std.specs.Prelude.{◌≡◌, length, OnOk};
+ghost use Rattle.std.specs.Option.{option_copied};
+ghost use Rattle.facet_solver_shape.specs.Catalogues.{FieldsBelow};
+ghost use Rattle.facet_solver.specs.Brings.{AreCatchAlls, fields_bring};
+ghost use Rattle.facet_solver.specs.Build.{build_of};
+ghost use Rattle.facet_solver.specs.CatchAlls as last;
+ghost use Rattle.facet_solver.specs.CatchAlls.{emitted_by, last_catch_all, with_last};
+ghost use Rattle.facet_solver.specs.Counts.{IsReady};
+ghost use Rattle.facet_solver.specs.Outcome.{Walks, effect};
+ghost use Rattle.facet_solver.specs.Walk.{walk_fields};
+
+use crate::build::field::catch_all_field;
+use crate::build::place::Place;
+use crate::build::role::{Role, role_of};
+use crate::build::walker::Walker;
+use facet_solver_shape::{Field, FieldCategory, Resolution, SchemaError};
+use std::alloc::AllocError;
+
+/// Walks fields that emit catch-alls alone, and answers the indices as they came: the fields take none.
+pub(crate) fn walk_catch_alls<'c, 'n>(
+    walker: &Walker<'c>,
+    fields: &'c [Field],
+    place: &Place<'_, 'c>,
+    indices: &'n [usize],
+    resolution: &mut Resolution<'c>,
+) -> Result<&'n [usize], SchemaError<'c>>
+    requires ready { IsReady walker.now }
+    requires below { FieldsBelow (length walker.now.build.shapes.now) fields.now }
+    requires alone { AreCatchAlls
+        (fields_bring walker.now.brings.by_index.items (build_of walker.now.build) fields.now) }
+    ensures { let walked =
+        walk_fields (build_of walker.now.build) fields.now place.now indices.now in
+        Walks (effect resolution.old walked) result resolution.new }
+{
+    set_last(walker, fields, FieldCategory::Flat, place, resolution)?;
+    set_last(walker, fields, FieldCategory::Attribute, place, resolution)?;
+    set_last(walker, fields, FieldCategory::Element, place, resolution)?;
+    Ok(indices)
+}
+
+/// Sets the last catch-all of a category, if there is one.
+fn set_last<'c>(
+    walker: &Walker<'c>,
+    fields: &'c [Field],
+    category: FieldCategory,
+    place: &Place<'_, 'c>,
+    resolution: &mut Resolution<'c>,
+) -> Result<(), AllocError>
+    requires ready { IsReady walker.now }
+    requires below { FieldsBelow (length walker.now.build.shapes.now) fields.now }
+    requires alone { AreCatchAlls
+        (fields_bring walker.now.brings.by_index.items (build_of walker.now.build) fields.now) }
+    ensures { let emitted = emitted_by (build_of walker.now.build) fields.now place.now in
+        OnOk result
+        (resolution.new ≡ with_last category (last_catch_all category emitted) resolution.old) }
+{
+    let Some(field) = last_with(walker, fields, category) else {
+        return Ok(());
+    };
+    match role_of(walker.build.shapes, field) {
+        Role::Block(target, flattened) => {
+            let inside = place.inside_field(field, target);
+            set_last(walker, flattened, category, &inside, resolution)
+        }
+        Role::CatchAll(target) => {
+            let info = catch_all_field(walker.build, field, target, place)?;
+            resolution.set_catch_all_map(category, info)
+        }
+        Role::Regular | Role::Alternatives(_, _, _) | Role::Leaf(_) => unreachable!(),
+    }
+}
+
+/// The last of fields that bring a catch-all of a category.
+fn last_with<'c>(
+    walker: &Walker<'c>,
+    fields: &'c [Field],
+    category: FieldCategory,
+) -> Option<&'c Field>
+    ensures { option_copied result
+        ≡ last.last_with walker.now.brings.by_index.items
+        (build_of walker.now.build) category fields.now }
+{
+    let mut last = None;
+    for field in fields {
+        if walker
+            .brings
+            .of_field(walker.build, field)
+            .has_last(category)
+        {
+            last = Some(field);
+        }
+    }
+    last
+}
