@@ -172,9 +172,26 @@ module _ (limit : ℕ) (passes : ℕ → Bool) where
       let rest = limit-names es h.1 in
       omega (arith, first, rest)
 
-pub limit-first : (e : Bor Name × Vec ℕ Global) (es : List (Bor Name × Vec ℕ Global)) (limit : ℕ) → limit_of_names (e ∷ es) ≤ limit → (limit_of_shapes e.1.items ≤ limit) × (limit_of_names es ≤ limit)
+pub limit-last : (es : List (Bor Name × Vec ℕ Global)) (e : Bor Name × Vec ℕ Global) (limit : ℕ) → limit_of_names (es ++ e ∷ []) ≤ limit → (limit_of_shapes e.1.items ≤ limit) × (limit_of_names es ≤ limit)
 unfolding limit_of_names
-limit-first e es limit h = (omega arith, omega arith)
+limit-last [] e limit h = (omega arith, omega arith)
+limit-last (d ∷ es) e limit h =
+    let deeper = limit-last es e limit (omega (arith, h)) in
+    (deeper.0, let rest = deeper.1 in omega (arith, h, rest))
+
+-- what holds of each holds of the last, and of those before it
+pub each-last : {X : Type 0} (P : X → Type 0) (xs : List X) (x : X) → AllByRecursion P (xs ++ x ∷ []) → P x × AllByRecursion P xs
+each-last P [] x h = (h.0, tt)
+each-last P (y ∷ xs) x h = let deeper = each-last P xs x h.1 in (deeper.0, (h.0, deeper.1))
+
+-- the key paths of the last and those of the others
+pub paths-last : {X : Type 0} (paths : X → KeyPaths) (xs : List X) (x : X) → set.union (paths x) (paths_of_each paths xs) ≡ paths_of_each paths (xs ++ x ∷ [])
+paths-last paths [] x = refl
+paths-last paths (y ∷ xs) x =
+    union_assoc (paths x) (paths y) (paths_of_each paths xs)
+    ∙ ap (λ (ps : KeyPaths). set.union ps (paths_of_each paths xs)) (union_comm (paths x) (paths y))
+    ∙ sym (union_assoc (paths y) (paths x) (paths_of_each paths xs))
+    ∙ ap (set.union (paths y)) (paths-last paths xs x)
 
 -- ---- fields of one more name
 module _ (m n : BTreeMap (Bor Name) (Vec ℕ Global)) (name : Name) (shapes : List ℕ) where

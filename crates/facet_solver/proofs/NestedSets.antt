@@ -142,6 +142,24 @@ union-insert ps qs p = same_paths _ _
       | inr b ↦ Has-right ps (set.insert qs p) q (Has-other qs p q b)
     ])
 
+-- a path that is added to one of two sets is added to both together
+union-insert_last : (ps qs : KeyPaths) (p : KeyPath) → set.union ps (set.insert qs p) ≡ set.insert (set.union ps qs) p
+union-insert_last ps qs p = same_paths _ _
+    (λ q h. elim (Has-union ps (set.insert qs p) q h) [
+      | inl a ↦ Has-other (set.union ps qs) p q (Has-left ps qs q a)
+      | inr b ↦ (elim (Has-insert qs p q b) [
+        | inl same ↦ subst (Has (set.insert (set.union ps qs) p)) (sym same) (Has-itself (set.union ps qs) p)
+        | inr c ↦ Has-other (set.union ps qs) p q (Has-right ps qs q c)
+      ])
+    ])
+    (λ q h. elim (Has-insert (set.union ps qs) p q h) [
+      | inl same ↦ Has-right ps (set.insert qs p) q (subst (Has (set.insert qs p)) (sym same) (Has-itself qs p))
+      | inr d ↦ (elim (Has-union ps qs q d) [
+        | inl a ↦ Has-left ps (set.insert qs p) q a
+        | inr b ↦ Has-right ps (set.insert qs p) q (Has-other qs p q b)
+      ])
+    ])
+
 pub behind_prefix-none : (prefix : KeyPath) → behind_prefix prefix no_paths ≡ no_paths
 behind_prefix-none prefix = same_paths _ _
     (λ q h. let r = Has-behind_from prefix no_paths q h in Has-none r.0 r.1)
@@ -239,8 +257,12 @@ module _ (r : Resolved) where
     pub behind-union : (ps qs : KeyPaths) → with_paths_behind r prefix (set.union ps qs) ≡ with_paths_behind (with_paths_behind r prefix ps) prefix qs
     behind-union ps qs = ap (with_key_paths r) (behind_prefix-union prefix ps qs) ∙ with_key_paths-union (behind_prefix prefix ps) (behind_prefix prefix qs)
 
-    pub behind-named : (name : Name) (ps : KeyPaths) → with_paths_behind r prefix (named name ps) ≡ with_paths_behind (with_key_path r (prefix ++ name ∷ [])) (prefix ++ name ∷ []) ps
-    behind-named name ps = ap (with_key_paths r) (behind_prefix-named prefix name ps) ∙ with_key_paths-insert (behind_prefix (prefix ++ name ∷ []) ps) (prefix ++ name ∷ [])
+    -- a name after what is behind it
+    pub behind-named_last : (name : Name) (ps : KeyPaths) → with_paths_behind r prefix (named name ps) ≡ with_key_path (with_paths_behind r (prefix ++ name ∷ []) ps) (prefix ++ name ∷ [])
+    unfolding with_key_paths
+    behind-named_last name ps =
+        ap (with_key_paths r) (behind_prefix-named prefix name ps)
+        ∙ ap (λ (s : KeyPaths). record r { key_paths = s }) (union-insert_last r.key_paths (behind_prefix (prefix ++ name ∷ []) ps) (prefix ++ name ∷ []))
 
 -- a name alone
 pub with-name : (r : Resolved) (name : Name) → with_key_paths r (named name no_paths) ≡ with_key_path r (name ∷ [])

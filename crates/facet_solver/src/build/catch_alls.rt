@@ -19,6 +19,7 @@ use facet_solver_shape::{Field, FieldCategory, Resolution, SchemaError};
 use std::alloc::AllocError;
 
 /// Walks fields that emit catch-alls alone, and answers the indices as they came: the fields take none.
+#[inline(never)]
 pub(crate) fn walk_catch_alls<'c, 'n>(
     walker: &Walker<'c>,
     fields: &'c [Field],

@@ -11,23 +11,13 @@ ghost use Rattle.facet_solver.specs.NestedTable.{IsFilled};
 ghost use Rattle.facet_solver.specs.Reached.{IsChosen, ServesApart, ServesPlain, ServesRegular};
 
 use crate::build::field::{catch_all_field, leaf_field, regular_field, selector_field};
+use crate::build::nested::paths::key_path;
 use crate::build::place::{Chosen, Place};
 use crate::build::representation::EnumRepr;
 use crate::build::role::{Role, Target};
 use crate::build::walker::Walker;
-use facet_solver_shape::{
-    Field, FieldInfo, FieldPath, KeyPath, Resolution, SchemaError, Shape, Variant,
-};
-use std::alloc::{AllocError, Global};
-
-/// The key path of one name.
-fn key_path<'c>(alloc: Global, name: &'c str) -> Result<KeyPath<'c>, AllocError>
-    ensures { IfOk result (λ path. map (λ n. n.now) path.items ≡ name.now ∷ []) }
-{
-    let mut path = Vec::new(alloc);
-    path.push(name)?;
-    Ok(path)
-}
+use facet_solver_shape::{Field, FieldInfo, FieldPath, Resolution, SchemaError, Shape, Variant};
+use std::alloc::AllocError;
 
 /// Adds a field and the key path of its name.
 fn add_with_path<'c>(
@@ -101,6 +91,7 @@ fn emit_leaf<'c>(
 }
 
 /// What a field emits that takes no variant and has nothing below it.
+#[inline(never)]
 #[tactic(auto, unfolding(crate::specs::Emissions::emit_plain))]
 pub(crate) fn emit_plain<'c>(
     walker: &Walker<'c>,
@@ -214,6 +205,7 @@ fn emit_selector<'c>(
 }
 
 /// What a flattened enum emits at a chosen variant, before the variant's content: the pick and the selector.
+#[inline(never)]
 pub(crate) fn emit_variant<'c>(
     walker: &Walker<'c>,
     chosen: &Chosen<'c>,

@@ -1,4 +1,5 @@
-//! The walk of one choice, which fills one resolution.
+//! The walk of one choice, which fills one resolution. It goes as deep as a catalogue, so its frames are kept small: what it
+//! calls at each field stays out of them.
 ghost use Rattle.std.specs.Prelude.{◌≡◌, ◌<◌, ◌∷◌, IsSome, length, slice_get, slice_index};
 ghost use Rattle.facet_solver_shape.specs.Catalogues.{FieldsBelow};
 ghost use Rattle.facet_solver.specs.Outcome.{Walks, effect};
@@ -102,6 +103,7 @@ fn walk_field<'c, 'n>(
 
 /// Walks a flattened enum at a chosen variant: the pick, the selector, and the content where it stands at this level.
 #[cycle(walk)]
+#[inline(never)]
 fn walk_variant<'c, 'n>(
     walker: &Walker<'c>,
     chosen: &Chosen<'c>,

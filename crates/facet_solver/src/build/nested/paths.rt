@@ -1,5 +1,5 @@
 //! The key paths that fields by name stand for, from the entries of a table.
-ghost use Rattle.std.specs.Prelude.{◌≡◌, ◌++◌, ◌∷◌, [], ◌&&◌, ◌≤◌, ℕ, IfOk, OnOk, nat_lt, true};
+ghost use Rattle.std.specs.Prelude.{◌≡◌, ◌∷◌, [], map, ◌&&◌, ◌≤◌, ℕ, IfOk, OnOk, nat_lt, true};
 ghost use Rattle.std.specs.List.{AllByRecursion};
 ghost use Rattle.facet_solver_shape.specs.Names.{names_of};
 ghost use Rattle.facet_solver.specs.Nested.{Under, paths_of_each, with_paths_behind};
@@ -11,25 +11,29 @@ use facet_solver_shape::{KeyPath, Resolution, ShapeId};
 use std::alloc::{AllocError, Global};
 
 impl<'c> NestedTable<'c> {
-    /// Adds the key paths that fields stand for, each behind a prefix. After an error some of them may have been added.
+    /// Adds the key paths that fields stand for, each behind a prefix, which stays: the last in their order first, since a set
+    /// finds the place of a path soonest that comes before all it has. After an error some of them may have been added, and
+    /// the prefix may be longer.
     #[cycle(paths)]
     pub(crate) fn add_paths(
         &self,
         alloc: Global,
-        prefix: &[&'c str],
+        prefix: &mut KeyPath<'c>,
         fields: &FieldsByName<'c>,
         resolution: &mut Resolution<'c>,
     ) -> Result<(), AllocError>
         requires earlier { LeadEarlier self.now.by_index.items }
         requires filled { LeadTo (is_filled self.now.by_index.items) fields.now }
-        ensures { OnOk result ((under : Under) → StandFor under self.now.by_index.items
-            → resolution.new ≡ with_paths_behind resolution.old (names_of prefix.now)
+        ensures prefix { OnOk result (prefix.new.items ≡ prefix.old.items) }
+        ensures paths { OnOk result ((under : Under) → StandFor under self.now.by_index.items
+            → resolution.new ≡ with_paths_behind resolution.old (names_of prefix.old.items)
             (paths_by_name under fields.now)) }
     {
-        for (name, shapes) in &fields.by_name {
-            let path = joined(alloc, prefix, name)?;
-            resolution.add_key_path(Vec::from_slice(alloc, &path)?)?;
-            self.add_paths_under(alloc, &path, shapes, resolution)?;
+        for (name, shapes) in fields.by_name.iter().rev() {
+            prefix.push(*name)?;
+            self.add_paths_under(alloc, prefix, shapes, resolution)?;
+            resolution.add_key_path(Vec::from_slice(alloc, prefix)?)?;
+            prefix.pop();
         }
         Ok(())
     }
@@ -40,15 +44,16 @@ impl<'c> NestedTable<'c> {
     fn add_paths_under(
         &self,
         alloc: Global,
-        prefix: &[&'c str],
+        prefix: &mut KeyPath<'c>,
         shapes: &[ShapeId],
         resolution: &mut Resolution<'c>,
     ) -> Result<(), AllocError>
         requires earlier { LeadEarlier self.now.by_index.items }
         requires filled { AllByRecursion (λ id. is_filled self.now.by_index.items id ≡ true)
             shapes.now }
-        ensures { OnOk result ((under : Under) → StandFor under self.now.by_index.items
-            → resolution.new ≡ with_paths_behind resolution.old (names_of prefix.now)
+        ensures prefix { OnOk result (prefix.new.items ≡ prefix.old.items) }
+        ensures paths { OnOk result ((under : Under) → StandFor under self.now.by_index.items
+            → resolution.new ≡ with_paths_behind resolution.old (names_of prefix.old.items)
             (paths_of_each under shapes.now)) }
     {
         match shapes {
@@ -85,13 +90,11 @@ impl<'c> NestedTable<'c> {
     }
 }
 
-/// A prefix with a name behind it.
-fn joined<'c>(alloc: Global, prefix: &[&'c str], name: &'c str) -> Result<KeyPath<'c>, AllocError>
-    ensures { IfOk result
-        (λ made. names_of made.items ≡ names_of prefix.now ++ name.now ∷ []) }
+/// The key path of one name.
+pub(crate) fn key_path<'c>(alloc: Global, name: &'c str) -> Result<KeyPath<'c>, AllocError>
+    ensures { IfOk result (λ path. map (λ n. n.now) path.items ≡ name.now ∷ []) }
 {
-    let mut made = Vec::with_capacity(alloc, prefix.len() + 1)?;
-    made.extend_from_slice(prefix)?;
-    made.push(name)?;
-    Ok(made)
+    let mut path = Vec::new(alloc);
+    path.push(name)?;
+    Ok(path)
 }

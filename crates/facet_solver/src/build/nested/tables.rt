@@ -10,6 +10,7 @@ ghost use Rattle.facet_solver.specs.Reached.{AreTables, IsChosen, ServesRegular,
 
 use crate::build::Build;
 use crate::build::nested::Entered;
+use crate::build::nested::paths::key_path;
 use crate::build::nested::reached::mark_reached;
 use crate::build::nested::table::NestedTable;
 use crate::build::place::Chosen;
@@ -67,9 +68,9 @@ impl<'c> NestedTables<'c> {
             return Ok(());
         }
         let entry = self.structs.entry(field.shape);
-        let name = [field.effective_name()];
+        let mut prefix = key_path(build.alloc, field.effective_name())?;
         self.structs
-            .add_paths(build.alloc, &name, &entry.under, resolution)
+            .add_paths(build.alloc, &mut prefix, &entry.under, resolution)
     }
 
     /// Adds the key paths under the content of a chosen variant that is written apart from its enum's siblings, behind the
@@ -90,7 +91,8 @@ impl<'c> NestedTables<'c> {
     {
         let entry = self.contents.entry(chosen.target.shape);
         let fields = &entry.variants[chosen.index];
+        let mut prefix = key_path(build.alloc, name)?;
         self.contents
-            .add_paths(build.alloc, &[name], fields, resolution)
+            .add_paths(build.alloc, &mut prefix, fields, resolution)
     }
 }

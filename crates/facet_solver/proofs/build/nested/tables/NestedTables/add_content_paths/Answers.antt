@@ -29,6 +29,6 @@ returns c =
     let is : paths_by_name (under_shape every_kind cat) c.index-fields.result.now ≡ content_paths cat chosen.variant.now =
     ap (paths_by_name (under_shape every_kind cat)) (c.index-fields.ensures ∙ get_or_from_slice_get entry.variants.items chosen.index at.0 c.index-fields.result.now at.1) ∙ at.2 in
     record {
-      ok = rw (← is)
-          (on_ok c.add_paths.result (λ added. added (under_shape every_kind cat) (entries_stand every_kind cat entries c.requires.checked c.requires.entries.contents)) c.add_paths.ensures);
+      ok = rw (← is, ← c.in_ok-prefix.ensures)
+          (on_ok c.add_paths.result (λ added. added (under_shape every_kind cat) (entries_stand every_kind cat entries c.requires.checked c.requires.entries.contents)) c.add_paths.ensures.paths);
     }

@@ -24,6 +24,6 @@ returns c =
     let is : paths_by_name (under_shape structs_alone cat) c.entry-entry.result.now.under ≡ nested_paths cat id =
     regular_entry cat entries id c.entry-entry.result.now c.requires.checked c.requires.entries.structs c.entry-entry.ensures (sym c.has.ensures ∙ c.if-not-has.false) in
     record {
-      ok = rw (← is, ← c.effective_name.ensures)
-          (on_ok c.add_paths.result (λ added. added (under_shape structs_alone cat) (entries_stand structs_alone cat entries c.requires.checked c.requires.entries.structs)) c.add_paths.ensures);
+      ok = rw (← is, ← c.effective_name.ensures, ← c.in_ok-prefix.ensures)
+          (on_ok c.add_paths.result (λ added. added (under_shape structs_alone cat) (entries_stand structs_alone cat entries c.requires.checked c.requires.entries.structs)) c.add_paths.ensures.paths);
     }
