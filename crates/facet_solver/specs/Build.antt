@@ -1,4 +1,5 @@
--- What a build goes by: a catalogue, which is a list of shapes, each named by its index, and its rules.
+-- What a build goes by: a catalogue, which is a list of shapes, each named by its index, and its
+-- rules.
 use Rattle.std.specs.Prelude.{ℕ, List, Option, Some, None, slice_get}
 use Rattle.std.specs.Option.{unwrap_or}
 use Rattle.facet_solver_shape.specs.declared.shape.Shape.{Shape}

@@ -1,5 +1,5 @@
--- What saturating counts say, a table of them, and what a walker must satisfy that carries one. Only
--- private contracts and proofs speak of it.
+-- What saturating counts say, a table of them, and what a walker must satisfy that carries one.
+-- Only private contracts and proofs speak of it.
 use Rattle.facet_solver.specs.Build.{Build, build_of}
 use Rattle.std.specs.Prelude.{◌≡◌, ℕ, ◌^◌, ◌≤◌, List, Option, Some, None, slice_get, length}
 use Rattle.facet_solver.specs.declared.build.count.saturating.SaturatingCount.{SaturatingCount}

@@ -49,12 +49,15 @@ field_at_path m = codes " " ++ (m.name ++ (codes " (at path: " ++ (m.path ++ cod
 -- missing fields with their paths, if there are any
 abbrev pub at_paths_text : List MissingView → List ℕ
 at_paths_text [] = []
-at_paths_text (m ∷ fields) = codes "; missing required fields:" ++ flat_map field_at_path (m ∷ fields)
+at_paths_text (m ∷ fields) =
+    codes "; missing required fields:" ++ flat_map field_at_path (m ∷ fields)
 
--- why nothing matches: a line for each failure, or, where there is none, what comes closest and what is missing
+-- why nothing matches: a line for each failure, or, where there is none, what comes closest and
+-- what is missing
 abbrev pub reasons_text : List FailureView → Option (List ℕ) → List MissingView → List ℕ
 reasons_text [] closest missing = closest_text closest ++ at_paths_text missing
-reasons_text (f ∷ failures) closest missing = codes "\n\nNo variant matched:" ++ flat_map failure_text (f ∷ failures)
+reasons_text (f ∷ failures) closest missing =
+    codes "\n\nNo variant matched:" ++ flat_map failure_text (f ∷ failures)
 
 -- the names that no resolution has, if there are any
 abbrev pub unknown_end : List Name → List ℕ
@@ -64,7 +67,8 @@ unknown_end (name ∷ names) = codes "\n\nUnknown fields: " ++ list_text (name �
 -- the names that tell candidates apart, if there are any
 abbrev pub hint_text : List Name → List ℕ
 hint_text [] = []
-hint_text (name ∷ names) = codes "; try adding one of these fields to disambiguate: " ++ list_text (name ∷ names)
+hint_text (name ∷ names) =
+    codes "; try adding one of these fields to disambiguate: " ++ list_text (name ∷ names)
 
 -- the text of an error
 abbrev pub error_text : ErrorView → List ℕ
@@ -78,7 +82,8 @@ error_text out_of_memory = codes "out of memory"
 
 -- the names that stand in its lists
 abbrev pub listed_names : ErrorView → List Name
-listed_names (no_match e) = e.input_fields ++ (flat_map failure_names e.candidate_failures ++ e.unknown_fields)
+listed_names (no_match e) =
+    e.input_fields ++ (flat_map failure_names e.candidate_failures ++ e.unknown_fields)
 listed_names (ambiguous e) = e.candidates ++ e.disambiguating_fields
 listed_names out_of_memory = []
 

@@ -36,7 +36,8 @@ has_field_named name r = list_any (has_name name) (finite.values r.fields)
 -- the required names that no seen key bears, in byte order
 abbrev pub missing_names : List Key → Resolved → List Name
 missing_names seen r =
-    filter (λ name. not (set.contains (names_among seen) name)) (in_byte_order (set.items r.required_names))
+    filter (λ name. not (set.contains (names_among seen) name))
+    (in_byte_order (set.items r.required_names))
 
 -- what a resolution lacks: for each of these names the field that goes by it
 abbrev pub missing : List Key → Resolved → List FieldView
@@ -44,7 +45,8 @@ missing seen r = filter_map (λ name. field_by_name name r) (missing_names seen 
 
 -- the type identifier of a shape
 abbrev pub type_identifier : Catalogue → ℕ → Name
-type_identifier catalogue shape = option_map_or (λ s. string_bytes s.type_identifier) (slice_get catalogue shape) []
+type_identifier catalogue shape =
+    option_map_or (λ s. string_bytes s.type_identifier) (slice_get catalogue shape) []
 
 -- what is told of a field that a resolution lacks
 abbrev pub missing_field : Catalogue → FieldView → MissingView

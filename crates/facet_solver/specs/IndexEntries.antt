@@ -56,7 +56,8 @@ HasBound bound entry = ForSome entry (λ (e : Entry). e.set.bound ≡ bound)
 
 -- a set with one more number
 abbrev pub with_number : IndexSet → ℕ → IndexSet
-with_number set i = record set { members = filter (λ j. nat_eq j i || has set.members j) (upto set.bound) }
+with_number set i =
+    record set { members = filter (λ j. nat_eq j i || has set.members j) (upto set.bound) }
 
 -- a shape, where it is the one given
 abbrev pub agreed : Option ℕ → ℕ → Option ℕ

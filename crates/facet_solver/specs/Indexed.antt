@@ -36,9 +36,11 @@ pub record Differs (meant : Meant) : Type 0 where
   pub other_present : meant second ≡ Some other
   pub apart : one.shape ≢ other.shape
 
--- an entry has the resolutions below a bound in which a field is meant, and the shape of these fields, if they agree on it
+-- an entry has the resolutions below a bound in which a field is meant, and the shape of these
+-- fields, if they agree on it
 pub record IsEntry (bound : ℕ) (meant : Meant) (entry : Entry) : Type 0 where
-  pub set : entry.set ≡ record { bound = bound; members = filter (λ i. is_some (meant i)) (upto bound) }
+  pub set : entry.set
+      ≡ record { bound = bound; members = filter (λ i. is_some (meant i)) (upto bound) }
   pub shape : MatchOption entry.shape (Differs meant) (λ shape. AgreesOn shape meant)
 
 -- there is an entry, or no field is meant
@@ -55,13 +57,16 @@ fields_of_each resolutions = map (λ r. finite.values r.fields) resolutions
 
 -- the entry of each slot is that of the fields that stand there
 abbrev pub IsIndexOf : ℕ → List (List FieldView) → Index → Type 0
-IsIndexOf bound lists index = (slot : Slot) → IsEntryIfAny bound (first_passing (is_at slot) lists) (entry_at index slot)
+IsIndexOf bound lists index =
+    (slot : Slot) → IsEntryIfAny bound (first_passing (is_at slot) lists) (entry_at index slot)
 
--- whether a field may have the category in a format: names alone have none, and in categories each field has one
+-- whether a field may have the category in a format: names alone have none, and in categories each
+-- field has one
 abbrev pub IsOfFormat : Format → FieldCategory → Type 0
 IsOfFormat Flat category = category ≡ FlatCategory
 IsOfFormat Dom category = category ≢ FlatCategory
 
 -- the fields of each resolution are of the format
 abbrev pub AreOfFormat : Format → List Resolved → Type 0
-AreOfFormat format resolutions = All (λ r. All (λ f. IsOfFormat format f.category) (finite.values r.fields)) resolutions
+AreOfFormat format resolutions =
+    All (λ r. All (λ f. IsOfFormat format f.category) (finite.values r.fields)) resolutions

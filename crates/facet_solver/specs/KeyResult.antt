@@ -14,8 +14,8 @@ use Rattle.facet_solver.specs.IndexSet.{HowMany, no_index, one_index, several_in
 use Rattle.facet_solver.specs.State.{State, has_key, passing}
 use Rattle.facet_solver.specs.Build.{Catalogue}
 
--- no candidate has the key; one is left; the value has one shape; or it has one of several, each shown by a field with the
--- score of the shape
+-- no candidate has the key; one is left; the value has one shape; or it has one of several, each
+-- shown by a field with the score of the shape
 pub data KeyResultView : Type 0 where
   unknown : KeyResultView
   solved : ℕ → KeyResultView
@@ -47,9 +47,11 @@ HoldsHandleOf schema (Ambiguous fields) = ⊤
 HoldsHandleOf schema (Solved handle) = IsHandleOf schema handle
 HoldsHandleOf schema Unknown = ⊤
 
--- the score of a shape. One that is not there scores as a shape of any name without a score of its own
+-- the score of a shape. One that is not there scores as a shape of any name without a score of its
+-- own
 abbrev pub score_at : Catalogue → ℕ → ℕ
-score_at cat id = option_map_or (λ s. score_of (string_bytes s.type_identifier)) (slice_get cat id) (score_of [])
+score_at cat id =
+    option_map_or (λ s. score_of (string_bytes s.type_identifier)) (slice_get cat id) (score_of [])
 
 -- a field with the score of its shape
 abbrev pub with_score : Catalogue → FieldView → FieldView × ℕ
@@ -61,9 +63,11 @@ field_at key resolutions index = option_and_then (field_by_key key) (slice_get r
 
 -- each field that a key means in some resolutions has the shape
 abbrev pub HaveShape : ℕ → Key → List Resolved → Type 0
-HaveShape shape key resolutions = (index : ℕ) → ForSome (field_at key resolutions index) (λ f. f.shape ≡ shape)
+HaveShape shape key resolutions =
+    (index : ℕ) → ForSome (field_at key resolutions index) (λ f. f.shape ≡ shape)
 
--- the fields that a key means in the resolutions at some indices, one for each that has one, in order
+-- the fields that a key means in the resolutions at some indices, one for each that has one, in
+-- order
 abbrev pub fields_by_key : Key → List Resolved → List ℕ → List FieldView
 fields_by_key key resolutions indices = filter_map (field_at key resolutions) indices
 

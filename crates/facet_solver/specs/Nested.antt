@@ -1,6 +1,6 @@
--- Sets of key paths, and the nested ones: what lies under a shape or a variant, by names alone. They are
--- five sets that share one definition. They end since fields name earlier shapes: the definition goes down
--- as many levels as the catalogue has shapes.
+-- Sets of key paths, and the nested ones: what lies under a shape or a variant, by names alone.
+-- They are five sets that share one definition. They end since fields name earlier shapes: the
+-- definition goes down as many levels as the catalogue has shapes.
 use Rattle.std.specs.Prelude.{List, [], ◌∷◌, ◌++◌, map, ◌≡◌, ◌⊎◌, ◌<◌, ℕ, zero, suc, Bool, true, false, ◌&&◌, if◌then◌else◌, string_bytes, length}
 use Rattle.std.specs.Ordering.{nat_cmp}
 use Rattle.std.specs.Cmp.Lexicographic.{slice_cmp}
@@ -71,8 +71,8 @@ abbrev pub entered_view : code.Entered → Entered
 entered_view StructsAlone = structs_alone
 entered_view EveryKind = every_kind
 
--- through a field: a flattened one gives what is under its shape, a regular one its name and what is
--- behind it
+-- through a field: a flattened one gives what is under its shape, a regular one its name and what
+-- is behind it
 abbrev pub through_field_step : Under → Under → Field → KeyPaths
 through_field_step regular flattened f =
     if f.flattened then flattened f.shape else named (effective_name f) (regular f.shape)
@@ -153,7 +153,8 @@ under_variants entered cat = paths_of_each (under_variant entered cat)
 unfoldable pub nested_paths : Catalogue → Under
 nested_paths cat = if_entered structs_alone cat
 
--- what a flattened field gives, by its shape: a struct's nested paths, or those of an enum's variants
+-- what a flattened field gives, by its shape: a struct's nested paths, or those of an enum's
+-- variants
 unfoldable pub flattened_paths : Catalogue → Under
 flattened_paths cat = under_shape structs_alone cat
 

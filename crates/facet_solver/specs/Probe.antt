@@ -39,7 +39,8 @@ abbrev pub field_on_path_at : Catalogue → List Name → List Resolved → ℕ 
 field_on_path_at cat whole resolutions index =
     option_and_then (field_on_path cat whole) (slice_get resolutions index)
 
--- of the resolutions at some indices the fields of the first name of a path, the first for each shape at the path
+-- of the resolutions at some indices the fields of the first name of a path, the first for each
+-- shape at the path
 abbrev pub fields_on_path : List Name → SchemaView → List ℕ → List (FieldView × ℕ)
 fields_on_path whole schema indices =
     first_of_each (λ e. e.1)
@@ -61,8 +62,8 @@ scored_at whole schema indices =
     map (scored schema.build.catalogue)
     (fields_on_path whole schema (filter (passes (has_key_path whole) schema.resolutions) indices))
 
--- by the shapes that a value may have, each with a field: one says what the value is, more do not, and are shown by the
--- field with the score of the shape
+-- by the shapes that a value may have, each with a field: one says what the value is, more do not,
+-- and are shown by the field with the score of the shape
 abbrev pub by_shapes : Catalogue → List (FieldView × ℕ) → KeyResultView
 by_shapes cat [] = unknown
 by_shapes cat (e ∷ []) = unambiguous e.1

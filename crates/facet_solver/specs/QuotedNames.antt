@@ -7,7 +7,9 @@ use Rattle.facet_solver_shape.specs.Names.{Name}
 
 -- a number below 256 in lowercase hexadecimal digits, with no leading zero
 abbrev pub hex : ℕ → List ℕ
-hex c = if nat_lt c 16 then digit_glyph false c ∷ [] else (digit_glyph false (c / 16) ∷ digit_glyph false (c % 16) ∷ [])
+hex c =
+    if nat_lt c 16 then digit_glyph false c ∷ []
+    else (digit_glyph false (c / 16) ∷ digit_glyph false (c % 16) ∷ [])
 
 -- an ASCII character between double quotes
 unfoldable pub escaped : ℕ → List ℕ

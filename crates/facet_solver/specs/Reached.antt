@@ -1,5 +1,5 @@
--- The shapes that the walks of a root's choices go through, and those whose nested key paths they ask
--- for. Only private contracts and proofs speak of it.
+-- The shapes that the walks of a root's choices go through, and those whose nested key paths they
+-- ask for. Only private contracts and proofs speak of it.
 use Rattle.std.specs.Prelude.{◌≡◌, ℕ, Bool, true, false, List, Option, None, Some, All, ⊤, Vec, slice_get}
 use Rattle.std.specs.declared.alloc.Global.{Global}
 use Rattle.facet_solver_shape.specs.declared.shape.Field.{Field}
@@ -61,8 +61,8 @@ ContentReached m cat fs = ContentReachedBy m cat fs (newtype_fields cat fs)
 abbrev pub VariantReached : Reach → Catalogue → Variant → Type 0
 VariantReached m cat v = ContentReached m cat v.fields.items
 
--- what the fields of a struct lead to is marked, and what the variants of an enum do that is walked;
--- one that is written apart is marked itself
+-- what the fields of a struct lead to is marked, and what the variants of an enum do that is
+-- walked; one that is written apart is marked itself
 abbrev pub KindReached : Reach → Catalogue → Type 0 → Bool → ShapeKind → Type 0
 KindReached m cat apart walked (Struct kind fs) = All (FieldReached m cat) fs.items
 KindReached m cat apart true (Enum vs) = All (VariantReached m cat) vs.items

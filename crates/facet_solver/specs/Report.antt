@@ -6,13 +6,15 @@ use Rattle.facet_solver.specs.declared.error.CandidateFailure.{CandidateFailure}
 use Rattle.facet_solver.specs.declared.error.SolverError.{SolverError}
 use Rattle.facet_solver.specs.declared.error.SolverError.TheVariants.{NoMatch, Ambiguous, OutOfMemory}
 
--- a required field that was not seen: its name, the text of its path, and the type identifier of its shape
+-- a required field that was not seen: its name, the text of its path, and the type identifier of
+-- its shape
 pub record MissingView : Type 0 where
   pub name : Name
   pub path : List ℕ
   pub defined_in : Name
 
--- why a resolution is not the answer: its description, what it lacks, the seen names that mean no field of it
+-- why a resolution is not the answer: its description, what it lacks, the seen names that mean no
+-- field of it
 pub record FailureView : Type 0 where
   pub variant_name : List ℕ
   pub missing_fields : List MissingView
@@ -41,7 +43,8 @@ pub data ErrorView : Type 0 where
 
 -- what a missing field says
 abbrev pub missing_view : MissingFieldInfo → MissingView
-missing_view m = record { name = m.name.now; path = string_bytes m.path; defined_in = string_bytes m.defined_in }
+missing_view m =
+    record { name = m.name.now; path = string_bytes m.path; defined_in = string_bytes m.defined_in }
 
 -- what a failure says
 abbrev pub failure_view : CandidateFailure → FailureView
@@ -54,14 +57,15 @@ failure_view f = record {
 
 -- what an error says, wherever its texts lie
 abbrev pub error_view : SolverError → ErrorView
-error_view (NoMatch input_fields missing_required missing unknown_fields closest failures) = no_match (record {
-  input_fields = map string_bytes input_fields.items;
-  missing_required = names_of missing_required.items;
-  missing_required_detailed = map missing_view missing.items;
-  unknown_fields = map string_bytes unknown_fields.items;
-  closest_resolution = optional_name closest;
-  candidate_failures = map failure_view failures.items;
-})
+error_view (NoMatch input_fields missing_required missing unknown_fields closest failures) =
+    no_match (record {
+      input_fields = map string_bytes input_fields.items;
+      missing_required = names_of missing_required.items;
+      missing_required_detailed = map missing_view missing.items;
+      unknown_fields = map string_bytes unknown_fields.items;
+      closest_resolution = optional_name closest;
+      candidate_failures = map failure_view failures.items;
+    })
 error_view (Ambiguous candidates fields) = ambiguous (record {
   candidates = map string_bytes candidates.items;
   disambiguating_fields = map string_bytes fields.items;

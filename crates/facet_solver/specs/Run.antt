@@ -51,7 +51,8 @@ after_call (hint_variant_for_tag tag name) s = state.hint_variant_for_tag tag na
 abbrev pub after_calls : List CallView → State → State
 after_calls calls s = fold (λ now call. after_call call now) s calls
 
--- a new solver of a built schema that was told one choice's keys, and nothing else, ends with that choice or names it
+-- a new solver of a built schema that was told one choice's keys, and nothing else, ends with that
+-- choice or names it
 abbrev pub FindsToldChoices : List CallView → State → State → Type 0
 FindsToldChoices calls before after =
     (keys : List Key) → calls ≡ map see_key keys

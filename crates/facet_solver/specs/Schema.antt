@@ -46,8 +46,8 @@ schema_view cat root repr format resolutions = record {
   resolutions = resolutions;
 }
 
--- How a schema is stored, by which proofs tell values apart. No clause speaks of it: a representation is its index
--- among the four and its names
+-- How a schema is stored, by which proofs tell values apart. No clause speaks of it: a
+-- representation is its index among the four and its names
 abbrev repr_parts : Repr → ℕ × (Name × Name)
 repr_parts flattened = (0, ([], []))
 repr_parts externally_tagged = (1, ([], []))
@@ -62,7 +62,8 @@ repr_numbered tag content (suc (suc zero)) = internally_tagged tag
 repr_numbered tag content (suc (suc (suc n))) = adjacently_tagged tag content
 
 -- which is the representation again
-pub repr_back : (r : Repr) → repr_numbered (repr_parts r).1.0 (repr_parts r).1.1 (repr_parts r).0 ≡ r
+pub repr_back : (r : Repr)
+    → repr_numbered (repr_parts r).1.0 (repr_parts r).1.1 (repr_parts r).0 ≡ r
 repr_back flattened = refl
 repr_back externally_tagged = refl
 repr_back (internally_tagged tag) = refl
@@ -88,7 +89,8 @@ build_code =
 -- a schema as the tuple of its parts
 abbrev pub schema_code : Coded SchemaView
 schema_code =
-    code_by (Build × (ℕ × List Resolved)) (coded× build_code (coded× coded_ℕ (coded_list resolved_code)))
+    code_by (Build × (ℕ × List Resolved))
+    (coded× build_code (coded× coded_ℕ (coded_list resolved_code)))
     (λ s. (s.build, (s.root, s.resolutions)))
     (λ p. record { build = p.0; root = p.1.0; resolutions = p.1.1 })
     (λ _. refl)

@@ -12,7 +12,8 @@ use Rattle.facet_solver.specs.State.{State, narrowed}
 
 -- the shape of the first field that goes by a name
 abbrev pub shape_of_field : Name → List Field → Option ℕ
-shape_of_field name fields = option_map (λ f. f.shape) (find (λ f. name_eq (effective_name f) name) fields)
+shape_of_field name fields =
+    option_map (λ f. f.shape) (find (λ f. name_eq (effective_name f) name) fields)
 
 -- where a shape is a struct: the shape of its first field that goes by a name
 abbrev pub shape_of_member : Catalogue → Name → ℕ → Option ℕ
@@ -21,9 +22,11 @@ shape_of_member cat name id = option_and_then (shape_of_field name) (struct_fiel
 -- the shape at the end of a path of members that begins at a shape
 abbrev pub shape_below : Catalogue → List Name → ℕ → Option ℕ
 shape_below cat [] id = Some id
-shape_below cat (name ∷ path) id = option_and_then (shape_below cat path) (shape_of_member cat name id)
+shape_below cat (name ∷ path) id =
+    option_and_then (shape_below cat path) (shape_of_member cat name id)
 
--- the shape of a resolution at a path: that of the field of the first name, and from there by the members of structs
+-- the shape of a resolution at a path: that of the field of the first name, and from there by the
+-- members of structs
 abbrev pub shape_at_path : Catalogue → List Name → Resolved → Option ℕ
 shape_at_path cat [] r = None
 shape_at_path cat (name ∷ path) r =
@@ -32,7 +35,8 @@ shape_at_path cat (name ∷ path) r =
 -- whether the shape of a resolution at a path is one of some shapes
 abbrev pub has_shape_at_path : Catalogue → List Name → List ℕ → Resolved → Bool
 has_shape_at_path cat path shapes r =
-    option_map_or (λ shape. list_any (λ id. nat_eq id shape) shapes) (shape_at_path cat path r) false
+    option_map_or (λ shape. list_any (λ id. nat_eq id shape) shapes)
+    (shape_at_path cat path r) false
 
 -- only the candidates stay whose shape at the path is one of the shapes
 abbrev pub satisfy_at_path : List Name → List ℕ → State → State
@@ -41,7 +45,8 @@ satisfy_at_path path shapes s =
 
 -- the shape at a path of the resolution at an index
 abbrev pub shape_at : Catalogue → List Name → List Resolved → ℕ → Option ℕ
-shape_at cat path resolutions index = option_and_then (shape_at_path cat path) (slice_get resolutions index)
+shape_at cat path resolutions index =
+    option_and_then (shape_at_path cat path) (slice_get resolutions index)
 
 -- of some items with shapes the first of each shape
 abbrev pub first_of_each : {X : Type 0} → (X → ℕ) → List X → List X

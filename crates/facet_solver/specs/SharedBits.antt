@@ -13,9 +13,11 @@ common_bit words others i = bit_of (common_word words others) i
 
 -- the indices from one on whose bit is set in both, rising
 abbrev pub common_from : List ℕ → List ℕ → ℕ → List ℕ
-common_from words others from = filter (common_bit words others) (range_with_len from (length words * 64 - from))
+common_from words others from =
+    filter (common_bit words others) (range_with_len from (length words * 64 - from))
 
--- the indices that two sets share and that are still to come, and how many words of each are not read yet
+-- the indices that two sets share and that are still to come, and how many words of each are not
+-- read yet
 pub record CommonView : Type 0 where
   pub items : List ℕ
   pub unread : ℕ

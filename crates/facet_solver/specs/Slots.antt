@@ -30,7 +30,8 @@ is_named (Some name) f = name_eq name f.name
 abbrev pub is_at : Slot → FieldView → Bool
 is_at slot f = category_eq slot.category f.category && is_named slot.name f
 
--- the slot of a name in a category: a category that takes any name has every field of it under the empty one
+-- the slot of a name in a category: a category that takes any name has every field of it under the
+-- empty one
 abbrev pub named_slot : FieldCategory → Name → Slot
 named_slot category name = record {
   category = category;

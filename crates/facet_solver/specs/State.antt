@@ -18,8 +18,8 @@ use Rattle.facet_solver.specs.Build.{Catalogue}
 use Rattle.facet_solver.specs.IndexSet.{upto}
 use Rattle.facet_solver.specs.Schema.{SchemaView, schema_code}
 
--- a schema, the candidates, which are the resolutions of it that are left, by their indices, and the keys that were seen,
--- in their order
+-- a schema, the candidates, which are the resolutions of it that are left, by their indices, and
+-- the keys that were seen, in their order
 pub record State : Type 0 where
   pub schema : SchemaView
   pub candidates : List ℕ
@@ -51,7 +51,8 @@ abbrev pub or_all : List ℕ → List ℕ → List ℕ
 or_all [] all = all
 or_all (index ∷ rest) all = index ∷ rest
 
--- only the candidates stay that pass a test. Where none does, none is left, or all stay if one has to be
+-- only the candidates stay that pass a test. Where none does, none is left, or all stay if one has
+-- to be
 abbrev pub narrowed : Bool → (Resolved → Bool) → State → State
 narrowed may_be_none test s = record s {
   candidates = if may_be_none then passing test s else or_all (passing test s) s.candidates;
@@ -126,10 +127,12 @@ satisfy fields s = satisfy_shapes (shapes_of fields) s
 abbrev pub was_field_seen : Name → State → Bool
 was_field_seen name s = list_any (λ key. name_eq key.name name) s.seen
 
--- How a state is stored, by which proofs tell values apart. No clause speaks of it: the tuple of its parts
+-- How a state is stored, by which proofs tell values apart. No clause speaks of it: the tuple of
+-- its parts
 abbrev pub state_code : Coded State
 state_code =
-    code_by (SchemaView × (List ℕ × List Key)) (coded× schema_code (coded× (coded_list coded_ℕ) (coded_list key_code)))
+    code_by (SchemaView × (List ℕ × List Key))
+    (coded× schema_code (coded× (coded_list coded_ℕ) (coded_list key_code)))
     (λ s. (s.schema, (s.candidates, s.seen)))
     (λ p. record { schema = p.0; candidates = p.1.0; seen = p.1.1 })
     (λ _. refl)

@@ -49,8 +49,8 @@ pub record HaveSameKeys (keys others : List Key) : Type 0 where
   pub in_others : (key : Key) → Contains keys key → Contains others key
   pub in_keys : (key : Key) → Contains others key → Contains keys key
 
--- the end of a solver comes to the resolution at an index: it is the only viable candidate, or its description stands at its
--- place among the descriptions of all viable ones
+-- the end of a solver comes to the resolution at an index: it is the only viable candidate, or its
+-- description stands at its place among the descriptions of all viable ones
 pub record EndsWithOrNames (s : State) (index : ℕ) (text : Name) : Type 0 where
   pub alone : length (viable s) ≡ 1 → viable s ≡ index ∷ []
   pub place : ℕ
@@ -64,8 +64,9 @@ pub record ChoiceHasKey (build : Build) (root : ℕ) (choice : List ℕ) (key : 
   pub of_choice : IsResolution build root choice resolution
   pub has : has_key key resolution ≡ true
 
--- the keys of a choice are told, in whatever order and however often, unknown keys among them: the choice has each told key
--- that any choice has, and each name that its resolution requires is the name of a told key
+-- the keys of a choice are told, in whatever order and however often, unknown keys among them: the
+-- choice has each told key that any choice has, and each name that its resolution requires is the
+-- name of a told key
 pub record TellsChoice (build : Build) (root : ℕ) (choice : List ℕ) (keys : List Key) (r : Resolved) : Type 0 where
   pub resolved : IsResolution build root choice r
   pub has_known : (key : Key) → Contains keys key → (other : List ℕ)

@@ -52,7 +52,8 @@ state_of_report report = record {
 
 -- the names of the seen keys whose name no field of any resolution has
 abbrev pub unknown_names : List Key → List Resolved → List Name
-unknown_names seen resolutions = names_where (λ key. not (list_any (has_field_named key.name) resolutions)) seen
+unknown_names seen resolutions =
+    names_where (λ key. not (list_any (has_field_named key.name) resolutions)) seen
 
 -- the resolutions that a report speaks of: the candidates, or all where there is none
 abbrev pub reported : State → List Resolved
@@ -80,7 +81,10 @@ no_match_of s =
 abbrev pub ambiguity_of : State → AmbiguityView
 ambiguity_of s =
     let resolutions = resolutions_at s.schema.resolutions (viable s) in
-    record { candidates = descriptions resolutions; disambiguating_fields = disambiguating resolutions }
+    record {
+      candidates = descriptions resolutions;
+      disambiguating_fields = disambiguating resolutions;
+    }
 
 -- the report, by how many candidates are viable: there is none where one alone is
 abbrev pub report_by : HowMany → State → Option ErrorView

@@ -70,7 +70,8 @@ walk_role below build f place (block target fs) = below fs (inside_field place f
 walk_role below build f place (alternatives target s vs) =
     λ ns. choose vs ns (λ v rest. walk_variant_step below build (choosing f target s v) place rest)
 walk_role below build f place regular = emit (emit_plain build f place regular)
-walk_role below build f place (catch_all target) = emit (emit_plain build f place (catch_all target))
+walk_role below build f place (catch_all target) =
+    emit (emit_plain build f place (catch_all target))
 walk_role below build f place (leaf target) = emit (emit_plain build f place (leaf target))
 
 -- fields in order, each with the indices that the one before it left; `below` walks the fields of

@@ -17,7 +17,8 @@ use Rattle.facet_solver_shape.specs.Pointers.{NeverEnds}
 abbrev pub field_indices : List Field → List ℕ
 field_indices fields = map (λ f. f.shape) fields
 
--- by a kind, where the index has to be an earlier one: fields, fields of variants, the inside of an option
+-- by a kind, where the index has to be an earlier one: fields, fields of variants, the inside of an
+-- option
 abbrev pub early_indices_of_kind : ShapeKind → List ℕ
 early_indices_of_kind (Struct kind fields) = field_indices fields.items
 early_indices_of_kind (Enum variants) = flat_map (λ v. field_indices v.fields.items) variants.items
@@ -67,7 +68,8 @@ pub record IsEarlierThan (index : ℕ) (s : Shape) : Type 0 where
 
 -- what the shapes of a list name that has to be earlier is below their own indices
 abbrev pub NamesEarlier : List Shape → Type 0
-NamesEarlier shapes = (index : ℕ) (s : Shape) → slice_get shapes index ≡ Some s → IsEarlierThan index s
+NamesEarlier shapes =
+    (index : ℕ) (s : Shape) → slice_get shapes index ≡ Some s → IsEarlierThan index s
 
 -- one name stands at two indices of a list
 pub record RepeatsName (names : List Name) : Type 0 where
@@ -81,7 +83,8 @@ pub record RepeatsName (names : List Name) : Type 0 where
 -- two fields of a struct, or of one variant, have one declared name
 abbrev pub RepeatsFieldName : ShapeKind → Type 0
 RepeatsFieldName (Struct kind fields) = RepeatsName (field_names fields.items)
-RepeatsFieldName (Enum variants) = Any (λ v. RepeatsName (field_names v.fields.items)) variants.items
+RepeatsFieldName (Enum variants) =
+    Any (λ v. RepeatsName (field_names v.fields.items)) variants.items
 RepeatsFieldName _ = ⊥
 
 -- two variants have one name
@@ -127,17 +130,22 @@ NamesPast count s = Any (λ p. count ≤ p) (named_indices s)
 abbrev pub NamesLater : ℕ → ℕ → Shape → Type 0
 NamesLater count index s = Any (λ p. (index ≤ p) × (p < count)) (early_indices s)
 
--- the shape at the error's index has the error's fault. A way of pointees that never ends begins at a pointer of the list, for nothing else leads on
+-- the shape at the error's index has the error's fault. A way of pointees that never ends begins at
+-- a pointer of the list, for nothing else leads on
 abbrev pub HasFault : List Shape → CatalogueError → Type 0
 HasFault shapes (OutOfRange index) = IsSomeAnd (slice_get shapes index) (NamesPast (length shapes))
-HasFault shapes (NotEarlier index) = IsSomeAnd (slice_get shapes index) (NamesLater (length shapes) index)
+HasFault shapes (NotEarlier index) =
+    IsSomeAnd (slice_get shapes index) (NamesLater (length shapes) index)
 HasFault shapes (PointerCycle index) = NeverEnds shapes index
-HasFault shapes (DuplicateFieldName index) = IsSomeAnd (slice_get shapes index) (λ s. RepeatsFieldName s.kind)
-HasFault shapes (DuplicateVariantName index) = IsSomeAnd (slice_get shapes index) (λ s. RepeatsVariantName s.kind)
+HasFault shapes (DuplicateFieldName index) =
+    IsSomeAnd (slice_get shapes index) (λ s. RepeatsFieldName s.kind)
+HasFault shapes (DuplicateVariantName index) =
+    IsSomeAnd (slice_get shapes index) (λ s. RepeatsVariantName s.kind)
 
 -- d stands at an earlier index than e, or at the same and has a lower number
 abbrev pub ComesBefore : CatalogueError → CatalogueError → Type 0
-ComesBefore d e = (shape_of d < shape_of e) ⊎ ((shape_of d ≡ shape_of e) × (number_of d < number_of e))
+ComesBefore d e =
+    (shape_of d < shape_of e) ⊎ ((shape_of d ≡ shape_of e) × (number_of d < number_of e))
 
 -- no shape has a fault
 pub record IsChecked (shapes : List Shape) : Type 0 where
@@ -156,4 +164,5 @@ pub record IsFaultlessAt (shapes : List Shape) (index : ℕ) : Type 0 where
 pub record IsLowestFaultAt (shapes : List Shape) (index : ℕ) (e : CatalogueError) : Type 0 where
   pub here : shape_of e ≡ index
   pub present : HasFault shapes e
-  pub lowest : (d : CatalogueError) → shape_of d ≡ index → number_of d < number_of e → ¬ HasFault shapes d
+  pub lowest : (d : CatalogueError) → shape_of d ≡ index → number_of d < number_of e
+      → ¬ HasFault shapes d

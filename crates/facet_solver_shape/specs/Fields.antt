@@ -1,4 +1,5 @@
--- Fields of a resolution: which keys mean them, the table that keeps them, and the first that passes a test.
+-- Fields of a resolution: which keys mean them, the table that keeps them, and the first that
+-- passes a test.
 use Rattle.std.specs.Prelude.{Bool, true, false, ◌&&◌, ◌||◌, [], ◌∷◌, Option, Some, None, nat_eq, List, map, ◌≡◌, ◌≢◌, MatchOption, ℕ}
 use Rattle.facet_solver_shape.specs.declared.resolution.key.FieldCategory.{FieldCategory}
 use Rattle.facet_solver_shape.specs.declared.resolution.key.FieldCategory.TheVariants.{Flat, Element, Text, Tag, Elements}
@@ -45,12 +46,14 @@ takes_any_name Tag = true
 takes_any_name Elements = true
 takes_any_name _ = false
 
--- whether a key means the fields of a category and a name.
--- A field of category Flat goes by its name alone. Of the others, a flat key means elements, and a DOM key its own category
+-- whether a key means the fields of a category and a name. A field of category Flat goes by its
+-- name alone. Of the others, a flat key means elements, and a DOM key its own category
 abbrev pub means : Option FieldCategory → Name → FieldCategory → Name → Bool
 means dom asked Flat name = name_eq asked name
 means None asked category name = name_eq asked name && category_eq category Element
-means (Some asked_category) asked category name = category_eq asked_category category && (name_eq asked name || (is_unnamed asked && takes_any_name category))
+means (Some asked_category) asked category name =
+    category_eq asked_category category
+    && (name_eq asked name || (is_unnamed asked && takes_any_name category))
 
 -- whether a key means a field
 abbrev pub matches : Key → FieldView → Bool
@@ -81,12 +84,14 @@ pub record IsFieldTable (entries : List (FieldKey × FieldView)) : Type 0 where
 pub record IsLeast (fields : finite.FinMap key_cmp FieldView) (test : FieldView → Bool) (found : FieldView) : Type 0 where
   pub passes : test found ≡ true
   pub present : finite.get fields (key_of_field found) ≡ Some found
-  pub least : (k : Key) (f : FieldView) → finite.get fields k ≡ Some f → test f ≡ true → key_cmp k (key_of_field found) ≢ Less
+  pub least : (k : Key) (f : FieldView) → finite.get fields k ≡ Some f → test f ≡ true
+      → key_cmp k (key_of_field found) ≢ Less
 
 -- no field passes
 abbrev pub NonePasses : finite.FinMap key_cmp FieldView → (FieldView → Bool) → Type 0
 NonePasses fields test = (k : Key) (f : FieldView) → finite.get fields k ≡ Some f → test f ≡ false
 
 -- what a search gives: the field of least key among those that pass, or that none does
-abbrev pub IsLeastIfAny : finite.FinMap key_cmp FieldView → (FieldView → Bool) → Option FieldView → Type 0
+abbrev pub IsLeastIfAny : finite.FinMap key_cmp FieldView → (FieldView → Bool)
+    → Option FieldView → Type 0
 IsLeastIfAny fields test result = MatchOption result (NonePasses fields test) (IsLeast fields test)

@@ -18,18 +18,24 @@ abbrev pub first_plain_field : ShapeKind → Option Field
 first_plain_field (StructOf kind fields) = find (λ f. not f.metadata) fields.items
 first_plain_field _ = None
 
--- the shape of that field, if the struct is marked as a container: a metadata container is a shape that has such a value
+-- the shape of that field, if the struct is marked as a container: a metadata container is a shape
+-- that has such a value
 abbrev pub contained_shape : Shape → Option ℕ
-contained_shape s = if s.metadata_container then option_map (λ f. f.shape) (first_plain_field s.kind) else None
+contained_shape s =
+    if s.metadata_container then option_map (λ f. f.shape) (first_plain_field s.kind) else None
 
 -- the shape that a metadata container stands for; any other shape stands for itself
 abbrev pub value_shape : List Shape → ℕ → ℕ
-value_shape shapes index = unwrap_or (option_and_then contained_shape (slice_get shapes index)) index
+value_shape shapes index =
+    unwrap_or (option_and_then contained_shape (slice_get shapes index)) index
 
--- the format of a newtype, by the kind at the end of its value: a scalar keeps the shape of the value, any other the end of the field
+-- the format of a newtype, by the kind at the end of its value: a scalar keeps the shape of the
+-- value, any other the end of the field
 abbrev pub format_of_kind : ShapeKind → ℕ → ℕ → VariantFormat
 format_of_kind (Scalar scalar) value end = NewtypeScalar value
-format_of_kind (Enum variants) value end = if list_all (λ v. length v.fields.items == 0) variants.items then NewtypeScalar value else NewtypeOther end
+format_of_kind (Enum variants) value end =
+    if list_all (λ v. length v.fields.items == 0) variants.items then NewtypeScalar value
+    else NewtypeOther end
 format_of_kind (StructOf TupleKind fields) value end = NewtypeTuple end (length fields.items)
 format_of_kind (StructOf TupleStruct fields) value end = NewtypeTuple end (length fields.items)
 format_of_kind (StructOf NamedStruct fields) value end = NewtypeStruct end
@@ -47,7 +53,8 @@ newtype_format shapes field =
     let end = end_of shapes field in
     option_map_or (λ k. format_of_kind k value end) (end_kind shapes value) (NewtypeOther end)
 
--- the format of a variant whose fields have no names: a newtype where it has one field, else a tuple
+-- the format of a variant whose fields have no names: a newtype where it has one field, else a
+-- tuple
 abbrev pub unnamed_format : List Shape → List Field → VariantFormat
 unnamed_format shapes (field ∷ []) = newtype_format shapes field.shape
 unnamed_format shapes fields = TupleFormat (length fields)

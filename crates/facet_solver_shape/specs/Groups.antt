@@ -54,7 +54,8 @@ ends_at shapes test entry = option_map_or test (end_scalar shapes entry.1) false
 
 -- the variants whose format has a number to be listed with, in order
 abbrev pub listed_by : List Shape → (VariantFormat → Option ℕ) → List Variant → List Entry
-listed_by shapes number variants = filter_map (λ v. option_map (λ n. (v, n)) (number (format_of shapes v))) variants
+listed_by shapes number variants =
+    filter_map (λ v. option_map (λ n. (v, n)) (number (format_of shapes v))) variants
 
 -- the variants of an enum, grouped
 abbrev pub groups_of : List Shape → List Variant → Groups
@@ -143,7 +144,12 @@ pub record IsInOneOf {X : Type 0} (all : List X) (lists : List (List X)) : Type 
 -- each variant stands in one of five lists, and each scalar in one of four or among the rest
 pub record IsPartition (variants : List Variant) (g : Groups) : Type 0 where
   pub variants_in_one : IsInOneOf variants
-      (g.unit_variants ∷ entry_variants g.scalar_variants ∷ entry_variants g.tuple_variants ∷ g.struct_variants ∷ g.other_variants ∷ [])
+      (g.unit_variants
+      ∷ entry_variants g.scalar_variants
+      ∷ entry_variants g.tuple_variants
+      ∷ g.struct_variants
+      ∷ g.other_variants
+      ∷ [])
   pub rest : List Entry
   pub scalars_in_one : IsInOneOf g.scalar_variants
       (g.bool_variants ∷ g.int_variants ∷ g.float_variants ∷ g.string_variants ∷ rest ∷ [])

@@ -63,7 +63,8 @@ step_eq_equiv = record { refl = itself; symm = either_way; congr = alike }
     either_way (by_field a) (by_field b) = nat_list_eq_equiv.symm a b
     either_way (by_field a) (by_variant b w) = refl
     either_way (by_variant a v) (by_field b) = refl
-    either_way (by_variant a v) (by_variant b w) = λ i. nat_list_eq_equiv.symm a b i && nat_list_eq_equiv.symm v w i
+    either_way (by_variant a v) (by_variant b w) =
+        λ i. nat_list_eq_equiv.symm a b i && nat_list_eq_equiv.symm v w i
 
     alike : (x y z : Step) → step_eq x y ≡ true → step_eq x z ≡ step_eq y z
     alike (by_field a) (by_field b) (by_field c) p = nat_list_eq_equiv.congr a b c p

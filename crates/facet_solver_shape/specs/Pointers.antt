@@ -17,7 +17,8 @@ pointee_at shapes index = option_and_then (λ s. pointee_of_kind s.kind) (slice_
 -- the index that is reached from an index after n pointees, and none where the way has ended before
 abbrev pub pointee_after : List Shape → ℕ → ℕ → Option ℕ
 pointee_after shapes zero index = Some index
-pointee_after shapes (suc n) index = option_and_then (pointee_after shapes n) (pointee_at shapes index)
+pointee_after shapes (suc n) index =
+    option_and_then (pointee_after shapes n) (pointee_at shapes index)
 
 -- the way of pointees from an index has no end
 abbrev pub NeverEnds : List Shape → ℕ → Type 0
@@ -30,9 +31,11 @@ EndsBelow shapes index = (k : ℕ) → k < index → ¬ NeverEnds shapes k
 -- the index reached from an index by following pointees, n at the most
 abbrev pub end_within : List Shape → ℕ → ℕ → ℕ
 end_within shapes zero index = index
-end_within shapes (suc n) index = option_map_or (end_within shapes n) (pointee_at shapes index) index
+end_within shapes (suc n) index =
+    option_map_or (end_within shapes n) (pointee_at shapes index) index
 
--- the end of the shape at an index: pointers are followed, and an opaque one is an end. No way that ends is longer than the list
+-- the end of the shape at an index: pointers are followed, and an opaque one is an end. No way that
+-- ends is longer than the list
 abbrev pub end_of : List Shape → ℕ → ℕ
 end_of shapes index = end_within shapes (length shapes) index
 

@@ -26,7 +26,8 @@ pub record Pick : Type 0 where
 
 -- what a picked variant says
 abbrev pub pick_view : VariantSelection → Pick
-pick_view v = record { path = v.path; enum_name = v.enum_name.now; variant_name = v.variant_name.now }
+pick_view v =
+    record { path = v.path; enum_name = v.enum_name.now; variant_name = v.variant_name.now }
 
 -- the text of a pick: its enum and its variant
 abbrev pub pick_text : Pick → List ℕ
@@ -50,7 +51,8 @@ abbrev pub names_view : List (Bor Name) → set.FinSet (slice_cmp nat_cmp)
 names_view ns = set.from_list (names_of ns)
 
 -- paths of such names, each once
-abbrev pub key_paths_view : List (Vec (Bor Name) Global) → set.FinSet (slice_cmp (slice_cmp nat_cmp))
+abbrev pub key_paths_view : List (Vec (Bor Name) Global)
+    → set.FinSet (slice_cmp (slice_cmp nat_cmp))
 key_paths_view ps = set.from_list (map (λ p. names_of p.items) ps)
 
 -- some field of the name is required
@@ -62,12 +64,20 @@ pub record IsRequiredName (fields : finite.FinMap key_cmp FieldView) (name : Nam
   pub same_name : field.name ≡ name
 
 -- the names are those of the required fields
-abbrev pub AreRequiredNames : finite.FinMap key_cmp FieldView → set.FinSet (slice_cmp nat_cmp) → Type 0
-AreRequiredNames fields names = (name : Name) → (set.contains names name ≡ true) ↔ IsRequiredName fields name
+abbrev pub AreRequiredNames : finite.FinMap key_cmp FieldView
+    → set.FinSet (slice_cmp nat_cmp) → Type 0
+AreRequiredNames fields names =
+    (name : Name) → (set.contains names name ≡ true) ↔ IsRequiredName fields name
 
 -- nothing in it
 abbrev pub nothing : Resolved
-nothing = record { fields = finite.empty; required_names = set.empty; key_paths = set.empty; picks = []; catch_alls = finite.empty }
+nothing = record {
+  fields = finite.empty;
+  required_names = set.empty;
+  key_paths = set.empty;
+  picks = [];
+  catch_alls = finite.empty;
+}
 
 -- with one more field
 abbrev pub with_field : Resolved → FieldView → Resolved
@@ -97,7 +107,8 @@ pub record IsFieldClash (old : Resolved) (f : FieldView) (name : Name) (first se
 
 -- what a refusal of the field f says
 abbrev pub IsRefusalOf : Resolved → FieldView → SchemaError → Type 0
-IsRefusalOf old f (DuplicateField d) = IsFieldClash old f d.field_name.now d.first_path d.second_path
+IsRefusalOf old f (DuplicateField d) =
+    IsFieldClash old f d.field_name.now d.first_path d.second_path
 IsRefusalOf old f OutOfMemory = ⊤
 
 -- with one more key path
@@ -108,7 +119,8 @@ with_key_path r path = record r { key_paths = set.insert r.key_paths path }
 abbrev pub with_pick : Resolved → Pick → Resolved
 with_pick r pick = record r { picks = r.picks ++ pick ∷ [] }
 
--- with a field that takes the members of a category that no other field takes, in place of an earlier one
+-- with a field that takes the members of a category that no other field takes, in place of an
+-- earlier one
 abbrev pub with_catch_all : Resolved → FieldCategory → FieldView → Resolved
 with_catch_all r category f = record r { catch_alls = finite.insert r.catch_alls category f }
 
@@ -122,10 +134,13 @@ pub record IsUnionOf (first second made : finite.FinMap key_cmp FieldView) : Typ
   pub joined : (k : Key) → finite.get made k ≡ option_or (finite.get first k) (finite.get second k)
 
 -- made has what upper has, and elsewhere what lower has
-abbrev pub IsOverlaid : {K : Type 0} {R : K → K → Ordering} (lower upper made : finite.FinMap R FieldView) → Type 0
-IsOverlaid {K} lower upper made = (k : K) → finite.get made k ≡ option_or (finite.get upper k) (finite.get lower k)
+abbrev pub IsOverlaid : {K : Type 0} {R : K → K → Ordering}
+    (lower upper made : finite.FinMap R FieldView) → Type 0
+IsOverlaid {K} lower upper made =
+    (k : K) → finite.get made k ≡ option_or (finite.get upper k) (finite.get lower k)
 
--- made has what old has and then what other has. No field of other has a key of old, and its catch-alls take the place of old ones
+-- made has what old has and then what other has. No field of other has a key of old, and its
+-- catch-alls take the place of old ones
 pub record IsMerged (old other made : Resolved) : Type 0 where
   pub fields : IsUnionOf old.fields other.fields made.fields
   pub required_names : made.required_names ≡ set.union old.required_names other.required_names
@@ -141,10 +156,12 @@ pub record IsMergeClash (old other : Resolved) (name : Name) (first second : Lis
 
 -- what a refusal of all that other has says
 abbrev pub IsMergeRefusalOf : Resolved → Resolved → SchemaError → Type 0
-IsMergeRefusalOf old other (DuplicateField d) = IsMergeClash old other d.field_name.now d.first_path d.second_path
+IsMergeRefusalOf old other (DuplicateField d) =
+    IsMergeClash old other d.field_name.now d.first_path d.second_path
 IsMergeRefusalOf old other OutOfMemory = ⊤
 
 -- new is old with no field and no name required
 pub record IsMadeOptional (old new : Resolved) : Type 0 where
-  pub fields : (k : Key) → finite.get new.fields k ≡ option_map as_optional (finite.get old.fields k)
+  pub fields : (k : Key)
+      → finite.get new.fields k ≡ option_map as_optional (finite.get old.fields k)
   pub others : new ≡ record old { fields = new.fields; required_names = set.empty }

@@ -1,4 +1,5 @@
--- How the parts of a resolution are stored, by which proofs tell values apart. No clause speaks of it.
+-- How the parts of a resolution are stored, by which proofs tell values apart. No clause speaks of
+-- it.
 use Rattle.std.specs.Prelude.{ℕ, List, Bool, Option, ◌⊎◌, ◌≡◌, refl}
 use Rattle.std.specs.Coded.{Coded, code_by, coded×, coded⊎, coded_ℕ, coded_bool, coded_list, coded_option}
 use Rattle.std.proofs.Common.{inl, inr}
@@ -37,15 +38,26 @@ step_back (by_variant field variant) = refl
 
 -- a path
 abbrev path_code : Coded (List Step)
-path_code = coded_list (code_by (Name ⊎ (Name × Name)) (coded⊎ name_code (coded× name_code name_code)) step_parts step_from step_back)
+path_code = coded_list
+    (code_by (Name ⊎ (Name × Name)) (coded⊎ name_code (coded× name_code name_code))
+    step_parts step_from step_back)
 
 -- a field
 abbrev pub field_view_code : Coded FieldView
 field_view_code =
     code_by ((Name × (List Step)) × ((Bool × ℕ) × (Field × FieldCategory)))
-    (coded× (coded× name_code path_code) (coded× (coded× coded_bool coded_ℕ) (coded× field.the_row.coded category.the_row.coded)))
+    (coded× (coded× name_code path_code)
+    (coded× (coded× coded_bool coded_ℕ)
+    (coded× field.the_row.coded category.the_row.coded)))
     (λ f. ((f.name, f.path), ((f.is_required, f.shape), (f.field, f.category))))
-    (λ p. record { name = p.0.0; path = p.0.1; is_required = p.1.0.0; shape = p.1.0.1; field = p.1.1.0; category = p.1.1.1 })
+    (λ p. record {
+      name = p.0.0;
+      path = p.0.1;
+      is_required = p.1.0.0;
+      shape = p.1.0.1;
+      field = p.1.1.0;
+      category = p.1.1.1;
+    })
     (λ _. refl)
 
 -- a pick
@@ -83,8 +95,18 @@ catch_alls_code = finite.code category.the_row.coded field_view_code
 -- a resolution as the tuple of its parts
 abbrev pub resolved_code : Coded Resolved
 resolved_code =
-    code_by ((finite.FinMap key_cmp FieldView × set.FinSet (slice_cmp nat_cmp)) × (set.FinSet (slice_cmp (slice_cmp nat_cmp)) × (List Pick × finite.FinMap category_cmp FieldView)))
-    (coded× (coded× field_map_code name_set_code) (coded× key_path_set_code (coded× (coded_list pick_code) catch_alls_code)))
+    code_by
+    ((finite.FinMap key_cmp FieldView × set.FinSet (slice_cmp nat_cmp))
+    × (set.FinSet (slice_cmp (slice_cmp nat_cmp))
+    × (List Pick × finite.FinMap category_cmp FieldView)))
+    (coded× (coded× field_map_code name_set_code)
+    (coded× key_path_set_code (coded× (coded_list pick_code) catch_alls_code)))
     (λ r. ((r.fields, r.required_names), (r.key_paths, (r.picks, r.catch_alls))))
-    (λ p. record { fields = p.0.0; required_names = p.0.1; key_paths = p.1.0; picks = p.1.1.0; catch_alls = p.1.1.1 })
+    (λ p. record {
+      fields = p.0.0;
+      required_names = p.0.1;
+      key_paths = p.1.0;
+      picks = p.1.1.0;
+      catch_alls = p.1.1.1;
+    })
     (λ _. refl)
