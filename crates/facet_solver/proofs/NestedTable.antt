@@ -1,7 +1,7 @@
 -- Tables of nested key paths: what is under a shape, from what is under those that its fields name.
 use Rattle.std.proofs.Common.{◌≡◌, ◌⊎◌, inl, inr, map, take, ◌<◌, ◌≤◌, ◌+◌, ℕ, zero, suc, List, [], ◌∷◌, ◌++◌, Option, Some, None, Bool, true, false, sym, refl, ap, ◌∙◌, subst, slice_get, length, get_or, drop, arith}
 use Rattle.std.specs.List.{AllByRecursion}
-use Rattle.std.specs.Prelude.{All, IfOk, IfSome, OnOk, ⊤, Vec, ◌↔◌, if◌then◌else◌, ◌&&◌, ◌||◌, is_some, nat_lt, string_bytes, sum_by}
+use Rattle.std.specs.Prelude.{All, IfOk, IfSome, OnOk, ⊤, Vec, ◌↔◌, if◌then◌else◌, ◌&&◌, is_some, nat_lt, string_bytes, sum_by}
 use Rattle.std.specs.declared.alloc.Global.{Global}
 use Rattle.std.specs.declared.result.Result.{Result}
 use Rattle.std.specs.declared.result.Result.TheVariants.{Ok, Err}
@@ -31,7 +31,7 @@ use Rattle.facet_solver.proofs.Nested.{kind_at-below, under_shape-step}
 use Rattle.facet_solver.proofs.Outcome.{get_push}
 use Rattle.facet_solver.proofs.Roles.{FieldsBelow-at, VariantsBelow-at}
 use Rattle.facet_solver.proofs.NestedFields.{both_of, entry_leads_also, first_of, leads_also, second_of}
-use Rattle.facet_solver.proofs.NestedSets.{none-union, union-none, union_assoc}
+use Rattle.facet_solver.proofs.NestedSets.{none-union, or-right, union-none, union_assoc}
 
 -- an entry stands for what is under the shape at its index
 pub entry_stands : (earlier : Earlier) (id : ℕ) (entry : Entry) → IsSound earlier → slice_get earlier.entries.now id ≡ Some (Some entry) → AreFieldsOf earlier (under_of earlier id) entry.under
@@ -64,11 +64,7 @@ module _ (entered : Entered) (cat : Catalogue) where
 
 -- a field asks for what is under its shape where that is entered
 pub asked_where_entered : (Holds : ℕ → Type 0) (entered : Entered) (cat : Catalogue) (f : Field) → FieldAsks Holds entered cat f → entered (kind_at cat f.shape) ≡ true → Holds f.shape
-asked_where_entered Holds entered cat f asked e = asked (either_true f.flattened (entered (kind_at cat f.shape)) e)
-  where
-    either_true : (a b : Bool) → b ≡ true → (a || b) ≡ true
-    either_true true b e = refl
-    either_true false b e = e
+asked_where_entered Holds entered cat f asked e = asked (or-right f.flattened (entered (kind_at cat f.shape)) e)
 
 -- ---- fields that stand for more
 module _ (earlier : Earlier) (paths : KeyPaths) where
