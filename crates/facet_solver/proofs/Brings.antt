@@ -21,8 +21,8 @@ use Rattle.facet_solver.proofs.Outcome.{get_push}
 use Rattle.facet_solver.proofs.Roles.{KindBelow-mono, target_in, target_in_role-le}
 
 -- ---- what several bring
-or_none : (a : Categories) → union a none ≡ a
-or_none a i = record { flat = or-false a.flat i; attribute = or-false a.attribute i; element = or-false a.element i }
+union_none : (a : Categories) → union a none ≡ a
+union_none a i = record { flat = or-false a.flat i; attribute = or-false a.attribute i; element = or-false a.element i }
 
 union_assoc : (a b c : Categories) → union (union a b) c ≡ union a (union b c)
 union_assoc a b c i = record {
@@ -32,7 +32,7 @@ union_assoc a b c i = record {
 }
 
 pub both_none : (a : Brings) → both a (CatchAlls none) ≡ a
-both_none (CatchAlls a) = ap CatchAlls (or_none a)
+both_none (CatchAlls a) = ap CatchAlls (union_none a)
 both_none Emissions = refl
 both_none Variants = refl
 

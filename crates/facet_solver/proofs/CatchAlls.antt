@@ -20,6 +20,7 @@ use Rattle.facet_solver_shape.specs.declared.shape.Field.{Field}
 use Rattle.facet_solver_shape.specs.declared.shape.Shape.{Shape}
 use Rattle.facet_solver_shape.specs.declared.shape.Variant.{Variant}
 use Rattle.facet_solver_shape.proofs.Keys.{category_cmp_same, category_cmp_total}
+use Rattle.facet_solver_shape.proofs.Resolved.{or_none}
 use Rattle.facet_solver.specs.declared.build.brings.Brings.{Brings}
 use Rattle.facet_solver.specs.declared.build.brings.Brings.TheVariants.{CatchAlls, Emissions, Variants}
 use Rattle.facet_solver.specs.declared.build.brings.categories.Categories.{Categories}
@@ -42,10 +43,6 @@ use Rattle.facet_solver.proofs.Brought.{block_below, block_brings, both_catch_al
 use Rattle.facet_solver.proofs.WalkSteps.{walk-is_step}
 
 -- ---- the first of two that is there
-pub or-none : {X : Type 0} (o : Option X) → option_or o None ≡ o
-or-none None = refl
-or-none (Some x) = refl
-
 option_or_assoc : {X : Type 0} (a b c : Option X) → option_or (option_or a b) c ≡ option_or a (option_or b c)
 option_or_assoc None b c = refl
 option_or_assoc (Some x) b c = refl
@@ -74,7 +71,7 @@ pick go f (Some x) y (Some i) b n e s g h = e
 
 -- ---- the last catch-all of a category
 last-append : (category : FieldCategory) (es fs : List Emission) → last_catch_all category (es ++ fs) ≡ option_or (last_catch_all category fs) (last_catch_all category es)
-last-append category [] fs = sym (or-none (last_catch_all category fs))
+last-append category [] fs = sym (or_none (last_catch_all category fs))
 last-append category (e ∷ es) fs =
     ap (λ (o : Option FieldView). option_or o (as_catch_all category e)) (last-append category es fs)
     ∙ option_or_assoc (last_catch_all category fs) (last_catch_all category es) (as_catch_all category e)
@@ -314,7 +311,7 @@ module _ (table : List Brings) (build : Build) (category : FieldCategory) where
   -- field by field
   later : (b : Bool) (f : Field) (rest last : Option Field) → option_or rest (if b then Some f else last) ≡ option_or (option_or rest (if b then Some f else None)) last
   later true f rest last = sym (option_or_assoc rest (Some f) last)
-  later false f rest last = ap (λ (o : Option Field). option_or o last) (sym (or-none rest))
+  later false f rest last = ap (λ (o : Option Field). option_or o last) (sym (or_none rest))
 
   pub with-more : (fs : List Field) (i : ℕ) (f : Field) (last : Option Field) → i < length fs → f ≡ get_or fs i f
       → option_or (last_with table build category (drop (i + 1) fs)) (if has_last category (field_brings table build f) then Some f else last) ≡ option_or (last_with table build category (drop i fs)) last
@@ -393,7 +390,7 @@ one_more false None p f = refl
 one_more false (Some g) p f = refl
 
 no_more : (o p : Option FieldView) → option_or o p ≡ option_or (option_or o None) p
-no_more o p = ap (λ (x : Option FieldView). option_or x p) (sym (or-none o))
+no_more o p = ap (λ (x : Option FieldView). option_or x p) (sym (or_none o))
 
 get-overlaid : (m : Catching) (es : List Emission) (category : FieldCategory) → finite.get (overlaid m es) category ≡ option_or (last_catch_all category es) (finite.get m category)
 unfolding overlaid

@@ -6,6 +6,7 @@ use Rattle.std.specs.Option.{option_or}
 use Rattle.std.proofs.lemmas.Bool.{false≢true}
 use Rattle.std.proofs.lemmas.Bool.Decides.{Decides-eqb}
 use Rattle.std.proofs.lemmas.List.Folds.{find-append}
+use Rattle.facet_solver_shape.proofs.Resolved.{or_none}
 use Rattle.facet_solver_shape.specs.Fields.{FieldView}
 use Rattle.facet_solver.specs.IndexSet.{IndexSet, has, upto}
 use Rattle.facet_solver.specs.IndexEntries.{HasBound, added, agreed, entry_at, entry_of_one, with_number, with_occurrence}
@@ -22,10 +23,6 @@ more meant i passes f k = if nat_eq k i then option_or (meant k) (if passes then
 if_same : {X : Type 0} (b : Bool) (x : X) → (if b then x else x) ≡ x
 if_same true x = refl
 if_same false x = refl
-
-or_none : {X : Type 0} (o : Option X) → option_or o None ≡ o
-or_none None = refl
-or_none (Some x) = refl
 
 one_more : (test : FieldView → Bool) (seen : List FieldView) (f : FieldView) → find test (seen ++ f ∷ []) ≡ option_or (find test seen) (if test f then Some f else None)
 one_more test seen f = find-append test seen (f ∷ [])

@@ -13,7 +13,9 @@ hex c =
 
 -- an ASCII character between double quotes
 unfoldable pub escaped : ℕ → List ℕ
-escaped c = if c == 0 then codes "\\0" else (if c == 9 then codes "\\t" else (if c == 10 then codes "\\n" else (if c == 13 then codes "\\r"
+escaped c =
+    if c == 0 then codes "\\0" else (if c == 9 then codes "\\t"
+    else (if c == 10 then codes "\\n" else (if c == 13 then codes "\\r"
     else (if c == 34 then codes "\\\"" else (if c == 92 then codes "\\\\"
     else (if nat_lt c 32 || c == 127 then codes "\\u{" ++ (hex c ++ codes "}") else c ∷ []))))))
 

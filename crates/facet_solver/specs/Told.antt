@@ -40,7 +40,8 @@ abbrev pub known_keys : List Resolved → List Key → List Key
 known_keys resolutions keys = filter (is_known resolutions) keys
 
 -- the resolution at an index has each key of a list that any resolution has
-pub record HasAllKnown (schema : SchemaView) (keys : List Key) (index : ℕ) (r : Resolved) : Type 0 where
+pub record HasAllKnown (schema : SchemaView) (keys : List Key) (index : ℕ) (r : Resolved)
+    : Type 0 where
   pub present : slice_get schema.resolutions index ≡ Some r
   pub has_known : has_keys (known_keys schema.resolutions keys) r ≡ true
 
@@ -67,7 +68,9 @@ pub record ChoiceHasKey (build : Build) (root : ℕ) (choice : List ℕ) (key : 
 -- the keys of a choice are told, in whatever order and however often, unknown keys among them: the
 -- choice has each told key that any choice has, and each name that its resolution requires is the
 -- name of a told key
-pub record TellsChoice (build : Build) (root : ℕ) (choice : List ℕ) (keys : List Key) (r : Resolved) : Type 0 where
+pub record TellsChoice
+    (build : Build) (root : ℕ) (choice : List ℕ) (keys : List Key) (r : Resolved)
+    : Type 0 where
   pub resolved : IsResolution build root choice r
   pub has_known : (key : Key) → Contains keys key → (other : List ℕ)
       → ChoiceHasKey build root other key → has_key key r ≡ true

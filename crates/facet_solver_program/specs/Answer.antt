@@ -28,8 +28,9 @@ use Rattle.facet_solver_program.specs.Reading.{IsReading, whole}
 use Rattle.facet_solver_program.specs.ShapeView.{shape_view}
 use Rattle.facet_solver_program.specs.Tell.{tell}
 
--- how a run ends: as an input that says nothing, with a fault of the shapes, with more resolutions than are built, with
--- a clash of a choice, with one resolution and its index, or with what the solver reports
+-- how a run ends: as an input that says nothing, with a fault of the shapes, with more resolutions
+-- than are built, with a clash of a choice, with one resolution and its index, or with what the
+-- solver reports
 pub data Ending : Type 0 where
   bad_input : Ending
   bad_catalogue : CatalogueError → Ending
@@ -47,7 +48,8 @@ status_of (duplicate_field clash) = 2
 status_of (resolved index resolution) = 0
 status_of (reported report) = 1
 
--- what is stated of the text of an end: its bytes, those of a report only where all names in its lists are ASCII
+-- what is stated of the text of an end: its bytes, those of a report only where all names in its
+-- lists are ASCII
 abbrev pub text_of : Ending → Option (List ℕ)
 text_of bad_input = Some (codes "bad input")
 text_of (bad_catalogue fault) = Some (codes "bad catalogue " ++ decimal (number_of fault))
@@ -89,8 +91,8 @@ IsEndOfDocument schema document ending =
     let told = members_below [] document in
     IsVerdict (tell schema.build.catalogue told (new_solver schema)) ending
 
--- a root ends with too many resolutions where it has more than 4,096. Else it ends with a clash of one of its choices,
--- or it has a schema, and ends with its document
+-- a root ends with too many resolutions where it has more than 4,096. Else it ends with a clash of
+-- one of its choices, or it has a schema, and ends with its document
 abbrev pub IsEndOfRoot : Build → ℕ → Members → Ending → Type 0
 IsEndOfRoot build root document too_many_resolutions = 4096 < count_of_root build root
 IsEndOfRoot build root document (duplicate_field clash) =
@@ -100,8 +102,8 @@ IsEndOfRoot build root document ending =
     (count_of_root build root ≤ 4096)
     × (schema : SchemaView) × IsBuilt build root schema × IsEndOfDocument schema document ending
 
--- shapes end with their first fault. Where they have none, a root that they lack is a bad input, and else they end with
--- the root
+-- shapes end with their first fault. Where they have none, a root that they lack is a bad input,
+-- and else they end with the root
 abbrev pub IsEndOfShapes : Catalogue → Input → Ending → Type 0
 IsEndOfShapes shapes input (bad_catalogue fault) = IsFirstFault shapes fault
 IsEndOfShapes shapes input bad_input = IsChecked shapes × (length shapes ≤ input.root)

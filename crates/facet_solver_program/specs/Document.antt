@@ -24,7 +24,8 @@ abbrev mutual
   below path (array ds) = []
   below path (object ms) = members_below path ms
 
-  -- those of an object: each member, and then those below it. The names of an object rise, so the paths do
+  -- those of an object: each member, and then those below it. The names of an object rise, so the
+  -- paths do
   pub members_below : List Name → Members → List Member
   members_below path no_members = []
   members_below path (member name d ms) =

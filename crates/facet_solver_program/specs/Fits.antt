@@ -50,7 +50,8 @@ is_object d = is_some (as_object d)
 abbrev pub has_plain_field : List Field → Bool
 has_plain_field fields = list_any (λ f. not f.metadata) fields
 
--- whether a shape of a kind that is marked as a metadata container is one: it has a field that is no metadata
+-- whether a shape of a kind that is marked as a metadata container is one: it has a field that is
+-- no metadata
 abbrev pub contains : Bool → ShapeKind → Bool
 contains marked (Struct kind fields) = marked && has_plain_field fields.items
 contains marked _ = false
@@ -63,8 +64,8 @@ is_metadata_container s = contains s.metadata_container s.kind
 abbrev pub is_between : ℤ → ℤ → ℤ → Bool
 is_between low high z = int_le low z && int_le z high
 
--- whether a whole number is one of a type of numbers: as no number of an input has more than 64 bits, wider types have
--- the limits of 64 bits, or none
+-- whether a whole number is one of a type of numbers: as no number of an input has more than 64
+-- bits, wider types have the limits of 64 bits, or none
 abbrev pub is_in_range : ScalarType → ℤ → Bool
 is_in_range U8 = is_between (pos 0) (pos 255)
 is_in_range U16 = is_between (pos 0) (pos 65535)

@@ -33,7 +33,8 @@ shapes_at d = given (given (get (codes "shapes") d) as_array) (each catalogue.sh
 
 -- the builder
 abbrev pub builder_at : Data → Option Builder
-builder_at d = or_absent Flattened (λ t. given (as_str t) words.named_builder) (get (codes "build") d)
+builder_at d =
+    or_absent Flattened (λ t. given (as_str t) words.named_builder) (get (codes "build") d)
 
 -- the document's members
 abbrev pub document_at : Data → Option Members

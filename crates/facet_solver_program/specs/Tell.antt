@@ -29,8 +29,8 @@ fits_all cat d shapes = list_all (λ id. fits cat id d) shapes
 abbrev pub fits_some_not_all : Catalogue → Data → List ℕ → Bool
 fits_some_not_all cat d shapes = fits_any cat d shapes && not (fits_all cat d shapes)
 
--- where a value fits some of the candidates' shapes at its path, but not all: only the candidates stay that have one of
--- those that it fits
+-- where a value fits some of the candidates' shapes at its path, but not all: only the candidates
+-- stay that have one of those that it fits
 abbrev pub tell_shapes : Catalogue → List Name → Data → State → State
 tell_shapes cat path d s =
     let shapes = get_shapes_at_path path s in
@@ -53,7 +53,8 @@ is_known_path path s = list_any (passes (has_key_path path) s.schema.resolutions
 abbrev pub probe_path : List Name → State → State
 probe_path path s = narrowed true (has_key_path path) s
 
--- a member further below: where some candidate has its path, its key is asked for, and then the shapes count
+-- a member further below: where some candidate has its path, its key is asked for, and then the
+-- shapes count
 abbrev pub tell_path : Catalogue → List Name → Data → State → State
 tell_path cat path d s =
     if is_known_path path s then tell_shapes cat path d (probe_path path s) else s

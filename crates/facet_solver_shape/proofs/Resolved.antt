@@ -47,7 +47,7 @@ less Less p = refl
 less Equal p = absurd p
 less Greater p = absurd p
 
-or_none : {X : Type 0} (o : Option X) → option_or o None ≡ o
+pub or_none : {X : Type 0} (o : Option X) → option_or o None ≡ o
 or_none None = refl
 or_none (Some x) = refl
 

@@ -81,7 +81,9 @@ pub record IsFieldTable (entries : List (FieldKey × FieldView)) : Type 0 where
   pub stored : AllByRecursion IsStored (map entry_view entries)
 
 -- found stands under its stored key and passes, and nothing that passes stands under a lesser key
-pub record IsLeast (fields : finite.FinMap key_cmp FieldView) (test : FieldView → Bool) (found : FieldView) : Type 0 where
+pub record IsLeast
+    (fields : finite.FinMap key_cmp FieldView) (test : FieldView → Bool) (found : FieldView)
+    : Type 0 where
   pub passes : test found ≡ true
   pub present : finite.get fields (key_of_field found) ≡ Some found
   pub least : (k : Key) (f : FieldView) → finite.get fields k ≡ Some f → test f ≡ true

@@ -100,7 +100,9 @@ abbrev pub field_by_key : Key → Resolved → Option FieldView
 field_by_key key r = find (matches key) (finite.values r.fields)
 
 -- a refusal of one more field: its key is taken, and these are the name and the two paths
-pub record IsFieldClash (old : Resolved) (f : FieldView) (name : Name) (first second : List Step) : Type 0 where
+pub record IsFieldClash
+    (old : Resolved) (f : FieldView) (name : Name) (first second : List Step)
+    : Type 0 where
   pub taken : IsSomeAnd (finite.get old.fields (key_of_field f)) (λ present. present.path ≡ first)
   pub same_name : name ≡ f.name
   pub same_path : second ≡ f.path
@@ -149,7 +151,8 @@ pub record IsMerged (old other made : Resolved) : Type 0 where
   pub catch_alls : IsOverlaid old.catch_alls other.catch_alls made.catch_alls
 
 -- the key of some field of other is taken in old, and these are its name and the two paths
-pub record IsMergeClash (old other : Resolved) (name : Name) (first second : List Step) : Type 0 where
+pub record IsMergeClash (old other : Resolved) (name : Name) (first second : List Step)
+    : Type 0 where
   pub field : FieldView
   pub among : finite.get other.fields (key_of_field field) ≡ Some field
   pub clash : IsFieldClash old field name first second

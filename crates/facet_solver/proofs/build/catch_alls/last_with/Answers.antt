@@ -4,12 +4,13 @@ use Rattle.std.specs.Option.{option_copied, option_or}
 use Rattle.facet_solver.specs.Brings.{field_brings, has_last}
 use Rattle.facet_solver.specs.Build.{build_of}
 use Rattle.facet_solver.specs.CatchAlls.{last_with}
-use Rattle.facet_solver.proofs.CatchAlls.{or-none, with-end, with-more}
+use Rattle.facet_solver_shape.proofs.Resolved.{or_none}
+use Rattle.facet_solver.proofs.CatchAlls.{with-end, with-more}
 use Rattle.facet_solver.proofs.build.catch_alls.last_with.Goals as goal
 use Rattle.facet_solver.proofs.build.catch_alls.last_with.Goals.{then-has_last, else-has_last}
 
 pub loop-field-init : goal.loop-field-init
-loop-field-init c = or-none (last_with c.args.walker.now.brings.by_index.items (build_of c.args.walker.now.build) c.args.category c.args.fields.now)
+loop-field-init c = or_none (last_with c.args.walker.now.brings.by_index.items (build_of c.args.walker.now.build) c.args.category c.args.fields.now)
 
 pub loop-field-preserved : goal.loop-field-preserved
 loop-field-preserved c =
