@@ -1,20 +1,24 @@
 -- What choices resolve to: one resolution for each, whose flat fields go by their names.
 use Rattle.facet_solver.specs.Build.{Build}
-use Rattle.std.proofs.Common.{◌≡◌, ℕ, zero, suc, ◌+◌, ◌<◌, List, [], ◌∷◌, ◌++◌, Some, sym, refl, ap, ◌∙◌, subst, length, get_or, take, arith, IsSome}
-use Rattle.std.specs.Prelude.{Vec}
-use Rattle.std.specs.declared.alloc.Global.{Global}
-use Rattle.std.proofs.lemmas.List.{take_more}
+use Rattle.std.proofs.Common.{◌≡◌, ℕ, suc, List, [], ◌∷◌, ◌++◌, Some, sym, refl, ap, ◌∙◌, subst, length, arith, IsSome, append_assoc, append-nil}
+use Rattle.std.specs.Prelude.{Contains}
+use Rattle.std.proofs.lemmas.List.Elements.{Contains-append_right}
 use Rattle.facet_solver_shape.specs.declared.resolution.error.SchemaError as schema
 use Rattle.facet_solver_shape.specs.declared.resolution.error.SchemaError.TheVariants.{DuplicateField, OutOfMemory}
 use Rattle.facet_solver.specs.Walk.{walk_root}
 use Rattle.facet_solver_shape.specs.Resolved.{Resolved, nothing}
 use Rattle.facet_solver.specs.Outcome.{Duplicate, Outcome, resolved, duplicate, take_all, effect, StopsBy, duplicate_view}
 use Rattle.facet_solver.specs.Choice.{IsChoice, ListsChoices, IsResolution, IsClash, IsRefusal}
-use Rattle.facet_solver.specs.Listing.{lists}
 use Rattle.facet_solver.proofs.Outcome.{built, clashing}
 use Rattle.std.specs.List.{AllZip}
 
 -- ---- one resolution for each choice, one by one
+-- of these choices, each before those that are left has its resolution
+pub record AreResolvedBefore (build : Build) (root : ℕ) (choices left : List (List ℕ)) (resolutions : List Resolved) : Type 0 where
+  pub done : List (List ℕ)
+  pub parts : done ++ left ≡ choices
+  pub each : AllZip (IsResolution build root) done resolutions
+
 module _ (build : Build) (root : ℕ) where
   -- a choice was walked
   pub choice-walked : (c : List ℕ) → IsChoice build root c → IsSome (walk_root build root c)
@@ -46,25 +50,31 @@ module _ (build : Build) (root : ℕ) where
   resolves-push (b ∷ cs) [] c r h i = absurd h
   resolves-push (b ∷ cs) (s ∷ rs) c r h i = (h.0, resolves-push cs rs c r h.1 i)
 
-  lists-push : (vs : List (Vec ℕ Global)) (v : Vec ℕ Global) → lists (vs ++ v ∷ []) ≡ lists vs ++ v.items ∷ []
-  lists-push [] v = refl
-  lists-push (u ∷ vs) v = ap (λ (cs : List (List ℕ)). u.items ∷ cs) (lists-push vs v)
+  -- before anything is resolved
+  pub resolved-start : (cs : List (List ℕ)) → AreResolvedBefore build root cs cs []
+  resolved-start cs = record { done = []; parts = refl; each = tt }
 
   -- one more choice
-  pub resolves-more : (vs : List (Vec ℕ Global)) (i : ℕ) (v : Vec ℕ Global) (rs : List Resolved) (r : Resolved) → i < length vs → v ≡ get_or vs i v → AllZip (IsResolution build root) (lists (take i vs)) rs → IsResolution build root v.items r → AllZip (IsResolution build root) (lists (take (i + 1) vs)) (rs ++ r ∷ [])
-  resolves-more vs i v rs r h is each this =
-      subst (λ (cs : List (List ℕ)). AllZip (IsResolution build root) cs (rs ++ r ∷ []))
-      (sym (lists-push (take i vs) v) ∙ ap (λ (u : Vec ℕ Global). lists (take i vs ++ u ∷ [])) is ∙ ap lists (sym (take_more vs i v h)))
-      (resolves-push (lists (take i vs)) rs v.items r each this)
+  pub resolved-more : (cs left rest : List (List ℕ)) (c : List ℕ) (rs : List Resolved) (r : Resolved) → left ≡ c ∷ rest → AreResolvedBefore build root cs left rs → IsResolution build root c r → AreResolvedBefore build root cs rest (rs ++ r ∷ [])
+  resolved-more cs left rest c rs r first h this = record {
+    done = h.done ++ c ∷ [];
+    parts = append_assoc h.done (c ∷ []) rest ∙ ap (λ (ds : List (List ℕ)). h.done ++ ds) (sym first) ∙ h.parts;
+    each = resolves-push h.done rs c r h.each this;
+  }
 
-  contains-list : (vs : List (Vec ℕ Global)) (i : ℕ) (v : Vec ℕ Global) → i < length vs → v ≡ get_or vs i v → (i < length (lists vs)) × (get_or (lists vs) i v.items ≡ v.items)
-  contains-list [] i v h is = absurd (omega arith)
-  contains-list (u ∷ vs) zero v h is = (omega arith, ap (λ (x : Vec ℕ Global). x.items) (sym is))
-  contains-list (u ∷ vs) (suc i) v h is = let r = contains-list vs i v (omega arith) is in (omega arith, r.1)
+  -- none is left
+  pub resolved-end : (cs left : List (List ℕ)) (rs : List Resolved) → left ≡ [] → AreResolvedBefore build root cs left rs → AllZip (IsResolution build root) cs rs
+  resolved-end cs left rs none h =
+      subst (λ (ds : List (List ℕ)). AllZip (IsResolution build root) ds rs)
+      (sym (append-nil h.done) ∙ ap (λ (ds : List (List ℕ)). h.done ++ ds) (sym none) ∙ h.parts)
+      h.each
 
-  -- each listed one is a choice
-  pub listed-choice : (vs : List (Vec ℕ Global)) (i : ℕ) (v : Vec ℕ Global) → i < length vs → v ≡ get_or vs i v → ListsChoices build root (lists vs) → IsChoice build root v.items
-  listed-choice vs i v h is l = let c = contains-list vs i v h is in l.each_is v.items (i, c.0, c.1)
+  -- the first that is left is a choice
+  pub first_left-choice : (cs left rest : List (List ℕ)) (c : List ℕ) (rs : List Resolved) → left ≡ c ∷ rest → AreResolvedBefore build root cs left rs → ListsChoices build root cs → IsChoice build root c
+  first_left-choice cs left rest c rs first h listed =
+      listed.each_is c
+      (subst (λ (ds : List (List ℕ)). Contains ds c) (ap (λ (ds : List (List ℕ)). h.done ++ ds) (sym first) ∙ h.parts)
+      (Contains-append_right h.done (c ∷ rest) c (0, (omega arith), refl)))
 
   pub resolves-length : (cs : List (List ℕ)) (rs : List Resolved) → AllZip (IsResolution build root) cs rs → length rs ≡ length cs
   resolves-length [] [] h = refl

@@ -12,6 +12,7 @@ pub mod State
 pub mod Outcome
 pub mod Walk
 pub mod ChoiceResolutions
+pub mod ChoiceList
 pub mod NestedFields
 pub mod Brings
 pub mod NestedSets

@@ -15,6 +15,7 @@ pub mod CatchAlls
 pub mod Choice
 pub mod Count
 pub mod Listing
+pub mod ChoiceList
 pub mod Outcome
 pub mod IndexSet
 pub mod Words

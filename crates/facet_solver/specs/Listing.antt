@@ -1,7 +1,7 @@
 -- The choices as a list, by parts: a product over fields, a sum over variants. No public clause
 -- speaks of it: those say what a list of all choices is.
 use Rattle.facet_solver.specs.Build.{Build, repr_for, Catalogue}
-use Rattle.std.specs.Prelude.{ℕ, zero, suc, List, [], ◌∷◌, ◌++◌, map, flat_map, Bool, true, if◌then◌else◌, Option, Some, None, slice_get, length, Vec}
+use Rattle.std.specs.Prelude.{ℕ, zero, suc, List, [], ◌∷◌, ◌++◌, map, flat_map, Bool, true, if◌then◌else◌, Option, Some, None, slice_get, length}
 use Rattle.facet_solver_shape.specs.declared.shape.Shape.{Shape}
 use Rattle.facet_solver_shape.specs.declared.shape.Field.{Field}
 use Rattle.facet_solver_shape.specs.declared.shape.Variant.{Variant}
@@ -10,7 +10,6 @@ use Rattle.facet_solver_shape.specs.declared.shape.ShapeKind.TheVariants.{Struct
 use Rattle.facet_solver.specs.Representation.{is_walked}
 use Rattle.facet_solver.specs.Content.{content_of}
 use Rattle.facet_solver.specs.Roles.{Role, regular, block, alternatives, catch_all, leaf, role_of}
-use Rattle.std.specs.declared.alloc.Global.{Global}
 
 -- lists of choices
 abbrev pub Choices : Type 0
@@ -85,11 +84,7 @@ unfoldable pub choices_of_variants : Build → Bool → List Variant → Choices
 choices_of_variants build walked vs =
     indexed 0 (choices_of_variant (choices_of_fields build) build.catalogue walked) vs
 
--- choices, wherever they lie
-abbrev pub lists : List (Vec ℕ Global) → List (List ℕ)
-lists vs = map (λ v. v.items) vs
-
 -- choices that were found; none found is nothing to choose
-abbrev pub choices_found : Option (Vec (Vec ℕ Global) Global) → Choices
+abbrev pub choices_found : Option Choices → Choices
 choices_found None = no_choice
-choices_found (Some v) = lists v.items
+choices_found (Some found) = found

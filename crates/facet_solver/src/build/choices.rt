@@ -3,49 +3,41 @@ ghost use Rattle.std.specs.Prelude.{◌≡◌, ◌++◌, ◌<◌, ◌∷◌, map
 ghost use Rattle.facet_solver_shape.specs.Catalogues.{FieldsBelow, VariantsBelow};
 ghost use Rattle.facet_solver.specs.Listing as listing;
 ghost use Rattle.facet_solver.specs.Choice.{ListsChoices};
-ghost use Rattle.facet_solver.specs.Listing.{lists, choices_found};
+ghost use Rattle.facet_solver.specs.Listing.{choices_found};
 ghost use Rattle.facet_solver.specs.Count.{count_of_root};
 ghost use Rattle.facet_solver.specs.Counts.{IsReady};
 ghost use Rattle.facet_solver.specs.Build.{build_of};
 
+pub(crate) mod iter;
+pub(crate) mod list;
+
 use crate::build::brings::Brings;
+use crate::build::choices::list::Choices;
 use crate::build::content::content_fields;
 use crate::build::role::{Role, role_of};
 use crate::build::walker::Walker;
 use facet_solver_shape::{Field, ShapeId, ShapeKind, Variant};
 use std::alloc::{AllocError, Global};
 
-/// The indices of the variants that are chosen, one for each enum that a walk meets.
-pub(crate) type Choice = Vec<usize>;
-
 /// Adds `first` before each of `seconds`.
-fn append_each(
-    alloc: Global,
-    found: &mut Vec<Choice>,
-    first: &[usize],
-    seconds: &[Choice],
-) -> Result<(), AllocError>
-    ensures { let added = map (λ d. first.now ++ d) (lists seconds.now) in
-        OnOk result (lists found.new.items ≡ lists found.old.items ++ added) }
+fn append_each(found: &mut Choices, first: &[usize], seconds: &Choices) -> Result<(), AllocError>
+    ensures { let added = map (λ d. first.now ++ d) seconds.now in
+        OnOk result (found.new ≡ found.old ++ added) }
 {
-    for second in seconds {
-        let mut choice = Vec::with_capacity(alloc, first.len() + second.len())?;
-        choice.extend_from_slice(first)?;
-        choice.extend_from_slice(second)?;
-        found.push(choice)?;
+    for second in seconds.iter() {
+        found.push(first, second)?;
     }
     Ok(())
 }
 
 /// Each of `firsts` before each of `seconds`.
 #[tactic(auto, unfolding(crate::specs::Listing::product))]
-fn product(alloc: Global, firsts: &[Choice], seconds: &[Choice]) -> Result<Vec<Choice>, AllocError>
-    ensures { IfOk result
-        (λ v. lists v.items ≡ listing.product (lists firsts.now) (lists seconds.now)) }
+fn product(alloc: Global, firsts: &Choices, seconds: &Choices) -> Result<Choices, AllocError>
+    ensures { IfOk result (λ found. found ≡ listing.product firsts.now seconds.now) }
 {
-    let mut found = Vec::new(alloc);
-    for first in firsts {
-        append_each(alloc, &mut found, first, seconds)?;
+    let mut found = Choices::new(alloc);
+    for first in firsts.iter() {
+        append_each(&mut found, first, seconds)?;
     }
     Ok(found)
 }
@@ -53,9 +45,9 @@ fn product(alloc: Global, firsts: &[Choice], seconds: &[Choice]) -> Result<Vec<C
 /// The same where there may be nothing to choose, which is `None`, on either side.
 fn product_found(
     alloc: Global,
-    firsts: Option<Vec<Choice>>,
-    seconds: Option<Vec<Choice>>,
-) -> Result<Option<Vec<Choice>>, AllocError>
+    firsts: Option<Choices>,
+    seconds: Option<Choices>,
+) -> Result<Option<Choices>, AllocError>
     ensures { IfOk result (λ found. choices_found found
         ≡ listing.product (choices_found firsts) (choices_found seconds)) }
 {
@@ -68,20 +60,16 @@ fn product_found(
 
 /// Adds `index` before each of `contents`, or alone where there is nothing to choose behind it.
 fn append_variant(
-    alloc: Global,
-    found: &mut Vec<Choice>,
+    found: &mut Choices,
     index: usize,
-    contents: Option<Vec<Choice>>,
+    contents: Option<Choices>,
 ) -> Result<(), AllocError>
     ensures { let added = map (λ d. index ∷ d) (choices_found contents) in
-        OnOk result (lists found.new.items ≡ lists found.old.items ++ added) }
+        OnOk result (found.new ≡ found.old ++ added) }
 {
     match contents {
-        Some(contents) => append_each(alloc, found, &[index], &contents),
-        None => {
-            found.push(Vec::from_slice(alloc, &[index])?)?;
-            Ok(())
-        }
+        Some(contents) => append_each(found, &[index], &contents),
+        None => found.push(&[index], &[]),
     }
 }
 
@@ -91,14 +79,14 @@ fn append_variant(
 fn choices_of_fields<'c>(
     walker: &Walker<'c>,
     fields: &'c [Field],
-) -> Result<Option<Vec<Choice>>, AllocError>
+) -> Result<Option<Choices>, AllocError>
     requires ready { IsReady walker.now }
     requires below { FieldsBelow (length walker.now.build.shapes.now) fields.now }
     ensures { IfOk result (λ found. choices_found found
         ≡ listing.choices_of_fields (build_of walker.now.build) fields.now) }
 {
     if walker.counts.of_fields(walker.build, fields).is_zero() {
-        return Ok(Some(Vec::new(walker.build.alloc)));
+        return Ok(Some(Choices::new(walker.build.alloc)));
     }
     let mut found = None;
     for field in fields {
@@ -113,7 +101,7 @@ fn choices_of_fields<'c>(
 fn choices_of_field<'c>(
     walker: &Walker<'c>,
     field: &'c Field,
-) -> Result<Option<Vec<Choice>>, AllocError>
+) -> Result<Option<Choices>, AllocError>
     requires ready { IsReady walker.now }
     requires below { field.now.shape < length walker.now.build.shapes.now }
     ensures { IfOk result (λ found. choices_found found
@@ -138,45 +126,41 @@ fn choices_of_variants<'c>(
     walker: &Walker<'c>,
     walked: bool,
     variants: &'c [Variant],
-) -> Result<Vec<Choice>, AllocError>
+) -> Result<Choices, AllocError>
     requires ready { IsReady walker.now }
     requires below { VariantsBelow (length walker.now.build.shapes.now) variants.now }
-    ensures { IfOk result
-        (λ v. lists v.items
+    ensures { IfOk result (λ found. found
         ≡ listing.choices_of_variants (build_of walker.now.build) walked variants.now) }
 {
-    let mut found = Vec::new(walker.build.alloc);
+    let mut found = Choices::new(walker.build.alloc);
     for (index, variant) in variants.iter().enumerate() {
         let contents = if walked {
             choices_of_fields(walker, content_fields(walker.build.shapes, variant))?
         } else {
             None
         };
-        append_variant(walker.build.alloc, &mut found, index, contents)?;
+        append_variant(&mut found, index, contents)?;
     }
     Ok(found)
 }
 
 /// The one choice where there is nothing to choose.
-fn no_choice(alloc: Global) -> Result<Vec<Choice>, AllocError>
-    ensures { IfOk result (λ v. lists v.items ≡ listing.no_choice) }
+fn no_choice(alloc: Global) -> Result<Choices, AllocError>
+    ensures { IfOk result (λ found. found ≡ listing.no_choice) }
 {
-    let mut found = Vec::new(alloc);
-    found.push(Vec::new(alloc))?;
+    let mut found = Choices::new(alloc);
+    found.push(&[], &[])?;
     Ok(found)
 }
 
 /// All choices of variants of a root, each once and in lexicographic order.
-pub(crate) fn choices_of_root<'c>(
-    walker: &Walker<'c>,
-    root: ShapeId,
-) -> Result<Vec<Choice>, AllocError>
+pub(crate) fn choices_of_root<'c>(walker: &Walker<'c>, root: ShapeId) -> Result<Choices, AllocError>
     requires ready { IsReady walker.now }
     requires has { root < length walker.now.build.shapes.now }
     ensures listed { IfOk result
-        (λ v. ListsChoices (build_of walker.now.build) root (lists v.items)) }
+        (λ found. ListsChoices (build_of walker.now.build) root found) }
     ensures counted { IfOk result
-        (λ v. length (lists v.items) ≡ count_of_root (build_of walker.now.build) root) }
+        (λ found. length found ≡ count_of_root (build_of walker.now.build) root) }
 {
     let shape = walker.build.shape(root);
     match &shape.kind {

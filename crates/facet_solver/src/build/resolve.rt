@@ -49,7 +49,7 @@ pub(crate) fn resolutions<'c>(
     };
     let choices = choices_of_root(&walker, root)?;
     let mut resolutions = Vec::new(build.alloc);
-    for choice in &choices {
+    for choice in choices.iter() {
         let resolution = resolve(&walker, root, choice)?;
         resolutions.push(resolution)?;
     }

@@ -2,7 +2,7 @@ use Rattle.std.proofs.Common.{refl, ◌≡◌, ◌⊎◌, inl, inr, length, subs
 use Rattle.facet_solver_shape.specs.declared.shape.Field.{Field}
 use Rattle.facet_solver_shape.specs.declared.shape.Variant.{Variant}
 use Rattle.facet_solver_shape.specs.Catalogues.{FieldsBelow}
-use Rattle.facet_solver.specs.Listing.{choices_of_variant, choices_of_fields, lists, choices_found}
+use Rattle.facet_solver.specs.Listing.{choices_of_variant, choices_of_fields, choices_found}
 use Rattle.facet_solver.specs.Brings.{at}
 use Rattle.facet_solver.specs.Build.{build_of}
 use Rattle.facet_solver.specs.declared.build.brings.Brings.{Brings}
@@ -67,7 +67,7 @@ choices_of_field-returns-in-Regular t c =
 pub choices_of_fields-returns-then-is_zero : goal.choices_of_fields-returns-then-is_zero
 choices_of_fields-returns-then-is_zero t c =
     let n = count_fields (build_of c.args.walker.now.build) c.args.fields.now in
-    rw c.new.ensures.items (sym (none_below (build_of c.args.walker.now.build) c.args.fields.now ((c.is_zero.ensures n c.of_fields.ensures).0 c.if-is_zero.true)))
+    rw c.new.ensures (sym (none_below (build_of c.args.walker.now.build) c.args.fields.now ((c.is_zero.ensures n c.of_fields.ensures).0 c.if-is_zero.true)))
 
 pub choices_of_fields-loop-field-init : goal.choices_of_fields-loop-field-init
 choices_of_fields-loop-field-init t c =
@@ -96,7 +96,7 @@ choices_of_fields-returns t c =
 
 pub choices_of_variants-loop-index-init : goal.choices_of_variants-loop-index-init
 choices_of_variants-loop-index-init t c =
-    rw c.new-found.ensures.items (among-start (build_of c.args.walker.now.build) c.args.walked c.args.variants.now)
+    rw c.new-found.ensures (among-start (build_of c.args.walker.now.build) c.args.walked c.args.variants.now)
 
 pub choices_of_variants-choices_of_fields-requires : goal.choices_of_variants-choices_of_fields-requires
 choices_of_variants-choices_of_fields-requires t c =
@@ -126,10 +126,10 @@ choices_of_variants-loop-index-preserved t c =
           variant-alone build v c.args.walked cs w.if-walked.false (ap choices_found w.contents-is)
     ] in
     rw c.in_ok-append_variant.ensures
-    (among-more build c.args.walked (lists c.loop-index.found.items) c.args.variants.now c.loop-index.index v cs c.loop-index-test.true c.index-variants-index.is e
+    (among-more build c.args.walked c.loop-index.found c.args.variants.now c.loop-index.index v cs c.loop-index-test.true c.index-variants-index.is e
     ∙ c.loop-index.invariant)
 
 pub choices_of_variants-returns : goal.choices_of_variants-returns
 choices_of_variants-returns t c =
-    sym (among-end (build_of c.args.walker.now.build) c.args.walked (lists c.loop-index.found.items) c.args.variants.now c.loop-index.index c.loop-index-test.false)
+    sym (among-end (build_of c.args.walker.now.build) c.args.walked c.loop-index.found c.args.variants.now c.loop-index.index c.loop-index-test.false)
     ∙ c.loop-index.invariant

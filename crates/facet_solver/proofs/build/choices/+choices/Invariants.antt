@@ -1,5 +1,5 @@
 use Rattle.std.proofs.Common.{◌≡◌, ◌++◌, drop, ◌+◌, ◌*◌}
-use Rattle.facet_solver.specs.Listing.{product, indexed, choices_of_fields, choices_of_variant, choices_of_variants, lists, choices_found}
+use Rattle.facet_solver.specs.Listing.{product, indexed, choices_of_fields, choices_of_variant, choices_of_variants, choices_found}
 use Rattle.facet_solver.specs.Build.{build_of}
 use Rattle.facet_solver.proofs.Roles.{limit_of, limit_of_variants}
 use Rattle.facet_solver.proofs.Listing.{choices_left}
@@ -21,5 +21,5 @@ invariant-choices_of_fields-loop-field l =
 
 abbrev pub invariant-choices_of_variants-loop-index : goal.invariant-choices_of_variants-loop-index
 invariant-choices_of_variants-loop-index l =
-    lists l.found.items ++ indexed l.index (choices_of_variant (choices_of_fields (build_of l.walker.build)) l.walker.build.shapes.now l.walked) (drop l.index l.variants)
+    l.found ++ indexed l.index (choices_of_variant (choices_of_fields (build_of l.walker.build)) l.walker.build.shapes.now l.walked) (drop l.index l.variants)
     ≡ choices_of_variants (build_of l.walker.build) l.walked l.variants

@@ -1,11 +1,9 @@
 use Rattle.std.proofs.Common.{Ok, ◌≡◌, ℕ, subst, sym, ap, ◌∙◌, length, Result, IfOk}
 use Rattle.std.proofs.lemmas.Result.{IfOk-weaker}
-use Rattle.std.specs.Prelude.{Vec}
-use Rattle.std.specs.declared.alloc.Global.{Global}
 use Rattle.std.specs.declared.alloc.AllocError.{AllocError}
 use Rattle.facet_solver.specs.Choice.{ListsChoices}
 use Rattle.facet_solver.specs.Count.{count_of_root}
-use Rattle.facet_solver.specs.Listing.{Choices, choices_found, choices_of_root, lists}
+use Rattle.facet_solver.specs.Listing.{Choices, choices_found, choices_of_root}
 use Rattle.facet_solver.specs.Build.{Build, build_of}
 use Rattle.facet_solver.proofs.Choice.{choices_listed}
 use Rattle.facet_solver.proofs.Count.{root_count}
@@ -14,18 +12,18 @@ use Rattle.facet_solver.proofs.Listing.{root-struct, root-enum, root-other}
 use Rattle.facet_solver.proofs.build.choices.choices_of_root.Goals as goal
 
 -- a list that equals the one by parts lists the choices
-listed : (build : Build) (root : ℕ) (r : Result (Vec (Vec ℕ Global) Global) AllocError) (cs : Choices) → cs ≡ choices_of_root build root
-    → IfOk r (λ v. lists v.items ≡ cs) → IfOk r (λ v. ListsChoices build root (lists v.items))
+listed : (build : Build) (root : ℕ) (r : Result Choices AllocError) (cs : Choices) → cs ≡ choices_of_root build root
+    → IfOk r (λ found. found ≡ cs) → IfOk r (ListsChoices build root)
 listed build root r cs e h =
-    IfOk-weaker r (λ v. lists v.items ≡ cs) (λ v. ListsChoices build root (lists v.items))
-    (λ v k. subst (ListsChoices build root) (sym (k ∙ e)) (choices_listed build root)) h
+    IfOk-weaker r (λ found. found ≡ cs) (ListsChoices build root)
+    (λ found k. subst (ListsChoices build root) (sym (k ∙ e)) (choices_listed build root)) h
 
 -- and is as long as their number
-counted_so : (build : Build) (root : ℕ) (r : Result (Vec (Vec ℕ Global) Global) AllocError) (cs : Choices) → cs ≡ choices_of_root build root
-    → IfOk r (λ v. lists v.items ≡ cs) → IfOk r (λ v. length (lists v.items) ≡ count_of_root build root)
+counted_so : (build : Build) (root : ℕ) (r : Result Choices AllocError) (cs : Choices) → cs ≡ choices_of_root build root
+    → IfOk r (λ found. found ≡ cs) → IfOk r (λ found. length found ≡ count_of_root build root)
 counted_so build root r cs e h =
-    IfOk-weaker r (λ v. lists v.items ≡ cs) (λ v. length (lists v.items) ≡ count_of_root build root)
-    (λ v k. ap length (k ∙ e) ∙ root_count build root) h
+    IfOk-weaker r (λ found. found ≡ cs) (λ found. length found ≡ count_of_root build root)
+    (λ found k. ap length (k ∙ e) ∙ root_count build root) h
 
 pub choices_of_fields-requires-clause-below : goal.choices_of_fields-requires-clause-below
 choices_of_fields-requires-clause-below c =
