@@ -1,5 +1,5 @@
 //! Where the walk of one choice stands, and what was chosen there.
-ghost use Rattle.std.specs.Prelude.{◌≡◌, ◌∷◌, ◌++◌, [], codes, map, IfOk, OnOk};
+ghost use Rattle.std.specs.Prelude.{◌≡◌, ◌∷◌, ◌++◌, [], codes, map, reverse, IfOk};
 ghost use Rattle.facet_solver_shape.specs.Paths.{by_field, step_of};
 ghost use Rattle.facet_solver.specs.Place as places;
 ghost use Rattle.facet_solver.specs.Place.{chosen_of};
@@ -91,22 +91,23 @@ impl<'p, 'c> Place<'p, 'c> {
         self.unwrapped || target.optional
     }
 
-    /// Adds the segments of the path to these.
-    fn push_segments(&self, segments: &mut Vec<PathSegment<'c>>) -> Result<(), AllocError>
-        ensures { let path = map step_of segments.old.items ++ self.now.path in
-            OnOk result (map step_of segments.new.items ≡ path) }
+    /// The path here with more segments behind it, which are given the last first, as those of the places are then added. It goes
+    /// outwards in a loop, since places lie as deep as a catalogue.
+    fn path_before(&self, segments: Vec<PathSegment<'c>>) -> Result<FieldPath<'c>, AllocError>
+        ensures { let behind = map step_of (reverse segments.entry.items) in
+            IfOk result (λ path. path ≡ self.now.path ++ behind) }
     {
-        match self.way {
-            Way::Root => Ok(()),
-            Way::Inside(outer, segment, second) => {
-                outer.push_segments(segments)?;
-                segments.push(segment)?;
-                if let Some(second) = second {
-                    segments.push(second)?;
-                }
-                Ok(())
+        let mut segments = segments;
+        let mut place = self;
+        while let Way::Inside(outer, segment, second) = place.way {
+            if let Some(second) = second {
+                segments.push(second)?;
             }
+            segments.push(segment)?;
+            place = outer;
         }
+        segments.reverse();
+        Ok(FieldPath::from(segments))
     }
 
     /// The path of a field here.
@@ -118,9 +119,8 @@ impl<'p, 'c> Place<'p, 'c> {
         ensures { IfOk result (λ path. path ≡ places.field_path self.now field.now) }
     {
         let mut segments = Vec::with_capacity(alloc, self.depth.saturating_add(1))?;
-        self.push_segments(&mut segments)?;
         segments.push(PathSegment::Field(&field.name))?;
-        Ok(FieldPath::from(segments))
+        self.path_before(segments)
     }
 
     /// The path of a chosen variant's alternative.
@@ -133,10 +133,9 @@ impl<'p, 'c> Place<'p, 'c> {
     {
         let field = chosen.field;
         let mut segments = Vec::with_capacity(alloc, self.depth.saturating_add(2))?;
-        self.push_segments(&mut segments)?;
-        segments.push(PathSegment::Field(&field.name))?;
         segments.push(PathSegment::Variant(&field.name, &chosen.variant.name))?;
-        Ok(FieldPath::from(segments))
+        segments.push(PathSegment::Field(&field.name))?;
+        self.path_before(segments)
     }
 
     /// Where the fields stand that a field here flattens.
