@@ -1,24 +1,21 @@
 -- What a field or a selector emits, by parts.
 use Rattle.facet_solver.specs.Build.{Build}
-use Rattle.std.proofs.Common.{◌≡◌, [], ◌∷◌, ◌++◌, string_bytes, refl, sym, ap, ◌∙◌}
+use Rattle.std.proofs.Common.{◌≡◌, [], ◌∷◌, ◌++◌, string_bytes, refl, sym, ap}
 use Rattle.facet_solver_shape.specs.declared.shape.Field.{Field}
 use Rattle.facet_solver_shape.specs.Names.{Name, effective_name}
 use Rattle.facet_solver.specs.Representation.{Repr, flattened, externally_tagged, internally_tagged, adjacently_tagged}
-use Rattle.facet_solver_shape.specs.Resolved.{Resolved}
-use Rattle.facet_solver.specs.Nested.{no_paths, behind_prefix, named, nested_paths, content_paths}
-use Rattle.facet_solver.specs.Outcome.{take_all}
-use Rattle.facet_solver.proofs.Outcome.{take_all-field_and_paths}
+use Rattle.facet_solver.specs.Nested.{no_paths, named, nested_paths, content_paths}
 use Rattle.facet_solver.specs.Place.{Chosen}
-use Rattle.facet_solver.specs.Emissions.{some_key_paths, a_catch_all, field_and_paths, regular_field, catch_all_field, selector_field, emit_regular, emit_catch_all, emit_selector_by}
+use Rattle.facet_solver.specs.Emissions.{a_field, some_key_paths, a_catch_all, field_and_paths, regular_field, catch_all_field, selector_field, emit_regular, emit_catch_all, emit_selector_by}
 use Rattle.facet_solver.specs.Place.{Place}
 use Rattle.facet_solver.specs.declared.build.role.Target.{Target}
 
 module _ (build : Build) (f : Field) (place : Place) where
-  -- a regular field, and then the key paths under it
-  pub regular-parts : (r : Resolved) → take_all r (emit_regular build f place)
-      ≡ take_all r (field_and_paths (regular_field build f place) no_paths ++ some_key_paths (behind_prefix (effective_name f ∷ []) (nested_paths build.catalogue f.shape)) ∷ [])
-  unfolding emit_regular regular_field
-  regular-parts r = take_all-field_and_paths r (regular_field build f place) (nested_paths build.catalogue f.shape)
+  -- a regular field, and then the key paths of its name and behind it
+  pub regular-part : emit_regular build f place
+      ≡ a_field (regular_field build f place) ∷ some_key_paths (named (effective_name f) (nested_paths build.catalogue f.shape)) ∷ []
+  unfolding emit_regular regular_field field_and_paths
+  regular-part = refl
 
   pub catch_all-part : (target : Target) → emit_catch_all build f target place ≡ a_catch_all (catch_all_field build f target place) ∷ []
   unfolding emit_catch_all
@@ -30,14 +27,6 @@ module _ (repr : Repr) (build : Build) (chosen : Chosen) (place : Place) where
   unfolding emit_selector_by
   selector-flattened e = ap (λ (repr : Repr). emit_selector_by repr build chosen place) (sym e)
 
-  pub selector-external : (r : Resolved) (name : Name) → name ≡ string_bytes chosen.variant.name → externally_tagged ≡ repr → take_all r (emit_selector_by repr build chosen place)
-      ≡ take_all r (field_and_paths (selector_field build name chosen place) no_paths ++ some_key_paths (behind_prefix (name ∷ []) (content_paths build.catalogue chosen.variant)) ∷ [])
-  unfolding emit_selector_by selector_field
-  selector-external r name same e =
-      ap (λ (repr : Repr). take_all r (emit_selector_by repr build chosen place)) (sym e)
-      ∙ ap (λ (name : Name). take_all r (field_and_paths (selector_field build name chosen place) (content_paths build.catalogue chosen.variant))) (sym same)
-      ∙ take_all-field_and_paths r (selector_field build name chosen place) (content_paths build.catalogue chosen.variant)
-
   pub selector-internal : (tag : Name) → internally_tagged tag ≡ repr → emit_selector_by repr build chosen place ≡ field_and_paths (selector_field build tag chosen place) no_paths
   unfolding emit_selector_by
   selector-internal tag e = ap (λ (repr : Repr). emit_selector_by repr build chosen place) (sym e)
@@ -46,3 +35,10 @@ module _ (repr : Repr) (build : Build) (chosen : Chosen) (place : Place) where
       ≡ field_and_paths (selector_field build tag chosen place) no_paths ++ some_key_paths (named content (content_paths build.catalogue chosen.variant)) ∷ []
   unfolding emit_selector_by
   selector-adjacent tag content e = ap (λ (repr : Repr). emit_selector_by repr build chosen place) (sym e)
+
+-- the selector of a variant whose name holds the content, and then the key paths of the name and behind it
+pub selector-external : (build : Build) (chosen : Chosen) (place : Place) (name : Name) → name ≡ string_bytes chosen.variant.name → emit_selector_by externally_tagged build chosen place
+    ≡ a_field (selector_field build name chosen place) ∷ some_key_paths (named name (content_paths build.catalogue chosen.variant)) ∷ []
+unfolding emit_selector_by selector_field field_and_paths
+selector-external build chosen place name same =
+    ap (λ (name : Name). a_field (selector_field build name chosen place) ∷ some_key_paths (named name (content_paths build.catalogue chosen.variant)) ∷ []) (sym same)

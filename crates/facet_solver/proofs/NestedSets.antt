@@ -268,8 +268,7 @@ module _ (r : Resolved) where
 pub with-name : (r : Resolved) (name : Name) → with_key_paths r (named name no_paths) ≡ with_key_path r (name ∷ [])
 with-name r name = with_key_paths-insert r (behind_prefix (name ∷ []) no_paths) (name ∷ []) ∙ behind-none (with_key_path r (name ∷ [])) (name ∷ [])
 
--- a name, and then what is behind it
-pub with-named : (r : Resolved) (name : Name) (ps : KeyPaths) → with_paths_behind (with_key_paths r (named name no_paths)) (name ∷ []) ps ≡ with_key_paths r (named name ps)
-with-named r name ps =
-    ap (λ (s : Resolved). with_paths_behind s (name ∷ []) ps) (with-name r name)
-    ∙ sym (with_key_paths-insert r (behind_prefix (name ∷ []) ps) (name ∷ []))
+-- a name, after what is behind it
+pub named_last : (r : Resolved) (name : Name) (ps : KeyPaths) → with_key_paths r (named name ps) ≡ with_key_path (with_paths_behind r (name ∷ []) ps) (name ∷ [])
+unfolding with_key_paths
+named_last r name ps = ap (λ (s : KeyPaths). record r { key_paths = s }) (union-insert_last r.key_paths (behind_prefix (name ∷ []) ps) (name ∷ []))

@@ -21,7 +21,7 @@ use Rattle.facet_solver_shape.specs.declared.shape.Variant.{Variant}
 use Rattle.facet_solver_shape.specs.Catalogues.{FieldsBelow, KindBelow, NamesEarlier}
 use Rattle.facet_solver.specs.Build.{Catalogue, kind_at}
 use Rattle.facet_solver.specs.Content.{is_zero}
-use Rattle.facet_solver.specs.Nested.{KeyPaths, Entered, Under, no_paths, paths_of_each, named, through_field, through_fields_step, under_fields_step, if_entered, under_shape, entered_view}
+use Rattle.facet_solver.specs.Nested.{KeyPaths, Entered, Under, no_paths, paths_of_each, named, through_field, through_fields_step, under_fields_step, under_kind, has_fields, if_entered, under_shape, entered_view}
 use Rattle.facet_solver.specs.FieldCount.{field_count, fields_of_kind}
 use Rattle.facet_solver.specs.NestedTable.{AreFieldsOf, AreFirstEntries, EntryLeadsTo, FieldAsks, HasMore, IsClosed, IsEntry, IsFilled, IsMade, IsMarked, IsSound, KindAsks, LeadTo, entry_at, entry_if_any, is_filled, paths_by_name, under_of}
 use Rattle.facet_solver.specs.declared.build.nested.by_name.FieldsByName.{FieldsByName}
@@ -53,8 +53,18 @@ module _ (entered : Entered) (cat : Catalogue) where
   pub when_entered : (id : ℕ) → entered (kind_at cat id) ≡ true → if_entered entered cat id ≡ under_shape entered cat id
   when_entered id e = if_true (entered (kind_at cat id)) (under_shape entered cat id) no_paths e
 
-  pub unless_entered : (id : ℕ) → entered (kind_at cat id) ≡ false → if_entered entered cat id ≡ no_paths
-  unless_entered id e = if_false (entered (kind_at cat id)) (under_shape entered cat id) no_paths e
+  -- nothing is under a kind of shape without fields
+  under_none : (through : List Field → KeyPaths) (under : Variant → KeyPaths) (k : ShapeKind) → has_fields k ≡ false → under_kind through under k ≡ no_paths
+  under_none through under (Struct kind fields) e = absurd (cc)
+  under_none through under (Enum variants) e = absurd (cc)
+  under_none through under _ e = refl
+
+  pub unless_leads_on : (id : ℕ) → NamesEarlier cat → (entered (kind_at cat id) && has_fields (kind_at cat id)) ≡ false → if_entered entered cat id ≡ no_paths
+  unless_leads_on id checked e = go (entered (kind_at cat id)) refl e
+    where
+      go : (b : Bool) → entered (kind_at cat id) ≡ b → (b && has_fields (kind_at cat id)) ≡ false → if_entered entered cat id ≡ no_paths
+      go true is e = when_entered id is ∙ under_shape-step entered cat checked id ∙ under_none _ _ (kind_at cat id) e
+      go false is e = if_false (entered (kind_at cat id)) (under_shape entered cat id) no_paths is
 
   pub through_flattened : (f : Field) → f.flattened ≡ true → through_field entered cat f ≡ under_shape entered cat f.shape
   through_flattened f e = if_true f.flattened (under_shape entered cat f.shape) (named (effective_name f) (if_entered entered cat f.shape)) e

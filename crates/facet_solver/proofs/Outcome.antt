@@ -6,9 +6,8 @@ use Rattle.std.proofs.lemmas.Result.{err_from_is_err_and}
 use Rattle.facet_solver_shape.specs.declared.resolution.error.SchemaError as schema
 use Rattle.facet_solver_shape.specs.declared.resolution.error.SchemaError.TheVariants.{DuplicateField, OutOfMemory}
 use Rattle.facet_solver.specs.Outcome.{Gives, ErrorOf, duplicate_view, Outcome, Duplicate, resolved, duplicate, next, with_known, take_in, take_all, effect}
-use Rattle.facet_solver.specs.Nested.{KeyPaths, no_paths, behind_prefix, named, with_key_paths}
-use Rattle.facet_solver.proofs.NestedSets.{with-named}
-use Rattle.facet_solver.specs.Emissions.{Emission, a_field, some_key_paths, a_pick, a_catch_all, field_and_paths}
+use Rattle.facet_solver.specs.Nested.{KeyPaths, with_key_paths}
+use Rattle.facet_solver.specs.Emissions.{Emission, a_field, some_key_paths, a_pick, a_catch_all}
 use Rattle.facet_solver.specs.Walk.{Walked, put_before, and_then}
 use Rattle.facet_solver_shape.specs.Fields.{FieldView, key_of_field}
 use Rattle.facet_solver_shape.specs.Resolved.{Pick, Resolved, IsAdded, with_pick, with_catch_all, IsRefusalOf, nothing, with_field}
@@ -139,14 +138,16 @@ pub taken-catch_all : (r s : Resolved) (f : FieldView) → s ≡ with_catch_all 
 unfolding take_in
 taken-catch_all r s f h = ap resolved (sym h)
 
--- a field with the key path of its name alone, and then what is behind the name
-pub take_all-field_and_paths : (r : Resolved) (f : FieldView) (ps : KeyPaths) → take_all r (field_and_paths f ps) ≡ take_all r (field_and_paths f no_paths ++ some_key_paths (behind_prefix (f.name ∷ []) ps) ∷ [])
-unfolding take_all take_in field_and_paths
-take_all-field_and_paths r f ps = go (take_in r (a_field f))
-  where
-    go : (o : Outcome) → next o (λ s. resolved (with_key_paths s (named f.name ps))) ≡ next o (λ s. resolved (with_key_paths (with_key_paths s (named f.name no_paths)) (behind_prefix (f.name ∷ []) ps)))
-    go (resolved s) = ap resolved (sym (with-named s f.name ps))
-    go (duplicate d) = refl
+-- a field, and then key paths
+pub taken-field_and_paths : (r s t : Resolved) (f : FieldView) (ps : KeyPaths) → IsAdded r f s → t ≡ with_key_paths s ps → take_all r (a_field f ∷ some_key_paths ps ∷ []) ≡ resolved t
+taken-field_and_paths r s t f ps h k =
+    take_all-next r s (a_field f) (some_key_paths ps ∷ []) (taken-field r s f h) ∙ take_all-one s (some_key_paths ps) ∙ taken-paths s t ps k
+
+-- a field that is refused, before key paths
+pub refused-field_and_paths : {T : Type 0} (result : Result T schema.SchemaError) (new r : Resolved) (f : FieldView) (ps : KeyPaths) (err : schema.SchemaError) → IsErrAnd result (λ e. e ≡ err) → IsRefusalOf r f err
+    → Gives (take_all r (a_field f ∷ some_key_paths ps ∷ [])) result new
+refused-field_and_paths result new r f ps err h k =
+    gives-exit result new (take_all r (a_field f ∷ some_key_paths ps ∷ [])) err h (error-next r (a_field f) (some_key_paths ps ∷ []) err (refused-field r f err k))
 
 pub ruleset takes = (take_all-nil, take_all-one, take_all-next, take_all-stop)
 

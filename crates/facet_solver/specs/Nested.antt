@@ -53,6 +53,12 @@ with_paths_behind r prefix paths = with_key_paths r (behind_prefix prefix paths)
 abbrev pub Under : Type 0
 Under = ℕ → KeyPaths
 
+-- a kind of shape that has fields
+abbrev pub has_fields : ShapeKind → Bool
+has_fields (Struct kind fields) = true
+has_fields (Enum variants) = true
+has_fields _ = false
+
 -- which kinds of shapes are entered, below a regular field and through a variant's single field `0`
 abbrev pub Entered : Type 0
 Entered = ShapeKind → Bool

@@ -1,10 +1,11 @@
 //! What a walk emits, taken into a resolution.
 ghost use Rattle.std.specs.Prelude.{◌≡◌, ◌∷◌, [], map, IfOk, OnOk};
 ghost use Rattle.facet_solver.specs.Emissions as emissions;
-ghost use Rattle.facet_solver.specs.Nested.{no_paths, named, with_key_paths, content_paths};
+ghost use Rattle.facet_solver.specs.Nested.{no_paths};
 ghost use Rattle.facet_solver.specs.Place.{chosen_of};
 ghost use Rattle.facet_solver.specs.Outcome.{take_in, take_all, Gives};
 ghost use Rattle.facet_solver.specs.Build.{build_of};
+ghost use Rattle.facet_solver.specs.Representation.{externally_tagged};
 ghost use Rattle.facet_solver.specs.Roles.{role_view, IsPlain};
 ghost use Rattle.facet_solver.specs.Counts.{IsReady};
 ghost use Rattle.facet_solver.specs.NestedTable.{IsFilled};
@@ -17,7 +18,6 @@ use crate::build::representation::EnumRepr;
 use crate::build::role::{Role, Target};
 use crate::build::walker::Walker;
 use facet_solver_shape::{Field, FieldInfo, FieldPath, Resolution, SchemaError, Shape, Variant};
-use std::alloc::AllocError;
 
 /// Adds a field and the key path of its name.
 fn add_with_path<'c>(
@@ -49,10 +49,10 @@ fn emit_regular<'c>(
         Gives (take_all resolution.old emitted) result resolution.new }
 {
     let info = regular_field(walker.build, field, place)?;
-    add_with_path(walker, info, resolution)?;
+    resolution.add_field(info)?;
     walker
         .tables
-        .add_nested_paths(walker.build, field, resolution)?;
+        .add_field_paths(walker.build, field, resolution)?;
     Ok(())
 }
 
@@ -148,22 +148,24 @@ fn add_selector<'c>(
     add_with_path(walker, info, resolution)
 }
 
-/// Adds the key path of the name that holds a chosen variant's content, and those under the content.
-fn add_content<'c>(
+/// Adds the selector of a chosen variant whose name holds the content, and the key paths of the name and behind it.
+fn add_external_selector<'c>(
     walker: &Walker<'c>,
-    name: &'c str,
     chosen: &Chosen<'c>,
+    place: &Place<'_, 'c>,
     resolution: &mut Resolution<'c>,
-) -> Result<(), AllocError>
+) -> Result<(), SchemaError<'c>>
     requires ready { IsReady walker.now }
     requires chosen { IsChosen walker.now.build.shapes.now chosen.now }
     requires filled { IsFilled
         walker.now.tables.contents.by_index.items chosen.now.target.shape }
-    ensures ok { let paths =
-        named name.now (content_paths walker.now.build.shapes.now chosen.now.variant.now) in
-        OnOk result (resolution.new ≡ with_key_paths resolution.old paths) }
+    ensures { let emitted = emissions.emit_selector_by externally_tagged
+        (build_of walker.now.build) (chosen_of chosen.now) place.now in
+        Gives (take_all resolution.old emitted) result resolution.new }
 {
-    resolution.add_key_path(key_path(walker.build.alloc, name)?)?;
+    let name = chosen.variant.name.as_str();
+    let info = selector_field(walker.build, name, chosen, place)?;
+    resolution.add_field(info)?;
     walker
         .tables
         .add_content_paths(walker.build, name, chosen, resolution)?;
@@ -185,20 +187,15 @@ fn emit_selector<'c>(
         emissions.emit_selector (build_of walker.now.build) (chosen_of chosen.now) place.now in
         Gives (take_all resolution.old emitted) result resolution.new }
 {
-    let variant = chosen.variant;
     match walker.build.repr_for(chosen.shape) {
         EnumRepr::Flattened => Ok(()),
-        EnumRepr::ExternallyTagged => {
-            add_selector(walker, &variant.name, chosen, place, resolution)?;
-            walker
-                .tables
-                .add_content_paths(walker.build, &variant.name, chosen, resolution)?;
-            Ok(())
-        }
+        EnumRepr::ExternallyTagged => add_external_selector(walker, chosen, place, resolution),
         EnumRepr::InternallyTagged { tag } => add_selector(walker, tag, chosen, place, resolution),
         EnumRepr::AdjacentlyTagged { tag, content } => {
             add_selector(walker, tag, chosen, place, resolution)?;
-            add_content(walker, content, chosen, resolution)?;
+            walker
+                .tables
+                .add_content_paths(walker.build, content, chosen, resolution)?;
             Ok(())
         }
     }

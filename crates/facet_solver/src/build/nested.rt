@@ -2,7 +2,7 @@
 //! are found once for each shape that walks ask for, in tables, and the walks follow these from name to name.
 ghost use Rattle.std.specs.Prelude.{◌≡◌};
 ghost use Rattle.facet_solver.specs.Build.{kind_at};
-ghost use Rattle.facet_solver.specs.Nested.{entered_view};
+ghost use Rattle.facet_solver.specs.Nested.{entered_view, has_fields};
 
 pub(crate) mod by_name;
 pub(crate) mod marks;
@@ -12,6 +12,18 @@ pub(crate) mod table;
 pub(crate) mod tables;
 
 use facet_solver_shape::{ShapeId, ShapeKind, Shapes};
+
+/// Whether a shape is of a kind that has fields: a struct or an enum.
+fn has_fields(shapes: &Shapes, id: ShapeId) -> bool
+    ensures { result ≡ has_fields (kind_at shapes.now id) }
+{
+    shapes.get(id).is_some_and(|shape| {
+        matches!(
+            shape.kind,
+            ShapeKind::Struct { .. } | ShapeKind::Enum { .. }
+        )
+    })
+}
 
 /// Which shapes are entered, below a regular field and through a variant's single field `0`.
 #[derive(Clone, Copy)]

@@ -2,7 +2,7 @@
 ghost use Rattle.std.specs.Prelude.{◌≡◌, ◌∷◌, [], map, ◌&&◌, ◌≤◌, ℕ, IfOk, OnOk, nat_lt, true};
 ghost use Rattle.std.specs.List.{AllByRecursion};
 ghost use Rattle.facet_solver_shape.specs.Names.{names_of};
-ghost use Rattle.facet_solver.specs.Nested.{Under, paths_of_each, with_paths_behind};
+ghost use Rattle.facet_solver.specs.Nested.{Under, named, paths_of_each, with_key_paths, with_paths_behind};
 ghost use Rattle.facet_solver.specs.NestedTable.{is_filled, LeadEarlier, LeadTo, StandFor, paths_by_name};
 
 use crate::build::nested::by_name::FieldsByName;
@@ -11,6 +11,26 @@ use facet_solver_shape::{KeyPath, Resolution, ShapeId};
 use std::alloc::{AllocError, Global};
 
 impl<'c> NestedTable<'c> {
+    /// Adds the key path of a name, and behind it those that fields stand for. After an error some of them may have been added.
+    pub(crate) fn add_named(
+        &self,
+        alloc: Global,
+        name: &'c str,
+        fields: &FieldsByName<'c>,
+        resolution: &mut Resolution<'c>,
+    ) -> Result<(), AllocError>
+        requires earlier { LeadEarlier self.now.by_index.items }
+        requires filled { LeadTo (is_filled self.now.by_index.items) fields.now }
+        ensures { OnOk result ((under : Under) → StandFor under self.now.by_index.items
+            → resolution.new ≡ with_key_paths resolution.old
+            (named name.now (paths_by_name under fields.now))) }
+    {
+        let mut path = Vec::with_capacity(alloc, 2)?;
+        path.push(name)?;
+        self.add_paths(alloc, &mut path, fields, resolution)?;
+        resolution.add_key_path(path)
+    }
+
     /// Adds the key paths that fields stand for, each behind a prefix, which stays: the last in their order first, since a set
     /// finds the place of a path soonest that comes before all it has. After an error some of them may have been added, and
     /// the prefix may be longer.
@@ -94,7 +114,5 @@ impl<'c> NestedTable<'c> {
 pub(crate) fn key_path<'c>(alloc: Global, name: &'c str) -> Result<KeyPath<'c>, AllocError>
     ensures { IfOk result (λ path. map (λ n. n.now) path.items ≡ name.now ∷ []) }
 {
-    let mut path = Vec::new(alloc);
-    path.push(name)?;
-    Ok(path)
+    Vec::from_slice(alloc, &[name])
 }

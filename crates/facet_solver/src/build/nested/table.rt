@@ -6,13 +6,13 @@ ghost use Rattle.std.specs.Option.{is_some};
 ghost use Rattle.facet_solver.specs.Build.{kind_at};
 ghost use Rattle.facet_solver.specs.Content.{is_zero};
 ghost use Rattle.facet_solver.specs.Nested as nested;
-ghost use Rattle.facet_solver.specs.Nested.{entered_view, if_entered, no_paths, Under, under_fields_step, under_shape};
+ghost use Rattle.facet_solver.specs.Nested.{entered_view, has_fields, if_entered, no_paths, Under, under_fields_step, under_shape};
 ghost use Rattle.facet_solver.specs.FieldCount.{field_count, fields_of_kind};
 ghost use Rattle.facet_solver.specs.NestedTable.{AreEntries, AreFieldsOf, FieldAsks, HasMore, entry_at, IsClosed, is_filled, IsFilled, IsMade, IsMarked, IsSound, KindAsks, LeadEarlier, LeadTo, VariantAsks, paths_by_name, under_of};
 
 use crate::build::Build;
-use crate::build::nested::Entered;
 use crate::build::nested::by_name::FieldsByName;
+use crate::build::nested::{Entered, has_fields};
 use crate::build::visit::visited;
 use facet_solver_shape::{Field, Shape, ShapeId, ShapeKind, Shapes, Steps, Variant};
 use std::alloc::{AllocError, Global};
@@ -287,11 +287,19 @@ impl<'t, 'c> Earlier<'t, 'c> {
             return by_name.unite(self.alloc, self.under(field.shape));
         }
         let name = field.effective_name();
-        if self.entered.has(self.shapes, field.shape) {
+        if self.leads_on(field.shape) {
             by_name.add(self.alloc, name, &[field.shape])
         } else {
             by_name.add(self.alloc, name, &[])
         }
+    }
+
+    /// Whether there may be fields under the shape of a regular field.
+    fn leads_on(self, id: ShapeId) -> bool
+        ensures { let kind = kind_at self.entry.shapes.now id in
+            result ≡ (entered_view self.entry.entered kind && has_fields kind) }
+    {
+        self.entered.has(self.shapes, id) && has_fields(self.shapes, id)
     }
 
     /// Those under an earlier shape.

@@ -1,9 +1,9 @@
 //! The two tables from which the walks of a root's choices take nested key paths.
-ghost use Rattle.std.specs.Prelude.{◌≡◌, ◌∷◌, [], ◌*◌, ◌+◌, ◌<◌, ◌≤◌, IfOk, OnOk, length};
+ghost use Rattle.std.specs.Prelude.{◌≡◌, ◌*◌, ◌+◌, ◌<◌, ◌≤◌, IfOk, OnOk, length};
 ghost use Rattle.facet_solver_shape.specs.Catalogues.{NamesEarlier};
 ghost use Rattle.facet_solver_shape.specs.Names.{effective_name};
 ghost use Rattle.facet_solver.specs.Build.{build_of};
-ghost use Rattle.facet_solver.specs.Nested.{content_paths, nested_paths, with_paths_behind};
+ghost use Rattle.facet_solver.specs.Nested.{content_paths, named, nested_paths, with_key_paths};
 ghost use Rattle.facet_solver.specs.FieldCount.{field_count};
 ghost use Rattle.facet_solver.specs.NestedTable.{IsFilled};
 ghost use Rattle.facet_solver.specs.Reached.{AreTables, IsChosen, ServesRegular, ServesRoot};
@@ -50,8 +50,8 @@ impl<'c> NestedTables<'c> {
         })
     }
 
-    /// Adds the key paths under the shape of a regular field, behind the field's name.
-    pub(crate) fn add_nested_paths(
+    /// Adds the key path of a regular field's name, and behind it those under the field's shape.
+    pub(crate) fn add_field_paths(
         &self,
         build: Build<'c>,
         field: &'c Field,
@@ -62,19 +62,18 @@ impl<'c> NestedTables<'c> {
         requires asked { ServesRegular self.now build.shapes.now field.now.shape }
         ensures ok { let paths = nested_paths build.entry.shapes.now field.now.shape in
             OnOk result (resolution.new
-            ≡ with_paths_behind resolution.old (effective_name field.now ∷ []) paths) }
+            ≡ with_key_paths resolution.old (named (effective_name field.now) paths)) }
     {
+        let name = field.effective_name();
         if !Entered::StructsAlone.has(build.shapes, field.shape) {
-            return Ok(());
+            return resolution.add_key_path(key_path(build.alloc, name)?);
         }
-        let entry = self.structs.entry(field.shape);
-        let mut prefix = key_path(build.alloc, field.effective_name())?;
-        self.structs
-            .add_paths(build.alloc, &mut prefix, &entry.under, resolution)
+        let under = &self.structs.entry(field.shape).under;
+        self.structs.add_named(build.alloc, name, under, resolution)
     }
 
-    /// Adds the key paths under the content of a chosen variant that is written apart from its enum's siblings, behind the
-    /// name that holds the content.
+    /// Adds the key path of the name that holds the content of a chosen variant, which is written apart from its enum's
+    /// siblings, and behind it those under the content.
     pub(crate) fn add_content_paths(
         &self,
         build: Build<'c>,
@@ -87,12 +86,11 @@ impl<'c> NestedTables<'c> {
         requires chosen { IsChosen build.shapes.now chosen.now }
         requires filled { IsFilled self.now.contents.by_index.items chosen.now.target.shape }
         ensures ok { let paths = content_paths build.entry.shapes.now chosen.now.variant.now in
-            OnOk result (resolution.new ≡ with_paths_behind resolution.old (name.now ∷ []) paths) }
+            OnOk result (resolution.new ≡ with_key_paths resolution.old (named name.now paths)) }
     {
         let entry = self.contents.entry(chosen.target.shape);
-        let fields = &entry.variants[chosen.index];
-        let mut prefix = key_path(build.alloc, name)?;
+        let under = &entry.variants[chosen.index];
         self.contents
-            .add_paths(build.alloc, &mut prefix, fields, resolution)
+            .add_named(build.alloc, name, under, resolution)
     }
 }

@@ -1,0 +1,40 @@
+use Rattle.std.proofs.Common.{◌≡◌, ◌∙◌, ap, sym}
+use Rattle.facet_solver_shape.specs.Resolved.{with_key_path}
+use Rattle.facet_solver.specs.Nested.{KeyPath, KeyPaths, named, nested_paths, structs_alone, under_shape, with_key_paths}
+use Rattle.facet_solver.specs.NestedTable.{paths_by_name}
+use Rattle.facet_solver.proofs.NestedSets.{with-name}
+use Rattle.facet_solver.proofs.NestedTable.{on_ok}
+use Rattle.facet_solver.proofs.Serving.{entries_stand, entry_filled, regular_entry, regular_nothing}
+use Rattle.facet_solver.proofs.build.nested.tables.NestedTables.add_field_paths.Goals as goal
+
+pub returns-then-not-has : goal.returns-then-not-has
+returns-then-not-has c =
+    let cat = c.args.build.shapes.now in
+    let r = c.args.resolution.now in
+    let name = c.effective_name-name.result.now in
+    let none = regular_nothing cat c.args.field.now.shape (sym c.has.ensures ∙ c.if-not-has.true) in
+    record {
+      ok = rw (← c.effective_name-name.ensures)
+          (on_ok c.add_key_path.result
+          (λ added. added
+          ∙ ap (λ (p : KeyPath). with_key_path r p) c.in_ok-key_path.ensures
+          ∙ sym (with-name r name)
+          ∙ ap (λ (ps : KeyPaths). with_key_paths r (named name ps)) (sym none))
+          c.add_key_path.ensures.ok);
+    }
+
+pub add_named-requires-clause-filled : goal.add_named-requires-clause-filled
+add_named-requires-clause-filled c =
+    (entry_filled c.args.self.now.structs.by_index.items c.args.field.now.shape c.entry.result.now c.requires.entries.structs_earlier c.entry.ensures).under
+
+pub returns : goal.returns
+returns c =
+    let cat = c.args.build.shapes.now in
+    let id = c.args.field.now.shape in
+    let entries = c.args.self.now.structs.by_index.items in
+    let is : paths_by_name (under_shape structs_alone cat) c.entry.result.now.under ≡ nested_paths cat id =
+    regular_entry cat entries id c.entry.result.now c.requires.checked c.requires.entries.structs c.entry.ensures (sym c.has.ensures ∙ c.if-not-has.false) in
+    record {
+      ok = rw (← is, ← c.effective_name-name.ensures)
+          (on_ok c.add_named.result (λ added. added (under_shape structs_alone cat) (entries_stand structs_alone cat entries c.requires.checked c.requires.entries.structs)) c.add_named.ensures);
+    }
