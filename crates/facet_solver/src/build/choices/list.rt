@@ -36,8 +36,8 @@ impl Choices {
         }
     }
 
-    /// Adds one choice: `first` before `second`. Room for both is made before their length is added, so that the lengths
-    /// fit the indices also where memory is refused.
+    /// Adds one choice: `first` before `second`. Room for both is made before their length is added, so that lengths fit
+    /// indices also where memory is refused.
     pub(crate) fn push(&mut self, first: &[usize], second: &[usize]) -> Result<(), AllocError>
         ensures { OnOk result (self.new ≡ self.old ++ (first.now ++ second.now) ∷ []) }
     {
