@@ -2,7 +2,7 @@
 
 use crate::catalogue::Catalogue;
 use crate::error_by_hand::ErrorByHand;
-use crate::line::{BAR, Stop, barred, told, word};
+use crate::line::{BAR, Stop, answered, barred, done, word};
 use crate::resolution::{category_of, of_resolution, refusal, whole};
 use facet_solver::{
     Field, FieldCategory, FieldInfo, FieldPath, KeyPath, PathSegment, Resolution, SchemaError,
@@ -64,30 +64,39 @@ where
             "add_key_path" => self.add_key_path(words),
             "add_variant_selection" => self.add_variant_selection(words),
             "set_catch_all_map" => self.set_catch_all_map(words),
-            "mark_all_optional" => {
-                self.resolution.mark_all_optional();
-                self.done(Ok(()))
-            }
-            "merge" => {
-                let merged = self.resolution.merge(&self.other);
-                self.done(merged)
-            }
-            "other" => {
-                mem::swap(&mut self.resolution, &mut self.other);
-                self.done(Ok(()))
-            }
-            "error" => {
-                self.error.add(words)?;
-                self.done(Ok(()))
-            }
-            "no_match" => Ok(self.no_match()?),
-            BAR => Ok(barred(self.catalogue.alloc, self.told.as_str())?),
+            "mark_all_optional" => self.mark_all_optional(),
+            "merge" => self.merge(),
+            "other" => self.exchange(),
+            "error" => self.add_to_error(words),
+            "no_match" => self.no_match(),
+            BAR => answered(barred(self.catalogue.alloc, self.told.as_str())),
             call => self.path_answer(call, words),
         }
     }
 
+    fn mark_all_optional(&mut self) -> Result<String, Stop> {
+        self.resolution.mark_all_optional();
+        done(self.catalogue.alloc)
+    }
+
+    fn merge(&mut self) -> Result<String, Stop> {
+        let merged = self.resolution.merge(&self.other);
+        self.done(merged)
+    }
+
+    // The two resolutions change places.
+    fn exchange(&mut self) -> Result<String, Stop> {
+        mem::swap(&mut self.resolution, &mut self.other);
+        done(self.catalogue.alloc)
+    }
+
+    fn add_to_error(&mut self, words: &mut SplitWhitespace<'t>) -> Result<String, Stop> {
+        self.error.add(words)?;
+        done(self.catalogue.alloc)
+    }
+
     // The error of the lists so far, which are then empty again.
-    fn no_match(&mut self) -> Result<String, AllocError> {
+    fn no_match(&mut self) -> Result<String, Stop> {
         let alloc = self.catalogue.alloc;
         let lists = mem::replace(&mut self.error, ErrorByHand::new(alloc));
         let error = lists.into_error();
@@ -95,23 +104,38 @@ where
             Err(AllocError) => error.to_string(alloc)?,
             Ok(told) => told,
         };
-        told(alloc, "ok")
+        done(alloc)
     }
 
     // What a call answers that is about the path, or that reads the resolution.
     fn path_answer(&mut self, call: &str, words: &mut SplitWhitespace<'t>) -> Result<String, Stop> {
-        let alloc = self.catalogue.alloc;
-        let path = match call {
-            "root" => FieldPath::empty(alloc),
-            "push_field" => self.path.push_field(alloc, word(words)?)?,
-            "push_variant" => self.path.push_variant(alloc, word(words)?, word(words)?)?,
-            "parent" => self.path.parent(alloc)?,
-            "last" => return Ok(self.last()?),
-            _ => return of_resolution(self.catalogue, &self.resolution, call, words),
-        };
-        let answer = format!(in alloc; "{} {path}", path.depth())?;
+        match call {
+            "root" | "parent" | "push_field" | "push_variant" => self.go(call, words),
+            "last" => answered(self.last()),
+            _ => of_resolution(self.catalogue, &self.resolution, call, words),
+        }
+    }
+
+    // Goes to another path.
+    fn go(&mut self, call: &str, words: &mut SplitWhitespace<'t>) -> Result<String, Stop> {
+        let path = self.next_path(call, words)?;
+        let answer = format!(in self.catalogue.alloc; "{} {path}", path.depth())?;
         drop(mem::replace(&mut self.path, path));
         Ok(answer)
+    }
+
+    fn next_path(
+        &self,
+        call: &str,
+        words: &mut SplitWhitespace<'t>,
+    ) -> Result<FieldPath<'c>, Stop> {
+        let alloc = self.catalogue.alloc;
+        match call {
+            "push_field" => Ok(self.path.push_field(alloc, word(words)?)?),
+            "push_variant" => Ok(self.path.push_variant(alloc, word(words)?, word(words)?)?),
+            "parent" => Ok(self.path.parent(alloc)?),
+            _ => Ok(FieldPath::empty(alloc)),
+        }
     }
 
     fn last(&self) -> Result<String, AllocError> {
@@ -125,7 +149,7 @@ where
 
     fn done(&mut self, outcome: Result<(), SchemaError<'c>>) -> Result<String, Stop> {
         match outcome {
-            Ok(()) => Ok(told(self.catalogue.alloc, "ok")?),
+            Ok(()) => done(self.catalogue.alloc),
             Err(error) => {
                 self.told = error.to_string(self.catalogue.alloc)?;
                 refusal(self.catalogue.alloc, &error)
@@ -164,14 +188,14 @@ where
         let category = category_of(words)?;
         let info = self.info(word(words)?, false, category)?;
         self.resolution.set_catch_all_map(category, info)?;
-        self.done(Ok(()))
+        done(self.catalogue.alloc)
     }
 
     fn add_variant_selection(&mut self, words: &mut SplitWhitespace<'t>) -> Result<String, Stop> {
         let path = copied(self.catalogue.alloc, &self.path)?;
         self.resolution
             .add_variant_selection(path, word(words)?, word(words)?)?;
-        self.done(Ok(()))
+        done(self.catalogue.alloc)
     }
 
     fn add_key_path(&mut self, words: &mut SplitWhitespace<'t>) -> Result<String, Stop> {
@@ -180,7 +204,7 @@ where
             path.push(name)?;
         }
         self.resolution.add_key_path(path)?;
-        self.done(Ok(()))
+        done(self.catalogue.alloc)
     }
 }
 

@@ -1,6 +1,6 @@
 //! Calls that are about types alone.
 
-use crate::line::{Stop, add, number, word};
+use crate::line::{Stop, add, add_number, answered, number, word};
 use crate::types::place_of;
 use facet_solver::{
     EnumRepr, Field, Format, Schema, SchemaError, Shape, ShapeId, ShapeKind, Shapes, Steps,
@@ -21,17 +21,19 @@ impl<'c, 't> Catalogue<'c, 't> {
     /// What a call answers.
     pub fn answer(&self, words: &mut SplitWhitespace<'t>) -> Result<String, Stop> {
         match word(words)? {
-            "check" => Ok(String::from_str(self.alloc, "accepted")?),
+            "check" => answered(String::from_str(self.alloc, "accepted")),
             "count" => self.count(words),
             "representation" => self.representation(words),
-            "score" => {
-                let score = specificity_score(self.shape(words)?);
-                Ok(format!(in self.alloc; "{score}")?)
-            }
+            "score" => self.score(words),
             "variant" => self.variant(words),
             "variants" => self.variants(words),
             _ => Err(Stop::Unread),
         }
+    }
+
+    fn score(&self, words: &mut SplitWhitespace<'t>) -> Result<String, Stop> {
+        let score = specificity_score(self.shape(words)?);
+        answered(format!(in self.alloc; "{score}"))
     }
 
     /// The place of the type that is named next.
@@ -127,15 +129,8 @@ impl<'c, 't> Catalogue<'c, 't> {
     }
 
     fn representation(&self, words: &mut SplitWhitespace<'t>) -> Result<String, Stop> {
-        let alloc = self.alloc;
-        Ok(match EnumRepr::from_shape(self.shape(words)?) {
-            EnumRepr::Flattened => String::from_str(alloc, "flattened")?,
-            EnumRepr::ExternallyTagged => String::from_str(alloc, "external")?,
-            EnumRepr::InternallyTagged { tag } => format!(in alloc; "internal {tag}")?,
-            EnumRepr::AdjacentlyTagged { tag, content } => {
-                format!(in alloc; "adjacent {tag} {content}")?
-            }
-        })
+        let asked = EnumRepr::from_shape(self.shape(words)?);
+        Ok(repr_words(self.alloc, asked)?)
     }
 
     // The format of a variant of an enum, and what it expects.
@@ -187,25 +182,32 @@ impl<'c, 't> Catalogue<'c, 't> {
             return Ok(String::from_str(self.alloc, "no enum")?);
         };
         match word(words)? {
-            "unit" => Ok(self.plain(&groups.unit_variants)?),
-            "struct" => Ok(self.plain(&groups.struct_variants)?),
-            "other" => Ok(self.plain(&groups.other_variants)?),
-            "scalar" => Ok(self.typed(&groups.scalar_variants)?),
-            "bool" => Ok(self.typed(&groups.bool_variants)?),
-            "int" => Ok(self.typed(&groups.int_variants)?),
-            "float" => Ok(self.typed(&groups.float_variants)?),
-            "string" => Ok(self.typed(&groups.string_variants)?),
-            "tuple" => Ok(self.sized(&groups.tuple_variants)?),
             "arity" => {
                 let found = groups.tuple_variants_with_arity(self.alloc, number(words)?)?;
-                Ok(self.plain(&found)?)
+                self.plain(&found)
             }
-            "any" => Ok(self.kinds(&groups)?),
+            list => self.listed(&groups, list),
+        }
+    }
+
+    // The variants of a list.
+    fn listed(&self, groups: &VariantsByFormat<'_>, list: &str) -> Result<String, Stop> {
+        match list {
+            "unit" => self.plain(&groups.unit_variants),
+            "struct" => self.plain(&groups.struct_variants),
+            "other" => self.plain(&groups.other_variants),
+            "scalar" => self.typed(&groups.scalar_variants),
+            "bool" => self.typed(&groups.bool_variants),
+            "int" => self.typed(&groups.int_variants),
+            "float" => self.typed(&groups.float_variants),
+            "string" => self.typed(&groups.string_variants),
+            "tuple" => self.sized(&groups.tuple_variants),
+            "any" => self.kinds(groups),
             _ => Err(Stop::Unread),
         }
     }
 
-    fn plain(&self, variants: &[&Variant]) -> Result<String, AllocError> {
+    fn plain(&self, variants: &[&Variant]) -> Result<String, Stop> {
         let mut answer = String::new(self.alloc);
         for variant in variants {
             add(&mut answer, variant.name.as_str())?;
@@ -213,7 +215,7 @@ impl<'c, 't> Catalogue<'c, 't> {
         Ok(answer)
     }
 
-    fn typed(&self, variants: &[(&Variant, ShapeId)]) -> Result<String, AllocError> {
+    fn typed(&self, variants: &[(&Variant, ShapeId)]) -> Result<String, Stop> {
         let mut answer = String::new(self.alloc);
         for (variant, shape) in variants {
             add(&mut answer, variant.name.as_str())?;
@@ -222,16 +224,16 @@ impl<'c, 't> Catalogue<'c, 't> {
         Ok(answer)
     }
 
-    fn sized(&self, variants: &[(&Variant, usize)]) -> Result<String, AllocError> {
+    fn sized(&self, variants: &[(&Variant, usize)]) -> Result<String, Stop> {
         let mut answer = String::new(self.alloc);
         for (variant, arity) in variants {
             add(&mut answer, variant.name.as_str())?;
-            add(&mut answer, format!(in self.alloc; "{arity}")?.as_str())?;
+            add_number(&mut answer, *arity)?;
         }
         Ok(answer)
     }
 
-    fn kinds(&self, groups: &VariantsByFormat<'_>) -> Result<String, AllocError> {
+    fn kinds(&self, groups: &VariantsByFormat<'_>) -> Result<String, Stop> {
         let mut answer = String::new(self.alloc);
         if groups.has_scalar_variants() {
             add(&mut answer, "scalar")?;
@@ -243,6 +245,17 @@ impl<'c, 't> Catalogue<'c, 't> {
             add(&mut answer, "struct")?;
         }
         Ok(answer)
+    }
+}
+
+fn repr_words(alloc: Global, repr: EnumRepr<'_>) -> Result<String, AllocError> {
+    match repr {
+        EnumRepr::Flattened => String::from_str(alloc, "flattened"),
+        EnumRepr::ExternallyTagged => String::from_str(alloc, "external"),
+        EnumRepr::InternallyTagged { tag } => format!(in alloc; "internal {tag}"),
+        EnumRepr::AdjacentlyTagged { tag, content } => {
+            format!(in alloc; "adjacent {tag} {content}")
+        }
     }
 }
 

@@ -37,16 +37,25 @@ impl<'c> ErrorByHand<'c> {
     {
         let call = word(words)?;
         let name = word(words)?;
+        match call {
+            "missing_field" => self.add_missing(name, word(words)?),
+            _ => self.add_text(call, name),
+        }
+    }
+
+    // Makes a call that adds a text.
+    fn add_text(&mut self, call: &str, name: &str) -> Result<(), Stop> {
         let text = String::from_str(self.alloc, name)?;
         match call {
-            "input_field" => self.input.push(text)?,
-            "unknown_field" => self.unknown.push(text)?,
-            "closest_resolution" => self.closest = Some(text),
-            "missing_field" => self.add_missing(name, word(words)?)?,
-            "failure" => self.add_failure(text)?,
-            _ => return Err(Stop::Unread),
+            "input_field" => push(&mut self.input, text),
+            "unknown_field" => push(&mut self.unknown, text),
+            "closest_resolution" => {
+                self.closest = Some(text);
+                Ok(())
+            }
+            "failure" => self.add_failure(text),
+            _ => Err(Stop::Unread),
         }
-        Ok(())
     }
 
     fn add_missing(&mut self, name: &'c str, path: &str) -> Result<(), Stop> {
@@ -82,4 +91,9 @@ impl<'c> ErrorByHand<'c> {
             candidate_failures: self.failures,
         }
     }
+}
+
+fn push(list: &mut Vec<String>, text: String) -> Result<(), Stop> {
+    list.push(text)?;
+    Ok(())
 }

@@ -1,6 +1,6 @@
 //! Calls that read the error of a solver.
 
-use crate::line::{Stop, add, barred, number, word};
+use crate::line::{Stop, add, answered, barred, number, word};
 use facet_solver::{CandidateFailure, MissingFieldInfo, SolverError};
 use std::alloc::{AllocError, Global};
 use std::str::SplitWhitespace;
@@ -25,24 +25,24 @@ pub fn answer(
             closest_resolution,
             candidate_failures,
         } => match word(words)? {
-            "input_fields" => Ok(quoted(alloc, input_fields)?),
-            "missing_required" => Ok(format!(in alloc; "{missing_required:?}")?),
-            "missing_required_detailed" => Ok(missing(alloc, missing_required_detailed)?),
-            "unknown_fields" => Ok(quoted(alloc, unknown_fields)?),
-            "closest_resolution" => Ok(or_none(alloc, closest_resolution)?),
-            "candidate_failures" => Ok(format!(in alloc; "{}", candidate_failures.len())?),
-            "failure" => {
-                let failure = candidate_failures.get(number(words)?).ok_or(Stop::Unread)?;
-                failure_answer(alloc, failure, words)
-            }
+            "input_fields" => answered(quoted(alloc, input_fields)),
+            "missing_required" => answered(format!(in alloc; "{missing_required:?}")),
+            "missing_required_detailed" => answered(missing(alloc, missing_required_detailed)),
+            "unknown_fields" => answered(quoted(alloc, unknown_fields)),
+            "closest_resolution" => answered(or_none(alloc, closest_resolution)),
+            "candidate_failures" => answered(format!(in alloc; "{}", candidate_failures.len())),
+            "failure" => match candidate_failures.get(number(words)?) {
+                Some(failure) => failure_answer(alloc, failure, words),
+                None => Err(Stop::Unread),
+            },
             _ => Err(Stop::Unread),
         },
         SolverError::Ambiguous {
             candidates,
             disambiguating_fields,
         } => match word(words)? {
-            "candidates" => Ok(quoted(alloc, candidates)?),
-            "disambiguating_fields" => Ok(quoted(alloc, disambiguating_fields)?),
+            "candidates" => answered(quoted(alloc, candidates)),
+            "disambiguating_fields" => answered(quoted(alloc, disambiguating_fields)),
             _ => Err(Stop::Unread),
         },
         SolverError::OutOfMemory => Err(Stop::Refused),
@@ -78,10 +78,10 @@ fn failure_answer(
     words: &mut SplitWhitespace<'_>,
 ) -> Result<String, Stop> {
     match word(words)? {
-        "variant_name" => Ok(String::from_str(alloc, failure.variant_name.as_str())?),
-        "missing_fields" => Ok(missing(alloc, &failure.missing_fields)?),
-        "unknown_fields" => Ok(quoted(alloc, &failure.unknown_fields)?),
-        "suggestion_matches" => Ok(format!(in alloc; "{}", failure.suggestion_matches)?),
+        "variant_name" => answered(String::from_str(alloc, failure.variant_name.as_str())),
+        "missing_fields" => answered(missing(alloc, &failure.missing_fields)),
+        "unknown_fields" => answered(quoted(alloc, &failure.unknown_fields)),
+        "suggestion_matches" => answered(format!(in alloc; "{}", failure.suggestion_matches)),
         _ => Err(Stop::Unread),
     }
 }

@@ -177,11 +177,32 @@ pub fn barred(alloc: Global, text: &str) -> Result<String, AllocError> {
 }
 
 /// An answer of these words. It is tried twice, since the call behind it was made and is not to be made again.
-pub fn told(alloc: Global, words: &str) -> Result<String, AllocError> {
+pub fn told(alloc: Global, words: &str) -> Result<String, Stop> {
     match String::from_str(alloc, words) {
-        Err(AllocError) => String::from_str(alloc, words),
-        told => told,
+        Ok(told) => Ok(told),
+        Err(AllocError) => Ok(String::from_str(alloc, words)?),
     }
+}
+
+/// The answer that a function makes, or that memory was refused.
+pub fn answered(answer: Result<String, AllocError>) -> Result<String, Stop> {
+    Ok(answer?)
+}
+
+/// The answer `yes` or `no`, made as that of words.
+pub fn yes_or_no(alloc: Global, holds: bool) -> Result<String, Stop> {
+    told(alloc, if holds { "yes" } else { "no" })
+}
+
+/// The answer `ok` to a call that was made.
+pub fn done(alloc: Global) -> Result<String, Stop> {
+    told(alloc, "ok")
+}
+
+/// Adds a number to an answer, behind a blank.
+pub fn add_number(answer: &mut String, number: usize) -> Result<(), AllocError> {
+    let digits = format!(in *answer.allocator(); "{number}")?;
+    add(answer, digits.as_str())
 }
 
 /// Adds a part to an answer, behind a blank.

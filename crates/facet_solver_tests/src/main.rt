@@ -11,6 +11,8 @@ mod error_by_hand;
 mod errors;
 mod in_code;
 mod line;
+mod lives;
+mod marks;
 mod probing;
 mod public_names;
 mod readme;
@@ -88,9 +90,12 @@ fn run<R: Env + Files + AllocGlobal + Print>(rt: &R) -> io::Result<Tally> {
 }
 
 fn run_checks<R: AllocGlobal + Print>(rt: &R, tally: &mut Tally) -> io::Result<()> {
-    for (name, check) in CHECKS {
+    for (name, check) in &CHECKS {
         let outcome = match check.run(rt.alloc()) {
-            Err(Failure::Refused) => check.run(rt.alloc()),
+            Err(Failure::Refused) => {
+                marks::out_of_memory(rt.alloc());
+                check.run(rt.alloc())
+            }
             outcome => outcome,
         };
         report(rt, tally, name, outcome)?;
@@ -106,29 +111,45 @@ fn run_file<R: Files + AllocGlobal + Print>(
     let text = read(rt, file)?;
     for transcript in &transcripts_twice(rt.alloc(), text.as_str())? {
         let end = match transcript.run(rt.alloc()) {
-            Err(End::Refused) => transcript.run(rt.alloc()),
+            Err(End::Refused) => {
+                marks::out_of_memory(rt.alloc());
+                transcript.run(rt.alloc())
+            }
             end => end,
         };
         match end {
             Ok(()) => println!(rt; "ok {}", transcript.name)?,
-            Err(End::Refused) => {
-                tally.refused = tally.refused.saturating_add(1);
-                println!(rt; "refused {}", transcript.name)?;
-            }
-            Err(End::Broken(line)) => {
-                tally.wrong = tally.wrong.saturating_add(1);
-                println!(rt; "wrong {}", transcript.name)?;
-                println!(rt; "  {file} line {}: {}", line.number, line.call())?;
-                println!(rt; "  was refused memory and changed something, or had no need of it")?;
-            }
-            Err(End::Wrong(line, came)) => {
-                tally.wrong = tally.wrong.saturating_add(1);
-                println!(rt; "wrong {}", transcript.name)?;
-                tell(rt, file, line, came)?;
-            }
+            Err(end) => tell_end(rt, tally, file, transcript.name, end)?,
         }
     }
     Ok(())
+}
+
+// Says why a transcript ended early, and counts it.
+fn tell_end<R: Print>(
+    rt: &R,
+    tally: &mut Tally,
+    file: &str,
+    name: &str,
+    end: End<'_>,
+) -> io::Result<()> {
+    match end {
+        End::Refused => {
+            tally.refused = tally.refused.saturating_add(1);
+            println!(rt; "refused {name}")
+        }
+        End::Broken(line) => {
+            tally.wrong = tally.wrong.saturating_add(1);
+            println!(rt; "wrong {name}")?;
+            println!(rt; "  {file} line {}: {}", line.number, line.call())?;
+            println!(rt; "  was refused memory and changed something, or had no need of it")
+        }
+        End::Wrong(line, came) => {
+            tally.wrong = tally.wrong.saturating_add(1);
+            println!(rt; "wrong {name}")?;
+            tell(rt, file, line, came)
+        }
+    }
 }
 
 fn read<R: Files + AllocGlobal>(rt: &R, file: &str) -> io::Result<String> {

@@ -1,6 +1,7 @@
 //! Calls of a solver that is only probed.
 
-use crate::line::{Stop, add, number, told, word};
+use crate::line::{Stop, add, done, number, word};
+use crate::marks;
 use crate::resolution::path;
 use facet_solver::{ProbeResult, ProbingSolver, Schema};
 use std::alloc::{AllocError, Global};
@@ -29,19 +30,19 @@ impl<'s, 'c> Probing<'s, 'c> {
         match word(words)? {
             "new" => {
                 let solver = ProbingSolver::new(self.alloc, self.schema)?;
-                Ok(self.put(solver)?)
+                self.put(solver)
             }
             "from" => self.from(words),
             "probe" => self.probe(words),
             "candidates" => Ok(self.candidates()?),
-            "finish" => Ok(probed_told(self.alloc, &self.solver.finish())?),
+            "finish" => self.finish(),
             _ => Err(Stop::Unread),
         }
     }
 
-    fn put(&mut self, solver: ProbingSolver<'s, 'c>) -> Result<String, AllocError> {
+    fn put(&mut self, solver: ProbingSolver<'s, 'c>) -> Result<String, Stop> {
         drop(mem::replace(&mut self.solver, solver));
-        told(self.alloc, "ok")
+        done(self.alloc)
     }
 
     // A new solver of the resolutions from a number on.
@@ -49,14 +50,23 @@ impl<'s, 'c> Probing<'s, 'c> {
         let first = number(words)?;
         let resolutions = self.schema.resolutions().get(first..).ok_or(Stop::Unread)?;
         let solver = ProbingSolver::from_resolutions(self.alloc, resolutions)?;
-        Ok(self.put(solver)?)
+        self.put(solver)
     }
 
     fn probe(&mut self, words: &mut SplitWhitespace<'_>) -> Result<String, Stop> {
         let path = path(self.alloc, word(words)?)?;
         let (key, path) = path.split_last().ok_or(Stop::Unread)?;
+        marks::begin(self.alloc);
         let answer = self.solver.probe_key(path, key);
-        Ok(probed_told(self.alloc, &answer)?)
+        marks::no_request(self.alloc);
+        probed_told(self.alloc, &answer)
+    }
+
+    fn finish(&self) -> Result<String, Stop> {
+        marks::begin(self.alloc);
+        let answer = self.solver.finish();
+        marks::no_request(self.alloc);
+        probed_told(self.alloc, &answer)
     }
 
     fn candidates(&self) -> Result<String, AllocError> {
@@ -69,10 +79,13 @@ impl<'s, 'c> Probing<'s, 'c> {
 }
 
 // It is tried twice, since the call was made.
-fn probed_told(alloc: Global, answer: &ProbeResult<'_, '_>) -> Result<String, AllocError> {
+fn probed_told(alloc: Global, answer: &ProbeResult<'_, '_>) -> Result<String, Stop> {
     match probed(alloc, answer) {
-        Err(AllocError) => probed(alloc, answer),
-        told => told,
+        Ok(told) => Ok(told),
+        Err(AllocError) => {
+            marks::out_of_memory(alloc);
+            Ok(probed(alloc, answer)?)
+        }
     }
 }
 

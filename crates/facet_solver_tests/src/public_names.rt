@@ -30,6 +30,8 @@ pub fn public_types_have_their_derives() -> Result<(), Failure> {
     values_are_copied();
     parts_are_printed();
     wholes_are_printed();
+    answers_are_printed();
+    errors_are_printed();
     steps_are_counted();
     is_compared::<FieldPath<'static>>();
     is_hashed::<ShapeId>();
@@ -68,19 +70,25 @@ fn parts_are_printed() {
     is_printed::<VariantSelection<'static>>();
     is_printed::<DuplicateFieldError<'static>>();
     is_printed::<Resolution<'static>>();
+    is_printed::<Steps>();
 }
 
 fn wholes_are_printed() {
-    is_printed::<Steps>();
     is_printed::<VariantsByFormat<'static>>();
     is_printed::<Schema<'static>>();
     is_printed::<ResolutionSet>();
     is_printed::<ResolutionSetIter<'static>>();
     is_printed::<Solver<'static, 'static, 'static>>();
+}
+
+fn answers_are_printed() {
     is_printed::<Call<'static>>();
     is_printed::<KeyResult<'static, 'static>>();
     is_printed::<SatisfyResult<'static, 'static>>();
     is_printed::<ProbeResult<'static, 'static>>();
+}
+
+fn errors_are_printed() {
     is_an_error::<SolverError<'static>>();
     is_an_error::<SchemaError<'static>>();
     is_printed::<MissingFieldInfo<'static>>();

@@ -2,8 +2,8 @@
 
 use crate::in_code::{Failure, hold};
 use facet_solver::{
-    DomMark, Field, FieldKey, KeyResult, ScalarType, Schema, Shape, ShapeId, ShapeKind, Shapes,
-    Solver, SolverError, StructKind, Variant,
+    DomMark, Field, FieldKey, KeyResult, ResolutionHandle, ScalarType, Schema, Shape, ShapeId,
+    ShapeKind, Shapes, Solver, SolverError, StructKind, Variant,
 };
 use std::alloc::{AllocError, Global};
 
@@ -48,22 +48,35 @@ fn structure(fields: Vec<Field>) -> ShapeKind {
 }
 
 // The shapes of `Message`. A shape names others by index, and stands after those that it names.
-fn message(alloc: Global) -> Result<Vec<Shape>, AllocError> {
-    let text = vec![in alloc; field(alloc, "content", 0)?]?;
-    let binary = vec![in alloc; field(alloc, "data", 2)?, field(alloc, "encoding", 0)?]?;
+fn shapes(alloc: Global) -> Result<Vec<Shape>, AllocError> {
+    let mut shapes = Vec::new(alloc);
+    shapes.push(shape(alloc, "String", ShapeKind::Scalar(ScalarType::String))?)?;
+    shapes.push(shape(alloc, "u8", ShapeKind::Scalar(ScalarType::U8))?)?;
+    shapes.push(shape(alloc, "Vec<u8>", ShapeKind::List(ShapeId::new(1)))?)?;
+    shapes.push(shape(alloc, "TextMessage", text_message(alloc)?)?)?;
+    shapes.push(shape(alloc, "BinaryMessage", binary_message(alloc)?)?)?;
+    shapes.push(shape(alloc, "MessagePayload", message_payload(alloc)?)?)?;
+    shapes.push(shape(alloc, "Message", message(alloc)?)?)?;
+    Ok(shapes)
+}
+
+fn text_message(alloc: Global) -> Result<ShapeKind, AllocError> {
+    Ok(structure(vec![in alloc; field(alloc, "content", 0)?]?))
+}
+
+fn binary_message(alloc: Global) -> Result<ShapeKind, AllocError> {
+    Ok(structure(vec![in alloc; field(alloc, "data", 2)?, field(alloc, "encoding", 0)?]?))
+}
+
+fn message_payload(alloc: Global) -> Result<ShapeKind, AllocError> {
     let variants = vec![in alloc; variant(alloc, "Text", 3)?, variant(alloc, "Binary", 4)?]?;
+    Ok(ShapeKind::Enum { variants })
+}
+
+fn message(alloc: Global) -> Result<ShapeKind, AllocError> {
     let mut payload = field(alloc, "payload", 5)?;
     payload.flattened = true;
-    let fields = vec![in alloc; field(alloc, "id", 0)?, payload]?;
-    Ok(vec![in alloc;
-        shape(alloc, "String", ShapeKind::Scalar(ScalarType::String))?,
-        shape(alloc, "u8", ShapeKind::Scalar(ScalarType::U8))?,
-        shape(alloc, "Vec<u8>", ShapeKind::List(ShapeId::new(1)))?,
-        shape(alloc, "TextMessage", structure(text))?,
-        shape(alloc, "BinaryMessage", structure(binary))?,
-        shape(alloc, "MessagePayload", ShapeKind::Enum { variants })?,
-        shape(alloc, "Message", structure(fields))?,
-    ]?)
+    Ok(structure(vec![in alloc; field(alloc, "id", 0)?, payload]?))
 }
 
 // What one key tells.
@@ -79,21 +92,30 @@ fn learned(alloc: Global, answer: &KeyResult<'_, '_>) -> Result<String, AllocErr
 // What the end of the document tells.
 fn meaning(alloc: Global, solver: Solver<'_, '_, '_>) -> Result<String, AllocError> {
     match solver.finish(alloc) {
-        Ok(handle) => {
-            let description = handle.resolution().describe(alloc)?;
-            format!(in alloc; "{}: {description}", handle.index())
-        }
-        Err(SolverError::NoMatch { .. }) => format!(in alloc; "each lacks a field"),
-        Err(SolverError::Ambiguous { candidates, .. }) => {
-            format!(in alloc; "one of {}", candidates.len())
-        }
-        Err(SolverError::OutOfMemory) => Err(AllocError),
+        Ok(handle) => named(alloc, handle),
+        Err(error) => unmatched(alloc, &error),
+    }
+}
+
+fn named(alloc: Global, handle: ResolutionHandle<'_, '_>) -> Result<String, AllocError> {
+    let description = handle.resolution().describe(alloc)?;
+    format!(in alloc; "{}: {description}", handle.index())
+}
+
+fn unmatched(alloc: Global, error: &SolverError<'_>) -> Result<String, AllocError> {
+    match error {
+        SolverError::NoMatch { .. } => format!(in alloc; "each lacks a field"),
+        SolverError::Ambiguous { candidates, .. } => format!(in alloc;
+            "one of {}",
+            candidates.len()
+        ),
+        SolverError::OutOfMemory => Err(AllocError),
     }
 }
 
 /// The keys of a message tell its payload.
 pub fn keys_tell_the_payload(alloc: Global) -> Result<(), Failure> {
-    let shapes = Shapes::new(message(alloc)?)?;
+    let shapes = Shapes::new(shapes(alloc)?)?;
     let root = ShapeId::new(6);
     if !shapes.has(root) {
         return Err(Failure::Broken("the root of the README's shapes"));
@@ -102,11 +124,13 @@ pub fn keys_tell_the_payload(alloc: Global) -> Result<(), Failure> {
     let mut solver = Solver::new(alloc, &schema)?;
     // An identifier is a String, the shape of index 0, in both.
     let id = solver.see_key(alloc, FieldKey::flat("id"))?;
-    hold(learned(alloc, &id)?.as_str() == "a value of shape 0", "id")?;
+    holds(learned(alloc, &id)?, "a value of shape 0")?;
     // Only a text has content.
     let content = solver.see_key(alloc, FieldKey::flat("content"))?;
-    let told = learned(alloc, &content)?;
-    hold(told.as_str() == "resolution 0", "content")?;
-    let end = meaning(alloc, solver)?;
-    hold(end.as_str() == "0: MessagePayload::Text", "finish")
+    holds(learned(alloc, &content)?, "resolution 0")?;
+    holds(meaning(alloc, solver)?, "0: MessagePayload::Text")
+}
+
+fn holds(came: String, wanted: &'static str) -> Result<(), Failure> {
+    hold(came.as_str() == wanted, wanted)
 }

@@ -1,7 +1,7 @@
 //! Calls that are about a schema and its resolutions.
 
 use crate::catalogue::Catalogue;
-use crate::line::{Stop, add, number, word};
+use crate::line::{Stop, add, answered, number, word};
 use facet_solver::{FieldCategory, FieldInfo, FieldKey, Format, Resolution, Schema, SchemaError};
 use std::alloc::{AllocError, Global};
 use std::collections::BTreeSet;
@@ -16,15 +16,18 @@ pub fn answer<'t>(
 ) -> Result<String, Stop> {
     let alloc = catalogue.alloc;
     match call {
-        "resolutions" => Ok(format!(in alloc; "{}", schema.resolutions().len())?),
-        "format" => Ok(String::from_str(alloc, format_word(schema.format()))?),
-        "shapes" => Ok(format!(in alloc; "{}", schema.shapes().len())?),
-        _ => {
-            let index = number(words)?;
-            let resolution = schema.resolutions().get(index).ok_or(Stop::Unread)?;
-            of_resolution(catalogue, resolution, call, words)
-        }
+        "resolutions" => answered(digits(alloc, schema.resolutions().len())),
+        "format" => answered(String::from_str(alloc, format_word(schema.format()))),
+        "shapes" => answered(digits(alloc, schema.shapes().len())),
+        _ => match schema.resolutions().get(number(words)?) {
+            Some(resolution) => of_resolution(catalogue, resolution, call, words),
+            None => Err(Stop::Unread),
+        },
     }
+}
+
+fn digits(alloc: Global, number: usize) -> Result<String, AllocError> {
+    format!(in alloc; "{number}")
 }
 
 fn format_word(format: Format) -> &'static str {
@@ -43,25 +46,30 @@ pub fn of_resolution<'t>(
 ) -> Result<String, Stop> {
     let alloc = catalogue.alloc;
     match call {
-        "describe" => Ok(resolution.describe(alloc)?),
-        "keys" => Ok(keys(alloc, resolution)?),
-        "required" => Ok(required(alloc, resolution)?),
-        "paths" => Ok(paths(alloc, resolution)?),
-        "path_count" => Ok(format!(in alloc; "{}", resolution.known_paths().len())?),
+        "describe" => answered(resolution.describe(alloc)),
+        "keys" => answered(keys(alloc, resolution)),
+        "required" => answered(required(alloc, resolution)),
+        "paths" => answered(paths(alloc, resolution)),
+        "path_count" => answered(digits(alloc, resolution.known_paths().len())),
         "has_path" => has_path(alloc, resolution, words),
-        "picks" => Ok(picks(alloc, resolution)?),
-        "field" => {
-            let field = resolution.field_by_name(word(words)?);
-            Ok(field_text(catalogue, field)?)
+        "picks" => answered(picks(alloc, resolution)),
+        _ => {
+            let field = field(resolution, call, words)?;
+            answered(field_text(catalogue, field))
         }
-        "field_by_key" => {
-            let field = resolution.field_by_key(&key(word(words)?)?);
-            Ok(field_text(catalogue, field)?)
-        }
-        "catch_all" => {
-            let category = category_of(words)?;
-            Ok(field_text(catalogue, resolution.catch_all_map(category))?)
-        }
+    }
+}
+
+// The field that a call reads.
+fn field<'f, 'c>(
+    resolution: &'f Resolution<'c>,
+    call: &str,
+    words: &mut SplitWhitespace<'_>,
+) -> Result<Option<&'f FieldInfo<'c>>, Stop> {
+    match call {
+        "field" => Ok(resolution.field_by_name(word(words)?)),
+        "field_by_key" => Ok(resolution.field_by_key(&key(word(words)?)?)),
+        "catch_all" => Ok(resolution.catch_all_map(category_of(words)?)),
         _ => Err(Stop::Unread),
     }
 }
@@ -190,17 +198,27 @@ pub fn whole(
 ) -> Result<String, AllocError> {
     let alloc = catalogue.alloc;
     let mut text = keys(alloc, resolution)?;
-    for (_, field) in resolution.fields() {
-        add(&mut text, field_text(catalogue, Some(field))?.as_str())?;
-    }
-    for category in CATEGORIES {
-        let field = resolution.catch_all_map(category);
-        add(&mut text, field_text(catalogue, field)?.as_str())?;
-    }
+    add_fields(&mut text, catalogue, resolution)?;
     add(&mut text, required(alloc, resolution)?.as_str())?;
     add(&mut text, paths(alloc, resolution)?.as_str())?;
     add(&mut text, picks(alloc, resolution)?.as_str())?;
     Ok(text)
+}
+
+// Adds each field and each catch-all.
+fn add_fields(
+    text: &mut String,
+    catalogue: Catalogue<'_, '_>,
+    resolution: &Resolution<'_>,
+) -> Result<(), AllocError> {
+    for (_, field) in resolution.fields() {
+        add(text, field_text(catalogue, Some(field))?.as_str())?;
+    }
+    for category in &CATEGORIES {
+        let field = resolution.catch_all_map(*category);
+        add(text, field_text(catalogue, field)?.as_str())?;
+    }
+    Ok(())
 }
 
 fn picks(alloc: Global, resolution: &Resolution<'_>) -> Result<String, AllocError> {

@@ -1,11 +1,11 @@
 //! Calls of a solver, and those about its schema.
 
 use crate::catalogue::Catalogue;
-use crate::line::{BAR, Line, Stop, add, number, parsed, told, word};
+use crate::line::{BAR, Line, Stop, add, add_number, done, number, parsed, word, yes_or_no};
 use crate::probing::Probing;
 use crate::resolution::{add_key, key, path};
 use crate::steps::Step;
-use crate::{errors, resolution};
+use crate::{errors, marks, resolution};
 use facet_solver::{
     Call, FieldInfo, FieldKey, KeyResult, ResolutionHandle, SatisfyResult, Schema, ShapeId, Solver,
     SolverError, Steps,
@@ -77,7 +77,7 @@ where
         Ok(Session {
             catalogue,
             schema,
-            solver: Solver::new(catalogue.alloc, schema)?,
+            solver: new_solver(catalogue.alloc, schema)?,
             probing: Probing::new(catalogue.alloc, schema)?,
             calls,
             runs,
@@ -105,6 +105,7 @@ where
         match word(words)? {
             "run" => self.run(words),
             "finish" => self.finish(),
+            "new" => self.new_answer(),
             call => self.call_answer(call, words),
         }
     }
@@ -115,15 +116,15 @@ where
             "see_counted" => self.see_counted(words),
             "see_attribute" => self.see_attribute(words),
             "see_element" => self.see_element(words),
-            "see_text" => Ok(self.see_text()?),
+            "see_text" => self.see_text(),
             "mark_seen" => self.mark_seen(words),
             "was_seen" => self.was_seen(words),
             "probing" => self.probing.answer(words),
-            "candidates" => Ok(self.candidates()?),
-            "candidate_set" => Ok(self.candidate_set()?),
+            "candidates" => self.candidates(),
+            "candidate_set" => self.candidate_set(),
             "contains" => self.contains(words),
-            "last" => Ok(self.last()?),
-            "seen" => Ok(self.seen()?),
+            "last" => self.last(),
+            "seen" => self.seen(),
             call => self.narrowing_answer(call, words),
         }
     }
@@ -149,64 +150,69 @@ where
     }
 
     fn see(&mut self, words: &mut SplitWhitespace<'t>) -> Result<String, Stop> {
-        let key = key(word(words)?)?;
-        let answer = self.solver.see_key(self.catalogue.alloc, key)?;
-        Ok(self.key_told(&answer)?)
+        let key = next_key(words)?;
+        let answer = self.solver.see_key(self.catalogue.alloc, key);
+        self.key_told(answer)
     }
 
     fn see_counted(&mut self, words: &mut SplitWhitespace<'t>) -> Result<String, Stop> {
-        let key = key(word(words)?)?;
-        let mut steps = Steps::new();
-        let answer = self
-            .solver
-            .see_key_counted(self.catalogue.alloc, key, &mut steps)?;
-        Ok(self.key_told(&answer)?)
+        let key = next_key(words)?;
+        let alloc = self.catalogue.alloc;
+        let answer = self.solver.see_key_counted(alloc, key, &mut Steps::new());
+        self.key_told(answer)
     }
 
     fn see_attribute(&mut self, words: &mut SplitWhitespace<'t>) -> Result<String, Stop> {
         let name = word(words)?;
-        let answer = self.solver.see_attribute(self.catalogue.alloc, name)?;
-        Ok(self.key_told(&answer)?)
+        let answer = self.solver.see_attribute(self.catalogue.alloc, name);
+        self.key_told(answer)
     }
 
     fn see_element(&mut self, words: &mut SplitWhitespace<'t>) -> Result<String, Stop> {
         let name = word(words)?;
-        let answer = self.solver.see_element(self.catalogue.alloc, name)?;
-        Ok(self.key_told(&answer)?)
+        let answer = self.solver.see_element(self.catalogue.alloc, name);
+        self.key_told(answer)
     }
 
-    fn see_text(&mut self) -> Result<String, AllocError> {
-        let answer = self.solver.see_text(self.catalogue.alloc)?;
-        self.key_told(&answer)
+    fn see_text(&mut self) -> Result<String, Stop> {
+        let answer = self.solver.see_text(self.catalogue.alloc);
+        self.key_told(answer)
     }
 
     fn mark_seen(&mut self, words: &mut SplitWhitespace<'t>) -> Result<String, Stop> {
-        self.solver.mark_seen(key(word(words)?)?)?;
-        Ok(told(self.catalogue.alloc, "ok")?)
+        let key = next_key(words)?;
+        self.solver.mark_seen(key)?;
+        done(self.catalogue.alloc)
     }
 
     fn was_seen(&self, words: &mut SplitWhitespace<'t>) -> Result<String, Stop> {
         let was_seen = self.solver.was_field_seen(word(words)?);
-        Ok(self.yes_or_no(was_seen)?)
+        yes_or_no(self.catalogue.alloc, was_seen)
     }
 
     fn hint_variant(&mut self, words: &mut SplitWhitespace<'t>) -> Result<String, Stop> {
-        let is_picked = self.solver.hint_variant(word(words)?);
-        Ok(self.yes_or_no(is_picked)?)
+        let variant = word(words)?;
+        marks::begin(self.catalogue.alloc);
+        let is_picked = self.solver.hint_variant(variant);
+        marks::no_request(self.catalogue.alloc);
+        yes_or_no(self.catalogue.alloc, is_picked)
     }
 
     fn hint_variant_for_tag(&mut self, words: &mut SplitWhitespace<'t>) -> Result<String, Stop> {
         let tag = word(words)?;
-        let is_picked = self.solver.hint_variant_for_tag(tag, word(words)?);
-        Ok(self.yes_or_no(is_picked)?)
+        let variant = word(words)?;
+        marks::begin(self.catalogue.alloc);
+        let is_picked = self.solver.hint_variant_for_tag(tag, variant);
+        marks::no_request(self.catalogue.alloc);
+        yes_or_no(self.catalogue.alloc, is_picked)
     }
 
     fn probe(&mut self, words: &mut SplitWhitespace<'t>) -> Result<String, Stop> {
         let alloc = self.catalogue.alloc;
         let path = path(alloc, word(words)?)?;
         let (key, path) = path.split_last().ok_or(Stop::Unread)?;
-        let answer = self.solver.probe_key(alloc, path, key)?;
-        Ok(self.key_told(&answer)?)
+        let answer = self.solver.probe_key(alloc, path, key);
+        self.key_told(answer)
     }
 
     // The calls were made of the words before.
@@ -217,10 +223,11 @@ where
         let calls = steps.as_slice();
         for _ in &mut *words {}
         if let Err(made) = self.solver.run(alloc, calls) {
+            marks::out_of_memory(alloc);
             self.run_rest(calls, made)?;
         }
         self.next.runs = run.saturating_add(1);
-        Ok(told(self.catalogue.alloc, "ok")?)
+        done(alloc)
     }
 
     fn run_calls(&self, run: usize) -> Result<Vec<Call<'r>>, Stop> {
@@ -249,7 +256,7 @@ where
     fn tell_anew(&mut self) -> Result<(), Stop> {
         let alloc = self.catalogue.alloc;
         let calls: &'r [Line<'t>] = self.calls;
-        drop(mem::replace(&mut self.solver, Solver::new(alloc, self.schema)?));
+        drop(mem::replace(&mut self.solver, new_solver(alloc, self.schema)?));
         let mut run = self.begun.runs;
         for line in calls.get(self.begun.calls..self.next.calls).unwrap_or(&[]) {
             let mut words = line.call_words();
@@ -267,11 +274,12 @@ where
         Ok(())
     }
 
-    // It is tried twice, since the call was made.
-    fn key_told(&self, answer: &KeyResult<'_, '_>) -> Result<String, AllocError> {
-        match self.key_answer(answer) {
-            Err(AllocError) => self.key_answer(answer),
-            told => told,
+    // What a key told. It is tried twice, since the call was made.
+    fn key_told(&self, answer: Result<KeyResult<'_, '_>, AllocError>) -> Result<String, Stop> {
+        let answer = answer?;
+        match self.key_answer(&answer) {
+            Ok(told) => Ok(told),
+            Err(AllocError) => Ok(self.key_answer(&answer)?),
         }
     }
 
@@ -281,54 +289,38 @@ where
             KeyResult::Unambiguous { shape } => {
                 format!(in alloc; "unambiguous {}", self.catalogue.name(*shape))
             }
-            KeyResult::Ambiguous { fields } => {
-                let mut text = String::from_str(alloc, "ambiguous")?;
-                for (field, score) in fields {
-                    add(
-                        &mut text,
-                        format!(in alloc; "{} {score}", field.path)?.as_str(),
-                    )?;
-                }
-                Ok(text)
-            }
+            KeyResult::Ambiguous { fields } => ambiguous_fields(alloc, fields),
             KeyResult::Solved(handle) => format!(in alloc; "solved {}", handle.index()),
             KeyResult::Unknown => String::from_str(alloc, "unknown"),
         }
     }
 
-    fn candidates(&self) -> Result<String, AllocError> {
+    fn candidates(&self) -> Result<String, Stop> {
         let mut answer = String::new(self.catalogue.alloc);
         for handle in &self.solver.candidates(self.catalogue.alloc)? {
-            add(
-                &mut answer,
-                format!(in self.catalogue.alloc; "{}", handle.index())?.as_str(),
-            )?;
+            add_number(&mut answer, handle.index())?;
         }
         Ok(answer)
     }
 
     // The number of the candidates, the first, and all of them.
-    fn candidate_set(&self) -> Result<String, AllocError> {
+    fn candidate_set(&self) -> Result<String, Stop> {
         let alloc = self.catalogue.alloc;
         let set = self.solver.candidate_set();
         let Some(first) = set.first() else {
             let answer = if set.is_empty() { "empty" } else { "not empty" };
-            return String::from_str(alloc, answer);
+            return Ok(String::from_str(alloc, answer)?);
         };
         let mut answer = format!(in alloc; "{} from {first}:", set.len())?;
         for index in set.iter() {
-            add(&mut answer, format!(in alloc; "{index}")?.as_str())?;
+            add_number(&mut answer, index)?;
         }
         Ok(answer)
     }
 
     fn contains(&self, words: &mut SplitWhitespace<'t>) -> Result<String, Stop> {
         let contained = self.solver.candidate_set().contains(number(words)?);
-        Ok(self.yes_or_no(contained)?)
-    }
-
-    fn yes_or_no(&self, holds: bool) -> Result<String, AllocError> {
-        told(self.catalogue.alloc, if holds { "yes" } else { "no" })
+        yes_or_no(self.catalogue.alloc, contained)
     }
 
     // The types of all words that are left.
@@ -344,32 +336,46 @@ where
     fn fields(&self, words: &mut SplitWhitespace<'t>) -> Result<Vec<&'s FieldInfo<'c>>, Stop> {
         let mut fields = Vec::new(self.catalogue.alloc);
         for word in words {
-            let (number, name) = word.split_once('.').ok_or(Stop::Unread)?;
-            let resolution = self.schema.resolutions().get(parsed(number)?);
-            let resolution = resolution.ok_or(Stop::Unread)?;
-            fields.push(resolution.field_by_name(name).ok_or(Stop::Unread)?)?;
+            fields.push(self.field(word)?)?;
         }
         Ok(fields)
     }
 
+    // The field that the number of a resolution and a name tell.
+    fn field(&self, word: &str) -> Result<&'s FieldInfo<'c>, Stop> {
+        let (number, name) = word.split_once('.').ok_or(Stop::Unread)?;
+        match self.schema.resolutions().get(parsed(number)?) {
+            Some(resolution) => resolution.field_by_name(name).ok_or(Stop::Unread),
+            None => Err(Stop::Unread),
+        }
+    }
+
     fn satisfy(&mut self, words: &mut SplitWhitespace<'t>) -> Result<String, Stop> {
+        let alloc = self.catalogue.alloc;
         let fields = self.fields(words)?;
+        marks::begin(alloc);
         let answer = self.solver.satisfy(&fields);
-        Ok(satisfied_told(self.catalogue.alloc, &answer)?)
+        marks::no_request(alloc);
+        satisfied_told(alloc, &answer)
     }
 
     fn satisfy_shapes(&mut self, words: &mut SplitWhitespace<'t>) -> Result<String, Stop> {
+        let alloc = self.catalogue.alloc;
         let shapes = self.shapes(words)?;
+        marks::begin(alloc);
         let answer = self.solver.satisfy_shapes(&shapes);
-        Ok(satisfied_told(self.catalogue.alloc, &answer)?)
+        marks::no_request(alloc);
+        satisfied_told(alloc, &answer)
     }
 
     fn satisfy_at_path(&mut self, words: &mut SplitWhitespace<'t>) -> Result<String, Stop> {
         let alloc = self.catalogue.alloc;
         let path = path(alloc, word(words)?)?;
         let shapes = self.shapes(words)?;
+        marks::begin(alloc);
         let answer = self.solver.satisfy_at_path(&path, &shapes);
-        Ok(satisfied_told(alloc, &answer)?)
+        marks::no_request(alloc);
+        satisfied_told(alloc, &answer)
     }
 
     fn shapes_at_path(&self, words: &mut SplitWhitespace<'t>) -> Result<String, Stop> {
@@ -383,15 +389,17 @@ where
     }
 
     // The last candidate.
-    fn last(&self) -> Result<String, AllocError> {
+    fn last(&self) -> Result<String, Stop> {
         let alloc = self.catalogue.alloc;
+        let mut answer = String::new(alloc);
         match self.solver.candidates(alloc)?.last() {
-            Some(handle) => format!(in alloc; "{}", handle.index()),
-            None => String::from_str(alloc, "none"),
+            Some(handle) => add_number(&mut answer, handle.index())?,
+            None => add(&mut answer, "none")?,
         }
+        Ok(answer)
     }
 
-    fn seen(&self) -> Result<String, AllocError> {
+    fn seen(&self) -> Result<String, Stop> {
         let mut answer = String::new(self.catalogue.alloc);
         for key in self.solver.seen_keys() {
             add_key(&mut answer, *key)?;
@@ -404,6 +412,7 @@ where
     fn finish(&mut self) -> Result<String, Stop> {
         let finished = match self.finished()? {
             Err(SolverError::OutOfMemory) => {
+                marks::out_of_memory(self.catalogue.alloc);
                 self.tell_anew()?;
                 match self.finished()? {
                     Ok(_handle) => return Err(Stop::Broken),
@@ -412,13 +421,10 @@ where
             }
             finished => finished,
         };
-        self.begun = Place {
-            calls: self.next.calls.saturating_add(1),
-            runs: self.next.runs,
-        };
+        self.begin_anew();
         self.error = None;
         match finished {
-            Ok(handle) => Ok(self.solved_told(&handle)?),
+            Ok(handle) => self.solved_told(&handle),
             Err(error) => self.unsolved(error),
         }
     }
@@ -427,16 +433,42 @@ where
         &mut self,
     ) -> Result<Result<ResolutionHandle<'s, 'c>, SolverError<'c>>, AllocError> {
         let alloc = self.catalogue.alloc;
-        let next = Solver::new(alloc, self.schema)?;
+        let next = new_solver(alloc, self.schema)?;
         let solver = mem::replace(&mut self.solver, next);
-        Ok(solver.finish(alloc))
+        marks::begin(alloc);
+        let finished = solver.finish(alloc);
+        if finished.is_ok() {
+            marks::no_request(alloc);
+        }
+        Ok(finished)
+    }
+
+    // A new solver in place of the one before, with a mark of what it holds.
+    fn new_answer(&mut self) -> Result<String, Stop> {
+        let alloc = self.catalogue.alloc;
+        let solver = new_solver(alloc, self.schema)?;
+        marks::held(alloc);
+        drop(mem::replace(&mut self.solver, solver));
+        self.begin_anew();
+        done(alloc)
+    }
+
+    // The solver is told the calls behind this one.
+    fn begin_anew(&mut self) {
+        self.begun = Place {
+            calls: self.next.calls.saturating_add(1),
+            runs: self.next.runs,
+        };
     }
 
     // It is tried twice, since the solver was finished.
-    fn solved_told(&self, handle: &ResolutionHandle<'_, '_>) -> Result<String, AllocError> {
+    fn solved_told(&self, handle: &ResolutionHandle<'_, '_>) -> Result<String, Stop> {
         match self.solved(handle) {
-            Err(AllocError) => self.solved(handle),
-            told => told,
+            Ok(told) => Ok(told),
+            Err(AllocError) => {
+                marks::out_of_memory(self.catalogue.alloc);
+                Ok(self.solved(handle)?)
+            }
         }
     }
 
@@ -462,6 +494,34 @@ where
     }
 }
 
+// It takes memory only where there are more than 64 resolutions.
+fn new_solver<'s, 'c, 'a>(
+    alloc: Global,
+    schema: &'s Schema<'c>,
+) -> Result<Solver<'s, 'c, 'a>, AllocError> {
+    marks::begin(alloc);
+    let solver = Solver::new(alloc, schema);
+    if schema.resolutions().len() <= 64 {
+        marks::no_request(alloc);
+    }
+    solver
+}
+
+// The next word as a key.
+fn next_key<'t>(words: &mut SplitWhitespace<'t>) -> Result<FieldKey<'t>, Stop> {
+    key(word(words)?)
+}
+
+// The path and the score of each field that a key may mean.
+fn ambiguous_fields(alloc: Global, fields: &[(&FieldInfo<'_>, u64)]) -> Result<String, AllocError> {
+    let mut answer = String::from_str(alloc, "ambiguous")?;
+    for (field, score) in fields {
+        let told = format!(in alloc; "{} {score}", field.path)?;
+        add(&mut answer, told.as_str())?;
+    }
+    Ok(answer)
+}
+
 fn verdict(alloc: Global, error: &SolverError<'_>) -> Result<String, AllocError> {
     match error {
         SolverError::NoMatch { .. } => String::from_str(alloc, "no match"),
@@ -477,10 +537,10 @@ fn verdict(alloc: Global, error: &SolverError<'_>) -> Result<String, AllocError>
 }
 
 // It is tried twice, since the call was made.
-fn satisfied_told(alloc: Global, answer: &SatisfyResult<'_, '_>) -> Result<String, AllocError> {
+fn satisfied_told(alloc: Global, answer: &SatisfyResult<'_, '_>) -> Result<String, Stop> {
     match satisfied(alloc, answer) {
-        Err(AllocError) => satisfied(alloc, answer),
-        told => told,
+        Ok(told) => Ok(told),
+        Err(AllocError) => Ok(satisfied(alloc, answer)?),
     }
 }
 

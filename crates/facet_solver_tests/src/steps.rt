@@ -1,7 +1,7 @@
 //! Calls of a solver that are made in one run.
 
 use crate::catalogue::Catalogue;
-use crate::line::{Stop, word};
+use crate::line::{Stop, parsed, word};
 use crate::resolution::{key, path};
 use facet_solver::{Call, ShapeId};
 use std::alloc::Global;
@@ -28,14 +28,37 @@ pub fn steps<'t>(
     let mut step: Vec<&'t str> = Vec::new(alloc);
     for word in words {
         if word == "then" {
-            steps.push(Step::new(catalogue, &step)?)?;
+            add_steps(&mut steps, catalogue, &step)?;
             step = Vec::new(alloc);
         } else {
             step.push(word)?;
         }
     }
-    steps.push(Step::new(catalogue, &step)?)?;
+    add_steps(&mut steps, catalogue, &step)?;
     Ok(steps)
+}
+
+// Adds the call of these words as many times as they say.
+fn add_steps<'t>(
+    steps: &mut Vec<Step<'t>>,
+    catalogue: Catalogue<'_, 't>,
+    words: &[&'t str],
+) -> Result<(), Stop> {
+    let (times, words) = repeated(words)?;
+    for _ in 0..times {
+        steps.push(Step::new(catalogue, words)?)?;
+    }
+    Ok(())
+}
+
+// How often a call is made, and its words: `times=600 see x`, or `see x` alone.
+fn repeated<'w, 't>(words: &'w [&'t str]) -> Result<(usize, &'w [&'t str]), Stop> {
+    if let [first, call @ ..] = words {
+        if let Some(times) = first.strip_prefix("times=") {
+            return Ok((parsed(times)?, call));
+        }
+    }
+    Ok((1, words))
 }
 
 impl<'t> Step<'t> {
@@ -62,14 +85,14 @@ impl<'t> Step<'t> {
     /// What is called.
     pub fn call(&self) -> Result<Call<'_>, Stop> {
         match self.call {
-            "see" => Ok(Call::SeeKey(key(self.first)?)),
-            "mark_seen" => Ok(Call::MarkSeen(key(self.first)?)),
+            "see" => key(self.first).map(Call::SeeKey),
+            "mark_seen" => key(self.first).map(Call::MarkSeen),
             "satisfy_shapes" => Ok(Call::SatisfyShapes(&self.shapes)),
             "satisfy_at_path" => Ok(Call::SatisfyAtPath(&self.path, &self.shapes)),
-            "probe" => {
-                let (key, path) = self.path.split_last().ok_or(Stop::Unread)?;
-                Ok(Call::ProbeKey(path, key))
-            }
+            "probe" => match self.path.as_slice() {
+                [path @ .., key] => Ok(Call::ProbeKey(path, key)),
+                [] => Err(Stop::Unread),
+            },
             "hint_variant" => Ok(Call::HintVariant(self.first)),
             "hint_variant_for_tag" => Ok(Call::HintVariantForTag(self.first, self.second)),
             _ => Err(Stop::Unread),

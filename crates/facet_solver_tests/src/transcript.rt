@@ -2,7 +2,8 @@
 
 use crate::by_hand::Hand;
 use crate::catalogue::Catalogue;
-use crate::line::{BAR, End, Line, Stop, barred, told};
+use crate::line::{BAR, End, Line, Stop, barred, done};
+use crate::marks;
 use crate::resolution::refusal;
 use crate::solving::Session;
 use crate::steps::{Step, steps};
@@ -105,42 +106,58 @@ fn on_catalogue<'t>(catalogue: Catalogue<'_, 't>, calls: &[Line<'t>]) -> Result<
     let mut refused = String::new(catalogue.alloc);
     for index in 0..calls.len() {
         let line = &calls[index];
-        let mut words = line.call_words();
         match line.keyword() {
-            "build" => {
-                words.next();
-                let mut built = catalogue.build(&mut words).map_err(|stop| line.end(stop))?;
-                if let Err(SchemaError::OutOfMemory) = built {
-                    words = line.call_words();
-                    words.next();
-                    built = catalogue.build(&mut words).map_err(|stop| line.end(stop))?;
-                }
-                let came = match &built {
-                    Ok(_) => Ok(told(catalogue.alloc, "ok")?),
-                    Err(error) => refusal(catalogue.alloc, error),
-                };
-                line.expect(&mut words, came)?;
-                match &built {
-                    Ok(schema) => return on_schema(catalogue, schema, &calls[index + 1..]),
-                    Err(error) => refused = error.to_string(catalogue.alloc)?,
-                }
-            }
-            BAR => {
-                words.next();
-                line.expect(&mut words, Ok(barred(catalogue.alloc, refused.as_str())?))?;
-            }
+            "build" => match built(catalogue, line)? {
+                Ok(schema) => return on_schema(catalogue, &schema, &calls[index + 1..]),
+                Err(error) => refused = error.to_string(catalogue.alloc)?,
+            },
             "by_hand" => return by_hand(catalogue, line, &calls[index + 1..]),
-            _ => {
-                let mut came = catalogue.answer(&mut words);
-                if let Err(Stop::Refused) = came {
-                    words = line.call_words();
-                    came = catalogue.answer(&mut words);
-                }
-                line.expect(&mut words, came)?;
-            }
+            _ => on_types(catalogue, line, refused.as_str())?,
         }
     }
     Ok(())
+}
+
+// What a line builds, where it is what the line wants.
+fn built<'c, 't>(
+    catalogue: Catalogue<'c, 't>,
+    line: &Line<'t>,
+) -> Result<Result<Schema<'c>, SchemaError<'c>>, End<'t>> {
+    let mut words = line.call_words();
+    words.next();
+    let mut built = catalogue.build(&mut words).map_err(|stop| line.end(stop))?;
+    if let Err(SchemaError::OutOfMemory) = built {
+        marks::out_of_memory(catalogue.alloc);
+        words = line.call_words();
+        words.next();
+        built = catalogue.build(&mut words).map_err(|stop| line.end(stop))?;
+    }
+    let came = match &built {
+        Ok(_) => done(catalogue.alloc),
+        Err(error) => refusal(catalogue.alloc, error),
+    };
+    line.expect(&mut words, came)?;
+    Ok(built)
+}
+
+// A call on the types alone, or the text of the refusal before it.
+fn on_types<'t>(
+    catalogue: Catalogue<'_, 't>,
+    line: &Line<'t>,
+    refused: &str,
+) -> Result<(), End<'t>> {
+    let mut words = line.call_words();
+    if line.keyword() == BAR {
+        words.next();
+        return line.expect(&mut words, Ok(barred(catalogue.alloc, refused)?));
+    }
+    let mut came = catalogue.answer(&mut words);
+    if let Err(Stop::Refused) = came {
+        marks::out_of_memory(catalogue.alloc);
+        words = line.call_words();
+        came = catalogue.answer(&mut words);
+    }
+    line.expect(&mut words, came)
 }
 
 fn on_schema<'c, 't>(
@@ -168,6 +185,7 @@ where
         let mut words = line.call_words();
         let mut came = session.answer(index, &mut words);
         if let Err(Stop::Refused) = came {
+            marks::out_of_memory(catalogue.alloc);
             if !session.state()?.is(&before) {
                 return Err(End::Broken(*line));
             }
@@ -211,6 +229,7 @@ fn by_hand<'t>(
         let mut words = line.call_words();
         let mut came = hand.answer(&mut words);
         if let Err(Stop::Refused) = came {
+            marks::out_of_memory(catalogue.alloc);
             if hand.state()?.as_str() != before.as_str() {
                 return Err(End::Broken(*line));
             }

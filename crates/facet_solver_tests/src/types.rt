@@ -154,9 +154,26 @@ impl<'t> Types<'t> {
             if name == "}" {
                 break;
             }
-            variants.push(self.variant(name, words)?)?;
+            match name.strip_prefix("times=") {
+                Some(times) => self.add_variants(&mut variants, parsed(times)?, words)?,
+                None => variants.push(self.variant(name, words)?)?,
+            }
         }
         Ok(variants)
+    }
+
+    // Adds the next variant so many times, each time with its number in its names.
+    fn add_variants(
+        &mut self,
+        variants: &mut Vec<Variant>,
+        times: usize,
+        words: &mut SplitWhitespace<'t>,
+    ) -> Result<(), Stop> {
+        let variant = self.variant(word(words)?, words)?;
+        for number in 0..times {
+            variants.push(numbered_variant(self.alloc, &variant, number)?)?;
+        }
+        Ok(())
     }
 
     // A name with a comma behind it stands for a unit variant.
@@ -282,6 +299,47 @@ impl<'t> Marks<'t> {
             metadata: self.metadata,
             dom: self.dom,
         })
+    }
+}
+
+// The same variant, with a number in its names.
+fn numbered_variant(
+    alloc: Global,
+    variant: &Variant,
+    number: usize,
+) -> Result<Variant, AllocError> {
+    let mut fields = Vec::new(alloc);
+    for field in &variant.fields {
+        fields.push(numbered_field(alloc, field, number)?)?;
+    }
+    Ok(Variant {
+        name: numbered(alloc, variant.name.as_str(), number)?,
+        kind: variant.kind,
+        fields,
+    })
+}
+
+fn numbered_field(alloc: Global, field: &Field, number: usize) -> Result<Field, AllocError> {
+    let rename = match &field.rename {
+        Some(rename) => Some(numbered(alloc, rename.as_str(), number)?),
+        None => None,
+    };
+    Ok(Field {
+        name: numbered(alloc, field.name.as_str(), number)?,
+        rename,
+        shape: field.shape,
+        flattened: field.flattened,
+        has_default: field.has_default,
+        metadata: field.metadata,
+        dom: field.dom,
+    })
+}
+
+// A name with a number in place of `#`, if that stands in it.
+fn numbered(alloc: Global, name: &str, number: usize) -> Result<String, AllocError> {
+    match name.split_once('#') {
+        Some((before, behind)) => format!(in alloc; "{before}{number}{behind}"),
+        None => String::from_str(alloc, name),
     }
 }
 
