@@ -1,10 +1,11 @@
-//! Inputs with the answers that are wanted, and inputs and outputs that fail.
+//! Inputs with the answers that are wanted.
+
+mod ends;
+mod sizes;
 
 use crate::answer::answer;
 use crate::serve::serve;
 use std::alloc::{AllocError, Global};
-use std::io;
-use std::io::{ErrorKind, Read, Write};
 use std::process::Abort;
 use std::test::Fail;
 
@@ -35,13 +36,17 @@ const CLASHING: &str =
 const EXTERNAL: &str =
     r#"{"shapes":[{"id":"String","kind":"scalar","scalar":"string"},{"id":"u16","kind":"scalar","scalar":"u16"},{"id":"E","kind":"enum","variants":[{"name":"Tcp","fields":[{"name":"host","shape":0},{"name":"port","shape":1}]},{"name":"Unix","fields":[{"name":"path","shape":0}]}]},{"id":"S","kind":"struct","fields":[{"name":"name","shape":0},{"name":"e","shape":2,"flatten":true}]}],"root":3,"build":"external","document":"#;
 
+/// A struct whose flattened enum has names past ASCII.
+const PAST_ASCII: &str =
+    r#"{"shapes":[{"id":"u8","kind":"scalar","scalar":"u8"},{"id":"Größe","kind":"enum","tag":"тип","variants":[{"name":"Ja","fields":[{"name":"ключ","shape":0}]},{"name":"N\u00e9in","fields":[{"name":"é","shape":0}]}]},{"id":"S","kind":"struct","fields":[{"name":"e","shape":1,"flatten":true}]}],"root":2,"build":"auto","document":"#;
+
 /// An option of itself, which is a fault.
 const FAULTY: &str = r#"{"shapes":[{"id":"O","kind":"option","of":0}],"document":{},"root":"#;
 
 /// The parts of an input, and the status and the text of the answer to it.
 type Row = (&'static [&'static str], u8, &'static str);
 
-const ROWS: [Row; 29] = [
+const ROWS: [Row; 34] = [
     (
         &[SOURCE_TYPES, "3", SOURCE_ROOT, r#"{"url":"a"}}"#],
         0,
@@ -138,6 +143,31 @@ const ROWS: [Row; 29] = [
         0,
         "resolved 0: (no variants)",
     ),
+    (
+        &[PAST_ASCII, r#"{"ключ":1,"тип":"Ja"}}"#],
+        0,
+        "resolved 0: Größe::Ja",
+    ),
+    (
+        &[PAST_ASCII, r#"{"\u00e9":1,"\u0442ип":"Néin"}}"#],
+        0,
+        "resolved 1: Größe::Néin",
+    ),
+    (
+        &[PAST_ASCII, r#"{"名前":"é"}}"#],
+        1,
+        "No matching configuration for fields [\"名前\"]\n\nNo variant matched:\n  - Größe::Ja: missing fields [\"ключ\", \"тип\"], unknown fields [\"名前\"]\n  - Größe::Néin: missing fields [\"é\", \"тип\"], unknown fields [\"名前\"]\n\nUnknown fields: [\"名前\"]",
+    ),
+    (
+        &[PAST_ASCII, r#"{"тип":"Ja"}}"#],
+        1,
+        "No matching configuration for fields [\"тип\"]\n\nNo variant matched:\n  - Größe::Ja: missing field 'ключ'",
+    ),
+    (
+        &[PAST_ASCII, r#"{"\ud83d\ude00":1,"ключ":"é","тип":"Ja"}}"#],
+        0,
+        "resolved 0: Größe::Ja",
+    ),
     (&[FAULTY, "9}"], 3, "bad catalogue 2"),
     (&[FAULTY, "4294967295}"], 3, "bad catalogue 2"),
     (&[FAULTY, "4294967296}"], 4, "bad input"),
@@ -208,121 +238,6 @@ fn inputs_that_are_cut_are_bad(rt: HostRuntime) -> Result<(), Fail> {
     let bytes = input.as_bytes();
     for end in 0..bytes.len() {
         expect_answer(&rt, alloc, &bytes[..end], (4, "bad input"))?;
-    }
-    Ok(())
-}
-
-#[test]
-fn bytes_and_lists_are_read_up_to_a_limit(rt: HostRuntime) -> Result<(), Fail> {
-    let alloc = rt.alloc();
-    for (depth, status, text) in [
-        (100, 0, "resolved 0: SourceConfig::Http"),
-        (130, 4, "bad input"),
-    ] {
-        let opened = "[".repeat(alloc, depth)?;
-        let closed = "]".repeat(alloc, depth)?;
-        let document = joined(alloc, &["{\"url\":", &opened, &closed, "}}"])?;
-        let input = joined(alloc, &[SOURCE_TYPES, "3", SOURCE_ROOT, &document])?;
-        expect_answer(&rt, alloc, input.as_bytes(), (status, text))?;
-    }
-    let mut bytes = joined(alloc, &[SOURCE_TYPES, "3", SOURCE_ROOT, "{\"url\":\""])?.into_bytes();
-    bytes.push(255)?;
-    bytes.extend_from_slice(b"\"}}")?;
-    expect_answer(&rt, alloc, &bytes, (4, "bad input"))
-}
-
-/// An input whose root flattens enums of two variants, each with a field of its own.
-fn input_of_enums(alloc: Global, count: u8, document: &str) -> Result<String, AllocError> {
-    let mut shapes = String::from_str(alloc, r#"{"id":"u8","kind":"scalar","scalar":"u8"}"#)?;
-    let mut fields = String::new(alloc);
-    let mut comma = "";
-    for index in 0..usize::from(count) {
-        let shape = index + 1;
-        shapes.push_str(&format!(in alloc;
-            r#",{{"id":"E{index}","kind":"enum","variants":[{{"name":"A{index}","fields":[{{"name":"a{index}","shape":0}}]}},{{"name":"B{index}","fields":[{{"name":"b{index}","shape":0}}]}}]}}"#
-        )?)?;
-        fields.push_str(&format!(in alloc;
-            r#"{comma}{{"name":"e{index}","shape":{shape},"flatten":true}}"#
-        )?)?;
-        comma = ",";
-    }
-    let root = usize::from(count) + 1;
-    format!(in alloc;
-        r#"{{"shapes":[{shapes},{{"id":"S","kind":"struct","fields":[{fields}]}}],"root":{root},"document":{document}}}"#
-    )
-}
-
-#[test]
-fn enums_are_resolved_up_to_a_limit(rt: HostRuntime) -> Result<(), Fail> {
-    let alloc = rt.alloc();
-    let rows = [
-        (
-            12,
-            r#"{"a0":0,"a1":0,"a2":0,"a3":0,"a4":0,"a5":0,"a6":0,"a7":0,"a8":0,"a9":0,"a10":0,"a11":0}"#,
-            0,
-            "resolved 0: E0::A0 + E1::A1 + E2::A2 + E3::A3 + E4::A4 + E5::A5 + E6::A6 + E7::A7 + E8::A8 + E9::A9 + E10::A10 + E11::A11",
-        ),
-        (13, "{}", 2, "too many resolutions"),
-        (64, "{}", 2, "too many resolutions"),
-    ];
-    for (count, document, status, text) in rows {
-        let input = input_of_enums(alloc, count, document)?;
-        expect_answer(&rt, alloc, input.as_bytes(), (status, text))?;
-    }
-    Ok(())
-}
-
-/// Gives its bytes for some reads, and then fails.
-#[derive(Drop)]
-struct FailingInput<'b> {
-    bytes: &'b [u8],
-    reads: usize,
-}
-
-impl Read for FailingInput<'_> {
-    fn read(&mut self, buf: &mut [u8]) -> io::Result<usize> {
-        if self.reads == 0 {
-            return Err(io::Error::from(ErrorKind::Other));
-        }
-        self.reads -= 1;
-        self.bytes.read(buf)
-    }
-}
-
-/// Takes some writes, and then fails.
-#[derive(Drop)]
-struct FailingOutput {
-    writes: usize,
-}
-
-impl Write for FailingOutput {
-    fn write(&mut self, buf: &[u8]) -> io::Result<usize> {
-        if self.writes == 0 {
-            return Err(io::Error::from(ErrorKind::BrokenPipe));
-        }
-        self.writes -= 1;
-        Ok(buf.len())
-    }
-
-    fn flush(&mut self) -> io::Result<()> {
-        Ok(())
-    }
-}
-
-#[test]
-fn ends_that_fail_have_their_status(rt: HostRuntime) -> Result<(), Fail> {
-    let alloc = rt.alloc();
-    let input = stored_input(alloc)?;
-    let bytes = input.as_bytes();
-    for reads in 0..2usize {
-        let mut output = Vec::new(alloc);
-        let status = serve(alloc, &mut FailingInput { bytes, reads }, &mut output);
-        assert_eq!(rt; (status, output.as_slice()), (4, b"bad input\n".as_slice()));
-    }
-    for writes in 0..2usize {
-        let mut reader = bytes;
-        let status = serve(alloc, &mut reader, &mut FailingOutput { writes });
-        assert_eq!(rt; status, 4);
     }
     Ok(())
 }
