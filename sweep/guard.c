@@ -4,15 +4,15 @@
 //   asked N where none is needed     a call that promises to take no memory made N requests
 //   held N                           the most bytes that a call held at once, beside those that were held before it
 //   out of memory without a refusal  a call said that memory was refused, and none was
-//   leaked N                         at the end of the program: how many blocks it has not given back. None need stay,
-//                                    since neither the programs nor what they are built on keep any to their end
+//   leaked N                         at the end of the program: how many blocks it has not given back. There need be
+//                                    none: a program that does nothing leaves none either
 //
-// Where a call begins and ends the tests say by marks: requests of sizes that nothing else asks for, which are neither
-// refused nor counted. The sizes, BEGIN to OUT_OF_MEMORY, are those of marks.rt in facet_solver_tests; sweep/run hands
-// them to the compiler.
+// The tests say where a call begins and ends, and they do so by marks: requests of sizes that nothing else asks for. A
+// mark is neither refused nor counted. The sizes, BEGIN to OUT_OF_MEMORY, are those of marks.rt in facet_solver_tests,
+// and sweep/run hands them to the compiler.
 //
-// The programs call malloc, realloc and free, and no other function that gives or takes blocks. The guard needs no
-// headers, since it stands on the C library that the programs stand on.
+// The programs call malloc, realloc and free, and no other function that gives or takes blocks. The guard stands on
+// nothing but the C library that they stand on, so it needs no headers.
 extern void *dlsym(void *, const char *);
 extern char *getenv(const char *);
 extern long atol(const char *);
