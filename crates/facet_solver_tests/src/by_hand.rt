@@ -2,7 +2,8 @@
 
 use crate::catalogue::Catalogue;
 use crate::error_by_hand::ErrorByHand;
-use crate::line::{BAR, Stop, answered, barred, done, word};
+use crate::line::{BAR, End, Line, Stop, answered, barred, done, word};
+use crate::marks;
 use crate::resolution::{category_of, of_resolution, refusal, whole};
 use facet_solver::{
     Field, FieldCategory, FieldInfo, FieldPath, KeyPath, PathSegment, Resolution, SchemaError,
@@ -42,8 +43,25 @@ where
         }
     }
 
-    /// All that calls change: both resolutions and the path. It is tried twice.
-    pub fn state(&self) -> Result<String, AllocError> {
+    /// Makes the call of a line, and compares its answer with what is wanted. Where it is refused memory it has to change
+    /// nothing, and is made again.
+    pub fn make(&mut self, line: &Line<'t>) -> Result<(), End<'t>> {
+        let before = self.state()?;
+        let mut words = line.call_words();
+        let mut came = self.answer(&mut words);
+        if let Err(Stop::Refused) = came {
+            marks::out_of_memory(self.catalogue.alloc);
+            if self.state()?.as_str() != before.as_str() {
+                return Err(End::Broken(*line));
+            }
+            words = line.call_words();
+            came = self.answer(&mut words);
+        }
+        line.expect(&mut words, came)
+    }
+
+    // All that calls change: both resolutions and the path. It is tried twice.
+    fn state(&self) -> Result<String, AllocError> {
         match self.whole() {
             Err(AllocError) => self.whole(),
             whole => whole,
@@ -57,8 +75,8 @@ where
         format!(in self.catalogue.alloc; "{path}, {resolution}, {other}")
     }
 
-    /// What a call answers. Where memory is refused it may be made again: what it is about is as it was.
-    pub fn answer(&mut self, words: &mut SplitWhitespace<'t>) -> Result<String, Stop> {
+    // What a call answers. Where memory is refused it may be made again: what it is about is as it was.
+    fn answer(&mut self, words: &mut SplitWhitespace<'t>) -> Result<String, Stop> {
         match word(words)? {
             "add_field" => self.add_field(words),
             "add_key_path" => self.add_key_path(words),

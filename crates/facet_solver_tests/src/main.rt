@@ -24,11 +24,12 @@ mod types;
 
 use in_code::{CHECKS, Failure};
 use line::{End, Line};
+use std::alloc::Global;
 use std::io::ErrorKind;
 use std::process::ExitCode;
 use std::rt::{Env, Files};
 use std::{env, fs, io};
-use transcript::transcripts_twice;
+use transcript::{Transcript, transcripts_twice};
 
 /// The argument that asks for the checks that only code can make.
 const IN_CODE: &str = "in_code";
@@ -110,19 +111,23 @@ fn run_file<R: Files + AllocGlobal + Print>(
 ) -> io::Result<()> {
     let text = read(rt, file)?;
     for transcript in &transcripts_twice(rt.alloc(), text.as_str())? {
-        let end = match transcript.run(rt.alloc()) {
-            Err(End::Refused) => {
-                marks::out_of_memory(rt.alloc());
-                transcript.run(rt.alloc())
-            }
-            end => end,
-        };
-        match end {
+        match run_twice(rt.alloc(), transcript) {
             Ok(()) => println!(rt; "ok {}", transcript.name)?,
             Err(end) => tell_end(rt, tally, file, transcript.name, end)?,
         }
     }
     Ok(())
+}
+
+// Runs a transcript, again where memory is refused.
+fn run_twice<'t>(alloc: Global, transcript: &Transcript<'t>) -> Result<(), End<'t>> {
+    match transcript.run(alloc) {
+        Err(End::Refused) => {
+            marks::out_of_memory(alloc);
+            transcript.run(alloc)
+        }
+        end => end,
+    }
 }
 
 // Says why a transcript ended early, and counts it.

@@ -27,9 +27,10 @@ fn variant(alloc: Global, name: &str, value: usize) -> Result<Variant, AllocErro
     })
 }
 
-fn shape(alloc: Global, name: &str, kind: ShapeKind) -> Result<Shape, AllocError> {
-    Ok(Shape {
-        type_identifier: String::from_str(alloc, name)?,
+fn add(shapes: &mut Vec<Shape>, name: &str, kind: ShapeKind) -> Result<(), AllocError> {
+    let type_identifier = String::from_str(*shapes.allocator(), name)?;
+    shapes.push(Shape {
+        type_identifier,
         kind,
         inner: None,
         proxy: None,
@@ -37,7 +38,8 @@ fn shape(alloc: Global, name: &str, kind: ShapeKind) -> Result<Shape, AllocError
         content: None,
         untagged: false,
         metadata_container: false,
-    })
+    })?;
+    Ok(())
 }
 
 fn structure(fields: Vec<Field>) -> ShapeKind {
@@ -50,13 +52,13 @@ fn structure(fields: Vec<Field>) -> ShapeKind {
 // The shapes of `Message`. A shape names others by index, and stands after those that it names.
 fn shapes(alloc: Global) -> Result<Vec<Shape>, AllocError> {
     let mut shapes = Vec::new(alloc);
-    shapes.push(shape(alloc, "String", ShapeKind::Scalar(ScalarType::String))?)?;
-    shapes.push(shape(alloc, "u8", ShapeKind::Scalar(ScalarType::U8))?)?;
-    shapes.push(shape(alloc, "Vec<u8>", ShapeKind::List(ShapeId::new(1)))?)?;
-    shapes.push(shape(alloc, "TextMessage", text_message(alloc)?)?)?;
-    shapes.push(shape(alloc, "BinaryMessage", binary_message(alloc)?)?)?;
-    shapes.push(shape(alloc, "MessagePayload", message_payload(alloc)?)?)?;
-    shapes.push(shape(alloc, "Message", message(alloc)?)?)?;
+    add(&mut shapes, "String", ShapeKind::Scalar(ScalarType::String))?;
+    add(&mut shapes, "u8", ShapeKind::Scalar(ScalarType::U8))?;
+    add(&mut shapes, "Vec<u8>", ShapeKind::List(ShapeId::new(1)))?;
+    add(&mut shapes, "TextMessage", text_message(alloc)?)?;
+    add(&mut shapes, "BinaryMessage", binary_message(alloc)?)?;
+    add(&mut shapes, "MessagePayload", message_payload(alloc)?)?;
+    add(&mut shapes, "Message", message(alloc)?)?;
     Ok(shapes)
 }
 
@@ -121,7 +123,11 @@ pub fn keys_tell_the_payload(alloc: Global) -> Result<(), Failure> {
         return Err(Failure::Broken("the root of the README's shapes"));
     }
     let schema = Schema::build(alloc, &shapes, root)?;
-    let mut solver = Solver::new(alloc, &schema)?;
+    tell(alloc, &schema)
+}
+
+fn tell(alloc: Global, schema: &Schema<'_>) -> Result<(), Failure> {
+    let mut solver = Solver::new(alloc, schema)?;
     // An identifier is a String, the shape of index 0, in both.
     let id = solver.see_key(alloc, FieldKey::flat("id"))?;
     holds(learned(alloc, &id)?, "a value of shape 0")?;

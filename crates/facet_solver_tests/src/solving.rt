@@ -1,7 +1,7 @@
 //! Calls of a solver, and those about its schema.
 
 use crate::catalogue::Catalogue;
-use crate::line::{BAR, Line, Stop, add, add_number, done, number, parsed, word, yes_or_no};
+use crate::line::{BAR, End, Line, Stop, add, add_number, done, number, parsed, word, yes_or_no};
 use crate::probing::Probing;
 use crate::resolution::{add_key, key, path};
 use crate::steps::Step;
@@ -14,9 +14,9 @@ use std::alloc::{AllocError, Global};
 use std::mem;
 use std::str::SplitWhitespace;
 
-/// All that calls change of a solver: its candidates, and the keys that it has seen.
+// All that calls change of a solver: its candidates, and the keys that it has seen.
 #[derive(Drop)]
-pub struct State<'a> {
+struct State<'a> {
     candidates: Vec<usize>,
     seen: Vec<FieldKey<'a>>,
 }
@@ -34,8 +34,8 @@ impl<'a> State<'a> {
         Ok(State { candidates, seen })
     }
 
-    /// Whether it is the same as another.
-    pub fn is(&self, other: &State<'_>) -> bool {
+    // Whether it is the same as another.
+    fn is(&self, other: &State<'_>) -> bool {
         self.candidates.as_slice() == other.candidates.as_slice()
             && self.seen.as_slice() == other.seen.as_slice()
     }
@@ -87,20 +87,33 @@ where
         })
     }
 
-    /// The state of the solver that is told keys. It is tried twice.
-    pub fn state(&self) -> Result<State<'r>, AllocError> {
+    /// Makes the call at an index, whose line is given, and compares its answer with what is wanted. Where it is refused
+    /// memory it has to change nothing, and is made again.
+    pub fn make(&mut self, index: usize, line: &Line<'t>) -> Result<(), End<'t>> {
+        let before = self.state()?;
+        let mut words = line.call_words();
+        let mut came = self.answer(index, &mut words);
+        if let Err(Stop::Refused) = came {
+            marks::out_of_memory(self.catalogue.alloc);
+            if !self.state()?.is(&before) {
+                return Err(End::Broken(*line));
+            }
+            words = line.call_words();
+            came = self.answer(index, &mut words);
+        }
+        line.expect(&mut words, came)
+    }
+
+    // The state of the solver that is told keys. It is tried twice.
+    fn state(&self) -> Result<State<'r>, AllocError> {
         match State::of(self.catalogue.alloc, &self.solver) {
             Err(AllocError) => State::of(self.catalogue.alloc, &self.solver),
             state => state,
         }
     }
 
-    /// What the call at an index answers. Where memory is refused it may be made again: the solver is as it was.
-    pub fn answer(
-        &mut self,
-        index: usize,
-        words: &mut SplitWhitespace<'t>,
-    ) -> Result<String, Stop> {
+    // What the call at an index answers. Where memory is refused it may be made again: the solver is as it was.
+    fn answer(&mut self, index: usize, words: &mut SplitWhitespace<'t>) -> Result<String, Stop> {
         self.next.calls = index;
         match word(words)? {
             "run" => self.run(words),

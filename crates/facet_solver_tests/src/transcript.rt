@@ -180,19 +180,7 @@ where
 {
     let mut session = Session::new(catalogue, schema, runs, calls)?;
     for index in 0..calls.len() {
-        let line = &calls[index];
-        let before = session.state()?;
-        let mut words = line.call_words();
-        let mut came = session.answer(index, &mut words);
-        if let Err(Stop::Refused) = came {
-            marks::out_of_memory(catalogue.alloc);
-            if !session.state()?.is(&before) {
-                return Err(End::Broken(*line));
-            }
-            words = line.call_words();
-            came = session.answer(index, &mut words);
-        }
-        line.expect(&mut words, came)?;
+        session.make(index, &calls[index])?;
     }
     Ok(())
 }
@@ -225,18 +213,7 @@ fn by_hand<'t>(
         .map_err(|stop| line.end(stop))?;
     let mut hand = Hand::new(catalogue, field);
     for line in calls {
-        let before = hand.state()?;
-        let mut words = line.call_words();
-        let mut came = hand.answer(&mut words);
-        if let Err(Stop::Refused) = came {
-            marks::out_of_memory(catalogue.alloc);
-            if hand.state()?.as_str() != before.as_str() {
-                return Err(End::Broken(*line));
-            }
-            words = line.call_words();
-            came = hand.answer(&mut words);
-        }
-        line.expect(&mut words, came)?;
+        hand.make(line)?;
     }
     Ok(())
 }
