@@ -1,5 +1,6 @@
 // Watches the memory of the program that it is loaded into, and refuses one request for it: the one whose number REFUSE
-// gives, from 1. What it sees it writes on standard error, each in a line:
+// gives, from 1. It also has reads of standard input and writes on standard output take few bytes, or fail. What it
+// sees it writes on standard error, each in a line:
 //   refused                          the request of that number is refused
 //   asked N where none is needed     a call that promises to take no memory made N requests
 //   held N                           the most bytes that a call held at once, beside those that were held before it
@@ -11,15 +12,28 @@
 // mark is neither refused nor counted. The sizes, BEGIN to OUT_OF_MEMORY, are those of marks.rt in facet_solver_tests,
 // and sweep/run hands them to the compiler.
 //
-// The programs call malloc, realloc and free, and no other function that gives or takes blocks. The guard stands on
-// nothing but the C library that they stand on, so it needs no headers.
+// How reads of standard input go is said by two numbers of the environment, and by two more how writes on standard
+// output go:
+//   READS, WRITES            the most bytes that one takes: the first takes a byte, the next two, and so on up to this
+//                            number, then a byte again. Where it is not set, each takes all that it is asked for
+//   READS_LEFT, WRITES_LEFT  how many are made before all others fail. Where it is not set, none fails
+// A read takes less only where the input ends, and not where a pipe has no more bytes yet. So the number of a request
+// goes by the input alone.
+//
+// The programs call malloc, realloc and free, and no other function that gives or takes blocks. They call read for what
+// they read, and write for what they write. The guard stands on nothing but the C library that they stand on, so it
+// needs no headers.
 extern void *dlsym(void *, const char *);
 extern char *getenv(const char *);
 extern long atol(const char *);
 extern int snprintf(char *, unsigned long, const char *, ...);
 extern long write(int, const void *, unsigned long);
+extern int *__errno_location(void);
 
 #define NEXT ((void *)-1L)
+
+// Errors of the C library: a call was interrupted, a read failed, and no one reads what is written.
+enum { INTERRUPTED = 4, FAILED = 5, BROKEN_PIPE = 32 };
 
 // What stands before each block. It is as long as the C library aligns blocks.
 struct head {
@@ -41,6 +55,12 @@ static int refused;
 static void tell(const char *text, unsigned long number) {
   char line[64];
   write(2, line, snprintf(line, sizeof line, text, number));
+}
+
+// A number of the environment, or another one where it is not set.
+static long number(const char *name, long unset) {
+  const char *text = getenv(name);
+  return text ? atol(text) : unset;
 }
 
 // Whether a request is a mark, which is then done.
@@ -67,10 +87,7 @@ static int is_mark(unsigned long size) {
 // Whether a request, which is counted, is the one to refuse.
 static int is_refused(void) {
   static long left = -1;
-  if (left < 0) {
-    const char *number = getenv("REFUSE");
-    left = number ? atol(number) : 0;
-  }
+  if (left < 0) left = number("REFUSE", 0);
   requests++;
   if (left == 0 || --left > 0) return 0;
   refused = 1;
@@ -116,6 +133,57 @@ void free(void *block) {
   blocks--;
   bytes -= head->size;
   next(head);
+}
+
+// How the reads of standard input go, or the writes on standard output.
+struct way {
+  long most; // The most bytes that one takes, or 0 where each takes all that it is asked for.
+  long next; // The most that the next one takes.
+  long left; // How many are made before all others fail, or below 0 where none fails.
+};
+
+static struct way reads, writes;
+
+__attribute__((constructor)) static void begin(void) {
+  reads = (struct way){number("READS", 0), 1, number("READS_LEFT", -1)};
+  writes = (struct way){number("WRITES", 0), 1, number("WRITES_LEFT", -1)};
+}
+
+// How many bytes a read or a write takes that is asked for so many, or -1 where it fails, with an error.
+static long taken(struct way *way, unsigned long asked, int error) {
+  if (way->left == 0) {
+    *__errno_location() = error;
+    return -1;
+  }
+  if (way->left > 0) way->left--;
+  if (way->most == 0) return asked;
+  unsigned long most = way->next;
+  way->next = way->next < way->most ? way->next + 1 : 1;
+  return most < asked ? most : asked;
+}
+
+long read(int file, void *bytes, unsigned long asked) {
+  static long (*next)(int, void *, unsigned long);
+  if (!next) next = dlsym(NEXT, "read");
+  if (file != 0) return next(file, bytes, asked);
+  long count = taken(&reads, asked, FAILED), done = 0;
+  if (count < 0) return -1;
+  while (done < count) {
+    long more = next(file, (char *)bytes + done, count - done);
+    if (more < 0 && *__errno_location() == INTERRUPTED) continue;
+    if (more < 0) return -1;
+    if (more == 0) break;
+    done += more;
+  }
+  return done;
+}
+
+long write(int file, const void *bytes, unsigned long asked) {
+  static long (*next)(int, const void *, unsigned long);
+  if (!next) next = dlsym(NEXT, "write");
+  if (file != 1) return next(file, bytes, asked);
+  long count = taken(&writes, asked, BROKEN_PIPE);
+  return count < 0 ? -1 : next(file, bytes, count);
 }
 
 __attribute__((destructor)) static void end(void) { tell("leaked %lu\n", blocks); }

@@ -8,8 +8,6 @@ mod fits;
 mod reading;
 mod serve;
 mod tell;
-#[cfg(test)]
-mod tests;
 
 use serve::serve;
 use std::process::ExitCode;
