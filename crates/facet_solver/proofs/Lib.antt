@@ -24,6 +24,7 @@ pub mod Serving
 pub mod Brought
 pub mod CatchAlls
 pub mod Emissions
+pub mod Counted
 pub mod SharedBits
 pub mod FieldCategories
 pub mod NamedEntries

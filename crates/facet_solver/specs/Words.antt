@@ -14,6 +14,10 @@ words_of (Many words) = words.items
 abbrev pub word_count : ℕ → ℕ
 word_count bound = (bound - 1) / 64 + 1
 
+-- how many words are begun by so many indices, 64 a word: none by none
+abbrev pub begun_words : ℕ → ℕ
+begun_words n = (n + 63) / 64
+
 -- whether the bit of an index is set, where a function gives the words by their indices
 unfoldable pub bit_of : (ℕ → ℕ) → ℕ → Bool
 bit_of word i = nat_eq (bit_at (word (i / 64)) (i % 64)) 1

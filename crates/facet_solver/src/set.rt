@@ -1,6 +1,7 @@
 //! Sets of resolutions, by their indices.
 ghost use Rattle.std.specs.Prelude.{◌≡◌, ◌↔◌, ◌+◌, ◌<◌, ◌≤◌, ◌||◌, [], All, IfOk, IsOk, IsTrue, filter, length, nat_eq, slice_get};
 ghost use Rattle.std.specs.List.Sorted.{IsStrictlyIncreasing};
+ghost use Rattle.facet_solver_shape.specs.Steps.{NoCountFalls};
 ghost use Rattle.facet_solver.specs.IndexSet.{IsWithin, how_many, matches_view, full, has, upto};
 ghost use Rattle.facet_solver.specs.Words.{word_count};
 
@@ -81,6 +82,7 @@ impl ResolutionSet {
             ≡ record self.old { members = filter (has other.now.members) self.old.members } }
         ensures words { steps.new.words ≤ steps.old.words + word_count self.old.bound }
         ensures searches { steps.new.searches ≡ steps.old.searches }
+        ensures no_fall { NoCountFalls steps.old steps.new }
     {
         self.words.keep(other.words.as_slice(), steps);
     }
@@ -96,6 +98,7 @@ impl ResolutionSet {
         ensures words { steps.new.words + result.unread
             ≤ steps.old.words + word_count self.now.bound }
         ensures searches { steps.new.searches ≡ steps.old.searches }
+        ensures no_fall { NoCountFalls steps.old steps.new }
         ensures within { All (λ i. i < self.now.bound) self.now.members }
     {
         CommonIter::new(self.words.as_slice(), other.words.as_slice(), steps)

@@ -4,12 +4,13 @@ ghost use Rattle.std.specs.Bool.{OnFalse};
 ghost use Rattle.std.specs.List.Sorted.{IsStrictlyIncreasing};
 ghost use Rattle.facet_solver_shape.specs.Keys.{dom_key, key_of};
 ghost use Rattle.facet_solver_shape.specs.declared.resolution.key.FieldCategory.TheVariants.{Attribute, Element, Text};
+ghost use Rattle.facet_solver_shape.specs.Steps.{NoCountFalls};
 ghost use Rattle.facet_solver.specs.Schema.{IsHandleOf, index_of};
 ghost use Rattle.facet_solver.specs.IndexSet.{IsWithin, how_many, matches_view};
 ghost use Rattle.facet_solver.specs.KeyResult.{HaveShape, HoldsHandleOf, IsUnknownOrSolved, key_result, key_result_view};
 ghost use Rattle.facet_solver.specs.State as state;
 ghost use Rattle.facet_solver.specs.State.{narrowed, new_solver, passing};
-ghost use Rattle.facet_solver.specs.Words.{word_count};
+ghost use Rattle.facet_solver.specs.Words.{begun_words};
 
 pub(crate) mod conditions;
 pub(crate) mod distinct_fields;
@@ -126,9 +127,9 @@ impl<'s, 'c, 'a> Solver<'s, 'c, 'a> {
     /// Sees a key as [`Solver::see_key`] does, and counts the words of the index that it reads and its searches of a
     /// resolution for a field.
     ///
-    /// It reads at most two words for each 64 resolutions that are begun, and searches at most each candidate that is
-    /// left. It searches none where the answer is `Unknown` or `Solved`, nor where the fields that the key means in the
-    /// resolutions of the schema have one shape.
+    /// It reads at most two words for each 64 resolutions that are begun, so none where there are none, and searches at
+    /// most each candidate that is left. It searches none where the answer is `Unknown` or `Solved`, nor where the fields
+    /// that the key means in the resolutions of the schema have one shape.
     pub fn see_key_counted(
         &mut self,
         alloc: Global,
@@ -141,9 +142,10 @@ impl<'s, 'c, 'a> Solver<'s, 'c, 'a> {
         ensures ok { OnOk result (self.new ≡ state.see_key (key_of key.entry) self.old) }
         ensures err { OnErr result (self.new ≡ self.old) }
         ensures words { steps.new.words
-            ≤ steps.old.words + 2 * word_count (length self.old.schema.resolutions) }
+            ≤ steps.old.words + 2 * begun_words (length self.old.schema.resolutions) }
         ensures searches { steps.new.searches
             ≤ steps.old.searches + length self.new.candidates }
+        ensures no_fall { NoCountFalls steps.old steps.new }
         ensures no_search { IfOk result (λ answer. IsUnknownOrSolved (key_result_view answer)
             → steps.new.searches ≡ steps.old.searches) }
         ensures agreed { (shape : ℕ)

@@ -1,6 +1,7 @@
 //! Indices as bits of words, 64 a word.
 ghost use Rattle.std.specs.Prelude.{◌≡◌, ℕ, ◌∷◌, [], ◌+◌, ◌-◌, ◌*◌, ◌^◌, ◌<◌, ◌≤◌, ◌↔◌, ◌&&◌, IfOk, IfSome, IsTrue, MatchOption, length, nat_eq, replicate, slice_index, vec_len};
 ghost use Rattle.std.specs.Int.{bit_at};
+ghost use Rattle.facet_solver_shape.specs.Steps.{NoCountFalls};
 ghost use Rattle.facet_solver.specs.IndexSet.{has};
 ghost use Rattle.facet_solver.specs.SharedBits.{IsNext, IsNextShared, NoneBetween, common_word};
 ghost use Rattle.facet_solver.specs.Words.{IsClearFrom, IsFull, KeepsBits, bit_of, has_bit, members_from, members_of, word_count};
@@ -172,6 +173,7 @@ pub(crate) fn next_shared(
     ensures unread { IfSome result (λ found. steps.new.words + (length words.now - (found.0 + 1))
         ≤ steps.old.words + (length words.now - from)) }
     ensures searches { steps.new.searches ≡ steps.old.searches }
+    ensures no_fall { NoCountFalls steps.old steps.new }
     ensures shared { MatchOption result
         ((k : ℕ) → from ≤ k → common_word words.now others.now k ≡ 0)
         (IsNextShared (common_word words.now others.now) from (length words.now)) }
@@ -190,6 +192,7 @@ pub(crate) fn keep_words(words: &mut [u64], others: &[u64], steps: &mut Steps)
     requires { length words.old ≡ length others.now }
     ensures words { steps.new.words ≡ steps.old.words + length words.old }
     ensures searches { steps.new.searches ≡ steps.old.searches }
+    ensures no_fall { NoCountFalls steps.old steps.new }
     ensures len { length words.new ≡ length words.old }
     ensures kept { (k : ℕ) → slice_index words.new k ≡ common_word words.old others.now k }
 {

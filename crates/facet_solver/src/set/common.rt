@@ -1,5 +1,6 @@
 //! The indices that two sets share, one after another.
 ghost use Rattle.std.specs.Prelude.{◌≡◌, ◌+◌, ◌-◌, ◌∷◌, ◌^◌, ◌<◌, ◌≤◌, [], IfSome, MatchOption, length};
+ghost use Rattle.facet_solver_shape.specs.Steps.{NoCountFalls};
 ghost use Rattle.facet_solver.specs.SharedBits.{common_from};
 ghost use Rattle.facet_solver.specs.Words.{IsClearFrom};
 
@@ -48,6 +49,7 @@ impl<'s> CommonIter<'s> {
         ensures items { result.items ≡ common_from words.now others.now 0 }
         ensures words { steps.new.words + result.unread ≡ steps.old.words + length words.now }
         ensures searches { steps.new.searches ≡ steps.old.searches }
+        ensures no_fall { NoCountFalls steps.old steps.new }
     {
         CommonIter {
             words,
@@ -66,6 +68,7 @@ impl<'s> CommonIter<'s> {
         ensures unread { IfSome result (λ index.
             steps.new.words + self.new.unread ≤ steps.old.words + self.old.unread) }
         ensures searches { steps.new.searches ≡ steps.old.searches }
+        ensures no_fall { NoCountFalls steps.old steps.new }
     {
         if let Some(index) = next_in_word(self.word, self.place, self.next) {
             self.next = index + 1;

@@ -1,5 +1,6 @@
 //! The words of a set. One word takes no memory of its own.
 ghost use Rattle.std.specs.Prelude.{◌≡◌, ℕ, ◌+◌, ◌*◌, ◌/◌, ◌%◌, ◌^◌, ◌<◌, ◌≤◌, ◌&&◌, IfOk, IsOk, bit_or, length, replicate, slice_index, slice_set};
+ghost use Rattle.facet_solver_shape.specs.Steps.{NoCountFalls};
 ghost use Rattle.facet_solver.specs.SharedBits.{common_word};
 ghost use Rattle.facet_solver.specs.Words.{IsFull, has_bit, word_count, words_of};
 
@@ -83,6 +84,7 @@ impl Words {
         requires { length (words_of self.old) ≡ length others.now }
         ensures words { steps.new.words ≡ steps.old.words + length (words_of self.old) }
         ensures searches { steps.new.searches ≡ steps.old.searches }
+        ensures no_fall { NoCountFalls steps.old steps.new }
         ensures len { length (words_of self.new) ≡ length (words_of self.old) }
         ensures kept { (k : ℕ) → slice_index (words_of self.new) k
             ≡ common_word (words_of self.old) others.now k }

@@ -3,6 +3,7 @@ ghost use Rattle.std.specs.Prelude.{◌≡◌, ◌+◌, ◌++◌, ◌∷◌, [],
 ghost use Rattle.std.specs.List.{list_any};
 ghost use Rattle.std.specs.Option.{option_copied};
 ghost use Rattle.facet_solver_shape.specs.Keys.{key_of};
+ghost use Rattle.facet_solver_shape.specs.Steps.{NoCountFalls};
 ghost use Rattle.facet_solver.specs.KeyResult as key_result;
 ghost use Rattle.facet_solver.specs.KeyResult.{field_at, scored_view};
 
@@ -49,6 +50,7 @@ pub(crate) fn distinct_fields<'s, 'c>(
     ensures words { steps.new.words ≤ steps.old.words + rest.entry.unread }
     ensures searches { steps.new.searches
         ≤ steps.old.searches + length (first ∷ second ∷ rest.entry.items) }
+    ensures no_fall { NoCountFalls steps.old steps.new }
 {
     let mut fields = Vec::new(alloc);
     add_if_new(&mut fields, search, first, steps)?;

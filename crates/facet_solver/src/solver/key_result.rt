@@ -1,11 +1,12 @@
 //! What a solver answers to a key.
 ghost use Rattle.std.specs.Prelude.{◌≡◌, ◌↔◌, ◌+◌, ◌<◌, ◌≤◌, ℕ, IfOk, IsTrue, length, map};
 ghost use Rattle.facet_solver_shape.specs.Keys.{key_of};
+ghost use Rattle.facet_solver_shape.specs.Steps.{NoCountFalls};
 ghost use Rattle.facet_solver.specs.Indexed.{IsEntry};
 ghost use Rattle.facet_solver.specs.KeyResult.{HaveShape, HoldsHandleOf, IsUnknownOrSolved, field_at, key_result, key_result_view, of_fields, scored_view, solved, unknown};
 ghost use Rattle.facet_solver.specs.Schema.{SchemaView};
 ghost use Rattle.facet_solver.specs.State.{has_key, passing, state_of};
-ghost use Rattle.facet_solver.specs.Words.{word_count};
+ghost use Rattle.facet_solver.specs.Words.{begun_words};
 
 use crate::schema::Schema;
 use crate::schema::handle::ResolutionHandle;
@@ -81,10 +82,11 @@ pub(crate) fn key_result<'s, 'c>(
         IfOk result (λ answer. key_result_view answer ≡ key_result (key_of search.now.key) state) }
     ensures handle { IfOk result (HoldsHandleOf search.now.schema.now) }
     ensures words { steps.new.words
-        ≤ steps.old.words + word_count (length search.now.schema.now.resolutions) }
+        ≤ steps.old.words + begun_words (length search.now.schema.now.resolutions) }
     ensures searches { let state = state_of search.now.schema.now candidates.now.members in
         steps.new.searches
         ≤ steps.old.searches + length (passing (has_key (key_of search.now.key)) state) }
+    ensures no_fall { NoCountFalls steps.old steps.new }
     ensures no_search { IfOk result (λ answer. IsUnknownOrSolved (key_result_view answer)
         → steps.new.searches ≡ steps.old.searches) }
     ensures agreed { let resolutions = search.now.schema.now.resolutions in

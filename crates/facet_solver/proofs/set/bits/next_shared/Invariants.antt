@@ -8,4 +8,5 @@ invariant-loop-place l = record {
   within : l.place ≤ length l.words;
   words : l.steps.words + l.from ≡ l.fn.steps.words + l.place;
   searches : l.steps.searches ≡ l.fn.steps.searches;
+  visits : l.steps.visits ≡ l.fn.steps.visits;
 }

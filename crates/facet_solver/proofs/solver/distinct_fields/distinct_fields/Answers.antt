@@ -2,6 +2,7 @@ use Rattle.std.proofs.Common.{◌∷◌, ◌++◌, [], length, map, ap, refl, ar
 use Rattle.facet_solver_shape.specs.Steps.{StepCounts}
 use Rattle.facet_solver.specs.KeyResult.{scored_view}
 use Rattle.facet_solver.proofs.IndexSet.{rest_more}
+use Rattle.facet_solver.proofs.Counted.{no_fall-trans, searched}
 use Rattle.facet_solver.proofs.solver.distinct_fields.distinct_fields.Goals as goal
 
 pub loop-index-init : goal.loop-index-init
@@ -14,6 +15,7 @@ loop-index-init c =
       shown = ([], refl, c.in_ok-add_if_new-2.ensures.fields (c.args.first ∷ []) (c.in_ok-add_if_new.ensures.fields [] (ap (map scored_view) c.new-fields.ensures.items)));
       words = omega (arith, words, words_2);
       searches = omega (arith, searches, searches_2);
+      no_fall = no_fall-trans _ _ _ (searched _ _ c.in_ok-add_if_new.ensures.steps) (searched _ _ c.in_ok-add_if_new-2.ensures.steps);
     }
 
 pub loop-index-preserved : goal.loop-index-preserved
@@ -31,4 +33,5 @@ loop-index-preserved c =
       );
       words = omega (arith, words, c.in-Some.ensures.unread, before.words);
       searches = omega (arith, searches, shorter, c.in-Some.ensures.searches, before.searches);
+      no_fall = no_fall-trans _ _ _ (no_fall-trans _ _ _ before.no_fall c.in-Some.ensures.no_fall) (searched _ _ c.in_ok-add_if_new-3.ensures.steps);
     }

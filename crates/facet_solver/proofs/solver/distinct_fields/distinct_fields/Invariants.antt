@@ -1,5 +1,6 @@
 use Rattle.std.proofs.Common.{◌≡◌, ◌≤◌, ◌+◌, ℕ, List, ◌∷◌, ◌++◌, length, map}
 use Rattle.facet_solver_shape.specs.Keys.{key_of}
+use Rattle.facet_solver_shape.specs.Steps.{NoCountFalls}
 use Rattle.facet_solver.specs.KeyResult.{distinct_fields, scored_view}
 use Rattle.facet_solver.proofs.solver.distinct_fields.distinct_fields.Given as goal
 
@@ -9,6 +10,7 @@ invariant-loop-index l = record {
       × (map scored_view l.fields.items ≡ distinct_fields (key_of l.search.key) l.search.schema.now (l.first ∷ l.second ∷ yielded));
   words : l.steps.words + l.rest.unread ≤ l.fn.steps.words + l.fn.rest.unread;
   searches : l.steps.searches + length l.rest.items ≤ l.fn.steps.searches + 2 + length l.fn.rest.items;
+  no_fall : NoCountFalls l.fn.steps l.steps;
 }
 
 abbrev pub decreases-loop-index : goal.decreases-loop-index
