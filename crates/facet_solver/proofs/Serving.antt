@@ -1,10 +1,12 @@
 -- What tables of nested key paths serve: their entries are the sets that walks emit, and walks ask for no others.
-use Rattle.std.proofs.Common.{◌≡◌, ◌<◌, ℕ, List, Option, Some, None, Bool, true, false, refl, sym, ap, ◌∙◌, subst, map, slice_get, length, get_or}
-use Rattle.std.specs.Prelude.{All, Vec, nat_lt, ⊤, if◌then◌else◌}
+use Rattle.std.proofs.Common.{◌≡◌, ◌<◌, ℕ, List, Option, Some, None, Bool, true, false, refl, sym, ap, ◌∙◌, subst, slice_get, length, get_or}
+use Rattle.std.specs.Prelude.{All, IfSome, Vec, nat_lt, ⊤, if◌then◌else◌}
 use Rattle.std.specs.Option.{option_map}
 use Rattle.std.specs.declared.alloc.Global.{Global}
 use Rattle.std.proofs.lemmas.Option.{get_or_from_slice_get, slice_get-map, slice_get_within}
 use Rattle.facet_solver_shape.specs.Catalogues.{NamesEarlier}
+use Rattle.facet_solver_shape.specs.Names.{Name}
+use Rattle.facet_solver_shape.specs.Resolved.{Resolved}
 use Rattle.facet_solver_shape.specs.declared.shape.Field.{Field}
 use Rattle.facet_solver_shape.specs.declared.shape.Shape.{Shape}
 use Rattle.facet_solver_shape.specs.declared.shape.ShapeKind.{ShapeKind}
@@ -17,8 +19,8 @@ use Rattle.facet_solver.specs.declared.build.place.Chosen.{Chosen}
 use Rattle.facet_solver.specs.declared.build.role.Target.{Target}
 use Rattle.facet_solver.specs.Build.{Build, Catalogue, kind_at, kind_of, repr_for}
 use Rattle.facet_solver.specs.Content.{newtype_fields, struct_fields}
-use Rattle.facet_solver.specs.Nested.{Entered, KeyPaths, content_paths, every_kind, nested_paths, no_paths, structs_alone, under_shape, under_variant}
-use Rattle.facet_solver.specs.NestedTable.{AreEntries, EntryLeadsTo, IsFilled, LeadEarlier, StandFor, entry_at, is_filled, paths_by_name, variants_of}
+use Rattle.facet_solver.specs.Nested.{Entered, KeyPaths, content_paths, every_kind, named, nested_paths, no_paths, structs_alone, under_shape, under_variant, with_key_paths}
+use Rattle.facet_solver.specs.NestedTable.{AreEntries, EntryLeadsTo, IsFilled, LeadEarlier, StandFor, entry_at, is_filled, paths_by_name, variant_at, variants_of}
 use Rattle.facet_solver.specs.Reached.{ContentReachedBy, FieldReached, IsChosen, KindReached, Reach, RoleReached, ServesEnum, ServesField, ServesFields, ServesVariant, ShapeReached, VariantReached}
 use Rattle.facet_solver.specs.Representation.{is_walked}
 use Rattle.facet_solver.specs.Roles.{Role, alternatives, block, catch_all, leaf, regular, role_by_kind, role_of, role_of_target, target_of}
@@ -61,17 +63,24 @@ found_item f (Some x) y e = (x, refl, cc)
 
 -- the key paths under the content of a variant, at the variant's index
 pub variant_entry : (cat : Catalogue) (entries : List (Option Entry)) (id : ℕ) (entry : Entry) → AreEntries every_kind cat entries → entry_at entries id ≡ Some entry
-    → (s : Shape) (vs : Vec Variant Global) → slice_get cat id ≡ Some s → s.kind ≡ Enum vs → (i : ℕ) (v : Variant) → slice_get vs.items i ≡ Some v
+    → (i : ℕ) (v : Variant) → variant_at cat id i ≡ Some v
     → (fields : FieldsByName) × (slice_get entry.variants.items i ≡ Some fields) × (paths_by_name (under_shape every_kind cat) fields ≡ content_paths cat v)
 unfolding content_paths
-variant_entry cat entries id entry are at s vs shape kind i v found =
-    let is_enum : kind_at cat id ≡ Enum vs = ap kind_of shape ∙ kind in
+variant_entry cat entries id entry are at i v found =
     let stands = paths_by_name (under_shape every_kind cat) in
     found_item stands (slice_get entry.variants.items i) (under_variant every_kind cat v)
     (sym (slice_get-map stands entry.variants.items i)
-    ∙ ap (λ (ps : List KeyPaths). slice_get ps i) ((are id entry at).variants ∙ ap (λ (k : ShapeKind). map (under_variant every_kind cat) (variants_of k)) is_enum)
-    ∙ slice_get-map (under_variant every_kind cat) vs.items i
+    ∙ ap (λ (ps : List KeyPaths). slice_get ps i) (are id entry at).variants
+    ∙ slice_get-map (under_variant every_kind cat) (variants_of (kind_at cat id)) i
     ∙ ap (option_map (under_variant every_kind cat)) found)
+
+-- a chosen variant stands at its index, so the key paths added are those under its content
+pub chosen_paths : (cat : Catalogue) (chosen : Chosen) (name : Name) (old new : Resolved) → IsChosen cat chosen
+    → IfSome (variant_at cat chosen.target.shape chosen.index) (λ v. new ≡ with_key_paths old (named name (content_paths cat v)))
+    → new ≡ with_key_paths old (named name (content_paths cat chosen.variant.now))
+chosen_paths cat chosen name old new is added =
+    subst (λ (o : Option Variant). IfSome o (λ v. new ≡ with_key_paths old (named name (content_paths cat v))))
+    (ap (λ (k : ShapeKind). slice_get (variants_of k) chosen.index) (ap kind_of is.shape ∙ is.kind) ∙ is.variant) added
 
 -- ---- what a walk asks for is served where it goes
 -- the fields of a struct that is marked

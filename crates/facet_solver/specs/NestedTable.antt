@@ -19,6 +19,10 @@ abbrev pub variants_of : ShapeKind → List Variant
 variants_of (Enum variants) = variants.items
 variants_of _ = []
 
+-- the variant at an index of the enum whose index comes first
+abbrev pub variant_at : Catalogue → ℕ → ℕ → Option Variant
+variant_at cat id index = slice_get (variants_of (kind_at cat id)) index
+
 -- whether the key paths through a field have those under its shape among them
 abbrev pub asks : Entered → Catalogue → Field → Bool
 asks entered cat f = f.flattened || entered (kind_at cat f.shape)

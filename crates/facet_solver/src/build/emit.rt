@@ -50,9 +50,10 @@ fn emit_regular<'c>(
 {
     let info = regular_field(walker.build, field, place)?;
     resolution.add_field(info)?;
+    let name = field.effective_name();
     walker
         .tables
-        .add_field_paths(walker.build, field, resolution)?;
+        .add_field_paths(walker.build, name, field.shape, resolution)?;
     Ok(())
 }
 
@@ -166,9 +167,10 @@ fn add_external_selector<'c>(
     let name = chosen.variant.name.as_str();
     let info = selector_field(walker.build, name, chosen, place)?;
     resolution.add_field(info)?;
+    let shape = chosen.target.shape;
     walker
         .tables
-        .add_content_paths(walker.build, name, chosen, resolution)?;
+        .add_content_paths(walker.build, name, shape, chosen.index, resolution)?;
     Ok(())
 }
 
@@ -193,9 +195,10 @@ fn emit_selector<'c>(
         EnumRepr::InternallyTagged { tag } => add_selector(walker, tag, chosen, place, resolution),
         EnumRepr::AdjacentlyTagged { tag, content } => {
             add_selector(walker, tag, chosen, place, resolution)?;
+            let shape = chosen.target.shape;
             walker
                 .tables
-                .add_content_paths(walker.build, content, chosen, resolution)?;
+                .add_content_paths(walker.build, content, shape, chosen.index, resolution)?;
             Ok(())
         }
     }

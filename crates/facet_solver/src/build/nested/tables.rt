@@ -1,20 +1,18 @@
 //! The two tables from which the walks of a root's choices take nested key paths.
-ghost use Rattle.std.specs.Prelude.{◌≡◌, ◌*◌, ◌+◌, ◌<◌, ◌≤◌, IfOk, OnOk, length};
+ghost use Rattle.std.specs.Prelude.{◌≡◌, ◌*◌, ◌+◌, ◌<◌, ◌≤◌, IfOk, IfSome, IsSome, OnOk, length};
 ghost use Rattle.facet_solver_shape.specs.Catalogues.{NamesEarlier};
-ghost use Rattle.facet_solver_shape.specs.Names.{effective_name};
 ghost use Rattle.facet_solver.specs.Build.{build_of};
 ghost use Rattle.facet_solver.specs.Nested.{content_paths, named, nested_paths, with_key_paths};
 ghost use Rattle.facet_solver.specs.FieldCount.{field_count};
-ghost use Rattle.facet_solver.specs.NestedTable.{IsFilled};
-ghost use Rattle.facet_solver.specs.Reached.{AreTables, IsChosen, ServesRegular, ServesRoot};
+ghost use Rattle.facet_solver.specs.NestedTable.{IsFilled, variant_at};
+ghost use Rattle.facet_solver.specs.Reached.{AreTables, ServesRegular, ServesRoot};
 
 use crate::build::Build;
 use crate::build::nested::Entered;
 use crate::build::nested::paths::key_path;
 use crate::build::nested::reached::mark_reached;
 use crate::build::nested::table::NestedTable;
-use crate::build::place::Chosen;
-use facet_solver_shape::{Field, Resolution, ShapeId, Steps};
+use facet_solver_shape::{Resolution, ShapeId, Steps};
 use std::alloc::AllocError;
 
 /// The nested key paths that the walks of a root's choices ask for.
@@ -54,42 +52,43 @@ impl<'c> NestedTables<'c> {
     pub(crate) fn add_field_paths(
         &self,
         build: Build<'c>,
-        field: &'c Field,
+        name: &'c str,
+        shape: ShapeId,
         resolution: &mut Resolution<'c>,
     ) -> Result<(), AllocError>
         requires checked { NamesEarlier build.shapes.now }
         requires entries { AreTables (build_of build) self.now }
-        requires asked { ServesRegular self.now build.shapes.now field.now.shape }
-        ensures ok { let paths = nested_paths build.entry.shapes.now field.now.shape in
-            OnOk result (resolution.new
-            ≡ with_key_paths resolution.old (named (effective_name field.now) paths)) }
+        requires asked { ServesRegular self.now build.shapes.now shape }
+        ensures ok { let paths = nested_paths build.entry.shapes.now shape in
+            OnOk result (resolution.new ≡ with_key_paths resolution.old (named name.now paths)) }
     {
-        let name = field.effective_name();
-        if !Entered::StructsAlone.has(build.shapes, field.shape) {
+        if !Entered::StructsAlone.has(build.shapes, shape) {
             return resolution.add_key_path(key_path(build.alloc, name)?);
         }
-        let under = &self.structs.entry(field.shape).under;
+        let under = &self.structs.entry(shape).under;
         self.structs.add_named(build.alloc, name, under, resolution)
     }
 
-    /// Adds the key path of the name that holds the content of a chosen variant, which is written apart from its enum's
-    /// siblings, and behind it those under the content.
+    /// Adds the key path of the name that holds the content of a variant, by the shape of its enum and its index there. The
+    /// content is written apart from the enum's siblings. Behind the name it adds the key paths under the content.
     pub(crate) fn add_content_paths(
         &self,
         build: Build<'c>,
         name: &'c str,
-        chosen: &Chosen<'c>,
+        shape: ShapeId,
+        index: usize,
         resolution: &mut Resolution<'c>,
     ) -> Result<(), AllocError>
         requires checked { NamesEarlier build.shapes.now }
         requires entries { AreTables (build_of build) self.now }
-        requires chosen { IsChosen build.shapes.now chosen.now }
-        requires filled { IsFilled self.now.contents.by_index.items chosen.now.target.shape }
-        ensures ok { let paths = content_paths build.entry.shapes.now chosen.now.variant.now in
-            OnOk result (resolution.new ≡ with_key_paths resolution.old (named name.now paths)) }
+        requires variant { IsSome (variant_at build.shapes.now shape index) }
+        requires filled { IsFilled self.now.contents.by_index.items shape }
+        ensures ok { OnOk result (IfSome (variant_at build.entry.shapes.now shape index) (λ variant.
+            let paths = content_paths build.entry.shapes.now variant in
+            resolution.new ≡ with_key_paths resolution.old (named name.now paths))) }
     {
-        let entry = self.contents.entry(chosen.target.shape);
-        let under = &entry.variants[chosen.index];
+        let entry = self.contents.entry(shape);
+        let under = &entry.variants[index];
         self.contents
             .add_named(build.alloc, name, under, resolution)
     }

@@ -2,6 +2,7 @@ use Rattle.facet_solver.specs.Build.{build_of}
 use Rattle.facet_solver.specs.Place.{chosen_of}
 use Rattle.facet_solver.proofs.Outcome.{refused-field_and_paths, taken-field_and_paths}
 use Rattle.facet_solver.proofs.Emissions.{selector-external}
+use Rattle.facet_solver.proofs.Serving.{chosen_paths}
 use Rattle.facet_solver.proofs.build.emit.add_external_selector.Goals as goal
 
 pub returns-in_err-add_field : goal.returns-in_err-add_field
@@ -13,5 +14,6 @@ returns-in_err-add_field c =
 pub returns : goal.returns
 returns c =
     let part = selector-external (build_of c.args.walker.now.build) (chosen_of c.args.chosen.now) c.args.place.now c.as_str-name.result.now c.as_str-name.ensures.value in
+    let added = chosen_paths c.args.walker.now.build.shapes.now c.args.chosen.now c.as_str-name.result.now c.add_field.new.self c.add_content_paths.new.resolution c.requires.chosen c.in_ok-add_content_paths.ensures.ok in
     rw (part, ← c.in_ok-info.ensures)
-    (taken-field_and_paths c.args.resolution.now c.add_field.new.self c.add_content_paths.new.resolution c.in_ok-info.info _ c.in_ok-add_field.ensures.ok c.in_ok-add_content_paths.ensures.ok)
+    (taken-field_and_paths c.args.resolution.now c.add_field.new.self c.add_content_paths.new.resolution c.in_ok-info.info _ c.in_ok-add_field.ensures.ok added)

@@ -12,5 +12,5 @@ returns-in_err-add_field c =
 pub returns : goal.returns
 returns c =
     let part = regular-part (build_of c.args.walker.now.build) c.args.field.now c.args.place.now in
-    rw (part, ← c.in_ok-info.ensures)
+    rw (part, ← c.in_ok-info.ensures, ← c.effective_name-name.ensures)
     (taken-field_and_paths c.args.resolution.now c.add_field.new.self c.add_field_paths.new.resolution c.in_ok-info.info _ c.in_ok-add_field.ensures.ok c.in_ok-add_field_paths.ensures.ok)

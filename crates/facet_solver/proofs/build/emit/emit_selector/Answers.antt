@@ -6,6 +6,7 @@ use Rattle.facet_solver.specs.Place.{chosen_of}
 use Rattle.facet_solver.specs.Build.{build_of, repr_for}
 use Rattle.facet_solver.proofs.Outcome.{gives-stopped, take_all-both, take_all-nil, take_all-one, taken-paths}
 use Rattle.facet_solver.proofs.Emissions.{selector-flattened, selector-internal, selector-adjacent}
+use Rattle.facet_solver.proofs.Serving.{chosen_paths}
 use Rattle.facet_solver.proofs.build.emit.emit_selector.Goals as goal
 
 pub returns-in-Flattened : goal.returns-in-Flattened
@@ -35,6 +36,7 @@ pub returns-in_ok-add_content_paths-in-AdjacentlyTagged :
     goal.returns-in_ok-add_content_paths-in-AdjacentlyTagged
 returns-in_ok-add_content_paths-in-AdjacentlyTagged c =
     let parts = selector-adjacent (repr_for (build_of c.args.walker.now.build) c.args.chosen.now.shape.now) (build_of c.args.walker.now.build) (chosen_of c.args.chosen.now) c.args.place.now c.in-AdjacentlyTagged.tag.now c.in-AdjacentlyTagged.content.now c.in-AdjacentlyTagged.ensures in
+    let added = chosen_paths c.args.walker.now.build.shapes.now c.args.chosen.now c.in-AdjacentlyTagged.content.now c.add_selector-in-AdjacentlyTagged.new.resolution c.add_content_paths.new.resolution c.requires.chosen c.in_ok-add_content_paths-in-AdjacentlyTagged.ensures.ok in
     rw parts
     (take_all-both c.args.resolution.now c.add_selector-in-AdjacentlyTagged.new.resolution c.add_content_paths.new.resolution _ _ c.in_ok-add_selector-in-AdjacentlyTagged.ensures
-    (take_all-one _ _ ∙ taken-paths c.add_selector-in-AdjacentlyTagged.new.resolution c.add_content_paths.new.resolution _ c.in_ok-add_content_paths-in-AdjacentlyTagged.ensures.ok))
+    (take_all-one _ _ ∙ taken-paths c.add_selector-in-AdjacentlyTagged.new.resolution c.add_content_paths.new.resolution _ added))

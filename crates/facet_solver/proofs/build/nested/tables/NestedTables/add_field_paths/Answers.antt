@@ -11,30 +11,29 @@ pub returns-then-not-has : goal.returns-then-not-has
 returns-then-not-has c =
     let cat = c.args.build.shapes.now in
     let r = c.args.resolution.now in
-    let name = c.effective_name-name.result.now in
-    let none = regular_nothing cat c.args.field.now.shape (sym c.has.ensures ∙ c.if-not-has.true) in
+    let name = c.args.name.now in
+    let none = regular_nothing cat c.args.shape (sym c.has.ensures ∙ c.if-not-has.true) in
     record {
-      ok = rw (← c.effective_name-name.ensures)
-          (on_ok c.add_key_path.result
+      ok = on_ok c.add_key_path.result
           (λ added. added
           ∙ ap (λ (p : KeyPath). with_key_path r p) c.in_ok-key_path.ensures
           ∙ sym (with-name r name)
           ∙ ap (λ (ps : KeyPaths). with_key_paths r (named name ps)) (sym none))
-          c.add_key_path.ensures.ok);
+          c.add_key_path.ensures.ok;
     }
 
 pub add_named-requires-clause-filled : goal.add_named-requires-clause-filled
 add_named-requires-clause-filled c =
-    (entry_filled c.args.self.now.structs.by_index.items c.args.field.now.shape c.entry.result.now c.requires.entries.structs_earlier c.entry.ensures).under
+    (entry_filled c.args.self.now.structs.by_index.items c.args.shape c.entry.result.now c.requires.entries.structs_earlier c.entry.ensures).under
 
 pub returns : goal.returns
 returns c =
     let cat = c.args.build.shapes.now in
-    let id = c.args.field.now.shape in
+    let id = c.args.shape in
     let entries = c.args.self.now.structs.by_index.items in
     let is : paths_by_name (under_shape structs_alone cat) c.entry.result.now.under ≡ nested_paths cat id =
     regular_entry cat entries id c.entry.result.now c.requires.checked c.requires.entries.structs c.entry.ensures (sym c.has.ensures ∙ c.if-not-has.false) in
     record {
-      ok = rw (← is, ← c.effective_name-name.ensures)
+      ok = rw (← is)
           (on_ok c.add_named.result (λ added. added (under_shape structs_alone cat) (entries_stand structs_alone cat entries c.requires.checked c.requires.entries.structs)) c.add_named.ensures);
     }
