@@ -3,6 +3,7 @@ ghost use Rattle.std.specs.Prelude.{◌≡◌, ◌*◌, ◌+◌, ◌<◌, ◌≤
 ghost use Rattle.std.specs.List.{list_any};
 ghost use Rattle.std.specs.Option.{option_copied};
 ghost use Rattle.facet_solver_shape.specs.Keys.{key_of};
+ghost use Rattle.facet_solver_shape.specs.Steps.{NoCountFalls};
 ghost use Rattle.facet_solver.specs.Build.{build_of, build_with};
 ghost use Rattle.facet_solver.specs.Choice.{Enumerates, IsRefusal};
 ghost use Rattle.facet_solver.specs.Count.{IsCountOf, count_of_root};
@@ -197,6 +198,7 @@ impl<'c> Schema<'c> {
         ensures refused { IfErr result
             (IsRefusal (build_with shapes.now (asked_view representation.entry) format) root) }
         ensures visits { steps.new.visits ≤ steps.old.visits + 2 * field_count shapes.now }
+        ensures no_fall { NoCountFalls steps.old steps.new }
     {
         let build = Build {
             alloc,
@@ -238,6 +240,7 @@ impl<'c> Schema<'c> {
         ensures number { IfOk result
             (IsCountOf shapes.now root (asked_view representation.entry)) }
         ensures visits { steps.new.visits ≤ steps.old.visits + field_count shapes.now }
+        ensures no_fall { NoCountFalls steps.old steps.new }
     {
         let build = Build {
             alloc,
@@ -259,6 +262,7 @@ impl<'c> Schema<'c> {
         ensures refused { IfErr result (IsRefusal (build_of build.entry) root) }
         ensures visits { steps.new.visits
             ≤ steps.old.visits + 2 * field_count build.entry.shapes.now }
+        ensures no_fall { NoCountFalls steps.old steps.new }
     {
         let made = resolutions(build, root, steps)?;
         Schema::indexed(build, root, made)

@@ -1,6 +1,7 @@
 //! The number of choices of variants, from a table by index.
 ghost use Rattle.std.specs.Prelude.{◌≡◌, ◌+◌, ◌<◌, ◌≤◌, length, take, IfOk};
 ghost use Rattle.facet_solver_shape.specs.Catalogues.{NamesEarlier, FieldsBelow};
+ghost use Rattle.facet_solver_shape.specs.Steps.{NoCountFalls};
 ghost use Rattle.facet_solver.specs.Count as count;
 ghost use Rattle.facet_solver.specs.Count.{below_2_64};
 ghost use Rattle.facet_solver.specs.Counts.{AreCounts, AreFirstCounts, CountsTo};
@@ -49,6 +50,7 @@ impl Counts {
         ensures counted { IfOk result (AreFirstCounts (build_of build.entry)) }
         ensures visits { steps.new.visits
             ≤ steps.old.visits + field_count (take limit build.entry.shapes.now) }
+        ensures no_fall { NoCountFalls steps.old steps.new }
     {
         let mut by_index = Vec::new(build.alloc);
         while by_index.len() < limit {
@@ -82,6 +84,7 @@ pub(crate) fn count_of_root(
         (λ number. number ≡ below_2_64 (count.count_of_root (build_of build.entry) root)) }
     ensures visits { steps.new.visits
         ≤ steps.old.visits + field_count build.entry.shapes.now }
+    ensures no_fall { NoCountFalls steps.old steps.new }
 {
     let shape = build.shape(root);
     let counts = Counts::before(build, root.index(), steps)?;

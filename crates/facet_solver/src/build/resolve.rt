@@ -1,6 +1,7 @@
 //! The resolutions of a root.
 ghost use Rattle.std.specs.Prelude.{◌≡◌, ◌*◌, ◌+◌, ◌<◌, ◌≤◌, ◌∷◌, [], IsSome, IfOk, IfErr, length};
 ghost use Rattle.facet_solver_shape.specs.Catalogues.{FieldsBelow};
+ghost use Rattle.facet_solver_shape.specs.Steps.{NoCountFalls};
 ghost use Rattle.facet_solver.specs.Choice.{IsChoice, IsResolution, Enumerates, IsRefusal};
 ghost use Rattle.facet_solver.specs.Count.{count_of_root};
 ghost use Rattle.facet_solver.specs.FieldCount.{field_count};
@@ -37,6 +38,7 @@ pub(crate) fn resolutions<'c>(
     ensures refused { IfErr result (IsRefusal (build_of build.entry) root) }
     ensures visits { steps.new.visits
         ≤ steps.old.visits + 2 * field_count build.entry.shapes.now }
+    ensures no_fall { NoCountFalls steps.old steps.new }
 {
     let counts = Counts::new(build)?;
     let brings = BringsTable::new(build)?;

@@ -3,6 +3,7 @@
 ghost use Rattle.std.specs.Prelude.{◌≡◌, ◌&&◌, ◌+◌, ◌∷◌, [], ◌<◌, ◌≤◌, ◌↔◌, ℕ, All, Bool, IfOk, IfSome, OnOk, Some, true, length, map, slice_get, string_bytes, sum_by};
 ghost use Rattle.std.specs.List.{AllByRecursion};
 ghost use Rattle.std.specs.Option.{is_some};
+ghost use Rattle.facet_solver_shape.specs.Steps.{NoCountFalls};
 ghost use Rattle.facet_solver.specs.Build.{kind_at};
 ghost use Rattle.facet_solver.specs.Content.{is_zero};
 ghost use Rattle.facet_solver.specs.Nested as nested;
@@ -63,6 +64,7 @@ impl<'c> NestedTable<'c> {
         ensures marked { IfOk result (λ table.
             (id : ℕ) → IsMarked marks.now id ↔ IsFilled table.by_index.items id) }
         ensures visits { steps.new.visits ≤ steps.old.visits + field_count build.entry.shapes.now }
+        ensures no_fall { NoCountFalls steps.old steps.new }
     {
         let mut by_index = Vec::new(build.alloc);
         while let Some(shape) = build.shapes.get(ShapeId::new(by_index.len())) {
@@ -116,6 +118,7 @@ impl<'t, 'c> Earlier<'t, 'c> {
         ensures entry { IfOk result (λ entry. IfSome entry
             (IsMade self.entry shape.now.kind)) }
         ensures visits { steps.new.visits ≤ steps.old.visits + fields_of_kind shape.now.kind }
+        ensures no_fall { NoCountFalls steps.old steps.new }
     {
         if is_marked {
             Ok(Some(self.entry(shape, steps)?))
@@ -131,6 +134,7 @@ impl<'t, 'c> Earlier<'t, 'c> {
             self.shapes.now shape.now.kind }
         ensures entry { IfOk result (IsMade self.entry shape.now.kind) }
         ensures visits { steps.new.visits ≤ steps.old.visits + fields_of_kind shape.now.kind }
+        ensures no_fall { NoCountFalls steps.old steps.new }
     {
         match &shape.kind {
             ShapeKind::Struct { fields, .. } => self.struct_entry(fields.as_slice(), steps),
@@ -150,6 +154,7 @@ impl<'t, 'c> Earlier<'t, 'c> {
             IfOk result (λ entry. AreFieldsOf self.entry through entry.under) }
         ensures variants { IfOk result (λ entry. entry.variants.items ≡ []) }
         ensures visits { steps.new.visits ≤ steps.old.visits + length fields.now }
+        ensures no_fall { NoCountFalls steps.old steps.new }
     {
         let mut under = FieldsByName::new(self.alloc);
         self.add_through_fields(fields, &mut under, steps)?;
@@ -176,6 +181,7 @@ impl<'t, 'c> Earlier<'t, 'c> {
             AllByRecursion (LeadTo (is_filled self.entry.entries.now)) entry.variants.items) }
         ensures visits { steps.new.visits
             ≤ steps.old.visits + sum_by (λ v. length v.fields.items) variants.now }
+        ensures no_fall { NoCountFalls steps.old steps.new }
     {
         let mut under = FieldsByName::new(self.alloc);
         let mut each = Vec::new(self.alloc);
@@ -205,6 +211,7 @@ impl<'t, 'c> Earlier<'t, 'c> {
             IfOk result (AreFieldsOf self.entry paths) }
         ensures visits { steps.new.visits
             ≤ steps.old.visits + length variant.now.fields.items }
+        ensures no_fall { NoCountFalls steps.old steps.new }
     {
         let mut by_name = FieldsByName::new(self.alloc);
         let fields = variant.fields.as_slice();
@@ -262,6 +269,7 @@ impl<'t, 'c> Earlier<'t, 'c> {
             self.entry.shapes.now fields.now in
             OnOk result (HasMore self.entry through by_name.old by_name.new) }
         ensures visits { steps.new.visits ≤ steps.old.visits + length fields.now }
+        ensures no_fall { NoCountFalls steps.old steps.new }
     {
         for index in 0..fields.len() {
             self.add_through_field(visited(fields, index, steps), by_name)?;

@@ -1,6 +1,7 @@
 //! The two tables from which the walks of a root's choices take nested key paths.
 ghost use Rattle.std.specs.Prelude.{◌≡◌, ◌*◌, ◌+◌, ◌<◌, ◌≤◌, IfOk, IfSome, IsSome, OnOk, length};
 ghost use Rattle.facet_solver_shape.specs.Catalogues.{NamesEarlier};
+ghost use Rattle.facet_solver_shape.specs.Steps.{NoCountFalls};
 ghost use Rattle.facet_solver.specs.Build.{build_of};
 ghost use Rattle.facet_solver.specs.Nested.{content_paths, named, nested_paths, with_key_paths};
 ghost use Rattle.facet_solver.specs.FieldCount.{field_count};
@@ -36,6 +37,7 @@ impl<'c> NestedTables<'c> {
         ensures root { IfOk result (λ tables. ServesRoot (build_of build.entry) tables root) }
         ensures visits { steps.new.visits
             ≤ steps.old.visits + 2 * field_count build.entry.shapes.now }
+        ensures no_fall { NoCountFalls steps.old steps.new }
     {
         let count = build.shapes.len();
         let mut walked = vec![in build.alloc; false; count]?;

@@ -6,6 +6,7 @@ use Rattle.facet_solver.specs.Count.{count_kind}
 use Rattle.facet_solver.specs.Counts.{AreFirstCounts, CountsTo}
 use Rattle.facet_solver.specs.FieldCount.{field_count}
 use Rattle.facet_solver.specs.declared.build.count.saturating.SaturatingCount.{SaturatingCount}
+use Rattle.facet_solver.proofs.Counted.{no_fall-trans}
 use Rattle.facet_solver.proofs.Count.{one_more_entry}
 use Rattle.facet_solver.proofs.NestedTable.{fields_mono, shape_visits_more}
 use Rattle.facet_solver.proofs.build.count.Counts.before.Goals as goal
@@ -34,6 +35,7 @@ loop-build-preserved c =
       omega (arith, longer, index, c.loop-build-test.true),
       subst (λ (n : ℕ). c.count_shape.new.steps.visits ≤ c.args.steps.now.visits + field_count (take n cat)) (sym longer)
           (shape_visits_more cat (length ts) s _ _ _ here c.loop-build.invariant.2 c.count_shape.ensures.visits),
+      no_fall-trans _ _ _ c.loop-build.invariant.3 c.count_shape.ensures.no_fall,
     )
 
 pub returns-in_err-push-clause-visits : goal.returns-in_err-push-clause-visits

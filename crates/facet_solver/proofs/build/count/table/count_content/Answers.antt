@@ -3,6 +3,7 @@ use Rattle.facet_solver_shape.specs.declared.shape.Field.{Field}
 use Rattle.facet_solver_shape.specs.Catalogues.{FieldsBelow}
 use Rattle.facet_solver.specs.Content.{IsNewtypeOf}
 use Rattle.facet_solver.specs.Build.{build_of}
+use Rattle.facet_solver.proofs.Counted.{visited}
 use Rattle.facet_solver.proofs.Count.{newtype_counted, only_field_counted}
 use Rattle.facet_solver.proofs.NestedTable.{one_item}
 use Rattle.facet_solver.proofs.build.count.table.count_content.Goals as goal
@@ -41,6 +42,7 @@ returns-in-Some c =
     let visits = ap (λ s. s.visits) c.visited-field.ensures.steps in record {
       content = rw c.index.ensures (newtype_counted (build_of c.args.build) c.args.counts.now v c.in-Some.id _ c.requires.counted c.requires.below newtype);
       visits = omega (arith, one, visits);
+      no_fall = visited _ _ c.visited-field.ensures.steps;
     }
 
 pub returns-in-None-clause-content : goal.returns-in-None-clause-content

@@ -5,6 +5,7 @@ use Rattle.facet_solver.specs.Count.{count_fields_step, count_fields, count_fiel
 use Rattle.facet_solver.specs.Counts.{CountsTo}
 use Rattle.facet_solver.specs.Build.{build_of}
 use Rattle.facet_solver.proofs.Roles.{FieldsBelow-at}
+use Rattle.facet_solver.proofs.Counted.{no_fall-refl, no_fall-trans, visited}
 use Rattle.facet_solver.proofs.Count.{count_fields_step-more, count_fields_step-all}
 use Rattle.facet_solver.proofs.build.count.table.count_fields.Goals as goal
 
@@ -17,7 +18,7 @@ count_field-requires-clause-below c =
 
 pub loop-index-init : goal.loop-index-init
 unfolding count_fields_step
-loop-index-init c = (refl, omega arith)
+loop-index-init c = (refl, omega arith, no_fall-refl c.args.steps.now)
 
 pub loop-index-preserved : goal.loop-index-preserved
 loop-index-preserved c =
@@ -31,6 +32,7 @@ loop-index-preserved c =
     let visits = ap (λ s. s.visits) c.visited-field.ensures.steps in (
       subst (λ (n : ℕ). CountsTo c.times-product.result n) (sym one_more) (c.times-product.ensures _ _ c.loop-index.invariant.0 factor),
       omega (arith, visits, c.loop-index.invariant.1),
+      no_fall-trans _ _ _ c.loop-index.invariant.2 (visited _ _ c.visited-field.ensures.steps),
     )
 
 pub returns-clause-product : goal.returns-clause-product

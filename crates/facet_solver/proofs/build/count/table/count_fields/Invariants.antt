@@ -1,4 +1,5 @@
 use Rattle.std.proofs.Common.{◌≡◌, ◌+◌, take}
+use Rattle.facet_solver_shape.specs.Steps.{NoCountFalls}
 use Rattle.facet_solver.specs.Count.{count_fields_step, count_fields}
 use Rattle.facet_solver.specs.Counts.{CountsTo}
 use Rattle.facet_solver.specs.Build.{build_of}
@@ -9,3 +10,4 @@ abbrev pub invariant-loop-index : goal.invariant-loop-index
 invariant-loop-index l =
     CountsTo l.product (count_fields_step (count_fields (build_of l.build)) (build_of l.build) (take l.index l.fields))
     × (l.steps.visits ≡ l.fn.steps.visits + l.index)
+    × NoCountFalls l.fn.steps l.steps

@@ -3,9 +3,11 @@ use Rattle.std.proofs.lemmas.List.{take_all}
 use Rattle.std.proofs.lemmas.List.Sums.{sum_by_more}
 use Rattle.facet_solver_shape.specs.declared.shape.Variant.{Variant}
 use Rattle.facet_solver_shape.specs.Catalogues.{FieldsBelow}
+use Rattle.facet_solver_shape.specs.Steps.{NoCountFalls}
 use Rattle.facet_solver.specs.Count.{count_variant, count_fields, count_variants}
 use Rattle.facet_solver.specs.Counts.{CountsTo}
 use Rattle.facet_solver.specs.Build.{build_of}
+use Rattle.facet_solver.proofs.Counted.{no_fall-refl, no_fall-trans}
 use Rattle.facet_solver.proofs.Roles.{VariantsBelow-at}
 use Rattle.facet_solver.proofs.NestedTable.{visits_more}
 use Rattle.facet_solver.proofs.Count.{walked_counted, unwalked_counted}
@@ -34,6 +36,13 @@ next_visits c =
       | else-walked w ↦ rw w.steps-is (omega arith)
     ]
 
+next_no_fall : (c : goal.After-plus-sum) → NoCountFalls c.loop-variant.steps c.if-walked.steps
+next_no_fall c =
+    elim c.if-walked.branch [
+      | then-walked w ↦ rw w.steps-is w.count_content-choices.ensures.no_fall
+      | else-walked w ↦ rw w.steps-is (no_fall-refl c.loop-variant.steps)
+    ]
+
 pub loop-variant-preserved : goal.loop-variant-preserved
 loop-variant-preserved c =
     let cat = c.args.build.shapes.now in
@@ -42,7 +51,7 @@ loop-variant-preserved c =
     let summand = subst (λ (v : Variant). CountsTo c.if-walked.choices (count v)) c.variant-item.is (next c) in
     let counted = subst (λ (n : ℕ). CountsTo c.plus-sum.result n) (sym one_more) (c.plus-sum.ensures _ _ c.loop-variant.invariant.0 summand) in
     let visits = visits_more c.args.variants.now c.loop-variant.variant-index c.variant-item.result _ _ _ c.loop-variant-test.true c.variant-item.is c.loop-variant.invariant.1 (next_visits c) in
-    (counted, visits)
+    (counted, visits, no_fall-trans _ _ _ c.loop-variant.invariant.2 (next_no_fall c))
 
 pub returns-clause-sum : goal.returns-clause-sum
 returns-clause-sum c =

@@ -1,5 +1,6 @@
 use Rattle.std.proofs.Common.{◌+◌, ◌≤◌, length, take}
 use Rattle.std.specs.Prelude.{sum_by}
+use Rattle.facet_solver_shape.specs.Steps.{NoCountFalls}
 use Rattle.facet_solver.specs.Counts.{CountsTo}
 use Rattle.facet_solver.specs.Count.{count_variants}
 use Rattle.facet_solver.specs.Build.{build_of}
@@ -10,3 +11,4 @@ abbrev pub invariant-loop-variant : goal.invariant-loop-variant
 invariant-loop-variant l =
     CountsTo l.sum (count_variants (build_of l.build) l.walked (take l.variant-index l.variants))
     × (l.steps.visits ≤ l.fn.steps.visits + sum_by (λ v. length v.fields.items) (take l.variant-index l.variants))
+    × NoCountFalls l.fn.steps l.steps

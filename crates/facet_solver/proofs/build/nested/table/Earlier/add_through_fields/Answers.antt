@@ -2,6 +2,7 @@ use Rattle.std.proofs.Common.{◌+◌, ◌∙◌, ap, arith, drop, sym}
 use Rattle.std.specs.FinSet.{union}
 use Rattle.facet_solver.specs.Nested.{KeyPaths, entered_view, through_field, through_fields}
 use Rattle.facet_solver.specs.NestedTable.{FieldAsks, IsFilled, paths_by_name, under_of}
+use Rattle.facet_solver.proofs.Counted.{no_fall-trans, visited}
 use Rattle.facet_solver.proofs.NestedTable.{all_at, no_more, one_more}
 use Rattle.facet_solver.proofs.build.nested.table.Earlier.add_through_fields.Goals as goal
 
@@ -22,6 +23,7 @@ loop-index-preserved c =
           ∙ c.loop-index.invariant.0,
       λ before. more.lead (c.loop-index.invariant.1 before),
       omega (arith, visits, c.loop-index.invariant.2),
+      no_fall-trans _ _ _ c.loop-index.invariant.3 (visited _ _ c.visited.ensures.steps),
     )
 
 pub returns-in_err-add_through_field-clause-visits :

@@ -1,5 +1,6 @@
 use Rattle.std.proofs.Common.{◌≡◌, ◌+◌, drop}
 use Rattle.std.specs.FinSet.{union}
+use Rattle.facet_solver_shape.specs.Steps.{NoCountFalls}
 use Rattle.facet_solver.specs.Nested.{entered_view, through_fields}
 use Rattle.facet_solver.specs.NestedTable.{LeadTo, is_filled, paths_by_name, under_of}
 use Rattle.facet_solver.proofs.build.nested.table.Earlier.add_through_fields.Given as goal
@@ -13,3 +14,4 @@ invariant-loop-index l =
     (union (paths l.by_name) (through (drop l.index l.fields)) ≡ union (paths l.fn.by_name) (through l.fields))
     × (LeadTo filled l.fn.by_name → LeadTo filled l.by_name)
     × (l.steps.visits ≡ l.fn.steps.visits + l.index)
+    × NoCountFalls l.fn.steps l.steps

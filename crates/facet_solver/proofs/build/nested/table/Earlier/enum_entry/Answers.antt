@@ -5,6 +5,7 @@ use Rattle.std.proofs.lemmas.List.{map_more}
 use Rattle.std.proofs.lemmas.Option.{slice_get-get_or}
 use Rattle.facet_solver.specs.Nested.{KeyPaths, entered_view, under_variant, under_variants}
 use Rattle.facet_solver.specs.NestedTable.{LeadTo, is_filled, paths_by_name, under_of}
+use Rattle.facet_solver.proofs.Counted.{no_fall-refl, no_fall-trans}
 use Rattle.facet_solver.proofs.NestedFields.{each_push}
 use Rattle.facet_solver.proofs.NestedSets.{none-union}
 use Rattle.facet_solver.proofs.NestedTable.{map-push, no_more, one_more, visits_at_most, visits_more}
@@ -18,6 +19,7 @@ loop-variant-init c =
       ap (map (paths_by_name (under_of c.args.self))) none,
       (c.new-under.ensures.lead (is_filled c.args.self.entries.now), subst (AllByRecursion (LeadTo (is_filled c.args.self.entries.now))) (sym none) tt),
       omega arith,
+      no_fall-refl c.args.steps.now,
     )
 
 pub returns-in_err-fields-clause-visits : goal.returns-in_err-fields-clause-visits
@@ -60,6 +62,7 @@ loop-variant-preserved c =
         subst (AllByRecursion (LeadTo filled)) (sym c.in_ok-push.ensures.items) (each_push (LeadTo filled) c.loop-variant.each.items fields leads.1 c.in_ok-fields.ensures.fields.lead),
       ),
       visits_more vs i v _ _ _ lt c.variant-item.is c.loop-variant.invariant.3 c.under_variant.ensures.visits,
+      no_fall-trans _ _ _ c.loop-variant.invariant.4 c.under_variant.ensures.no_fall,
     )
 
 pub returns-clause-under : goal.returns-clause-under

@@ -2,6 +2,7 @@ use Rattle.std.proofs.Common.{◌≡◌, ◌+◌, ◌≤◌, drop, length, map, 
 use Rattle.std.specs.Prelude.{sum_by}
 use Rattle.std.specs.FinSet.{union}
 use Rattle.std.specs.List.{AllByRecursion}
+use Rattle.facet_solver_shape.specs.Steps.{NoCountFalls}
 use Rattle.facet_solver.specs.Nested.{entered_view, under_variant, under_variants}
 use Rattle.facet_solver.specs.NestedTable.{LeadTo, is_filled, paths_by_name, under_of}
 use Rattle.facet_solver.proofs.build.nested.table.Earlier.enum_entry.Given as goal
@@ -16,3 +17,4 @@ invariant-loop-variant l =
     × (map paths l.each.items ≡ map (under_variant entered cat) (take l.variant-index l.variants))
     × (LeadTo (is_filled l.self.entries.now) l.under × AllByRecursion (LeadTo (is_filled l.self.entries.now)) l.each.items)
     × (l.steps.visits ≤ l.fn.steps.visits + sum_by (λ v. length v.fields.items) (take l.variant-index l.variants))
+    × NoCountFalls l.fn.steps l.steps

@@ -9,6 +9,7 @@ use Rattle.facet_solver.specs.Nested.{entered_view}
 use Rattle.facet_solver.specs.FieldCount.{field_count}
 use Rattle.facet_solver.specs.NestedTable.{AreEntries, AreFirstEntries, EntryLeadsTo, IsEntry, IsFilled, KindAsks, LeadEarlier, is_filled}
 use Rattle.facet_solver.specs.declared.build.nested.table.Entry.{Entry}
+use Rattle.facet_solver.proofs.Counted.{no_fall-trans}
 use Rattle.facet_solver.proofs.NestedTable.{all_marked, asked_next, made_of, none_past, one_entry, shape_visits_at_most, shape_visits_more}
 use Rattle.facet_solver.proofs.build.nested.table.NestedTable.new.Goals as goal
 
@@ -76,6 +77,7 @@ loop-shape-preserved c =
           (one_entry e cat marks ts c.loop-shape.invariant.0 entry (get_or marks c.len-in-Some.result false) c.in_ok-entry.ensures.marked mark right within),
       subst (λ (n : ℕ). c.entry_if.new.steps.visits ≤ c.args.steps.now.visits + field_count (take n cat)) (sym longer)
           (shape_visits_more cat (length ts) c.in-Some.shape.now _ _ _ here c.loop-shape.invariant.1 c.entry_if.ensures.visits),
+      no_fall-trans _ _ _ c.loop-shape.invariant.2 c.entry_if.ensures.no_fall,
     )
 
 pub returns-in_err-push-clause-visits : goal.returns-in_err-push-clause-visits

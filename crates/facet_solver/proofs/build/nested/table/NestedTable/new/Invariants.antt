@@ -1,4 +1,5 @@
 use Rattle.std.proofs.Common.{◌+◌, ◌-◌, ◌≤◌, length, take}
+use Rattle.facet_solver_shape.specs.Steps.{NoCountFalls}
 use Rattle.facet_solver.specs.Nested.{entered_view}
 use Rattle.facet_solver.specs.FieldCount.{field_count}
 use Rattle.facet_solver.specs.NestedTable.{AreFirstEntries}
@@ -9,6 +10,7 @@ abbrev pub invariant-loop-shape : goal.invariant-loop-shape
 invariant-loop-shape l =
     AreFirstEntries (entered_view l.entered) l.build.shapes.now l.marks l.by_index.items
     × (l.steps.visits ≤ l.fn.steps.visits + field_count (take (length l.by_index.items) l.build.shapes.now))
+    × NoCountFalls l.fn.steps l.steps
 
 abbrev pub decreases-loop-shape : goal.decreases-loop-shape
 decreases-loop-shape l = length l.build.shapes.now - length l.by_index.items
