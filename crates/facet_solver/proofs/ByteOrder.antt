@@ -111,7 +111,7 @@ unfolding IsStrictlySortedBy
 sorted-in_byte_order [] = tt
 sorted-in_byte_order (name ∷ names) = sorted-insert_key nat_list_cmp_total (in_byte_order names) name (sorted-in_byte_order names)
 
-member-in_byte_order : (names : List Name) (q : Name) → list_any (eq_by_cmp (slice_cmp nat_cmp) q) (in_byte_order names) ≡ list_any (eq_by_cmp (slice_cmp nat_cmp) q) names
+pub member-in_byte_order : (names : List Name) (q : Name) → list_any (eq_by_cmp (slice_cmp nat_cmp) q) (in_byte_order names) ≡ list_any (eq_by_cmp (slice_cmp nat_cmp) q) names
 member-in_byte_order [] q = refl
 member-in_byte_order (name ∷ names) q =
     member-insert_key nat_list_cmp_total (in_byte_order names) name q

@@ -18,7 +18,7 @@ use Rattle.facet_solver_shape.specs.declared.shape.ShapeKind.TheVariants.{Struct
 use Rattle.facet_solver_shape.specs.declared.resolution.key.FieldCategory.{FieldCategory}
 use Rattle.facet_solver_shape.specs.declared.resolution.key.FieldCategory.TheVariants.{Flat as FlatCategory}
 use Rattle.facet_solver_shape.specs.Keys.{Key, key_cmp, stored_key}
-use Rattle.facet_solver_shape.specs.Fields.{FieldView, key_of_field}
+use Rattle.facet_solver_shape.specs.Fields.{FieldView, IsStored, key_of_field}
 use Rattle.facet_solver_shape.specs.Resolved.{Resolved, nothing}
 use Rattle.facet_solver_shape.proofs.Finite.{equal, none_is_some}
 use Rattle.facet_solver_shape.proofs.Resolved.{first_part, none_above, second_part}
@@ -41,6 +41,18 @@ use Rattle.facet_solver.specs.Place.{Place}
 pub record HasCategories (P : FieldCategory → Type 0) (format : Format) : Type 0 where
   pub fields : (mark : DomMark) → P (field_category format mark)
   pub selectors : P (selector_category format)
+
+-- the first of some entries is found under its key
+pub found_first : (e : Key × FieldView) (es : List (Key × FieldView)) → find_at key_cmp e.0 (e ∷ es) ≡ Some e.1
+found_first e es = ap (λ r. cond (is_eq r) (Some e.1) (find_at key_cmp e.0 es)) (tied_itself key_cmp_total e.0)
+
+-- and what is found behind it is found
+pub found_later : (e : Key × FieldView) (es : List (Key × FieldView)) → T (finite.is_sorted key_cmp (e ∷ es)) → (k : Key) (f : FieldView) → find_at key_cmp k es ≡ Some f → find_at key_cmp k (e ∷ es) ≡ Some f
+found_later e es rising k f found = go (eq_by_cmp key_cmp k e.0) refl
+  where
+    go : (b : Bool) → eq_by_cmp key_cmp k e.0 ≡ b → cond b (Some e.1) (find_at key_cmp k es) ≡ Some f
+    go true tie = none_is_some f (sym (none_above key_cmp_total k e.0 es (equal (key_cmp k e.0) tie) (first_part _ _ rising)) ∙ found)
+    go false apart = found
 
 module _ (P : FieldCategory → Type 0) where
   -- each field among emissions has such a category
@@ -208,16 +220,9 @@ module _ (P : FieldCategory → Type 0) where
       → AllByRecursion (λ (f : FieldView). P f.category) (map (λ e. e.1) es)
   each_entry [] rising each = tt
   each_entry (e ∷ es) rising each = (
-    each e.0 e.1 (ap (λ r. cond (is_eq r) (Some e.1) (find_at key_cmp e.0 es)) (tied_itself key_cmp_total e.0)),
-    each_entry es (second_part _ _ rising) (λ k f found. each k f (later k f found)),
+    each e.0 e.1 (found_first e es),
+    each_entry es (second_part _ _ rising) (λ k f found. each k f (found_later e es rising k f found)),
   )
-    where
-      later : (k : Key) (f : FieldView) → find_at key_cmp k es ≡ Some f → find_at key_cmp k (e ∷ es) ≡ Some f
-      later k f found = go (eq_by_cmp key_cmp k e.0) refl
-        where
-          go : (b : Bool) → eq_by_cmp key_cmp k e.0 ≡ b → cond b (Some e.1) (find_at key_cmp k es) ≡ Some f
-          go true tie = none_is_some f (sym (none_above key_cmp_total k e.0 es (equal (key_cmp k e.0) tie) (first_part _ _ rising)) ∙ found)
-          go false apart = found
 
   -- so each field of a resolution has such a category
   pub fields-having : (build : Build) (root : ℕ) (c : List ℕ) (r : Resolved) → HasCategories P build.format → IsResolution build root c r
@@ -227,6 +232,23 @@ module _ (P : FieldCategory → Type 0) where
       All-from_recursion (λ (f : FieldView). P f.category) (finite.values r.fields)
       (each_entry (finite.entries r.fields) (finite.entries_sorted r.fields)
       (λ k f found. (resolution-having build root c r has h k f (finite.get-entries r.fields k ∙ found)).1))
+
+  -- and stands under its stored key
+  stored_entries : (r : Resolved) → StandsHaving r → (es : List (Key × FieldView)) → T (finite.is_sorted key_cmp es)
+      → ((k : Key) (f : FieldView) → find_at key_cmp k es ≡ Some f → finite.get r.fields k ≡ Some f) → AllByRecursion IsStored es
+  unfolding StandsHaving
+  stored_entries r stands [] rising within = tt
+  stored_entries r stands (e ∷ es) rising within = (
+    (stands e.0 e.1 (within e.0 e.1 (found_first e es))).0,
+    stored_entries r stands es (second_part _ _ rising) (λ k f found. within k f (found_later e es rising k f found)),
+  )
+
+-- each field of a resolution stands under its stored key
+pub fields-stored : (build : Build) (root : ℕ) (c : List ℕ) (r : Resolved) → IsResolution build root c r → AllByRecursion IsStored (finite.entries r.fields)
+fields-stored build root c r h =
+    let any : FieldCategory → Type 0 = λ c. Unit {0} in
+    stored_entries any r (resolution-having any build root c r (record { fields = λ mark. tt; selectors = tt }) h) (finite.entries r.fields) (finite.entries_sorted r.fields)
+    (λ k f found. finite.get-entries r.fields k ∙ found)
 
 -- in the flat format all are of category Flat
 flat_categories : HasCategories (λ c. c ≡ FlatCategory) Flat

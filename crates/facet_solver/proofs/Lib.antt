@@ -44,6 +44,11 @@ pub mod ByteOrder
 pub mod NameSets
 pub mod Left
 pub mod SeenNames
+pub mod CategoryNames
+pub mod Cursor
+pub mod ByName
+pub mod StoredOrder
+pub mod Results
 pub mod AtIndices
 pub mod Reported
 pub mod Missing

@@ -1,35 +1,26 @@
--- What a resolution lacks, of some names.
+-- What is told of the fields that a resolution lacks.
 use Rattle.std.proofs.Common.{◌≡◌, true, false, List, [], ◌∷◌, Option, Some, None, filter, map, not, refl, ap}
-use Rattle.std.specs.Cmp.Lexicographic.{slice_cmp}
-use Rattle.std.specs.FinSet as set
-use Rattle.std.specs.List.{filter_map}
 use Rattle.std.specs.Option.{option_map_or}
-use Rattle.std.specs.Ordering.{nat_cmp}
 use Rattle.facet_solver_shape.specs.Fields.{FieldView}
 use Rattle.facet_solver_shape.specs.Keys.{Key}
-use Rattle.facet_solver_shape.specs.Names.{Name}
-use Rattle.facet_solver_shape.specs.Resolved.{Resolved, field_by_name}
+use Rattle.facet_solver_shape.specs.Resolved.{Resolved}
 use Rattle.facet_solver.specs.Build.{Catalogue}
-use Rattle.facet_solver.specs.Failure.{missing, missing_field, missing_fields}
+use Rattle.facet_solver.specs.Failure.{is_met, missing, missing_field, missing_fields}
 use Rattle.facet_solver.specs.Report.{MissingView}
 
--- what is told of those names that were not seen
-abbrev pub missing_among : Catalogue → set.FinSet (slice_cmp nat_cmp) → Resolved → List Name → List MissingView
-missing_among catalogue seen r names =
-    map (missing_field catalogue) (filter_map (λ name. field_by_name name r) (filter (λ name. not (set.contains seen name)) names))
+-- what is told of those fields that the seen keys do not meet
+abbrev pub missing_among : Catalogue → List Key → List FieldView → List MissingView
+missing_among catalogue seen fields =
+    map (missing_field catalogue) (filter (λ f. not (is_met seen f)) fields)
 
-module _ (catalogue : Catalogue) (seen : set.FinSet (slice_cmp nat_cmp)) (r : Resolved) (name : Name) (rest : List Name) where
-  -- a name that was seen
-  pub seen_left : set.contains seen name ≡ true → missing_among catalogue seen r (name ∷ rest) ≡ missing_among catalogue seen r rest
-  seen_left is = rw is refl
+module _ (catalogue : Catalogue) (seen : List Key) (f : FieldView) (rest : List FieldView) where
+  -- a field that they meet
+  pub met_left : is_met seen f ≡ true → missing_among catalogue seen (f ∷ rest) ≡ missing_among catalogue seen rest
+  met_left is = rw is refl
 
-  -- a name that was not
-  pub missing_left : (f : FieldView) → set.contains seen name ≡ false → field_by_name name r ≡ Some f → missing_among catalogue seen r (name ∷ rest) ≡ missing_field catalogue f ∷ missing_among catalogue seen r rest
-  missing_left f is found = rw is (rw found refl)
-
-  -- a name by which no field goes
-  pub fieldless_left : set.contains seen name ≡ false → field_by_name name r ≡ None → missing_among catalogue seen r (name ∷ rest) ≡ missing_among catalogue seen r rest
-  fieldless_left is none = rw is (rw none refl)
+  -- and one that they do not
+  pub missing_left : is_met seen f ≡ false → missing_among catalogue seen (f ∷ rest) ≡ missing_field catalogue f ∷ missing_among catalogue seen rest
+  missing_left is = rw is refl
 
 names_told : (catalogue : Catalogue) (fields : List FieldView) → map (λ (m : MissingView). m.name) (map (missing_field catalogue) fields) ≡ map (λ (f : FieldView). f.name) fields
 names_told catalogue [] = refl

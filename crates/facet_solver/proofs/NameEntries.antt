@@ -1,8 +1,8 @@
--- What the entries of a name in each category say of the resolutions.
-use Rattle.std.proofs.Common.{◌≡◌, ℕ, zero, suc, ◌≤◌, Bool, true, false, cond, ◌&&◌, ◌||◌, List, [], ◌∷◌, Option, Some, None, MatchOption, is_some, length, refl, ap, sym, ◌∙◌, arith}
+-- What the entries of a key and of a name say of the resolutions.
+use Rattle.std.proofs.Common.{◌≡◌, ℕ, zero, suc, ◌≤◌, Bool, true, false, cond, ◌&&◌, ◌||◌, List, [], ◌∷◌, Option, Some, None, MatchOption, Bor, is_some, length, map, refl, ap, sym, ◌∙◌, arith}
 use Rattle.std.specs.FinMap as finite
-use Rattle.std.specs.List.{find, list_any}
-use Rattle.std.specs.Option.{option_and_then}
+use Rattle.std.specs.List.{cons_option, filter_map, find, list_any}
+use Rattle.std.specs.Option.{option_and_then, option_copied}
 use Rattle.std.proofs.lemmas.Option.{slice_get_past}
 use Rattle.facet_solver_shape.specs.declared.resolution.key.FieldCategory.{FieldCategory}
 use Rattle.facet_solver_shape.specs.declared.resolution.key.FieldCategory.TheVariants.{Flat, Attribute, Element, Text, Tag, Elements}
@@ -11,12 +11,12 @@ use Rattle.facet_solver_shape.specs.Names.{Name, name_eq}
 use Rattle.facet_solver_shape.specs.Resolved.{Resolved, field_by_key}
 use Rattle.facet_solver_shape.proofs.Lists.{list_any-map}
 use Rattle.facet_solver.specs.Failure.{has_field_named}
-use Rattle.facet_solver.specs.IndexEntries.{entry_at, holds}
+use Rattle.facet_solver.specs.IndexEntries.{entry_at, holds, is_held}
 use Rattle.facet_solver.specs.IndexSet.{IndexSet, has}
 use Rattle.facet_solver.specs.Indexed.{AgreesOn, Differs, IsEntryIfAny, IsIndexOf, Meant, fields_of_each, first_passing}
 use Rattle.facet_solver.specs.KeyResult.{field_at}
 use Rattle.facet_solver.specs.Slots.{categories, is_at, slot_in}
-use Rattle.facet_solver.specs.State.{has_key, passes}
+use Rattle.facet_solver.specs.State.{has_key, is_known, passes}
 use Rattle.facet_solver_shape.specs.Keys.{Key}
 use Rattle.facet_solver.specs.declared.schema.index.Entry.{Entry}
 use Rattle.facet_solver.specs.declared.schema.index.Index.{Index}
@@ -106,45 +106,58 @@ key_held key rs entry is i =
 
 module _ (name : Name) (rs : List Resolved) (index : Index) (is : IsIndexOf (length rs) (fields_of_each rs) index) where
   -- and the entries of a name those that have a field of the name
-  pub name_held : (i : ℕ) → list_any (λ c. holds (entry_at index (slot_in name c)) i) categories ≡ passes (has_field_named name) rs i
+  name_held : (i : ℕ) → list_any (λ c. holds (entry_at index (slot_in name c)) i) categories ≡ passes (has_field_named name) rs i
   name_held i =
       ap (λ p. list_any p categories) (λ j c. entry_holds rs (first_passing (is_at (slot_in name c)) (fields_of_each rs)) (entry_at index (slot_in name c)) (past (is_at (slot_in name c)) rs) (is (slot_in name c)) i j)
       ∙ found_somewhere name rs i
 
--- ---- there is an entry where a field stands
-none_stands : (test : FieldView → Bool) (lists : List (List FieldView)) → ((i : ℕ) → first_passing test lists i ≡ None) → list_any (list_any test) lists ≡ false
-none_stands test [] absent = refl
-none_stands test (fs ∷ lists) absent =
-    ap (λ b. b || list_any (list_any test) lists) (sym (is_some-found test fs) ∙ ap is_some (absent 0))
-    ∙ none_stands test lists (λ i. absent (suc i))
+-- one of the entries that there are has a resolution where one of all slots has
+held_by_one : {X : Type 0} (entry : X → Option Entry) (xs : List X) (i : ℕ) → list_any (λ (e : Entry). has e.set.members i) (filter_map entry xs) ≡ list_any (λ x. holds (entry x) i) xs
+held_by_one entry [] i = refl
+held_by_one entry (x ∷ xs) i = go (entry x) (held_by_one entry xs i)
+  where
+    go : (o : Option Entry) → list_any (λ (e : Entry). has e.set.members i) (filter_map entry xs) ≡ list_any (λ x. holds (entry x) i) xs
+        → list_any (λ (e : Entry). has e.set.members i) (cons_option o (filter_map entry xs)) ≡ (holds o i || list_any (λ x. holds (entry x) i) xs)
+    go None later = later
+    go (Some e) later = ap (λ b. has e.set.members i || b) later
+
+-- so those that there are of a name tell who has a field of the name
+pub named_held : (name : Name) (rs : List Resolved) (index : Index) (entries : List (Bor Entry)) → IsIndexOf (length rs) (fields_of_each rs) index
+    → map (λ (e : Bor Entry). e.now) entries ≡ filter_map (λ c. entry_at index (slot_in name c)) categories → (i : ℕ) → is_held entries i ≡ passes (has_field_named name) rs i
+named_held name rs index entries is all i =
+    sym (list_any-map (λ (e : Entry). has e.set.members i) (λ (e : Bor Entry). e.now) entries)
+    ∙ ap (list_any (λ (e : Entry). has e.set.members i)) all
+    ∙ held_by_one (λ c. entry_at index (slot_in name c)) categories i
+    ∙ name_held name rs index is i
+
+-- ---- some resolution has a key where there is an entry of it
+none_has : (key : Key) (rs : List Resolved) → ((i : ℕ) → field_at key rs i ≡ None) → list_any (has_key key) rs ≡ false
+none_has key [] absent = refl
+none_has key (r ∷ rs) absent = ap (λ b. b || list_any (has_key key) rs) (ap is_some (absent 0)) ∙ none_has key rs (λ i. absent (suc i))
 
 or_true : (a : Bool) → (a || true) ≡ true
 or_true true = refl
 or_true false = refl
 
-one_stands : (test : FieldView → Bool) (lists : List (List FieldView)) (i : ℕ) (f : FieldView) → first_passing test lists i ≡ Some f → list_any (list_any test) lists ≡ true
-one_stands test [] i f here = absurd (missed here)
+one_has : (key : Key) (rs : List Resolved) (i : ℕ) (f : FieldView) → field_at key rs i ≡ Some f → list_any (has_key key) rs ≡ true
+one_has key [] i f here = absurd (missed here)
   where
     missed : None ≡ Some f → ⊥
     missed e = cc
-one_stands test (fs ∷ lists) zero f here = ap (λ b. b || list_any (list_any test) lists) (sym (is_some-found test fs) ∙ ap is_some here)
-one_stands test (fs ∷ lists) (suc i) f here = ap (λ b. list_any test fs || b) (one_stands test lists i f here) ∙ or_true (list_any test fs)
+one_has key (r ∷ rs) zero f here = ap (λ b. b || list_any (has_key key) rs) (ap is_some here)
+one_has key (r ∷ rs) (suc i) f here = ap (λ b. has_key key r || b) (one_has key rs i f here) ∙ or_true (has_key key r)
 
-present : (test : FieldView → Bool) (lists : List (List FieldView)) (shape : Option ℕ)
-    → MatchOption shape (Differs (first_passing test lists)) (λ s. AgreesOn s (first_passing test lists)) → list_any (list_any test) lists ≡ true
-present test lists None two = one_stands test lists two.first two.one two.one_present
-present test lists (Some s) one = one_stands test lists one.index one.field one.present
+present : (key : Key) (rs : List Resolved) (shape : Option ℕ)
+    → MatchOption shape (Differs (field_at key rs)) (λ s. AgreesOn s (field_at key rs)) → list_any (has_key key) rs ≡ true
+present key rs None two = one_has key rs two.first two.one two.one_present
+present key rs (Some s) one = one_has key rs one.index one.field one.present
 
-entry_stands : (bound : ℕ) (test : FieldView → Bool) (lists : List (List FieldView)) (entry : Option Entry) → IsEntryIfAny bound (first_passing test lists) entry → is_some entry ≡ list_any (list_any test) lists
-entry_stands bound test lists None is = sym (none_stands test lists is)
-entry_stands bound test lists (Some e) is = sym (present test lists e.shape is.shape)
+-- a key is known where there is an entry of it
+pub entry_known : (key : Key) (rs : List Resolved) (entry : Option Entry) → IsEntryIfAny (length rs) (field_at key rs) entry → is_some entry ≡ is_known rs key
+entry_known key rs None is = sym (none_has key rs is)
+entry_known key rs (Some e) is = sym (present key rs e.shape is.shape)
 
--- some resolution has a field of the name where a category has an entry of it
-pub name_stands : (name : Name) (rs : List Resolved) (index : Index) → IsIndexOf (length rs) (fields_of_each rs) index
-    → list_any (λ c. is_some (entry_at index (slot_in name c))) categories ≡ list_any (has_field_named name) rs
-name_stands name rs index is =
-    let lists = fields_of_each rs in
-    ap (λ p. list_any p categories) (λ i c. entry_stands (length rs) (is_at (slot_in name c)) lists (entry_at index (slot_in name c)) (is (slot_in name c)) i)
-    ∙ any_either_way (λ c fs. list_any (is_at (slot_in name c)) fs) categories lists
-    ∙ ap (λ p. list_any p lists) (λ i fs. somewhere name fs i)
-    ∙ list_any-map (λ fs. list_any (has_name name) fs) (λ (r : Resolved). finite.values r.fields) rs
+-- whether a value is there, behind a reference
+pub copied_there : {X : Type 0} (r : Option (Bor X)) → is_some r ≡ is_some (option_copied r)
+copied_there None = refl
+copied_there (Some x) = refl

@@ -10,7 +10,9 @@ use Rattle.facet_solver.specs.Nested.{KeyPaths, with_key_paths}
 use Rattle.facet_solver.specs.Emissions.{Emission, a_field, some_key_paths, a_pick, a_catch_all}
 use Rattle.facet_solver.specs.Walk.{Walked, put_before, and_then}
 use Rattle.facet_solver_shape.specs.Fields.{FieldView, key_of_field}
-use Rattle.facet_solver_shape.specs.Resolved.{Pick, Resolved, IsAdded, with_pick, with_catch_all, IsRefusalOf, nothing, with_field}
+use Rattle.std.specs.FinSet as set
+use Rattle.facet_solver_shape.proofs.Resolved.{names_kept, names_put, nothing_required}
+use Rattle.facet_solver_shape.specs.Resolved.{AreRequiredNames, Pick, Resolved, IsAdded, with_pick, with_catch_all, IsRefusalOf, nothing, with_field}
 use Rattle.std.specs.List.{fold}
 use Rattle.std.specs.Ordering.{eq_by_cmp}
 use Rattle.std.proofs.lemmas.List.Sums.{fold-append}
@@ -349,3 +351,52 @@ built es r h = built_from [] es nothing r nothing_done h
 -- and where that stops
 pub clashing : (es : List Emission) (d : Duplicate) → take_all nothing es ≡ duplicate d → Clashing es d
 clashing es d h = clashing_from [] es nothing d nothing_done h
+
+-- ---- the names that emissions require
+-- a field whose key is free brings its name where it is required
+added_names : (q : Resolved) (f : FieldView) → finite.get q.fields (key_of_field f) ≡ None → AreRequiredNames q.fields q.required_names
+    → AreRequiredNames (with_field q f).fields (with_field q f).required_names
+added_names q f fresh are = go f.is_required refl
+  where
+    go : (b : Bool) → f.is_required ≡ b → AreRequiredNames (finite.insert q.fields (key_of_field f) f) (cond b (set.insert q.required_names f.name) q.required_names)
+    go true required = names_put q.fields f fresh q.required_names required are
+    go false optional = names_kept q.fields f fresh q.required_names optional are
+
+names_from : (done es : List Emission) (q : Resolved) → IsDone done q → AreRequiredNames q.fields q.required_names → HasNoClash (done ++ es)
+    → AreRequiredNames (fold with_emission q es).fields (fold with_emission q es).required_names
+unfolding with_key_paths
+names_from done [] q d are free = are
+names_from done (a_field f ∷ es) q d are free =
+    go (finite.get q.fields (key_of_field f)) refl
+    (λ fresh. names_from (done ++ a_field f ∷ []) es (with_field q f) (done-field done q f d fresh) (added_names q f fresh are)
+    (subst HasNoClash (sym (append_assoc done (a_field f ∷ []) es)) free))
+  where
+    later : Type 0
+    later = AreRequiredNames (fold with_emission (with_field q f) es).fields (fold with_emission (with_field q f) es).required_names
+
+    go : (o : Option FieldView) → finite.get q.fields (key_of_field f) ≡ o → (finite.get q.fields (key_of_field f) ≡ None → later) → later
+    go None fresh rest = rest fresh
+    go (Some g) there rest =
+        let before = d.held (key_of_field f) g there in
+        absurd (free g f record {
+          first_at = before.index;
+          second_at = length done;
+          in_order = slice_get_within done before.index (a_field g) before.there;
+          first_is = get_left done (a_field f ∷ es) before.index _ before.there;
+          second_is = get_mid done es (a_field f);
+          same_key = before.by_key;
+        })
+names_from done (some_key_paths p ∷ es) q d are free =
+    names_from (done ++ some_key_paths p ∷ []) es (with_emission q (some_key_paths p)) (done-other done q (some_key_paths p) d refl (λ f e. absurd (cc))) are
+    (subst HasNoClash (sym (append_assoc done (some_key_paths p ∷ []) es)) free)
+names_from done (a_pick p ∷ es) q d are free =
+    names_from (done ++ a_pick p ∷ []) es (with_emission q (a_pick p)) (done-other done q (a_pick p) d refl (λ f e. absurd (cc))) are
+    (subst HasNoClash (sym (append_assoc done (a_pick p ∷ []) es)) free)
+names_from done (a_catch_all f ∷ es) q d are free =
+    names_from (done ++ a_catch_all f ∷ []) es (with_emission q (a_catch_all f)) (done-other done q (a_catch_all f) d refl (λ g e. absurd (cc))) are
+    (subst HasNoClash (sym (append_assoc done (a_catch_all f ∷ []) es)) free)
+
+-- where no two fields clash, the required names are those of the required fields
+pub required_names : (es : List Emission) → HasNoClash es → AreRequiredNames (resolution_of es).fields (resolution_of es).required_names
+unfolding resolution_of
+required_names es free = names_from [] es nothing nothing_done nothing_required free

@@ -1,31 +1,28 @@
 -- What keys leave of a new solver that are seen one after another.
-use Rattle.std.proofs.Common.{◌≡◌, ℕ, zero, suc, ◌<◌, Bool, true, false, cond, ◌&&◌, ◌||◌, List, [], ◌∷◌, Option, Some, None, Contains, filter, length, map, refl, ap, sym, subst, ◌∙◌, ⊎_elim, arith}
+use Rattle.std.proofs.Common.{◌≡◌, ℕ, zero, suc, ◌<◌, Bool, true, false, cond, ◌&&◌, ◌||◌, not, List, [], ◌∷◌, Option, Some, None, Contains, filter, length, map, refl, ap, sym, subst, ◌∙◌, ⊎_elim, arith}
 use Rattle.std.specs.Prelude.{fold, slice_get, nat_eq}
 use Rattle.std.specs.BTreeSet.{insert_key}
-use Rattle.std.specs.Cmp.Lexicographic.{slice_cmp}
-use Rattle.std.specs.FinMap.{slice_cmp-IsAntisymmetric, nat_cmp-IsAntisymmetric}
-use Rattle.std.specs.FinSet as set
-use Rattle.std.specs.List.{AllZip, filter_map, list_any, cons_option}
+use Rattle.std.specs.FinMap as finite
+use Rattle.std.specs.List.{AllZip, filter_map, list_all, list_any, cons_option}
 use Rattle.std.specs.Option.{option_map, option_map_or}
-use Rattle.std.specs.Ordering.{eq_by_cmp, match_ordering, nat_cmp}
+use Rattle.std.specs.Ordering.{match_ordering}
 use Rattle.std.specs.declared.cmp.Ordering.{Ordering}
 use Rattle.std.specs.declared.cmp.Ordering.TheVariants.{Less, Equal, Greater}
 use Rattle.std.proofs.lemmas.Bool.{and_from, and_parts, cases_Bool, false≢true, or_cases, or_left, or_parts, or_right}
 use Rattle.std.proofs.lemmas.Bool.Decides.{Decides-eqb}
-use Rattle.std.proofs.lemmas.Cmp.{nat_list_cmp_total}
 use Rattle.std.proofs.lemmas.List.Elements.{filter_agree}
 use Rattle.std.proofs.lemmas.Option.{none-some, same_Some, slice_get-get_or, slice_get-map, slice_get_within}
+use Rattle.facet_solver_shape.specs.Fields.{FieldView, matches}
 use Rattle.facet_solver_shape.specs.Keys.{Key, key_cmp}
-use Rattle.facet_solver_shape.specs.Names.{Name}
 use Rattle.facet_solver_shape.specs.Resolved.{description, Resolved}
 use Rattle.facet_solver_shape.proofs.Keys.{key_cmp_same}
 use Rattle.facet_solver.specs.Choice.{IsResolution, ListsChoices}
 use Rattle.facet_solver.specs.IndexSet.{has, how_many, upto}
 use Rattle.facet_solver.specs.KeyResult.{by_number, distinct_fields, key_result, unknown}
 use Rattle.facet_solver.specs.Schema.{IsOwnBuild, SchemaView}
-use Rattle.facet_solver.specs.State.{State, has_key, mark_seen, narrowed, new_solver, or_all, passes, passing, see_key, state_of}
-use Rattle.facet_solver.specs.Told.{accept, accepted_keys, EndsWithOrNames, has_keys, HasAllKnown, HaveSameKeys, indices_with, is_known, known_keys, see_keys, LeavesSome, TellsChoice}
-use Rattle.facet_solver.specs.Verdict.{is_viable, names_among, viable}
+use Rattle.facet_solver.specs.State.{State, has_key, is_known, mark_seen, narrowed, new_solver, or_all, passes, passing, see_key, state_of}
+use Rattle.facet_solver.specs.Told.{accept, accepted_keys, EndsWithOrNames, has_keys, HasAllKnown, HaveSameKeys, indices_with, known_keys, see_keys, LeavesSome, TellsChoice}
+use Rattle.facet_solver.specs.Verdict.{is_viable, viable}
 use Rattle.facet_solver.proofs.Choice.{one_list, resolution-one}
 use Rattle.facet_solver.proofs.IndexSet.{filter_all, filter_filter, filter_none, has_inside}
 use Rattle.facet_solver.proofs.Kept.{or_all_some}
@@ -235,7 +232,7 @@ alike rs keys others same q =
     (λ h. has_known rs others q (λ key at known. known_has rs keys q h key (same.in_keys key at) known))
     (λ h. has_known rs keys q (λ key at known. known_has rs others q h key (same.in_others key at) known))
 
--- ---- names of seen keys
+-- ---- keys that are seen
 swap_or : (a b c : Bool) → (a || (b || c)) ≡ (b || (a || c))
 swap_or true true c = refl
 swap_or true false c = refl
@@ -249,31 +246,25 @@ or_false : (b : Bool) → (b || false) ≡ b
 or_false true = refl
 or_false false = refl
 
-module _ (p : Name → Bool) where
-  -- a key is put in, and its name is one more
-  one_named : (k : Key) (ks : List Key) → list_any p (map (λ (x : Key). x.name) (insert_key key_cmp ks k)) ≡ (p k.name || list_any p (map (λ (x : Key). x.name) ks))
-  one_named k [] = refl
-  one_named k (x ∷ xs) = go (key_cmp k x) refl (one_named k xs)
+module _ (p : Key → Bool) where
+  -- a key is put in, and is one more
+  one_put : (k : Key) (ks : List Key) → list_any p (insert_key key_cmp ks k) ≡ (p k || list_any p ks)
+  one_put k [] = refl
+  one_put k (x ∷ xs) = go (key_cmp k x) refl (one_put k xs)
     where
-      names : List Key → Bool
-      names ks = list_any p (map (λ (x : Key). x.name) ks)
-
-      go : (o : Ordering) → key_cmp k x ≡ o → list_any p (map (λ (x : Key). x.name) (insert_key key_cmp xs k)) ≡ (p k.name || list_any p (map (λ (x : Key). x.name) xs))
-          → list_any p (map (λ (x : Key). x.name) (match_ordering o (k ∷ x ∷ xs) (x ∷ xs) (x ∷ insert_key key_cmp xs k))) ≡ (p k.name || (p x.name || list_any p (map (λ (x : Key). x.name) xs)))
+      go : (o : Ordering) → key_cmp k x ≡ o → list_any p (insert_key key_cmp xs k) ≡ (p k || list_any p xs)
+          → list_any p (match_ordering o (k ∷ x ∷ xs) (x ∷ xs) (x ∷ insert_key key_cmp xs k)) ≡ (p k || (p x || list_any p xs))
       go Less is later = refl
-      go Equal is later =
-          or_same (p x.name) (list_any p (map (λ (x : Key). x.name) xs))
-          ∙ ap (λ (y : Key). p y.name || (p x.name || list_any p (map (λ (x : Key). x.name) xs))) (sym (key_cmp_same k x is))
-      go Greater is later =
-          ap (λ b. p x.name || b) later ∙ swap_or (p x.name) (p k.name) (list_any p (map (λ (x : Key). x.name) xs))
+      go Equal is later = or_same (p x) (list_any p xs) ∙ ap (λ (y : Key). p y || (p x || list_any p xs)) (sym (key_cmp_same k x is))
+      go Greater is later = ap (λ b. p x || b) later ∙ swap_or (p x) (p k) (list_any p xs)
 
-  -- so seen names are those that were seen before and those that are told
-  all_named : (keys : List Key) (s : State) → list_any p (map (λ (x : Key). x.name) (see_keys keys s).seen) ≡ (list_any p (map (λ (x : Key). x.name) keys) || list_any p (map (λ (x : Key). x.name) s.seen))
-  all_named [] s = refl
-  all_named (key ∷ keys) s =
-      all_named keys (see_key key s)
-      ∙ ap (λ b. list_any p (map (λ (x : Key). x.name) keys) || b) (one_named key s.seen)
-      ∙ grouped (list_any p (map (λ (x : Key). x.name) keys)) (p key.name) (list_any p (map (λ (x : Key). x.name) s.seen))
+  -- so the seen keys are those that were seen before and those that are told
+  all_put : (keys : List Key) (s : State) → list_any p (see_keys keys s).seen ≡ (list_any p keys || list_any p s.seen)
+  all_put [] s = refl
+  all_put (key ∷ keys) s =
+      all_put keys (see_key key s)
+      ∙ ap (λ b. list_any p keys || b) (one_put key s.seen)
+      ∙ grouped (list_any p keys) (p key) (list_any p s.seen)
     where
       grouped : (a b c : Bool) → (a || (b || c)) ≡ ((b || a) || c)
       grouped true true c = refl
@@ -281,18 +272,12 @@ module _ (p : Name → Bool) where
       grouped false true c = refl
       grouped false false c = refl
 
-names_told : (schema : SchemaView) (keys : List Key) → names_among (see_keys keys (new_solver schema)).seen ≡ names_among keys
-names_told schema keys =
-    set.same_set nat_list_cmp_total (slice_cmp-IsAntisymmetric nat_cmp-IsAntisymmetric) _ _ (λ q.
-    let p : Name → Bool = eq_by_cmp (slice_cmp nat_cmp) q in
-    set.contains-from_list nat_list_cmp_total (map (λ (k : Key). k.name) (see_keys keys (new_solver schema)).seen) q
-    ∙ all_named p keys (new_solver schema)
-    ∙ or_false (list_any p (map (λ (k : Key). k.name) keys))
-    ∙ sym (set.contains-from_list nat_list_cmp_total (map (λ (k : Key). k.name) keys) q))
+  told : (schema : SchemaView) (keys : List Key) → list_any p (see_keys keys (new_solver schema)).seen ≡ list_any p keys
+  told schema keys = all_put keys (new_solver schema) ∙ or_false (list_any p keys)
 
 -- a resolution is viable by the told keys where it is by the seen ones
 pub viable_told : (schema : SchemaView) (keys : List Key) (r : Resolved) → is_viable (see_keys keys (new_solver schema)).seen r ≡ is_viable keys r
-viable_told schema keys r = ap (set.is_subset r.required_names) (names_told schema keys)
+viable_told schema keys r = λ i. list_all (λ (f : FieldView). not f.is_required || told (λ (key : Key). matches key f) schema keys i) (finite.values r.fields)
 
 -- ---- the end
 -- the resolution of an index that passes stands at its place

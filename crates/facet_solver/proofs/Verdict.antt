@@ -1,5 +1,5 @@
 -- What a solver says at the end: sets of names within one another.
-use Rattle.std.proofs.Common.{◌≡◌, Bool, true, false, ◌||◌, ◌&&◌, List, [], ◌∷◌, ◌++◌, map, Bor, refl, ap, sym, ◌∙◌, ⊎_elim}
+use Rattle.std.proofs.Common.{◌≡◌, Bool, true, false, ◌||◌, List, [], ◌∷◌, map, refl, sym, ◌∙◌, ⊎_elim}
 use Rattle.std.specs.declared.cmp.Ordering.{Ordering}
 use Rattle.std.specs.Cmp.{IsTotalOrder}
 use Rattle.std.specs.Cmp.Lexicographic.{slice_cmp, nat_list_eq_equiv, texts_ties}
@@ -9,12 +9,9 @@ use Rattle.std.specs.Ordering.{nat_cmp, eq_by_cmp}
 use Rattle.std.proofs.lemmas.Bool.{false≢true, or_cases, or_left, or_right, and_from, and_parts}
 use Rattle.std.proofs.lemmas.Cmp.{nat_list_cmp_total, eq_by_cmp_equiv}
 use Rattle.facet_solver_shape.specs.Names.{Name, name_eq}
-use Rattle.facet_solver_shape.specs.Keys.{Key, key_of}
-use Rattle.facet_solver_shape.specs.Resolved.{names_view}
-use Rattle.facet_solver_shape.specs.declared.resolution.key.FieldKey.{FieldKey}
+use Rattle.facet_solver_shape.specs.Keys.{Key}
 use Rattle.facet_solver_shape.proofs.Finite.{equal}
-use Rattle.std.proofs.lemmas.List.Folds.{list_any-append}
-use Rattle.facet_solver.specs.Failure.{names_among}
+use Rattle.facet_solver.specs.ByName.{names_among}
 
 -- two tests that hold together are one
 pub same_test : (a b : Bool) → (a ≡ true → b ≡ true) → (b ≡ true → a ≡ true) → a ≡ b
@@ -46,28 +43,10 @@ module _ {K : Type 0} {R : K → K → Ordering} (o : IsTotalOrder R) (t : set.F
       (λ within. each_from xs (λ q one. set.is_subset-contains o (set.from_list xs) t within q (set.contains-from_list o xs q ∙ one)))
       (λ each. set.contains-is_subset o (set.from_list xs) t (λ q here. from_each xs each q (sym (set.contains-from_list o xs q) ∙ here)))
 
-named : (keys : List FieldKey) (name : Name) → list_any (eq_by_cmp (slice_cmp nat_cmp) name) (map (λ (k : Key). k.name) (map key_of keys)) ≡ list_any (λ k. name_eq (key_of k).name name) keys
+named : (keys : List Key) (name : Name) → list_any (eq_by_cmp (slice_cmp nat_cmp) name) (map (λ (k : Key). k.name) keys) ≡ list_any (λ k. name_eq k.name name) keys
 named [] name = refl
-named (k ∷ keys) name = λ i. (sym (texts_ties name (key_of k).name) ∙ nat_list_eq_equiv.symm name (key_of k).name) i || named keys name i
+named (k ∷ keys) name = λ i. (sym (texts_ties name k.name) ∙ nat_list_eq_equiv.symm name k.name) i || named keys name i
 
 -- a name is among those of some keys if one of them bears it
-pub contains-names_among : (keys : List FieldKey) (name : Name) → set.contains (names_among (map key_of keys)) name ≡ list_any (λ k. name_eq (key_of k).name name) keys
+pub contains-names_among : (keys : List Key) (name : Name) → set.contains (names_among keys) name ≡ list_any (λ k. name_eq k.name name) keys
 contains-names_among keys name = set.contains-from_list nat_list_cmp_total _ name ∙ named keys name
-
-all_named : (keys : List FieldKey) (names : List (Bor Name)) → list_all (set.contains (names_among (map key_of keys))) (map (λ n. n.now) names) ≡ list_all (λ name. list_any (λ k. name_eq (key_of k).name name.now) keys) names
-all_named keys [] = refl
-all_named keys (n ∷ names) = λ i. contains-names_among keys n.now i && all_named keys names i
-
--- all of some names are names of keys
-pub are_names_among : (keys : List FieldKey) (names : List (Bor Name)) → set.is_subset (names_view names) (names_among (map key_of keys)) ≡ list_all (λ name. list_any (λ k. name_eq (key_of k).name name.now) keys) names
-are_names_among keys names = is_subset-from_list nat_list_cmp_total (names_among (map key_of keys)) (map (λ n. n.now) names) ∙ all_named keys names
-
--- a name that is found among the last keys is found among all, so the names after it decide
-pub found_behind : {X Y : Type 0} (test : Y → X → Bool) (skipped rest keys : List X) (name : Y) (later names : List Y)
-    → skipped ++ rest ≡ keys → names ≡ name ∷ later → list_any (test name) rest ≡ true
-    → list_all (λ n. list_any (test n) keys) later ≡ list_all (λ n. list_any (test n) keys) names
-found_behind test skipped rest keys name later names split step found =
-    let here : list_any (test name) keys ≡ true =
-    ap (list_any (test name)) (sym split) ∙ list_any-append (test name) skipped rest ∙ or_right (list_any (test name) skipped) (list_any (test name) rest) found in
-    ap (λ b. b && list_all (λ n. list_any (test n) keys) later) (sym here)
-    ∙ ap (list_all (λ n. list_any (test n) keys)) (sym step)

@@ -1,17 +1,16 @@
 -- Why a resolution is not the answer: what it lacks, and which seen keys mean nothing in it.
-use Rattle.std.specs.Prelude.{ℕ, Bool, List, [], ◌∷◌, filter, map, not, slice_get, string_bytes}
+use Rattle.std.specs.Prelude.{ℕ, Bool, ◌||◌, List, [], ◌∷◌, filter, map, not, slice_get, string_bytes}
 use Rattle.std.specs.BTreeSet.{insert_key}
 use Rattle.std.specs.Cmp.Lexicographic.{slice_cmp}
 use Rattle.std.specs.FinMap as finite
-use Rattle.std.specs.FinSet as set
-use Rattle.std.specs.List.{filter_map, list_any}
+use Rattle.std.specs.List.{list_any}
 use Rattle.std.specs.Option.{option_map_or}
 use Rattle.std.specs.Ordering.{nat_cmp}
-use Rattle.facet_solver_shape.specs.Fields.{has_name, FieldView}
+use Rattle.facet_solver_shape.specs.Fields.{has_name, matches, FieldView}
 use Rattle.facet_solver_shape.specs.Keys.{Key}
 use Rattle.facet_solver_shape.specs.Names.{Name}
 use Rattle.facet_solver_shape.specs.Paths.{path_text}
-use Rattle.facet_solver_shape.specs.Resolved.{description, field_by_name, Resolved}
+use Rattle.facet_solver_shape.specs.Resolved.{description, Resolved}
 use Rattle.facet_solver.specs.Build.{Catalogue}
 use Rattle.facet_solver.specs.Report.{FailureView, MissingView}
 use Rattle.facet_solver.specs.State.{has_key}
@@ -21,10 +20,6 @@ abbrev pub in_byte_order : List Name → List Name
 in_byte_order [] = []
 in_byte_order (name ∷ names) = insert_key (slice_cmp nat_cmp) (in_byte_order names) name
 
--- the names of keys
-abbrev pub names_among : List Key → set.FinSet (slice_cmp nat_cmp)
-names_among seen = set.from_list (map (λ k. k.name) seen)
-
 -- the names of the keys that pass a test, one for each key, in key order
 abbrev pub names_where : (Key → Bool) → List Key → List Name
 names_where test seen = map (λ k. k.name) (filter test seen)
@@ -33,15 +28,13 @@ names_where test seen = map (λ k. k.name) (filter test seen)
 abbrev pub has_field_named : Name → Resolved → Bool
 has_field_named name r = list_any (has_name name) (finite.values r.fields)
 
--- the required names that no seen key bears, in byte order
-abbrev pub missing_names : List Key → Resolved → List Name
-missing_names seen r =
-    filter (λ name. not (set.contains (names_among seen) name))
-    (in_byte_order (set.items r.required_names))
+-- whether the seen keys meet a field: it is not required, or one of them matches it
+abbrev pub is_met : List Key → FieldView → Bool
+is_met seen f = not f.is_required || list_any (λ key. matches key f) seen
 
--- what a resolution lacks: for each of these names the field that goes by it
+-- what a resolution lacks: its fields that are not met, by stored key
 abbrev pub missing : List Key → Resolved → List FieldView
-missing seen r = filter_map (λ name. field_by_name name r) (missing_names seen r)
+missing seen r = filter (λ f. not (is_met seen f)) (finite.values r.fields)
 
 -- the type identifier of a shape
 abbrev pub type_identifier : Catalogue → ℕ → Name

@@ -1,7 +1,8 @@
 -- The entries of an index.
-use Rattle.std.specs.Prelude.{◌≡◌, ◌||◌, ℕ, Bool, false, if◌then◌else◌, [], Option, Some, None, filter, nat_eq}
+use Rattle.std.specs.Prelude.{◌≡◌, ◌||◌, ℕ, Bool, false, if◌then◌else◌, List, [], Option, Some, None, filter, nat_eq}
 use Rattle.std.specs.BTreeMap.{BTreeMap, get_by}
 use Rattle.std.specs.Cmp.Lexicographic.{slice_cmp}
+use Rattle.std.specs.List.{list_any}
 use Rattle.std.specs.Option.{ForSome, option_map_or}
 use Rattle.std.specs.Ordering.{nat_cmp}
 use denote.Bor.{Bor}
@@ -49,6 +50,10 @@ entry_at index slot = entry_in (category_of index slot.category) slot.name
 -- whether an entry has a resolution; where there is none, it has not
 abbrev pub holds : Option Entry → ℕ → Bool
 holds entry index = option_map_or (λ e. has e.set.members index) entry false
+
+-- whether one of some entries has a resolution
+abbrev pub is_held : List (Bor Entry) → ℕ → Bool
+is_held entries index = list_any (λ e. has e.now.set.members index) entries
 
 -- an entry is over the numbers below a bound
 abbrev pub HasBound : ℕ → Option Entry → Type 0

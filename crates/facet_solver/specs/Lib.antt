@@ -33,6 +33,8 @@ pub mod Probing
 pub mod ShapeAtPath
 pub mod Probe
 pub mod Failure
+pub mod ByName
+pub mod SeenNames
 pub mod Verdict
 pub mod Told
 pub mod Run

@@ -66,6 +66,10 @@ mark_seen key s = record s { seen = insert_key key_cmp s.seen key }
 abbrev pub has_key : Key → Resolved → Bool
 has_key key r = is_some (field_by_key key r)
 
+-- whether some resolution has a key
+abbrev pub is_known : List Resolved → Key → Bool
+is_known resolutions key = list_any (has_key key) resolutions
+
 -- a key is seen, and only the candidates stay that have it, or all where none has
 abbrev pub see_key : Key → State → State
 see_key key s = narrowed false (has_key key) (mark_seen key s)

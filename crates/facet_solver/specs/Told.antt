@@ -7,7 +7,7 @@ use Rattle.facet_solver_shape.specs.Resolved.{Resolved}
 use Rattle.facet_solver.specs.Build.{Build}
 use Rattle.facet_solver.specs.Choice.{IsResolution}
 use Rattle.facet_solver.specs.Schema.{SchemaView}
-use Rattle.facet_solver.specs.State.{State, has_key, new_solver, passing, see_key}
+use Rattle.facet_solver.specs.State.{State, has_key, is_known, new_solver, passing, see_key}
 use Rattle.facet_solver.specs.Verdict.{descriptions, is_viable, resolutions_at, viable}
 
 -- keys are seen, one after another
@@ -30,10 +30,6 @@ accept resolutions accepted key =
 -- those keys of a list that are accepted one after another, the last first
 abbrev pub accepted_keys : List Resolved → List Key → List Key
 accepted_keys resolutions keys = fold (accept resolutions) [] keys
-
--- whether some resolution has a key
-abbrev pub is_known : List Resolved → Key → Bool
-is_known resolutions key = list_any (has_key key) resolutions
 
 -- those keys of a list that some resolution has
 abbrev pub known_keys : List Resolved → List Key → List Key
@@ -66,8 +62,8 @@ pub record ChoiceHasKey (build : Build) (root : ℕ) (choice : List ℕ) (key : 
   pub has : has_key key resolution ≡ true
 
 -- the keys of a choice are told, in whatever order and however often, unknown keys among them: the
--- choice has each told key that any choice has, and each name that its resolution requires is the
--- name of a told key
+-- choice has each told key that any choice has, and each field that its resolution requires is
+-- matched by a told key
 pub record TellsChoice
     (build : Build) (root : ℕ) (choice : List ℕ) (keys : List Key) (r : Resolved)
     : Type 0 where

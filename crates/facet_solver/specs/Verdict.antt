@@ -1,8 +1,7 @@
 -- What a solver says at the end.
 use Rattle.std.specs.Prelude.{◌≡◌, ℕ, Bool, List, [], Option, Some, None, filter, length, map, not, slice_get, ⊤}
 use Rattle.std.specs.FinMap as finite
-use Rattle.std.specs.FinSet as set
-use Rattle.std.specs.List.{filter_map, flat_map, list_all, list_any}
+use Rattle.std.specs.List.{filter_map, flat_map, list_all}
 use Rattle.std.specs.Option.{option_and_then, option_map, option_map_or}
 use Rattle.facet_solver_shape.specs.Keys.{Key, key_of}
 use Rattle.facet_solver_shape.specs.Names.{Name}
@@ -10,15 +9,14 @@ use Rattle.facet_solver_shape.specs.Resolved.{description, Resolved}
 use Rattle.facet_solver.specs.declared.error.SolverError.{SolverError}
 use Rattle.facet_solver.specs.declared.solver.report.Report.{Report}
 use Rattle.facet_solver.specs.declared.error.SolverError.TheVariants.{OutOfMemory}
-use Rattle.facet_solver.specs.Failure.{failure_of, has_field_named, in_byte_order, missing, missing_fields, names_where}
-pub use Rattle.facet_solver.specs.Failure.{names_among}
+use Rattle.facet_solver.specs.Failure.{failure_of, has_field_named, in_byte_order, is_met, missing, missing_fields, names_where}
 use Rattle.facet_solver.specs.IndexSet.{HowMany, no_index, one_index, several_indices, how_many, upto}
 use Rattle.facet_solver.specs.Report.{AmbiguityView, ErrorView, NoMatchView, ambiguous, error_view, no_match}
-use Rattle.facet_solver.specs.State.{State, or_all, passing}
+use Rattle.facet_solver.specs.State.{State, is_known, or_all, passing}
 
--- each required name is the name of a seen key
+-- the seen keys meet each field
 abbrev pub is_viable : List Key → Resolved → Bool
-is_viable seen r = set.is_subset r.required_names (names_among seen)
+is_viable seen r = list_all (is_met seen) (finite.values r.fields)
 
 -- the candidates that are viable
 abbrev pub viable : State → List ℕ
@@ -50,10 +48,9 @@ state_of_report report = record {
   seen = map key_of report.seen.now.keys;
 }
 
--- the names of the seen keys whose name no field of any resolution has
+-- the names of the seen keys that mean no field of any resolution
 abbrev pub unknown_names : List Key → List Resolved → List Name
-unknown_names seen resolutions =
-    names_where (λ key. not (list_any (has_field_named key.name) resolutions)) seen
+unknown_names seen resolutions = names_where (λ key. not (is_known resolutions key)) seen
 
 -- the resolutions that a report speaks of: the candidates, or all where there is none
 abbrev pub reported : State → List Resolved

@@ -1,5 +1,5 @@
 //! Laws of choices, walks, counts, told keys and reports: each is the contract of a function that does nothing.
-ghost use Rattle.std.specs.Prelude.{◌≡◌, ◌≢◌, ◌↔◌, ◌++◌, [], ℕ, All, Bool, Contains, List, Some, length, slice_get, true};
+ghost use Rattle.std.specs.Prelude.{◌≡◌, ◌≢◌, ◌↔◌, ◌++◌, [], ℕ, All, Bool, Contains, List, Some, length, map, slice_get, true};
 ghost use Rattle.std.specs.Cmp.Lexicographic.{slice_cmp};
 ghost use Rattle.std.specs.List.Sorted.{IsStrictlySortedBy};
 ghost use Rattle.std.specs.Ordering.{nat_cmp};
@@ -12,7 +12,8 @@ ghost use Rattle.facet_solver_shape.specs.declared.shape.Field.{Field};
 ghost use Rattle.facet_solver_shape.specs.declared.shape.Variant.{Variant};
 ghost use Rattle.facet_solver.specs.Choice.{IsChoice, IsClash, IsResolution, ListsChoices, Enumerates, GoesByName};
 ghost use Rattle.facet_solver.specs.Count.{count_fields, count_fields_step, count_of_root};
-ghost use Rattle.facet_solver.specs.Failure.{missing_names};
+ghost use Rattle.facet_solver.specs.ByName.{is_viable_by_name, missing_by_name, unknown_by_name};
+ghost use Rattle.facet_solver.specs.Failure.{missing};
 ghost use Rattle.facet_solver.specs.Place.{Path};
 ghost use Rattle.facet_solver.specs.Place.{Place};
 ghost use Rattle.facet_solver.specs.declared.build.representation.Format.TheVariants.{Dom, Flat};
@@ -22,14 +23,15 @@ ghost use Rattle.facet_solver.specs.Nested.{FollowsKinds, EndsByLength, HasNoGap
 ghost use Rattle.facet_solver.specs.Build.{Build, Catalogue};
 ghost use Rattle.facet_solver.specs.Content.{effective, go_on, next_inside};
 ghost use Rattle.facet_solver.specs.Walk.{walk_fields, walk_fields_step};
-ghost use Rattle.facet_solver_shape.specs.Keys.{Key};
+ghost use Rattle.facet_solver_shape.specs.Fields.{key_of_field};
+ghost use Rattle.facet_solver_shape.specs.Keys.{Key, key_cmp};
 ghost use Rattle.facet_solver.specs.KeyResult.{key_result, unknown};
 ghost use Rattle.facet_solver.specs.Schema.{IsOwnBuild, SchemaView};
 ghost use Rattle.facet_solver.specs.Run.{CallView, after_call, after_calls};
 ghost use Rattle.facet_solver.specs.State.{State, has_key, mark_seen, new_solver, passing, see_key};
 ghost use Rattle.facet_solver.specs.Told.{accepted_keys, indices_with, known_keys, see_keys};
 ghost use Rattle.facet_solver.specs.Told.{EndsWithOrNames, HasAllKnown, HaveSameKeys, LeavesSome, TellsChoice};
-ghost use Rattle.facet_solver.specs.Verdict.{disambiguating, is_viable, viable};
+ghost use Rattle.facet_solver.specs.Verdict.{disambiguating, is_viable, unknown_names, viable};
 
 /// A root has one list of all choices, and at most one list of resolutions.
 pub fn lists_are_the_only_ones()
@@ -141,8 +143,8 @@ pub fn viable_candidates_are_named()
         → EndsWithOrNames s index (description r.picks) }
 {}
 
-/// With all its required names among the keys that a new solver sees, a resolution that has each of them that any
-/// resolution has is viable, and the solver ends with it or names it.
+/// A resolution that has each key that a new solver sees and that any resolution has, and each of whose required fields one of
+/// these keys matches, is viable, and the solver ends with it or names it.
 pub fn told_resolutions_are_found()
     ensures viable { (schema : SchemaView) (keys : List Key) (index : ℕ) (r : Resolved)
         → HasAllKnown schema keys index r → is_viable keys r ≡ true
@@ -155,8 +157,8 @@ pub fn told_resolutions_are_found()
 /// A new solver of a built schema that sees the keys of one choice ends with that choice's index, or names it by its
 /// description at its own place.
 ///
-/// The order does not matter, and keys may be repeated or unknown. Each name that the choice requires has to be told, and
-/// no told key may be one that another choice has and this one lacks.
+/// The order does not matter, and keys may be repeated or unknown. Each field that the choice requires has to be matched by a
+/// told key, and no told key may be one that another choice has and this one lacks.
 pub fn told_choices_are_found()
     ensures { (schema : SchemaView) → IsOwnBuild schema
         → (choices : List (List ℕ)) → ListsChoices schema.build schema.root choices
@@ -180,16 +182,32 @@ pub fn unknown_keys_are_only_seen()
         → passing (has_key key) s ≡ [] → key_result key s ≡ unknown }
 {}
 
-/// The names that tell viable resolutions apart, and those that a resolution lacks, are in byte order and once each.
-pub fn reports_name_in_byte_order()
+/// The names that tell viable resolutions apart are in byte order and once each, and the fields that a resolution of a choice
+/// lacks rise by their stored keys.
+pub fn reports_are_in_order()
     ensures disambiguating { (resolutions : List Resolved)
         → IsStrictlySortedBy (slice_cmp nat_cmp) (disambiguating resolutions) }
-    ensures missing { (seen : List Key) (r : Resolved)
-        → IsStrictlySortedBy (slice_cmp nat_cmp) (missing_names seen r) }
+    ensures missing { (build : Build) (root : ℕ) (choice : List ℕ) (seen : List Key) (r : Resolved)
+        → IsResolution build root choice r
+        → IsStrictlySortedBy key_cmp (map key_of_field (missing seen r)) }
 {}
 
-/// A resolution is viable exactly if it lacks none of its required names.
-pub fn viable_resolutions_lack_no_name()
+/// A resolution is viable exactly if it lacks nothing.
+pub fn viable_resolutions_lack_nothing()
     ensures { (seen : List Key) (r : Resolved)
-        → (is_viable seen r ≡ true) ↔ (missing_names seen r ≡ []) }
+        → (is_viable seen r ≡ true) ↔ (missing seen r ≡ []) }
+{}
+
+/// In the flat format names alone decide: a resolution is viable, what it lacks, and which names are unknown, by the names of
+/// the seen keys, of whatever kind these are.
+pub fn names_decide_in_the_flat_format()
+    ensures viable { (schema : SchemaView) (seen : List Key)
+        → IsOwnBuild schema → schema.build.format ≡ Flat
+        → All (λ r. is_viable seen r ≡ is_viable_by_name seen r) schema.resolutions }
+    ensures missing { (schema : SchemaView) (seen : List Key)
+        → IsOwnBuild schema → schema.build.format ≡ Flat
+        → All (λ r. missing seen r ≡ missing_by_name seen r) schema.resolutions }
+    ensures unknown { (schema : SchemaView) (seen : List Key)
+        → IsOwnBuild schema → schema.build.format ≡ Flat
+        → unknown_names seen schema.resolutions ≡ unknown_by_name seen schema.resolutions }
 {}

@@ -1,19 +1,19 @@
 //! All resolutions of a type.
-ghost use Rattle.std.specs.Prelude.{◌≡◌, ◌*◌, ◌+◌, ◌<◌, ◌≤◌, IfErr, IfOk, None, Some, length};
-ghost use Rattle.std.specs.List.{list_any};
+ghost use Rattle.std.specs.Prelude.{◌≡◌, ◌*◌, ◌+◌, ◌<◌, ◌≤◌, ℕ, IfErr, IfOk, None, Some, length};
 ghost use Rattle.std.specs.Option.{option_copied};
 ghost use Rattle.facet_solver_shape.specs.Keys.{key_of};
 ghost use Rattle.facet_solver_shape.specs.Steps.{NoCountFalls};
 ghost use Rattle.facet_solver.specs.Build.{build_of, build_with};
 ghost use Rattle.facet_solver.specs.Choice.{Enumerates, IsRefusal};
 ghost use Rattle.facet_solver.specs.Count.{IsCountOf, count_of_root};
+ghost use Rattle.facet_solver.specs.IndexEntries.{is_held};
 ghost use Rattle.facet_solver.specs.Indexed.{IsEntryIfAny};
 ghost use Rattle.facet_solver.specs.Failure.{has_field_named};
 ghost use Rattle.facet_solver.specs.FieldCount.{field_count};
 ghost use Rattle.facet_solver.specs.KeyResult.{field_at};
 ghost use Rattle.facet_solver.specs.Representation.{asked_view, externally_tagged, flattened, repr_view};
 ghost use Rattle.facet_solver.specs.Schema.{IsBuilt, IsOwnBuild, flat_build};
-ghost use Rattle.facet_solver.specs.State.{has_key, passes};
+ghost use Rattle.facet_solver.specs.State.{has_key, is_known, passes};
 
 pub(crate) mod handle;
 pub(crate) mod index;
@@ -314,18 +314,19 @@ impl<'c> Schema<'c> {
         holds(self.look_up(key), index)
     }
 
-    // Whether a field of any resolution has the name.
-    pub(crate) fn has_name(&self, name: &str) -> bool
-        ensures { result ≡ list_any (has_field_named name.now) self.now.resolutions }
+    // Whether some resolution has a field that a key means.
+    pub(crate) fn is_known(&self, key: FieldKey<'_>) -> bool
+        ensures { result ≡ is_known self.now.resolutions (key_of key.entry) }
     {
-        self.index.has_name(name)
+        self.look_up(key).is_some()
     }
 
-    // Whether the resolution at an index has a field of the name.
-    pub(crate) fn has_name_at(&self, name: &str, index: usize) -> bool
-        ensures { result ≡ passes (has_field_named name.now) self.now.resolutions index }
+    // The entries of the fields of a name: a resolution has such a field where one of them has the resolution.
+    pub(crate) fn entries_named(&self, alloc: Global, name: &str) -> Result<Vec<&Entry>, AllocError>
+        ensures { IfOk result (λ entries. (index : ℕ) → is_held entries.items index
+            ≡ passes (has_field_named name.now) self.now.resolutions index) }
     {
-        self.index.has_name_at(name, index)
+        self.index.entries_named(alloc, name)
     }
 
     /// What kind of document the schema is for.

@@ -1,12 +1,12 @@
 //! The index of a schema: which resolutions have a key.
-ghost use Rattle.std.specs.Prelude.{◌≡◌, ◌+◌, ◌<◌, IfOk, List, None, OnOk, Option, Some, if◌then◌else◌, is_some, length, take};
-ghost use Rattle.std.specs.List.{list_any};
+ghost use Rattle.std.specs.Prelude.{◌≡◌, ◌+◌, ◌<◌, ℕ, IfOk, List, None, OnOk, Option, Some, if◌then◌else◌, length, map, take};
+ghost use Rattle.std.specs.List.{filter_map};
 ghost use Rattle.std.specs.Option.{option_copied};
 ghost use Rattle.facet_solver_shape.specs.Keys.{key_of};
 ghost use Rattle.facet_solver_shape.specs.Fields.{takes_any_name};
 ghost use Rattle.facet_solver_shape.specs.Names.{Name, name_eq};
 ghost use Rattle.facet_solver_shape.specs.Resolved.{Resolved};
-ghost use Rattle.facet_solver.specs.IndexEntries.{HasBound, added, category_of, entry_at, entry_in, entry_of_one, holds, named_entry, with_occurrence};
+ghost use Rattle.facet_solver.specs.IndexEntries.{HasBound, added, category_of, entry_at, entry_in, entry_of_one, holds, is_held, named_entry, with_occurrence};
 ghost use Rattle.facet_solver.specs.Indexed.{AreOfFormat, IsEntryIfAny, IsIndexOf, fields_of_each};
 ghost use Rattle.facet_solver.specs.Failure.{has_field_named};
 ghost use Rattle.facet_solver.specs.KeyResult.{field_at};
@@ -154,8 +154,8 @@ pub(crate) fn holds(entry: Option<&Entry>, index: usize) -> bool
     }
 }
 
-// Whether a DOM key without a name means every field of the category.
-fn takes_any_name(category: FieldCategory) -> bool
+/// Whether a DOM key without a name means every field of the category.
+pub(crate) fn takes_any_name(category: FieldCategory) -> bool
     ensures { result ≡ takes_any_name category }
 {
     matches!(
@@ -274,38 +274,28 @@ impl<'c> Index<'c> {
         self.entry_at(format, key)
     }
 
-    /// Whether a field of any resolution has the name.
-    pub(crate) fn has_name(&self, name: &str) -> bool
-        ensures { (resolutions : List Resolved)
+    /// The entries of the fields of a name: a resolution has such a field where one of them has the resolution.
+    pub(crate) fn entries_named(&self, alloc: Global, name: &str) -> Result<Vec<&Entry>, AllocError>
+        ensures { IfOk result (λ entries. (resolutions : List Resolved)
             → IsIndexOf (length resolutions) (fields_of_each resolutions) self.now
-            → result ≡ list_any (has_field_named name.now) resolutions }
+            → (index : ℕ) → is_held entries.items index
+            ≡ passes (has_field_named name.now) resolutions index) }
     {
-        self.has_entry(name)
+        self.entries_of_each_category(alloc, name)
     }
 
-    /// Whether a field of the resolution at an index has the name.
-    pub(crate) fn has_name_at(&self, name: &str, index: usize) -> bool
-        ensures { (resolutions : List Resolved)
-            → IsIndexOf (length resolutions) (fields_of_each resolutions) self.now
-            → result ≡ passes (has_field_named name.now) resolutions index }
+    // The entries of a name, one for each category that has one.
+    fn entries_of_each_category(&self, alloc: Global, name: &str) -> Result<Vec<&Entry>, AllocError>
+        ensures { IfOk result (λ entries. map (λ e. e.now) entries.items
+            ≡ filter_map (λ c. entry_at self.now (slot_in name.now c)) categories) }
     {
-        self.is_held(name, index)
-    }
-
-    // Whether there is an entry of the name in any category.
-    fn has_entry(&self, name: &str) -> bool
-        ensures { result
-            ≡ list_any (λ c. is_some (entry_at self.now (slot_in name.now c))) categories }
-    {
-        CATEGORIES.iter().any(|category| self.of_category(*category).entry_of(name).is_some())
-    }
-
-    // Whether the entry of the name in any category has the resolution at an index.
-    fn is_held(&self, name: &str, index: usize) -> bool
-        ensures { result
-            ≡ list_any (λ c. holds (entry_at self.now (slot_in name.now c)) index) categories }
-    {
-        CATEGORIES.iter().any(|category| holds(self.of_category(*category).entry_of(name), index))
+        let mut entries = Vec::new(alloc);
+        for category in &CATEGORIES {
+            if let Some(entry) = self.of_category(*category).entry_of(name) {
+                entries.push(entry)?;
+            }
+        }
+        Ok(entries)
     }
 
     // The entry of the slot where a key looks.

@@ -1,19 +1,17 @@
 //! What a solver asks of a resolution.
-ghost use Rattle.std.specs.Prelude.{◌≡◌, ◌++◌, List, map, nat_eq};
-ghost use Rattle.std.specs.List.{list_all, list_any};
+ghost use Rattle.std.specs.Prelude.{◌≡◌, map, nat_eq};
+ghost use Rattle.std.specs.List.{list_any};
 ghost use Rattle.std.specs.Option.{option_copied};
 ghost use Rattle.facet_solver_shape.specs.Keys.{key_of};
-ghost use Rattle.facet_solver_shape.specs.declared.resolution.key.FieldKey.{FieldKey};
 ghost use Rattle.facet_solver_shape.specs.Names.{name_eq};
 ghost use Rattle.facet_solver.specs.State.{has_shape_among, passes, passing_at, picks_variant};
-ghost use Rattle.facet_solver.specs.Verdict as verdict;
 
 pub(crate) mod shape_of;
 pub(crate) mod tag_field;
+pub(crate) mod viable;
 
 use crate::set::Condition;
 use facet_solver_shape::{FieldInfo, FieldKey, Resolution, ShapeId, VariantSelection};
-use std::collections::btree_set::Iter;
 use std::collections::{BTreeMap, BTreeSet};
 
 /// A test of a resolution.
@@ -115,57 +113,6 @@ fn has_shape(shapes: &[ShapeId], shape: ShapeId) -> bool
     ensures { result ≡ list_any (λ id. nat_eq id shape) shapes.now }
 {
     shapes.iter().any(|id| *id == shape)
-}
-
-/// Whether each required name of a resolution is the name of a seen key.
-#[derive(Clone, Copy)]
-pub(crate) struct IsViable<'k, 'a> {
-    pub(crate) seen: &'k BTreeSet<FieldKey<'a>>,
-}
-
-impl Test for IsViable<'_, '_> {
-    ghost is_passed = { λ t. verdict.is_viable (map key_of t.seen.now.keys) };
-
-    fn is_passed(&self, resolution: &Resolution<'_>) -> bool {
-        is_viable(self.seen, resolution)
-    }
-}
-
-fn is_viable(seen: &BTreeSet<FieldKey<'_>>, resolution: &Resolution<'_>) -> bool
-    ensures { result ≡ verdict.is_viable (map key_of seen.now.keys) resolution.now }
-{
-    are_seen(seen, resolution.required_field_names())
-}
-
-fn are_seen(seen: &BTreeSet<FieldKey<'_>>, names: &BTreeSet<&str>) -> bool
-    ensures { result ≡ list_all
-        (λ name. list_any (λ k. name_eq (key_of k).name name.now) seen.now.keys) names.now.keys }
-{
-    // Flat keys rise as the names do, so each name is first sought behind the one before it. It is sought among all keys
-    // where it is not there, as a key of an earlier category may be of that name.
-    let mut keys = seen.iter();
-    for name in names {
-        if !skip_to_name(&mut keys, name) {
-            keys = seen.iter();
-            if !skip_to_name(&mut keys, name) {
-                return false;
-            }
-        }
-    }
-    true
-}
-
-// Skips the keys up to the first one of a name, and says whether there is one.
-fn skip_to_name(keys: &mut Iter<'_, FieldKey<'_>>, name: &str) -> bool
-    ensures found { result ≡ list_any (λ k. name_eq (key_of k).name name.now) keys.old }
-    ensures rest { (skipped : List FieldKey) × (skipped ++ keys.new ≡ keys.old) }
-{
-    while let Some(key) = keys.next() {
-        if key.name() == name {
-            return true;
-        }
-    }
-    false
 }
 
 /// Whether a name is that of a seen key.

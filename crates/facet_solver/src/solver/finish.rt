@@ -8,7 +8,7 @@ use crate::error::SolverError;
 use crate::schema::handle::ResolutionHandle;
 use crate::set::Matches;
 use crate::solver::Solver;
-use crate::solver::conditions::IsViable;
+use crate::solver::conditions::viable::IsViable;
 use crate::solver::report::Report;
 use std::alloc::Global;
 

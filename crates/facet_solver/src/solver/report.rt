@@ -5,20 +5,23 @@ ghost use Rattle.facet_solver_shape.specs.Names.{names_of, optional_name};
 ghost use Rattle.facet_solver_shape.specs.Resolved.{description};
 ghost use Rattle.facet_solver.specs.Failure as spec;
 ghost use Rattle.facet_solver.specs.Report.{ambiguous, error_view, failure_view, missing_view, no_match};
+ghost use Rattle.facet_solver.specs.SeenNames.{AreSeenNames};
 ghost use Rattle.facet_solver.specs.Verdict as verdict;
 ghost use Rattle.facet_solver.specs.Verdict.{ambiguity_of, no_match_of, state_of_report};
 
 pub(crate) mod failure;
 pub(crate) mod names;
+pub(crate) mod seen;
 pub(crate) mod viable;
 
 use crate::error::{CandidateFailure, MissingFieldInfo, SolverError};
 use crate::schema::Schema;
 use crate::set::ResolutionSet;
-use crate::solver::conditions::IsViable;
+use crate::solver::conditions::viable::IsViable;
 use facet_solver_shape::{FieldKey, Resolution};
 use failure::{failures_at, missing_fields};
-use names::{AnyKey, IsUnknown, names_where, seen_names};
+use names::{AnyKey, IsUnknown, names_where};
+use seen::SeenNames;
 use std::alloc::{AllocError, Global};
 use std::collections::BTreeSet;
 use viable::{descriptions, disambiguating, viable_indices};
@@ -39,7 +42,8 @@ impl<'r, 'c, 'a> Report<'r, 'c, 'a> {
             IfOk result (λ e. error_view e ≡ no_match (no_match_of state)) }
     {
         let alloc = self.alloc;
-        let missing = self.closest_missing()?;
+        let names = SeenNames::new(alloc, self.seen)?;
+        let missing = self.closest_missing(&names)?;
         Ok(SolverError::NoMatch {
             input_fields: names_where(alloc, self.seen, AnyKey)?,
             missing_required: names_of(alloc, &missing)?,
@@ -52,7 +56,7 @@ impl<'r, 'c, 'a> Report<'r, 'c, 'a> {
                 },
             )?,
             closest_resolution: self.closest_description()?,
-            candidate_failures: self.failures()?,
+            candidate_failures: self.failures(&names)?,
         })
     }
 
@@ -87,34 +91,35 @@ impl<'r, 'c, 'a> Report<'r, 'c, 'a> {
     }
 
     // What the first candidate lacks.
-    fn closest_missing(&self) -> Result<Vec<MissingFieldInfo<'c>>, AllocError>
+    fn closest_missing(
+        &self,
+        names: &SeenNames<'_>,
+    ) -> Result<Vec<MissingFieldInfo<'c>>, AllocError>
+        requires { AreSeenNames (state_of_report self.now).seen names.now }
         ensures { let state = state_of_report self.now in
             IfOk result (λ fields. map missing_view fields.items
             ≡ option_map_or (spec.missing_fields state.schema.build.catalogue state.seen)
             (verdict.closest state) []) }
     {
         match self.closest() {
-            Some(resolution) => {
-                let names = seen_names(self.alloc, self.seen)?;
-                missing_fields(self.alloc, self.schema.shapes(), &names, resolution)
-            }
+            Some(resolution) => missing_fields(self.alloc, self.schema.shapes(), names, resolution),
             None => Ok(Vec::new(self.alloc)),
         }
     }
 
     // Why the candidates are not the answer, or where there is none, all resolutions.
-    fn failures(&self) -> Result<Vec<CandidateFailure<'c>>, AllocError>
+    fn failures(&self, names: &SeenNames<'_>) -> Result<Vec<CandidateFailure<'c>>, AllocError>
+        requires { AreSeenNames (state_of_report self.now).seen names.now }
         ensures { let state = state_of_report self.now in
             IfOk result (λ failures. map failure_view failures.items
             ≡ map (spec.failure_of state.schema.build.catalogue state.seen)
             (verdict.reported state)) }
     {
-        let names = seen_names(self.alloc, self.seen)?;
         if self.candidates.is_empty() {
             let all = ResolutionSet::full(self.alloc, self.schema.resolutions().len())?;
-            failures_at(self, &names, &all)
+            failures_at(self, names, &all)
         } else {
-            failures_at(self, &names, self.candidates)
+            failures_at(self, names, self.candidates)
         }
     }
 }

@@ -71,8 +71,11 @@ impl<'c> FieldInfo<'c> {
         }
     }
 
-    // Whether a key of a document means the field.
-    pub(crate) fn matched_by(&self, key: &FieldKey) -> bool
+    /// Whether a key of a document means the field.
+    ///
+    /// A field of category Flat goes by its name, whatever the kind of the key. Of the others, a flat key means an element of
+    /// its name, and a DOM key a field of its category and its name; without a name, it means any text, tag or elements.
+    pub fn matched_by(&self, key: &FieldKey) -> bool
         ensures { result ≡ matches (key_of key.now) self.now }
     {
         let named = key.name() == self.serialized_name;

@@ -2,28 +2,27 @@
 ghost use Rattle.std.specs.Prelude.{◌≡◌, ◌<◌, IfOk, List, Some, length, map, slice_get, string_bytes};
 ghost use Rattle.std.specs.Option.{option_map};
 ghost use Rattle.facet_solver_shape.specs.Keys.{Key};
-ghost use Rattle.facet_solver_shape.specs.Resolved.{names_view};
 ghost use Rattle.facet_solver.specs.Failure as spec;
-ghost use Rattle.facet_solver.specs.Failure.{failure_of, names_among, type_identifier};
+ghost use Rattle.facet_solver.specs.Failure.{failure_of, type_identifier};
 ghost use Rattle.facet_solver.specs.Report.{failure_view, missing_view};
+ghost use Rattle.facet_solver.specs.SeenNames.{AreSeenNames};
 ghost use Rattle.facet_solver.specs.Verdict.{resolutions_at, state_of_report};
 
 use crate::error::{CandidateFailure, MissingFieldInfo};
 use crate::set::ResolutionSet;
 use crate::solver::report::Report;
 use crate::solver::report::names::{IsUnknownAt, names_where};
+use crate::solver::report::seen::SeenNames;
 use facet_solver_shape::{FieldInfo, Resolution, ShapeId, Shapes};
 use std::alloc::{AllocError, Global};
-use std::collections::BTreeSet;
 
 /// Why the resolutions at some indices are not the answer, in order.
 pub(crate) fn failures_at<'c>(
     report: &Report<'_, 'c, '_>,
-    seen_names: &BTreeSet<&str>,
+    names: &SeenNames<'_>,
     indices: &ResolutionSet,
 ) -> Result<Vec<CandidateFailure<'c>>, AllocError>
-    requires { let state = state_of_report report.now in
-        names_view seen_names.now.keys ≡ names_among state.seen }
+    requires { AreSeenNames (state_of_report report.now).seen names.now }
     ensures { let state = state_of_report report.now in
         IfOk result (λ failures. map failure_view failures.items
         ≡ map (failure_of state.schema.build.catalogue state.seen)
@@ -33,7 +32,7 @@ pub(crate) fn failures_at<'c>(
     let mut failures = Vec::new(report.alloc);
     for index in indices.iter() {
         if let Some(resolution) = resolutions.get(index) {
-            failures.push(failure(report, seen_names, index, resolution)?)?;
+            failures.push(failure(report, names, index, resolution)?)?;
         }
     }
     Ok(failures)
@@ -42,12 +41,11 @@ pub(crate) fn failures_at<'c>(
 // Why the resolution at an index is not the answer.
 fn failure<'c>(
     report: &Report<'_, 'c, '_>,
-    seen_names: &BTreeSet<&str>,
+    names: &SeenNames<'_>,
     index: usize,
     resolution: &Resolution<'c>,
 ) -> Result<CandidateFailure<'c>, AllocError>
-    requires names { let state = state_of_report report.now in
-        names_view seen_names.now.keys ≡ names_among state.seen }
+    requires names { AreSeenNames (state_of_report report.now).seen names.now }
     requires place { let state = state_of_report report.now in
         slice_get state.schema.resolutions index ≡ Some resolution.now }
     ensures { let state = state_of_report report.now in
@@ -58,29 +56,25 @@ fn failure<'c>(
     let schema = report.schema;
     Ok(CandidateFailure {
         variant_name: resolution.describe(alloc)?,
-        missing_fields: missing_fields(alloc, schema.shapes(), seen_names, resolution)?,
+        missing_fields: missing_fields(alloc, schema.shapes(), names, resolution)?,
         unknown_fields: names_where(alloc, report.seen, IsUnknownAt { schema, index })?,
         suggestion_matches: 0,
     })
 }
 
-/// What a resolution lacks: each required name that is not among the seen ones, with the field that goes by it.
+/// What a resolution lacks: each field that the seen keys do not meet.
 pub(crate) fn missing_fields<'c>(
     alloc: Global,
     shapes: &Shapes,
-    seen_names: &BTreeSet<&str>,
+    names: &SeenNames<'_>,
     resolution: &Resolution<'c>,
 ) -> Result<Vec<MissingFieldInfo<'c>>, AllocError>
-    ensures { IfOk result (λ fields. (seen : List Key)
-        → names_view seen_names.now.keys ≡ names_among seen
+    ensures { IfOk result (λ fields. (seen : List Key) → AreSeenNames seen names.now
         → map missing_view fields.items ≡ spec.missing_fields shapes.now seen resolution.now) }
 {
     let mut fields = Vec::new(alloc);
-    for name in resolution.required_field_names() {
-        if seen_names.contains(*name) {
-            continue;
-        }
-        if let Some(field) = resolution.field_by_name(name) {
+    for (_, field) in resolution.fields() {
+        if !names.meet(field) {
             fields.push(missing_field(alloc, shapes, field)?)?;
         }
     }

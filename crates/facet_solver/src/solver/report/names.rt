@@ -1,11 +1,8 @@
 //! The names of seen keys.
 ghost use Rattle.std.specs.Prelude.{◌≡◌, IfOk, map, not, string_bytes};
-ghost use Rattle.std.specs.List.{list_any};
 ghost use Rattle.facet_solver_shape.specs.Keys.{key_of};
-ghost use Rattle.facet_solver_shape.specs.Resolved.{names_view};
 ghost use Rattle.facet_solver.specs.Failure as spec;
-ghost use Rattle.facet_solver.specs.Failure.{has_field_named, names_among};
-ghost use Rattle.facet_solver.specs.State.{has_key, passes};
+ghost use Rattle.facet_solver.specs.State.{has_key, is_known, passes};
 
 use crate::schema::Schema;
 use facet_solver_shape::FieldKey;
@@ -37,18 +34,17 @@ impl KeyTest for AnyKey {
     }
 }
 
-/// Whether no field of any resolution has the name of a key.
+/// Whether a key means no field of any resolution.
 #[derive(Clone, Copy)]
 pub(crate) struct IsUnknown<'s, 'c> {
     pub(crate) schema: &'s Schema<'c>,
 }
 
 impl KeyTest for IsUnknown<'_, '_> {
-    ghost is_passed = { λ t key.
-        not (list_any (has_field_named key.name) t.schema.now.resolutions) };
+    ghost is_passed = { λ t key. not (is_known t.schema.now.resolutions key) };
 
     fn is_passed(&self, key: FieldKey<'_>) -> bool {
-        !self.schema.has_name(key.name())
+        !self.schema.is_known(key)
     }
 }
 
@@ -81,21 +77,6 @@ pub(crate) fn names_where<T: KeyTest>(
         if test.is_passed(*key) {
             names.push(String::from_str(alloc, key.name())?)?;
         }
-    }
-    Ok(names)
-}
-
-/// The names of keys, each once.
-pub(crate) fn seen_names<'a>(
-    alloc: Global,
-    seen: &BTreeSet<FieldKey<'a>>,
-) -> Result<BTreeSet<&'a str>, AllocError>
-    ensures { IfOk result
-        (λ names. names_view names.keys ≡ names_among (map key_of seen.now.keys)) }
-{
-    let mut names = BTreeSet::new(alloc);
-    for key in seen {
-        names.insert(key.name())?;
     }
     Ok(names)
 }

@@ -4,13 +4,16 @@ ghost use Rattle.std.specs.FinSet as set;
 ghost use Rattle.std.specs.List.{flat_map, list_all};
 ghost use Rattle.facet_solver_shape.specs.Resolved.{names_view};
 ghost use Rattle.facet_solver.specs.Failure.{has_field_named};
+ghost use Rattle.facet_solver.specs.IndexEntries.{is_held};
 ghost use Rattle.facet_solver.specs.State.{passes};
 ghost use Rattle.facet_solver.specs.Verdict as verdict;
 ghost use Rattle.facet_solver.specs.Verdict.{field_names, resolutions_at, state_of_report, viable};
 
 use crate::schema::Schema;
+use crate::schema::index::Entry;
 use crate::set::Condition;
-use crate::solver::conditions::{AtIndex, IsViable};
+use crate::solver::conditions::AtIndex;
+use crate::solver::conditions::viable::IsViable;
 use crate::solver::report::Report;
 use facet_solver_shape::Resolution;
 use std::alloc::{AllocError, Global};
@@ -56,7 +59,7 @@ pub(crate) fn descriptions(
 
 /// The names that some but not all of the resolutions at some indices have, in byte order.
 ///
-/// Each name is asked of the resolutions in turn, up to the first that lacks it.
+/// Each name is sought in the schema's index once, and then asked of the resolutions in turn, up to the first that lacks it.
 pub(crate) fn disambiguating(
     alloc: Global,
     schema: &Schema<'_>,
@@ -69,7 +72,7 @@ pub(crate) fn disambiguating(
     let all = all_names(alloc, schema, indices)?;
     let mut names = Vec::new(alloc);
     for name in &all {
-        if !is_in_all(schema, indices, name) {
+        if !is_in_all(alloc, schema, indices, name)? {
             names.push(String::from_str(alloc, name)?)?;
         }
     }
@@ -77,11 +80,30 @@ pub(crate) fn disambiguating(
 }
 
 // Whether each of the resolutions at some indices has a field of the name.
-fn is_in_all(schema: &Schema<'_>, indices: &[usize], name: &str) -> bool
-    ensures { result ≡ list_all
-        (passes (has_field_named name.now) schema.now.resolutions) indices.now }
+fn is_in_all(
+    alloc: Global,
+    schema: &Schema<'_>,
+    indices: &[usize],
+    name: &str,
+) -> Result<bool, AllocError>
+    ensures { IfOk result (λ is. is ≡ list_all
+        (passes (has_field_named name.now) schema.now.resolutions) indices.now) }
 {
-    indices.iter().all(|index| schema.has_name_at(name, *index))
+    let entries = schema.entries_named(alloc, name)?;
+    Ok(are_held(&entries, indices))
+}
+
+// Whether each of some resolutions is in one of some entries.
+fn are_held(entries: &[&Entry], indices: &[usize]) -> bool
+    ensures { result ≡ list_all (is_held entries.now) indices.now }
+{
+    indices.iter().all(|index| is_held(entries, *index))
+}
+
+fn is_held(entries: &[&Entry], index: usize) -> bool
+    ensures { result ≡ is_held entries.now index }
+{
+    entries.iter().any(|entry| entry.set.contains(index))
 }
 
 // The names of fields of the resolutions at some indices.

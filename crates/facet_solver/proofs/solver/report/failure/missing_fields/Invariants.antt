@@ -1,14 +1,14 @@
-use Rattle.std.proofs.Common.{◌≡◌, ◌++◌, map}
-use Rattle.std.specs.FinSet.{items}
-use Rattle.facet_solver_shape.specs.Names.{names_of}
-use Rattle.facet_solver_shape.specs.Resolved.{names_view}
-use Rattle.facet_solver.specs.Failure.{in_byte_order}
+use Rattle.std.proofs.Common.{◌≡◌, ◌++◌, List, map}
+use Rattle.facet_solver_shape.specs.Fields.{FieldView, entry_view}
+use Rattle.facet_solver_shape.specs.Keys.{Key}
+use Rattle.std.specs.FinMap as finite
 use Rattle.facet_solver.specs.Report.{missing_view}
+use Rattle.facet_solver.specs.SeenNames.{AreSeenNames}
 use Rattle.facet_solver.proofs.Missing.{missing_among}
 use Rattle.facet_solver.proofs.solver.report.failure.missing_fields.Given as goal
 
-abbrev pub invariant-loop-name : goal.invariant-loop-name
-invariant-loop-name l =
-    let lacked = missing_among l.shapes (names_view l.seen_names.keys) l.resolution in
-    map missing_view l.fields.items ++ lacked (names_of l.name-iterator)
-    ≡ lacked (in_byte_order (items l.resolution.required_names))
+abbrev pub invariant-loop-field : goal.invariant-loop-field
+invariant-loop-field l =
+    (seen : List Key) → AreSeenNames seen l.names
+    → map missing_view l.fields.items ++ missing_among l.shapes seen (map (λ e. e.1) (map entry_view l.field-iterator))
+    ≡ missing_among l.shapes seen (finite.values l.resolution.fields)

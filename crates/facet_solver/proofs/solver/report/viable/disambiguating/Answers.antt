@@ -25,7 +25,7 @@ loop-name-preserved-in_ok-push c =
     c.loop-name.invariant c.in-Some.ensures.steps
     (map string_bytes c.push.new.self.items) name.now
     (map_pushed string_bytes c.loop-name.names.items c.push.new.self.items c.in_ok-from_str.field-0 name.now c.in_ok-push.ensures.items c.in_ok-from_str.ensures.ok)
-    (lacked_taken rs is name.now (names_of c.next.new.self) (sym c.is_in_all.ensures ∙ c.if-not-is_in_all.true))
+    (lacked_taken rs is name.now (names_of c.next.new.self) (sym c.in_ok-is_in_all.ensures ∙ c.if-not-branch.true))
 
 pub loop-name-preserved : goal.loop-name-preserved
 loop-name-preserved c =
@@ -34,7 +34,7 @@ loop-name-preserved c =
     let name = c.in-Some.name.now in
     left_none (lacked rs is) (map string_bytes c.loop-name.names.items) c.loop-name.name-iterator c.next.new.self name _
     c.loop-name.invariant c.in-Some.ensures.steps
-    (lacked_left rs is name.now (names_of c.next.new.self) (sym c.is_in_all.ensures ∙ c.if-not-is_in_all.false))
+    (lacked_left rs is name.now (names_of c.next.new.self) (sym c.in_ok-is_in_all.ensures ∙ c.if-not-branch.false))
 
 pub returns : goal.returns
 returns c =
