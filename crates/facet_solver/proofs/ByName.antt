@@ -23,7 +23,7 @@ use Rattle.facet_solver_shape.proofs.Fields.{flat_by_name}
 use Rattle.facet_solver_shape.proofs.Finite.{equal, none_is_some, same_value}
 use Rattle.facet_solver_shape.proofs.Keys.{name_cmp_same}
 use Rattle.facet_solver_shape.proofs.Resolved.{first_part, second_part}
-use Rattle.facet_solver.specs.ByName.{is_viable_by_name, missing_by_name, missing_names, names_among, unknown_by_name}
+use Rattle.facet_solver.specs.ByName.{is_viable_by_name, missing_by_name, unseen_names, names_among, unknown_by_name}
 use Rattle.facet_solver.specs.Failure.{has_field_named, in_byte_order, is_met, missing, names_where}
 use Rattle.facet_solver.specs.State.{has_key, is_known}
 use Rattle.facet_solver.specs.Verdict.{is_viable, unknown_names}
@@ -294,13 +294,13 @@ module _ (r : Resolved) (stored : AllByRecursion IsStored (finite.entries r.fiel
   )
 
   -- the names of what is lacked are those that are lacked by name
-  names_alike : (seen : List Key) → map (λ (f : FieldView). f.name) (missing seen r) ≡ missing_names seen r
+  names_alike : (seen : List Key) → map (λ (f : FieldView). f.name) (missing seen r) ≡ unseen_names seen r
   names_alike seen =
       let entries = finite.entries r.fields in
       let rising = finite.entries_sorted r.fields in
       let required = in_byte_order (set.items r.required_names) in
       let unseen : Name → Bool = λ name. not (set.contains (names_among seen) name) in
-      same_sorted nat_list_cmp_total name_cmp_same (map (λ (f : FieldView). f.name) (missing seen r)) (missing_names seen r)
+      same_sorted nat_list_cmp_total name_cmp_same (map (λ (f : FieldView). f.name) (missing seen r)) (unseen_names seen r)
       (names_left_rise (λ f. not (is_met seen f)) (finite.values r.fields) (names_rise entries (named_entries entries stored flat) rising))
       (IsStrictlySortedBy-filter (slice_cmp nat_cmp) unseen required (sorted-in_byte_order (set.items r.required_names)))
       (λ q.

@@ -19,14 +19,14 @@ abbrev pub is_viable_by_name : List Key → Resolved → Bool
 is_viable_by_name seen r = set.is_subset r.required_names (names_among seen)
 
 -- the required names that no seen key bears, in byte order
-abbrev pub missing_names : List Key → Resolved → List Name
-missing_names seen r =
+abbrev pub unseen_names : List Key → Resolved → List Name
+unseen_names seen r =
     filter (λ name. not (set.contains (names_among seen) name))
     (in_byte_order (set.items r.required_names))
 
 -- for each of these names the field of least stored key that goes by it
 abbrev pub missing_by_name : List Key → Resolved → List FieldView
-missing_by_name seen r = filter_map (λ name. field_by_name name r) (missing_names seen r)
+missing_by_name seen r = filter_map (λ name. field_by_name name r) (unseen_names seen r)
 
 -- the names of the seen keys whose name no field of any resolution has
 abbrev pub unknown_by_name : List Key → List Resolved → List Name

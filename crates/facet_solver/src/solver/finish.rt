@@ -13,7 +13,7 @@ use crate::solver::report::Report;
 use std::alloc::Global;
 
 impl<'s, 'c, 'a> Solver<'s, 'c, 'a> {
-    /// The one candidate all of whose required names are names of seen keys.
+    /// The one candidate of which a seen key matches each required field.
     ///
     /// The error is `NoMatch` where there is none, and `Ambiguous` where there are several, each with all its
     /// lists. It is `OutOfMemory` where memory for these is refused; an answer without error takes none.
@@ -40,7 +40,7 @@ impl<'s, 'c, 'a> Solver<'s, 'c, 'a> {
         }
     }
 
-    // The candidates all of whose required names are names of seen keys, as far as their number matters.
+    // The candidates that are viable, as far as their number matters.
     fn viable(&self) -> Matches
         ensures number { matches_view result ≡ how_many (viable self.now) }
         ensures within { IsWithin (length self.now.schema.resolutions) result }
