@@ -1,6 +1,6 @@
 //! What one choice of variants resolves to: paths, keys, fields, and the resolution itself.
 ghost use Rattle.std.specs.Prelude.{◌≡◌, IfOk, IfErr, OnOk, OnErr, IsTrue, All, map};
-ghost use Rattle.std.specs.Option.{option_copied};
+ghost use Rattle.std.specs.Option.{option_copied, option_map};
 ghost use Rattle.std.specs.String.{string_bytes};
 ghost use Rattle.std.specs.FinMap as finite;
 ghost use Rattle.std.specs.FinSet as set;
@@ -148,15 +148,34 @@ impl<'c> Resolution<'c> {
         ensures refused { IfErr result (IsRefusalOf self.old info.entry) }
         ensures err { OnErr result (self.new ≡ self.old) }
     {
-        let key = info.key();
-        if let Some(present) = self.fields.get(&key) {
-            let first_path = present.path.copied(*self.picks.allocator())?;
+        if let Some(first_path) = self.path_of_same_key(&info)? {
             return Err(SchemaError::from(DuplicateFieldError {
                 field_name: info.serialized_name,
                 first_path,
                 second_path: info.path,
             }));
         }
+        self.add_new(info)
+    }
+
+    // The path of the field that has the key of another, if there is one.
+    fn path_of_same_key(&self, info: &FieldInfo<'c>) -> Result<Option<FieldPath<'c>>, AllocError>
+        ensures { IfOk result (λ path. path
+            ≡ option_map (λ f. f.path) (finite.get self.now.fields (key_of_field info.now))) }
+    {
+        match self.fields.get(&info.key()) {
+            Some(present) => Ok(Some(present.path.copied(*self.picks.allocator())?)),
+            None => Ok(None),
+        }
+    }
+
+    // Adds a field whose key is new.
+    fn add_new(&mut self, info: FieldInfo<'c>) -> Result<(), SchemaError<'c>>
+        requires fresh { finite.get self.old.fields (key_of_field info) ≡ None }
+        ensures ok { OnOk result (self.new ≡ with_field self.old info.entry) }
+        ensures refused { IfErr result (λ e. e ≡ OutOfMemory) }
+        ensures err { OnErr result (self.new ≡ self.old) }
+    {
         if info.required {
             self.add_required(info)
         } else {
