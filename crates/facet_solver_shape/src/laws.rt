@@ -1,8 +1,9 @@
-//! Laws of paths, keys and fields: each is the contract of a function that does nothing.
-ghost use Rattle.std.specs.Prelude.{◌≡◌, ◌↔◌, ◌<◌, List, Bool, Some, All, IsTrue, find};
+//! Laws of indices of shapes, paths, keys and fields: each is the contract of a function that does nothing.
+ghost use Rattle.std.specs.Prelude.{◌≡◌, ◌↔◌, ◌<◌, ℕ, List, Bool, Some, All, IsTrue, find};
 ghost use Rattle.std.specs.Cmp.{IsTotalOrder};
 ghost use Rattle.std.specs.Cmp.Lexicographic.{slice_cmp};
 ghost use Rattle.std.specs.FinMap as finite;
+ghost use Rattle.std.specs.Hash.{usize};
 ghost use Rattle.std.specs.Ordering.{nat_cmp};
 ghost use Rattle.std.specs.declared.cmp.Ordering.TheVariants.{Less, Equal};
 ghost use Rattle.facet_solver_shape.specs.Keys.{Key, key_cmp, key_of, flat_key, dom_key, category_index};
@@ -11,9 +12,20 @@ ghost use Rattle.facet_solver_shape.specs.Names.{Name};
 ghost use Rattle.facet_solver_shape.specs.Paths.{path_eq, Step};
 ghost use Rattle.facet_solver_shape.specs.contracts.resolution.key.FieldKeyOrd.TheImpl as derived;
 ghost use Rattle.facet_solver_shape.specs.contracts.resolution.key.FieldKeyPartialEq.TheImpl as equality;
+ghost use Rattle.facet_solver_shape.specs.contracts.shape.identifier.ShapeIdHash.TheImpl as id_hash;
+ghost use Rattle.facet_solver_shape.specs.contracts.shape.identifier.ShapeIdOrd.TheImpl as id_order;
+ghost use Rattle.facet_solver_shape.specs.contracts.shape.identifier.ShapeIdPartialEq.TheImpl as id_equality;
 ghost use Rattle.facet_solver_shape.specs.declared.resolution.key.FieldCategory.{FieldCategory as Category};
 ghost use Rattle.facet_solver_shape.specs.declared.resolution.key.FieldCategory.TheVariants.{Flat};
 ghost use Rattle.facet_solver_shape.specs.declared.resolution.key.FieldKey.{FieldKey as AnyKey};
+
+/// Identifiers of shapes are equal exactly if their indices are, and are ordered and hashed as these are. So equality,
+/// order and hash agree.
+pub fn shape_ids_go_by_index()
+    ensures equal { (a b : ℕ) → IsTrue ((id_equality.ghosts).eq a b) ↔ (a ≡ b) }
+    ensures ordered { (a b : ℕ) → (id_order.ghosts).cmp a b ≡ nat_cmp a b }
+    ensures hashed { (a : ℕ) → (id_hash.ghosts).hash_input a ≡ usize a }
+{}
 
 /// Two paths are equal exactly if their segments are.
 pub fn paths_equal_by_segments()
