@@ -38,7 +38,7 @@ found_from calls before after is keys only new built choices listed index choice
     (choice_ends before.schema built choices listed index choice at keys r told)
 
 -- ---- no call adds a candidate
-pub call_leaves : (call : CallView) (s : State) → LeavesSome s (after_call call s)
+pub call_leaves : (call : CallView) (s : State) → LeavesSome s.candidates (after_call call s).candidates
 call_leaves (see_key key) s =
     let some = narrowed_leaves false (has_key key) (state.mark_seen key s) in
     record { stays = some.stays; left = some.left }
@@ -49,12 +49,12 @@ call_leaves (probe_key path key) s = narrowed_leaves true (has_key_at path key) 
 call_leaves (hint_variant name) s = narrowed_leaves false (picks_variant name) s
 call_leaves (hint_variant_for_tag tag name) s = go (passing (has_tag_field s.schema.build.catalogue tag) s)
   where
-    go : (found : List ℕ) → LeavesSome s (where_any found (state.hint_variant name s) s)
+    go : (found : List ℕ) → LeavesSome s.candidates (where_any found (state.hint_variant name s) s).candidates
     go [] = record { stays = λ i. true; left = all_stay s.candidates }
     go (i ∷ rest) = narrowed_leaves false (picks_variant name) s
 
 -- so no run does
-pub calls_leave : (calls : List CallView) (s : State) → LeavesSome s (after_calls calls s)
+pub calls_leave : (calls : List CallView) (s : State) → LeavesSome s.candidates (after_calls calls s).candidates
 calls_leave [] s = record { stays = λ i. true; left = all_stay s.candidates }
 calls_leave (call ∷ calls) s =
     let first = call_leaves call s in

@@ -415,7 +415,7 @@ some_or_all p is [] same = ((λ i. true), all_stay is)
 some_or_all p is (i ∷ some) same = (p, same)
 
 -- nothing is added by narrowing
-pub narrowed_leaves : (may_be_none : Bool) (test : Resolved → Bool) (s : State) → LeavesSome s (narrowed may_be_none test s)
+pub narrowed_leaves : (may_be_none : Bool) (test : Resolved → Bool) (s : State) → LeavesSome s.candidates (narrowed may_be_none test s).candidates
 narrowed_leaves true test s = record { stays = passes test s.schema.resolutions; left = refl }
 narrowed_leaves false test s =
     let some = some_or_all (passes test s.schema.resolutions) s.candidates (passing test s) refl in

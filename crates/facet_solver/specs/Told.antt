@@ -73,6 +73,6 @@ pub record TellsChoice
   pub has_required : is_viable keys r ≡ true
 
 -- the later candidates are some of the earlier ones, in their order
-pub record LeavesSome (before after : State) : Type 0 where
-  pub stays : ℕ → Bool
-  pub left : after.candidates ≡ filter stays before.candidates
+pub record LeavesSome {A : Type 0} (before after : List A) : Type 0 where
+  pub stays : A → Bool
+  pub left : after ≡ filter stays before

@@ -1,5 +1,5 @@
-//! Laws of choices, walks, counts, told keys and reports: each is the contract of a function that does nothing.
-ghost use Rattle.std.specs.Prelude.{◌≡◌, ◌≢◌, ◌↔◌, ◌++◌, [], ℕ, All, Bool, Contains, List, Some, length, map, slice_get, true};
+//! Laws of choices, walks, counts, told keys, calls and reports: each is the contract of a function that does nothing.
+ghost use Rattle.std.specs.Prelude.{◌≡◌, ◌≢◌, ◌↔◌, ◌++◌, [], ℕ, All, Bool, Contains, List, Option, Some, length, map, slice_get, true};
 ghost use Rattle.std.specs.Cmp.Lexicographic.{slice_cmp};
 ghost use Rattle.std.specs.List.Sorted.{IsStrictlySortedBy};
 ghost use Rattle.std.specs.Ordering.{nat_cmp};
@@ -11,7 +11,7 @@ ghost use Rattle.facet_solver_shape.specs.declared.resolution.key.FieldCategory.
 ghost use Rattle.facet_solver_shape.specs.declared.shape.Field.{Field};
 ghost use Rattle.facet_solver_shape.specs.declared.shape.Variant.{Variant};
 ghost use Rattle.facet_solver.specs.Choice.{IsChoice, IsClash, IsResolution, ListsChoices, Enumerates, GoesByName};
-ghost use Rattle.facet_solver.specs.Count.{count_fields, count_fields_step, count_of_root};
+ghost use Rattle.facet_solver.specs.Count.{IsCountOf, below_2_64, count_fields, count_fields_step, count_of_root};
 ghost use Rattle.facet_solver.specs.ByName.{is_viable_by_name, missing_by_name, unknown_by_name};
 ghost use Rattle.facet_solver.specs.Failure.{missing};
 ghost use Rattle.facet_solver.specs.Place.{Path};
@@ -26,9 +26,11 @@ ghost use Rattle.facet_solver.specs.Walk.{walk_fields, walk_fields_step};
 ghost use Rattle.facet_solver_shape.specs.Fields.{key_of_field};
 ghost use Rattle.facet_solver_shape.specs.Keys.{Key, key_cmp};
 ghost use Rattle.facet_solver.specs.KeyResult.{key_result, unknown};
+ghost use Rattle.facet_solver.specs.Probing as probing;
 ghost use Rattle.facet_solver.specs.Schema.{IsOwnBuild, SchemaView};
 ghost use Rattle.facet_solver.specs.Run.{CallView, after_call, after_calls};
-ghost use Rattle.facet_solver.specs.State.{State, has_key, mark_seen, new_solver, passing, see_key};
+ghost use Rattle.facet_solver.specs.ShapeAtPath.{satisfy_at_path};
+ghost use Rattle.facet_solver.specs.State.{State, has_key, mark_seen, new_solver, passing, satisfy, satisfy_shapes, see_key};
 ghost use Rattle.facet_solver.specs.Told.{accepted_keys, indices_with, known_keys, see_keys};
 ghost use Rattle.facet_solver.specs.Told.{EndsWithOrNames, HasAllKnown, HaveSameKeys, LeavesSome, TellsChoice};
 ghost use Rattle.facet_solver.specs.Verdict.{disambiguating, is_viable, unknown_names, viable};
@@ -58,6 +60,13 @@ pub fn resolutions_exclude_clashes()
 pub fn all_choices_are_counted()
     ensures { (build : Build) (root : ℕ) (cs : List (List ℕ))
         → ListsChoices build root cs → length cs ≡ count_of_root build root }
+{}
+
+/// The number of resolutions that is told without a schema is that of a schema's resolutions, where that is below 2^64.
+pub fn resolutions_are_counted()
+    ensures { (schema : SchemaView) (answer : Option ℕ) → IsOwnBuild schema
+        → IsCountOf schema.build.catalogue schema.root schema.build.representation answer
+        → answer ≡ below_2_64 (length schema.resolutions) }
 {}
 
 /// The walk of fields is made of the walks of what is flattened into them: no level of a catalogue lies too deep for it.
@@ -168,10 +177,23 @@ pub fn told_choices_are_found()
         → EndsWithOrNames (see_keys keys (new_solver schema)) index (description r.picks) }
 {}
 
-/// No call adds a candidate, and no run of calls does: what is left are some of the candidates, in their order.
+/// No call of a solver adds a candidate, no run of calls does, and no call of a probing solver: what is left are some of
+/// the candidates, in their order.
 pub fn no_candidate_is_added()
-    ensures by_a_call { (call : CallView) (s : State) → LeavesSome s (after_call call s) }
-    ensures by_a_run { (calls : List CallView) (s : State) → LeavesSome s (after_calls calls s) }
+    ensures by_a_call { (call : CallView) (s : State)
+        → LeavesSome s.candidates (after_call call s).candidates }
+    ensures by_a_run { (calls : List CallView) (s : State)
+        → LeavesSome s.candidates (after_calls calls s).candidates }
+    ensures by_probing { (path : List Name) (key : Name) (candidates : List Resolved)
+        → LeavesSome candidates (probing.probe_key path key candidates) }
+{}
+
+/// A value that fits no shape leaves no candidate, by whichever call that is told.
+pub fn no_shapes_leave_no_candidate()
+    ensures shapes { (s : State) → satisfy_shapes [] s ≡ record s { candidates = [] } }
+    ensures fields { (s : State) → satisfy [] s ≡ record s { candidates = [] } }
+    ensures at_path { (path : List Name) (s : State)
+        → satisfy_at_path path [] s ≡ record s { candidates = [] } }
 {}
 
 /// A key that no candidate has is seen and changes nothing else, and the answer to it is `Unknown`.
