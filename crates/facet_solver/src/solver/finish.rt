@@ -1,7 +1,10 @@
 //! The end of a solver: the one candidate that is viable, or why there is none.
-ghost use Rattle.std.specs.Prelude.{◌≡◌, ◌↔◌, ◌∷◌, [], IfErr, IfOk, IsOk, length};
+ghost use Rattle.std.specs.Prelude.{◌≡◌, ◌↔◌, ◌∷◌, [], ℕ, IfErr, IfOk, IsOk, length};
+ghost use Rattle.facet_solver_shape.specs.Names.{Name};
+ghost use Rattle.facet_solver.specs.Found.{GivesOrNames};
 ghost use Rattle.facet_solver.specs.IndexSet.{IsWithin, how_many, matches_view};
 ghost use Rattle.facet_solver.specs.Schema.{IsHandleOf, index_of};
+ghost use Rattle.facet_solver.specs.Told.{EndsWithOrNames};
 ghost use Rattle.facet_solver.specs.Verdict.{IsReportOn, state_of_report, viable};
 
 use crate::error::SolverError;
@@ -22,6 +25,8 @@ impl<'s, 'c, 'a> Solver<'s, 'c, 'a> {
         ensures index { IfOk result (λ handle. viable self.entry ≡ index_of handle ∷ []) }
         ensures handle { IfOk result (IsHandleOf self.entry.schema) }
         ensures refused { IfErr result (IsReportOn self.entry) }
+        ensures found { (index : ℕ) (text : Name)
+            → EndsWithOrNames self.entry index text → GivesOrNames self.entry index text result }
     {
         self.verdict(alloc)
     }
