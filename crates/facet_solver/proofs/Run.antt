@@ -1,12 +1,13 @@
 -- What a run of calls leaves.
-use Rattle.std.proofs.Common.{◌≡◌, ℕ, ◌+◌, ◌<◌, true, false, ◌&&◌, filter, List, [], ◌∷◌, get_or, length, map, subst, take, ap, sym, ◌∙◌}
-use Rattle.std.proofs.lemmas.List.{map-append, take_more}
+use Rattle.std.proofs.Common.{◌≡◌, ℕ, ◌+◌, ◌<◌, ◌≤◌, true, false, ◌&&◌, ◌++◌, filter, List, [], ◌∷◌, get_or, length, map, subst, take, ap, sym, ◌∙◌}
+use Rattle.std.proofs.lemmas.List.{map-append, take_all, take_more}
 use Rattle.std.proofs.lemmas.List.Folds.{fold-map}
-use Rattle.std.proofs.lemmas.List.Sums.{fold_push}
+use Rattle.std.proofs.lemmas.List.Sums.{fold-append, fold_push}
 use Rattle.facet_solver_shape.specs.Keys.{Key}
 use Rattle.facet_solver_shape.specs.Resolved.{description}
 use Rattle.facet_solver.specs.Run.{after_call, after_calls, call_view, call_views, CallView, FindsToldChoices, see_key, mark_seen, satisfy_shapes, satisfy_at_path, probe_key, hint_variant, hint_variant_for_tag}
 use Rattle.facet_solver.specs.KeyPath.{has_key_at}
+use Rattle.facet_solver.specs.Schema.{IsOwnBuild, SchemaView}
 use Rattle.facet_solver.specs.ShapeAtPath.{has_shape_at_path}
 use Rattle.facet_solver.specs.State as state
 use Rattle.facet_solver.specs.State.{State, has_key, has_shape_among, has_tag_field, passing, picks_variant, where_any}
@@ -30,12 +31,24 @@ only_keys calls keys s same = ap (λ cs. after_calls cs s) same ∙ fold-map (λ
 pub told_from : (calls : List CallView) (before after : State) → after ≡ after_calls calls before → (keys : List Key) → calls ≡ map see_key keys → after ≡ see_keys keys before
 told_from calls before after is keys only = is ∙ only_keys calls keys before only
 
--- and where it tells a choice
-pub found_from : (calls : List CallView) (before after : State) → after ≡ after_calls calls before → FindsToldChoices calls before after
-found_from calls before after is keys only new built choices listed index choice at r told =
-    subst (λ (s : State). EndsWithOrNames s index (description r.picks))
-    (sym (told_from calls before after is keys only ∙ ap (see_keys keys) new))
-    (choice_ends before.schema built choices listed index choice at keys r told)
+-- the schema that a state is made of is its own build
+pub built_in : (schema : SchemaView) (candidates : List ℕ) (seen : List Key) (s : State) → IsOwnBuild schema → record { schema = schema; candidates = candidates; seen = seen } ≡ s → IsOwnBuild s.schema
+built_in schema candidates seen s built same = subst (λ (t : State). IsOwnBuild t.schema) same built
+
+-- and where it tells a choice, with the keys that were seen earlier
+pub found_from : (calls : List CallView) (before after : State) → IsOwnBuild before.schema → after ≡ after_calls calls before → FindsToldChoices calls before after
+found_from calls before after built is = record {
+  ends = λ earlier keys new only choices listed index choice at r told.
+      subst (λ (s : State). EndsWithOrNames s index (description r.picks))
+      (fold-append (λ now key. state.see_key key now) (state.new_solver before.schema) earlier keys
+      ∙ sym (told_from calls before after is keys only ∙ ap (see_keys keys) new))
+      (choice_ends before.schema built choices listed index choice at (earlier ++ keys) r told);
+}
+
+-- also of a run that made all calls
+pub found_of_all : (calls : List Call) (made : ℕ) (before after : State) → IsOwnBuild before.schema → length calls ≤ made → after ≡ after_calls (call_views (take made calls)) before → FindsToldChoices (call_views calls) before after
+found_of_all calls made before after built all is =
+    found_from (call_views calls) before after built (is ∙ ap (λ cs. after_calls (call_views cs) before) (take_all made calls all))
 
 -- ---- no call adds a candidate
 pub call_leaves : (call : CallView) (s : State) → LeavesSome s.candidates (after_call call s).candidates

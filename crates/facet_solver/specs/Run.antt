@@ -1,15 +1,14 @@
 -- Calls of a solver as values, and what a run of them leaves.
-use Rattle.std.specs.Prelude.{◌≡◌, ℕ, List, Some, fold, map, slice_get}
+use Rattle.std.specs.Prelude.{◌≡◌, ◌++◌, ℕ, List, Some, fold, map, slice_get}
 use Rattle.facet_solver_shape.specs.Keys.{Key, key_of}
 use Rattle.facet_solver_shape.specs.Names.{Name, names_of}
 use Rattle.facet_solver_shape.specs.Resolved.{description, Resolved}
 use Rattle.facet_solver.specs.Choice.{ListsChoices}
 use Rattle.facet_solver.specs.Probe as probe
-use Rattle.facet_solver.specs.Schema.{IsOwnBuild}
 use Rattle.facet_solver.specs.ShapeAtPath as at_path
 use Rattle.facet_solver.specs.State as state
 use Rattle.facet_solver.specs.State.{State, new_solver}
-use Rattle.facet_solver.specs.Told.{EndsWithOrNames, TellsChoice}
+use Rattle.facet_solver.specs.Told.{EndsWithOrNames, TellsChoice, see_keys}
 use Rattle.facet_solver.specs.declared.solver.run.Call.{Call}
 use Rattle.facet_solver.specs.declared.solver.run.Call.TheVariants.{SeeKey, MarkSeen, SatisfyShapes, SatisfyAtPath, ProbeKey, HintVariant, HintVariantForTag}
 
@@ -51,13 +50,13 @@ after_call (hint_variant_for_tag tag name) s = state.hint_variant_for_tag tag na
 abbrev pub after_calls : List CallView → State → State
 after_calls calls s = fold (λ now call. after_call call now) s calls
 
--- a new solver of a built schema that was told one choice's keys, and nothing else, ends with that
--- choice or names it
-abbrev pub FindsToldChoices : List CallView → State → State → Type 0
-FindsToldChoices calls before after =
-    (keys : List Key) → calls ≡ map see_key keys
-    → before ≡ new_solver before.schema → IsOwnBuild before.schema
-    → (choices : List (List ℕ)) → ListsChoices before.schema.build before.schema.root choices
-    → (index : ℕ) (choice : List ℕ) → slice_get choices index ≡ Some choice
-    → (r : Resolved) → TellsChoice before.schema.build before.schema.root choice keys r
-    → EndsWithOrNames after index (description r.picks)
+-- a new solver that saw some keys earlier, and sees more by these calls, ends with the choice whose
+-- keys all of these are, or names it
+pub record FindsToldChoices (calls : List CallView) (before after : State) : Type 0 where
+  pub ends : (earlier keys : List Key) → before ≡ see_keys earlier (new_solver before.schema)
+      → calls ≡ map see_key keys
+      → (choices : List (List ℕ)) → ListsChoices before.schema.build before.schema.root choices
+      → (index : ℕ) (choice : List ℕ) → slice_get choices index ≡ Some choice
+      → (r : Resolved)
+      → TellsChoice before.schema.build before.schema.root choice (earlier ++ keys) r
+      → EndsWithOrNames after index (description r.picks)

@@ -32,7 +32,7 @@ impl<'s, 'c, 'a> Solver<'s, 'c, 'a> {
     ///
     /// The only error is refused memory, and tells how many calls were made: the call at that index was refused and
     /// changed nothing, and none after it was made.
-    #[tactic(auto, using(crate::proofs::Run::after_calls_more))]
+    #[tactic(auto, using(crate::proofs::Run::after_calls_more, crate::proofs::Run::found_from, crate::proofs::Run::found_of_all, crate::proofs::Run::built_in))]
     pub fn run(&mut self, alloc: Global, calls: &[Call<'a>]) -> Result<(), usize>
         ensures ok { OnOk result (self.new ≡ after_calls (call_views calls.now) self.old) }
         ensures told { OnOk result ((keys : List Key)
@@ -43,6 +43,8 @@ impl<'s, 'c, 'a> Solver<'s, 'c, 'a> {
         ensures err { IfErr result
             (λ made. self.new ≡ after_calls (call_views (take made calls.now)) self.old) }
     {
+        // So that `found` knows that the schema is its own build.
+        let _ = self.schema.resolutions();
         for (made, call) in calls.iter().enumerate() {
             if self.make(alloc, call).is_err() {
                 return Err(made);
