@@ -42,6 +42,11 @@ impl<'s, 'c, 'a> Solver<'s, 'c, 'a> {
         ensures within { IfErr result (λ made. made < length calls.now) }
         ensures err { IfErr result
             (λ made. self.new ≡ after_calls (call_views (take made calls.now)) self.old) }
+        ensures told_before { IfErr result (λ made. (keys : List Key)
+            → call_views (take made calls.now) ≡ map see_key keys
+            → self.new ≡ see_keys keys self.old) }
+        ensures found_before { IfErr result
+            (λ made. FindsToldChoices (call_views (take made calls.now)) self.old self.new) }
     {
         // So that `found` knows that the schema is its own build.
         let _ = self.schema.resolutions();
