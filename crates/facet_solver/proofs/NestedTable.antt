@@ -176,6 +176,12 @@ visits_more vs i v start before after lt is h k =
     let same : length v.fields.items ≡ length (get_or vs i v).fields.items = ap fields_of is in
     omega (arith, more, same)
 
+pub visits_so_far : (vs : List Variant) (i : ℕ) (v : Variant) (start before after : ℕ) → i < length vs → v ≡ get_or vs i v → before ≡ start + sum_by fields_of (take i vs) → after ≡ before + length v.fields.items → after ≡ start + sum_by fields_of (take (i + 1) vs)
+visits_so_far vs i v start before after lt is h k =
+    let more : sum_by fields_of (take (i + 1) vs) ≡ sum_by fields_of (take i vs) + length (get_or vs i v).fields.items = sum_by_more fields_of vs i v lt in
+    let same : length v.fields.items ≡ length (get_or vs i v).fields.items = ap fields_of is in
+    omega (arith, more, same)
+
 pub visits_at_most : (vs : List Variant) (i : ℕ) (v : Variant) (start before after : ℕ) → i < length vs → v ≡ get_or vs i v → before ≤ start + sum_by fields_of (take i vs) → after ≤ before + length v.fields.items → after ≤ start + sum_by fields_of vs
 visits_at_most vs i v start before after lt is h k =
     let more = visits_more vs i v start before after lt is h k in
@@ -205,6 +211,17 @@ fields_mono (s ∷ cat) (suc i) (suc m) h =
     let rest = fields_mono cat i m (omega arith) in
     let fewer = sum_by-cons count s (take i cat) in
     let all = sum_by-cons count s (take m cat) in
+    omega (arith, rest, fewer, all)
+
+-- the fields of a shape and of those before it
+pub fields_with_earlier : (cat : Catalogue) (i : ℕ) → i < length cat → field_count (take i cat) + fields_of_kind (kind_at cat i) ≤ field_count cat
+fields_with_earlier [] i h = absurd (omega arith)
+fields_with_earlier (s ∷ cat) zero h = omega (arith, sum_by-cons (λ (s : Shape). fields_of_kind s.kind) s cat)
+fields_with_earlier (s ∷ cat) (suc i) h =
+    let count : Shape → ℕ = λ s. fields_of_kind s.kind in
+    let rest = fields_with_earlier cat i (omega arith) in
+    let fewer = sum_by-cons count s (take i cat) in
+    let all = sum_by-cons count s cat in
     omega (arith, rest, fewer, all)
 
 -- ---- an entry, by the kind of its shape
@@ -314,7 +331,7 @@ module _ (entered : Entered) (cat : Catalogue) (marks : List Bool) where
           told : (c : Bool) → Some c ≡ Some true → c ≡ true
           told c h = cc
 
-      pub one_entry : length ts < length cat → AreFirstEntries entered cat marks (ts ++ o ∷ [])
+      pub one_entry : length ts < length marks → AreFirstEntries entered cat marks (ts ++ o ∷ [])
       one_entry lt = record {
         within = let l = length_push ts o in omega (arith, l);
         each = λ id entry e. entry_right id entry (get_push ts o (Some entry) id (has_entry (slice_get (ts ++ o ∷ []) id) entry e));
@@ -326,14 +343,8 @@ module _ (entered : Entered) (cat : Catalogue) (marks : List Bool) where
           last_or id h = elim (cases_lt id (length ts)) [ inl lt ↦ inl lt | inr le ↦ inr (omega arith) ]
 
     -- at the end all marked shapes have an entry, and no others
-    pub all_marked : length cat ≤ length ts → length marks ≡ length cat → (id : ℕ) → IsMarked marks id ↔ IsFilled ts id
-    all_marked all same id = elim (cases_lt id (length ts)) [
+    pub all_marked : length marks ≤ length ts → (id : ℕ) → IsMarked marks id ↔ IsFilled ts id
+    all_marked all id = elim (cases_lt id (length ts)) [
       | inl lt ↦ first.marked id lt
-      | inr past ↦ (λ m. absurd (let e = slice_get_past marks id (omega (arith, first.within)) in cc), λ f. absurd (let e = ap entry_if_any (slice_get_past ts id past) in cc))
+      | inr past ↦ (λ m. absurd (let e = slice_get_past marks id (omega (arith, all, past)) in cc), λ f. absurd (let e = ap entry_if_any (slice_get_past ts id past) in cc))
     ]
-
--- past the end there is no shape
-pub none_past : (cat : Catalogue) (i : ℕ) → slice_get cat i ≡ None → length cat ≤ i
-none_past [] i e = omega arith
-none_past (s ∷ cat) zero e = absurd (cc)
-none_past (s ∷ cat) (suc i) e = let h = none_past cat i e in omega arith

@@ -144,7 +144,7 @@ pub record IsMade (earlier : Earlier) (kind : ShapeKind) (entry : Entry) : Type 
 -- the entries at the first indices: the marked shapes have one, and no others
 pub record AreFirstEntries (entered : Entered) (cat : Catalogue) (marks : List Bool)
     (entries : List (Option Entry)) : Type 0 where
-  pub within : length entries ≤ length cat
+  pub within : length entries ≤ length marks
   pub each : AreEntries entered cat entries
   pub leads : LeadEarlier entries
   pub marked : (id : ℕ) → id < length entries → IsMarked marks id ↔ IsFilled entries id

@@ -1,15 +1,15 @@
 //! All resolutions of a type.
-ghost use Rattle.std.specs.Prelude.{◌≡◌, ◌*◌, ◌+◌, ◌<◌, ◌≤◌, ℕ, IfErr, IfOk, None, Some, length};
+ghost use Rattle.std.specs.Prelude.{◌≡◌, ◌*◌, ◌+◌, ◌<◌, ◌≤◌, ℕ, IfErr, IfOk, None, OnOk, Some, length};
 ghost use Rattle.std.specs.Option.{option_copied};
 ghost use Rattle.facet_solver_shape.specs.Keys.{key_of};
 ghost use Rattle.facet_solver_shape.specs.Steps.{NoCountFalls};
-ghost use Rattle.facet_solver.specs.Build.{build_of, build_with};
+ghost use Rattle.facet_solver.specs.Build.{build_of, build_with, kind_at};
 ghost use Rattle.facet_solver.specs.Choice.{Enumerates, IsRefusal};
 ghost use Rattle.facet_solver.specs.Count.{IsCountOf, count_of_root};
 ghost use Rattle.facet_solver.specs.IndexEntries.{is_held};
 ghost use Rattle.facet_solver.specs.Indexed.{IsEntryIfAny};
 ghost use Rattle.facet_solver.specs.Failure.{has_field_named};
-ghost use Rattle.facet_solver.specs.FieldCount.{field_count};
+ghost use Rattle.facet_solver.specs.FieldCount.{field_count, fields_of_kind};
 ghost use Rattle.facet_solver.specs.KeyResult.{field_at};
 ghost use Rattle.facet_solver.specs.Representation.{asked_view, externally_tagged, flattened, repr_view};
 ghost use Rattle.facet_solver.specs.Schema.{IsBuilt, IsOwnBuild, flat_build};
@@ -183,7 +183,7 @@ impl<'c> Schema<'c> {
     /// each enum's own attributes ask for.
     ///
     /// Nested key paths visit each field of the catalogue at most twice, by the visits of `steps`, also where the build
-    /// is refused. It is refused where two fields of one choice have one key, and where memory is refused.
+    /// is refused, and each field of the root at least once where it is not. It is refused where two fields of one choice have one key, and where memory is refused.
     pub fn build_counted(
         alloc: Global,
         shapes: &'c Shapes,
@@ -198,6 +198,8 @@ impl<'c> Schema<'c> {
         ensures refused { IfErr result
             (IsRefusal (build_with shapes.now (asked_view representation.entry) format) root) }
         ensures visits { steps.new.visits ≤ steps.old.visits + 2 * field_count shapes.now }
+        ensures visited { OnOk result
+            (steps.old.visits + fields_of_kind (kind_at shapes.now root) ≤ steps.new.visits) }
         ensures no_fall { NoCountFalls steps.old steps.new }
     {
         let build = Build {
@@ -228,7 +230,7 @@ impl<'c> Schema<'c> {
     /// The number of resolutions that a schema of the root has, without building one: None from 2^64 on.
     ///
     /// Each field of the catalogue is visited at most once, by the visits of `steps`, also where memory is refused, which is
-    /// the only error.
+    /// the only error, and each field of the root once where it is not.
     pub fn resolution_count_counted(
         alloc: Global,
         shapes: &Shapes,
@@ -240,6 +242,8 @@ impl<'c> Schema<'c> {
         ensures number { IfOk result
             (IsCountOf shapes.now root (asked_view representation.entry)) }
         ensures visits { steps.new.visits ≤ steps.old.visits + field_count shapes.now }
+        ensures visited { OnOk result
+            (steps.old.visits + fields_of_kind (kind_at shapes.now root) ≤ steps.new.visits) }
         ensures no_fall { NoCountFalls steps.old steps.new }
     {
         let build = Build {
@@ -262,6 +266,9 @@ impl<'c> Schema<'c> {
         ensures refused { IfErr result (IsRefusal (build_of build.entry) root) }
         ensures visits { steps.new.visits
             ≤ steps.old.visits + 2 * field_count build.entry.shapes.now }
+        ensures visited { OnOk result
+            (steps.old.visits + fields_of_kind (kind_at build.entry.shapes.now root)
+            ≤ steps.new.visits) }
         ensures no_fall { NoCountFalls steps.old steps.new }
     {
         let made = resolutions(build, root, steps)?;

@@ -1,12 +1,12 @@
 //! The number of choices of variants, from a table by index.
-ghost use Rattle.std.specs.Prelude.{◌≡◌, ◌+◌, ◌<◌, ◌≤◌, length, take, IfOk};
+ghost use Rattle.std.specs.Prelude.{◌≡◌, ◌+◌, ◌<◌, ◌≤◌, length, take, IfOk, OnOk};
 ghost use Rattle.facet_solver_shape.specs.Catalogues.{NamesEarlier, FieldsBelow};
 ghost use Rattle.facet_solver_shape.specs.Steps.{NoCountFalls};
 ghost use Rattle.facet_solver.specs.Count as count;
 ghost use Rattle.facet_solver.specs.Count.{below_2_64};
 ghost use Rattle.facet_solver.specs.Counts.{AreCounts, AreFirstCounts, CountsTo};
-ghost use Rattle.facet_solver.specs.Build.{build_of};
-ghost use Rattle.facet_solver.specs.FieldCount.{field_count};
+ghost use Rattle.facet_solver.specs.Build.{build_of, kind_at};
+ghost use Rattle.facet_solver.specs.FieldCount.{field_count, fields_of_kind};
 
 pub(crate) mod saturating;
 pub(crate) mod table;
@@ -84,6 +84,9 @@ pub(crate) fn count_of_root(
         (λ number. number ≡ below_2_64 (count.count_of_root (build_of build.entry) root)) }
     ensures visits { steps.new.visits
         ≤ steps.old.visits + field_count build.entry.shapes.now }
+    ensures visited { OnOk result
+        (steps.old.visits + fields_of_kind (kind_at build.entry.shapes.now root)
+        ≤ steps.new.visits) }
     ensures no_fall { NoCountFalls steps.old steps.new }
 {
     let shape = build.shape(root);

@@ -1,12 +1,12 @@
 //! The resolutions of a root.
-ghost use Rattle.std.specs.Prelude.{◌≡◌, ◌*◌, ◌+◌, ◌<◌, ◌≤◌, ◌∷◌, [], IsSome, IfOk, IfErr, length};
+ghost use Rattle.std.specs.Prelude.{◌≡◌, ◌*◌, ◌+◌, ◌<◌, ◌≤◌, ◌∷◌, [], IsSome, IfOk, IfErr, OnOk, length};
 ghost use Rattle.facet_solver_shape.specs.Catalogues.{FieldsBelow};
 ghost use Rattle.facet_solver_shape.specs.Steps.{NoCountFalls};
 ghost use Rattle.facet_solver.specs.Choice.{IsChoice, IsResolution, Enumerates, IsRefusal};
 ghost use Rattle.facet_solver.specs.Count.{count_of_root};
-ghost use Rattle.facet_solver.specs.FieldCount.{field_count};
+ghost use Rattle.facet_solver.specs.FieldCount.{field_count, fields_of_kind};
 ghost use Rattle.facet_solver.specs.Outcome.{Walks, effect};
-ghost use Rattle.facet_solver.specs.Build.{build_of};
+ghost use Rattle.facet_solver.specs.Build.{build_of, kind_at};
 ghost use Rattle.facet_solver.specs.Walk as walk;
 ghost use Rattle.facet_solver.specs.Counts.{IsReady};
 ghost use Rattle.facet_solver.specs.Reached.{ServesRoot, ServesVariant};
@@ -38,6 +38,9 @@ pub(crate) fn resolutions<'c>(
     ensures refused { IfErr result (IsRefusal (build_of build.entry) root) }
     ensures visits { steps.new.visits
         ≤ steps.old.visits + 2 * field_count build.entry.shapes.now }
+    ensures visited { OnOk result
+        (steps.old.visits + fields_of_kind (kind_at build.entry.shapes.now root)
+        ≤ steps.new.visits) }
     ensures no_fall { NoCountFalls steps.old steps.new }
 {
     let counts = Counts::new(build)?;

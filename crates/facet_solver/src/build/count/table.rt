@@ -1,5 +1,5 @@
 //! The number of choices at an index of the catalogue, from those at the indices before it.
-ghost use Rattle.std.specs.Prelude.{◌≡◌, ◌+◌, ◌<◌, ◌≤◌, length, sum_by};
+ghost use Rattle.std.specs.Prelude.{◌≡◌, ◌+◌, ◌<◌, ◌≤◌, length, sum_by, true};
 ghost use Rattle.facet_solver_shape.specs.Catalogues.{NamesEarlier, FieldsBelow, VariantsBelow, KindBelow};
 ghost use Rattle.facet_solver_shape.specs.Steps.{NoCountFalls};
 ghost use Rattle.facet_solver.specs.Count as count;
@@ -42,7 +42,7 @@ pub(crate) fn count_fields(
     requires counted { AreFirstCounts (build_of build) counts.now }
     requires below { FieldsBelow (length counts.now) fields.now }
     ensures product { CountsTo result (count.count_fields (build_of build.entry) fields.now) }
-    ensures visits { steps.new.visits ≤ steps.old.visits + length fields.now }
+    ensures visits { steps.new.visits ≡ steps.old.visits + length fields.now }
     ensures no_fall { NoCountFalls steps.old steps.new }
 {
     let mut product = SaturatingCount::Exact(1);
@@ -65,7 +65,7 @@ fn count_content(
     requires below { FieldsBelow (length counts.now) variant.now.fields.items }
     ensures content { CountsTo result
         (count.count_content (build_of build.entry) variant.now) }
-    ensures visits { steps.new.visits ≤ steps.old.visits + length variant.now.fields.items }
+    ensures visits { steps.new.visits ≡ steps.old.visits + length variant.now.fields.items }
     ensures no_fall { NoCountFalls steps.old steps.new }
 {
     let fields = variant.fields.as_slice();
@@ -94,6 +94,8 @@ fn count_variants(
         (count.count_variants (build_of build.entry) walked variants.now) }
     ensures visits { steps.new.visits
         ≤ steps.old.visits + sum_by (λ v. length v.fields.items) variants.now }
+    ensures visited { walked ≡ true → steps.new.visits
+        ≡ steps.old.visits + sum_by (λ v. length v.fields.items) variants.now }
     ensures no_fall { NoCountFalls steps.old steps.new }
 {
     let mut sum = SaturatingCount::Exact(0);
@@ -122,6 +124,8 @@ pub(crate) fn count_shape(
     ensures shape { CountsTo result
         (count.count_kind (build_of build.entry) walked shape.now.kind) }
     ensures visits { steps.new.visits ≤ steps.old.visits + fields_of_kind shape.now.kind }
+    ensures visited { walked ≡ true
+        → steps.new.visits ≡ steps.old.visits + fields_of_kind shape.now.kind }
     ensures no_fall { NoCountFalls steps.old steps.new }
 {
     match &shape.kind {

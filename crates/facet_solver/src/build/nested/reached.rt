@@ -1,18 +1,21 @@
 //! Marks, by index, of the shapes that the walks of a root's choices go through, and of those whose nested key paths they
 //! ask for.
-ghost use Rattle.std.specs.Prelude.{◌≡◌, ◌+◌, ◌<◌, ℕ, All, true, length};
+ghost use Rattle.std.specs.Prelude.{◌≡◌, ◌+◌, ◌<◌, ℕ, All, true, length, sum_by};
 ghost use Rattle.facet_solver_shape.specs.Catalogues.{FieldsBelow, NamesEarlier, VariantsBelow};
+ghost use Rattle.facet_solver_shape.specs.Steps.{NoCountFalls};
 ghost use Rattle.facet_solver.specs.Build.{build_of, kind_at};
+ghost use Rattle.facet_solver.specs.FieldCount.{fields_of_kind};
 ghost use Rattle.facet_solver.specs.Nested.{every_kind, structs_alone};
 ghost use Rattle.facet_solver.specs.NestedTable.{IsClosed, IsMarked, IsMarkedMore};
 ghost use Rattle.facet_solver.specs.Reached.{ContentReached, FieldReached, IsReachedAt, IsReachedMore, RootReached, VariantReached, reach};
 
 use crate::build::Build;
-use crate::build::content::newtype_struct;
+use crate::build::content::newtype_of;
 use crate::build::nested::Entered;
 use crate::build::nested::marks::close_marks;
 use crate::build::role::{Role, role_of};
-use facet_solver_shape::{Field, ShapeId, ShapeKind, Shapes, Variant};
+use crate::build::visit::visited;
+use facet_solver_shape::{Field, ShapeId, ShapeKind, Shapes, Steps, Variant};
 
 /// Marks what the walks of a root's choices go through: in `structs` the structs whose nested key paths they ask for, in
 /// `apart` the enums whose content is written apart, each with all shapes that its key paths are made from.
@@ -22,38 +25,56 @@ pub(crate) fn mark_reached(
     walked: &mut [bool],
     structs: &mut [bool],
     apart: &mut [bool],
+    steps: &mut Steps,
 )
     requires root { root < length build.shapes.now }
-    requires walked { length walked.old ≡ length build.shapes.now }
-    requires structs { length structs.old ≡ length build.shapes.now }
-    requires apart { length apart.old ≡ length build.shapes.now }
-    ensures structs_length { length structs.new ≡ length build.entry.shapes.now }
-    ensures apart_length { length apart.new ≡ length build.entry.shapes.now }
+    requires walked { length walked.old ≡ root }
+    requires structs { length structs.old ≡ root }
+    requires apart { length apart.old ≡ root }
+    ensures structs_length { length structs.new ≡ root }
+    ensures apart_length { length apart.new ≡ root }
+    ensures visits { steps.new.visits
+        ≡ steps.old.visits + fields_of_kind (kind_at build.entry.shapes.now root) }
+    ensures no_fall { NoCountFalls steps.old steps.new }
     ensures root { RootReached (reach walked.new structs.new) build.entry.shapes.now root }
     ensures walked { (id : ℕ) → IsMarked walked.new id
         → IsReachedAt (reach walked.new structs.new) apart.new (build_of build.entry) id }
     ensures structs { IsClosed structs_alone build.entry.shapes.now structs.new }
     ensures apart { IsClosed every_kind build.entry.shapes.now apart.new }
 {
-    mark_root(build, root, walked, structs);
+    mark_root(build, root, walked, structs, steps);
     mark_walked(build, walked, structs, apart);
     close_marks(build.shapes, Entered::StructsAlone, structs);
     close_marks(build.shapes, Entered::EveryKind, apart);
 }
 
-/// Marks what a root leads to. An enum's content is walked, whatever its representation.
-fn mark_root(build: Build, root: ShapeId, walked: &mut [bool], structs: &mut [bool])
+/// Marks what a root leads to. An enum's content is walked, whatever its representation. Its fields are visited here, for no
+/// table has an entry of the root.
+fn mark_root(
+    build: Build,
+    root: ShapeId,
+    walked: &mut [bool],
+    structs: &mut [bool],
+    steps: &mut Steps,
+)
     requires root { root < length build.shapes.now }
-    requires walked { length walked.old ≡ length build.shapes.now }
+    requires walked { length walked.old ≡ root }
     requires structs { length structs.old ≡ length walked.old }
+    ensures visits { steps.new.visits
+        ≡ steps.old.visits + fields_of_kind (kind_at build.entry.shapes.now root) }
+    ensures no_fall { NoCountFalls steps.old steps.new }
     ensures more { IsReachedMore (length walked.old) (reach walked.old structs.old)
         (reach walked.new structs.new) }
     ensures checked { NamesEarlier build.entry.shapes.now }
     ensures reached { RootReached (reach walked.new structs.new) build.entry.shapes.now root }
 {
     match &build.shape(root).kind {
-        ShapeKind::Struct { fields, .. } => mark_fields(build.shapes, fields, walked, structs),
-        ShapeKind::Enum { variants } => mark_variants(build.shapes, variants, walked, structs),
+        ShapeKind::Struct { fields, .. } => {
+            mark_fields(build.shapes, fields, walked, structs, steps)
+        }
+        ShapeKind::Enum { variants } => {
+            mark_variants(build.shapes, variants, walked, structs, steps)
+        }
         _ => {}
     }
 }
@@ -80,7 +101,7 @@ fn mark_walked(build: Build, walked: &mut [bool], structs: &mut [bool], apart: &
 }
 
 /// Marks what the shape at an index leads to, or the shape itself in `apart` where it is an enum whose content is written
-/// apart.
+/// apart. Below the root marking counts in steps of its own: there the tables count each visit.
 fn mark_shape(
     build: Build,
     index: usize,
@@ -101,11 +122,14 @@ fn mark_shape(
     let Some(shape) = build.shapes.get(ShapeId::new(index)) else {
         return;
     };
+    let mut steps = Steps::new();
     match &shape.kind {
-        ShapeKind::Struct { fields, .. } => mark_fields(build.shapes, fields, walked, structs),
+        ShapeKind::Struct { fields, .. } => {
+            mark_fields(build.shapes, fields, walked, structs, &mut steps)
+        }
         ShapeKind::Enum { variants } => {
             if build.walks_content(shape) {
-                mark_variants(build.shapes, variants, walked, structs);
+                mark_variants(build.shapes, variants, walked, structs, &mut steps);
             } else {
                 apart[index] = true;
             }
@@ -115,7 +139,13 @@ fn mark_shape(
 }
 
 /// Marks what the content of variants leads to.
-fn mark_variants(shapes: &Shapes, variants: &[Variant], walked: &mut [bool], structs: &mut [bool])
+fn mark_variants(
+    shapes: &Shapes,
+    variants: &[Variant],
+    walked: &mut [bool],
+    structs: &mut [bool],
+    steps: &mut Steps,
+)
     requires checked { NamesEarlier shapes.now }
     requires below { VariantsBelow (length walked.old) variants.now }
     requires structs { length structs.old ≡ length walked.old }
@@ -123,37 +153,62 @@ fn mark_variants(shapes: &Shapes, variants: &[Variant], walked: &mut [bool], str
         → IsReachedMore limit (reach walked.old structs.old) (reach walked.new structs.new) }
     ensures reached { All (VariantReached (reach walked.new structs.new) shapes.now)
         variants.now }
+    ensures visits { steps.new.visits
+        ≡ steps.old.visits + sum_by (λ v. length v.fields.items) variants.now }
+    ensures no_fall { NoCountFalls steps.old steps.new }
 {
     for variant in variants {
-        mark_content(shapes, &variant.fields, walked, structs);
+        mark_content(shapes, &variant.fields, walked, structs, steps);
     }
 }
 
 /// Marks what the content of a variant with these fields leads to: the struct of a newtype, or else what the fields do.
-fn mark_content(shapes: &Shapes, fields: &[Field], walked: &mut [bool], structs: &mut [bool])
+fn mark_content(
+    shapes: &Shapes,
+    fields: &[Field],
+    walked: &mut [bool],
+    structs: &mut [bool],
+    steps: &mut Steps,
+)
     requires checked { NamesEarlier shapes.now }
     requires below { FieldsBelow (length walked.old) fields.now }
     requires structs { length structs.old ≡ length walked.old }
     ensures more { (limit : ℕ) → FieldsBelow limit fields.now
         → IsReachedMore limit (reach walked.old structs.old) (reach walked.new structs.new) }
     ensures reached { ContentReached (reach walked.new structs.new) shapes.now fields.now }
+    ensures visits { steps.new.visits ≡ steps.old.visits + length fields.now }
+    ensures no_fall { NoCountFalls steps.old steps.new }
 {
-    match newtype_struct(shapes, fields) {
+    if fields.len() != 1 {
+        mark_fields(shapes, fields, walked, structs, steps);
+        return;
+    }
+    let field = visited(fields, 0, steps);
+    match newtype_of(shapes, field) {
         Some(id) => walked[id.index()] = true,
-        None => mark_fields(shapes, fields, walked, structs),
+        None => mark_field(shapes, field, walked, structs),
     }
 }
 
 /// Marks what fields lead to.
-fn mark_fields(shapes: &Shapes, fields: &[Field], walked: &mut [bool], structs: &mut [bool])
+fn mark_fields(
+    shapes: &Shapes,
+    fields: &[Field],
+    walked: &mut [bool],
+    structs: &mut [bool],
+    steps: &mut Steps,
+)
     requires checked { NamesEarlier shapes.now }
     requires below { FieldsBelow (length walked.old) fields.now }
     requires structs { length structs.old ≡ length walked.old }
     ensures more { (limit : ℕ) → FieldsBelow limit fields.now
         → IsReachedMore limit (reach walked.old structs.old) (reach walked.new structs.new) }
     ensures reached { All (FieldReached (reach walked.new structs.new) shapes.now) fields.now }
+    ensures visits { steps.new.visits ≡ steps.old.visits + length fields.now }
+    ensures no_fall { NoCountFalls steps.old steps.new }
 {
-    for field in fields {
+    for index in 0..fields.len() {
+        let field = visited(fields, index, steps);
         mark_field(shapes, field, walked, structs);
     }
 }

@@ -1,6 +1,6 @@
 //! A table by index of the fields that nested key paths go through: those under a shape are made from those under the shapes
 //! that its flattened fields name, which stand before it. So each field is visited once.
-ghost use Rattle.std.specs.Prelude.{◌≡◌, ◌&&◌, ◌+◌, ◌∷◌, [], ◌<◌, ◌≤◌, ◌↔◌, ℕ, All, Bool, IfOk, IfSome, OnOk, Some, true, length, map, slice_get, string_bytes, sum_by};
+ghost use Rattle.std.specs.Prelude.{◌≡◌, ◌&&◌, ◌+◌, ◌∷◌, [], ◌<◌, ◌≤◌, ◌↔◌, ℕ, All, Bool, IfOk, IfSome, OnOk, Some, true, length, map, slice_get, string_bytes, sum_by, take};
 ghost use Rattle.std.specs.List.{AllByRecursion};
 ghost use Rattle.std.specs.Option.{is_some};
 ghost use Rattle.facet_solver_shape.specs.Steps.{NoCountFalls};
@@ -48,33 +48,36 @@ pub(crate) struct NestedTable<'c> {
 }
 
 impl<'c> NestedTable<'c> {
-    /// Makes the entries of the marked shapes in order. Each is made from earlier ones, for what a marked shape asks for is
-    /// marked. No other shape gets an entry.
+    /// Makes the entries of the marked shapes in order, as far as the marks go. Each is made from earlier ones, for what a
+    /// marked shape asks for is marked. No other shape gets an entry.
     pub(crate) fn new(
         build: Build<'c>,
         entered: Entered,
         marks: &[bool],
         steps: &mut Steps,
     ) -> Result<NestedTable<'c>, AllocError>
-        requires all { length marks.now ≡ length build.shapes.now }
+        requires within { length marks.now ≤ length build.shapes.now }
         requires closed { IsClosed (entered_view entered) build.shapes.now marks.now }
         ensures entries { IfOk result (λ table.
             AreEntries (entered_view entered) build.entry.shapes.now table.by_index.items) }
         ensures earlier { IfOk result (λ table. LeadEarlier table.by_index.items) }
         ensures marked { IfOk result (λ table.
             (id : ℕ) → IsMarked marks.now id ↔ IsFilled table.by_index.items id) }
-        ensures visits { steps.new.visits ≤ steps.old.visits + field_count build.entry.shapes.now }
+        ensures visits { steps.new.visits
+            ≤ steps.old.visits + field_count (take (length marks.now) build.entry.shapes.now) }
         ensures no_fall { NoCountFalls steps.old steps.new }
     {
         let mut by_index = Vec::new(build.alloc);
-        while let Some(shape) = build.shapes.get(ShapeId::new(by_index.len())) {
+        while by_index.len() < marks.len() {
+            let index = by_index.len();
+            let shape = build.shape(ShapeId::new(index));
             let earlier = Earlier {
                 alloc: build.alloc,
                 shapes: build.shapes,
                 entered,
                 entries: by_index.as_slice(),
             };
-            let entry = earlier.entry_if(marks[by_index.len()], shape, steps)?;
+            let entry = earlier.entry_if(marks[index], shape, steps)?;
             by_index.push(entry)?;
         }
         Ok(NestedTable { by_index })

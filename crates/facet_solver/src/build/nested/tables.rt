@@ -2,9 +2,9 @@
 ghost use Rattle.std.specs.Prelude.{◌≡◌, ◌*◌, ◌+◌, ◌<◌, ◌≤◌, IfOk, IfSome, IsSome, OnOk, length};
 ghost use Rattle.facet_solver_shape.specs.Catalogues.{NamesEarlier};
 ghost use Rattle.facet_solver_shape.specs.Steps.{NoCountFalls};
-ghost use Rattle.facet_solver.specs.Build.{build_of};
+ghost use Rattle.facet_solver.specs.Build.{build_of, kind_at};
 ghost use Rattle.facet_solver.specs.Nested.{content_paths, named, nested_paths, with_key_paths};
-ghost use Rattle.facet_solver.specs.FieldCount.{field_count};
+ghost use Rattle.facet_solver.specs.FieldCount.{field_count, fields_of_kind};
 ghost use Rattle.facet_solver.specs.NestedTable.{IsFilled, variant_at};
 ghost use Rattle.facet_solver.specs.Reached.{AreTables, ServesRegular, ServesRoot};
 
@@ -26,7 +26,7 @@ pub(crate) struct NestedTables<'c> {
 }
 
 impl<'c> NestedTables<'c> {
-    /// Makes both tables for a root.
+    /// Makes both tables for a root. What a root leads to stands before it, and there they end.
     pub(crate) fn new(
         build: Build<'c>,
         root: ShapeId,
@@ -37,13 +37,16 @@ impl<'c> NestedTables<'c> {
         ensures root { IfOk result (λ tables. ServesRoot (build_of build.entry) tables root) }
         ensures visits { steps.new.visits
             ≤ steps.old.visits + 2 * field_count build.entry.shapes.now }
+        ensures visited { OnOk result
+            (steps.old.visits + fields_of_kind (kind_at build.entry.shapes.now root)
+            ≤ steps.new.visits) }
         ensures no_fall { NoCountFalls steps.old steps.new }
     {
-        let count = build.shapes.len();
+        let count = root.index();
         let mut walked = vec![in build.alloc; false; count]?;
         let mut structs = vec![in build.alloc; false; count]?;
         let mut apart = vec![in build.alloc; false; count]?;
-        mark_reached(build, root, &mut walked, &mut structs, &mut apart);
+        mark_reached(build, root, &mut walked, &mut structs, &mut apart, steps);
         Ok(NestedTables {
             structs: NestedTable::new(build, Entered::StructsAlone, &structs, steps)?,
             contents: NestedTable::new(build, Entered::EveryKind, &apart, steps)?,

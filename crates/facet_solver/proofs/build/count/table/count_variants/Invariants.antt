@@ -1,4 +1,4 @@
-use Rattle.std.proofs.Common.{◌+◌, ◌≤◌, length, take}
+use Rattle.std.proofs.Common.{◌≡◌, ◌+◌, ◌≤◌, length, take, true}
 use Rattle.std.specs.Prelude.{sum_by}
 use Rattle.facet_solver_shape.specs.Steps.{NoCountFalls}
 use Rattle.facet_solver.specs.Counts.{CountsTo}
@@ -12,3 +12,4 @@ invariant-loop-variant l =
     CountsTo l.sum (count_variants (build_of l.build) l.walked (take l.variant-index l.variants))
     × (l.steps.visits ≤ l.fn.steps.visits + sum_by (λ v. length v.fields.items) (take l.variant-index l.variants))
     × NoCountFalls l.fn.steps l.steps
+    × (l.walked ≡ true → l.steps.visits ≡ l.fn.steps.visits + sum_by (λ v. length v.fields.items) (take l.variant-index l.variants))

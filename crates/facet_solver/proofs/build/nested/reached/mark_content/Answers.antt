@@ -1,24 +1,49 @@
-use Rattle.std.proofs.Common.{◌<◌, length, set, true}
+use Rattle.std.proofs.Common.{◌≡◌, ◌∷◌, ◌<◌, ◌+◌, [], ℕ, List, Some, arith, length, set, slice_get, subst, sym, true}
+use Rattle.facet_solver_shape.specs.Catalogues.{FieldsBelow}
+use Rattle.facet_solver_shape.specs.declared.shape.Field.{Field}
+use Rattle.facet_solver.specs.Build.{Catalogue}
 use Rattle.facet_solver.specs.Content.{IsNewtypeOf}
+use Rattle.facet_solver.specs.NestedTable.{IsMarked}
 use Rattle.facet_solver.specs.Reached.{reach}
 use Rattle.facet_solver.proofs.Marks.{set_same}
-use Rattle.facet_solver.proofs.Reached.{newtype_marked, reached-set}
+use Rattle.facet_solver.proofs.NestedTable.{one_item}
+use Rattle.facet_solver.proofs.Reached.{newtype_marked, reached-mono, reached-set}
 use Rattle.facet_solver.proofs.build.nested.reached.mark_content.Goals as goal
 
-newtype : (c : goal.After-index) → IsNewtypeOf c.args.shapes.now c.args.fields.now c.index.result
-newtype c = rw c.index.ensures c.in-Some.ensures
+-- the only field, and the struct that it stands for
+module _ (fs : List Field) (f : Field) (one : length fs ≡ 1) (at : slice_get fs 0 ≡ Some f) where
+  below : (limit : ℕ) → FieldsBelow limit fs → f.shape < limit
+  below limit h = let b : FieldsBelow limit (f ∷ []) = subst (FieldsBelow limit) (one_item fs f one at) h in b.0
 
-within : (c : goal.After-index) → c.index.result < length c.args.walked.now
-within c = (newtype c).earlier (length c.args.walked.now) c.requires.below
+  newtype : (cat : Catalogue) (id : ℕ) → IsNewtypeOf cat (f ∷ []) id → IsNewtypeOf cat fs id
+  newtype cat id h = subst (λ (gs : List Field). IsNewtypeOf cat gs id) (sym (one_item fs f one at)) h
+
+pub mark_field-requires-clause-below : goal.mark_field-requires-clause-below
+mark_field-requires-clause-below c =
+    below c.args.fields.now c.visited-field.result.now c.if-fields-ne1.false c.visited-field.ensures.field (length c.args.walked.now) c.requires.below
 
 pub bounds-walked-index : goal.bounds-walked-index
-bounds-walked-index c = within c
+bounds-walked-index c =
+    let is = newtype c.args.fields.now c.visited-field.result.now c.if-fields-ne1.false c.visited-field.ensures.field c.args.shapes.now c.in-Some.id c.in-Some.ensures in
+    let within = is.earlier (length c.args.walked.now) c.requires.below in
+    omega (arith, within, c.index.ensures)
 
 pub returns-in-Some-clause-more : goal.returns-in-Some-clause-more
-returns-in-Some-clause-more c = λ limit below.
-    reached-set limit c.index.result c.args.walked.now c.args.structs.now ((newtype c).earlier limit below) (within c)
+returns-in-Some-clause-more c = λ limit h.
+    let is = newtype c.args.fields.now c.visited-field.result.now c.if-fields-ne1.false c.visited-field.ensures.field c.args.shapes.now c.in-Some.id c.in-Some.ensures in
+    let within = is.earlier (length c.args.walked.now) c.requires.below in
+    let low = is.earlier limit h in
+    reached-set limit c.index.result c.args.walked.now c.args.structs.now (omega (arith, low, c.index.ensures)) (omega (arith, within, c.index.ensures))
 
 pub returns-in-Some-clause-reached : goal.returns-in-Some-clause-reached
 returns-in-Some-clause-reached c =
-    newtype_marked (reach (set c.args.walked.now c.index.result true) c.args.structs.now) c.args.shapes.now c.args.fields.now c.index.result (newtype c)
-    (set_same c.args.walked.now c.index.result (within c))
+    let is = newtype c.args.fields.now c.visited-field.result.now c.if-fields-ne1.false c.visited-field.ensures.field c.args.shapes.now c.in-Some.id c.in-Some.ensures in
+    let within = is.earlier (length c.args.walked.now) c.requires.below in
+    let walked = set c.args.walked.now c.index.result true in
+    newtype_marked (reach walked c.args.structs.now) c.args.shapes.now c.args.fields.now c.in-Some.id is
+    (subst (IsMarked walked) c.index.ensures (set_same c.args.walked.now c.index.result (omega (arith, within, c.index.ensures))))
+
+pub returns-in-None-clause-more : goal.returns-in-None-clause-more
+returns-in-None-clause-more c = λ limit h.
+    let low = below c.args.fields.now c.visited-field.result.now c.if-fields-ne1.false c.visited-field.ensures.field limit h in
+    reached-mono (c.visited-field.result.now.shape + 1) limit (reach c.args.walked.now c.args.structs.now) (reach c.mark_field.new.walked c.mark_field.new.structs) (omega (arith, low)) c.mark_field.ensures.more

@@ -1,9 +1,11 @@
-use Rattle.std.proofs.Common.{◌≡◌, ◌<◌, ℕ, List, arith, get_or, length, subst, sym}
+use Rattle.std.proofs.Common.{◌≡◌, ◌<◌, ◌+◌, ℕ, List, arith, get_or, length, subst, sym}
 use Rattle.facet_solver_shape.specs.Catalogues.{FieldsBelow, VariantsBelow}
 use Rattle.facet_solver_shape.specs.declared.shape.Field.{Field}
 use Rattle.facet_solver_shape.specs.declared.shape.Variant.{Variant}
 use Rattle.facet_solver.specs.Reached.{ContentReached, VariantReached, reach}
+use Rattle.facet_solver.proofs.Counted.{no_fall-trans}
 use Rattle.facet_solver.proofs.Marks.{up_to_one}
+use Rattle.facet_solver.proofs.NestedTable.{visits_so_far}
 use Rattle.facet_solver.proofs.Reached.{reached-trans, variant_kept}
 use Rattle.facet_solver.proofs.Roles.{VariantsBelow-at}
 use Rattle.facet_solver.proofs.build.nested.reached.mark_variants.Goals as goal
@@ -36,4 +38,7 @@ loop-variant-preserved c =
       up_to_one (VariantReached a cat) (VariantReached b cat) vs c.loop-variant.variant-index c.variant-item.result c.variant-item.is c.loop-variant-test.true
           (variant_kept a b more.walked.kept more.structs.kept cat)
           (subst (ContentReached b cat) c.deref.ensures.value c.mark_content.ensures.reached) before.1,
+      visits_so_far vs c.loop-variant.variant-index c.variant-item.result _ _ _ c.loop-variant-test.true c.variant-item.is before.2
+          (subst (λ (fs : List Field). c.mark_content.new.steps.visits ≡ c.loop-variant.steps.visits + length fs) c.deref.ensures.value c.mark_content.ensures.visits),
+      no_fall-trans _ _ _ before.3 c.mark_content.ensures.no_fall,
     )

@@ -1,4 +1,6 @@
-use Rattle.std.proofs.Common.{◌<◌, ℕ, get_or}
+use Rattle.std.proofs.Common.{◌≡◌, ◌+◌, ◌<◌, ℕ, get_or, length, take}
+use Rattle.std.specs.Prelude.{sum_by}
+use Rattle.facet_solver_shape.specs.Steps.{NoCountFalls}
 use Rattle.facet_solver_shape.specs.Catalogues.{VariantsBelow}
 use Rattle.facet_solver_shape.specs.declared.shape.Variant.{Variant}
 use Rattle.facet_solver.specs.Reached.{IsReachedMore, VariantReached, reach}
@@ -9,3 +11,5 @@ abbrev pub invariant-loop-variant : goal.invariant-loop-variant
 invariant-loop-variant l =
     ((limit : ℕ) → VariantsBelow limit l.variants → IsReachedMore limit (reach l.fn.walked l.fn.structs) (reach l.walked l.structs))
     × ((i : ℕ) (d : Variant) → i < l.variant-index → VariantReached (reach l.walked l.structs) l.shapes (get_or l.variants i d))
+    × (l.steps.visits ≡ l.fn.steps.visits + sum_by (λ v. length v.fields.items) (take l.variant-index l.variants))
+    × NoCountFalls l.fn.steps l.steps

@@ -6,11 +6,11 @@ use Rattle.facet_solver.specs.NestedTable.{AreFirstEntries}
 use Rattle.facet_solver.proofs.build.nested.table.NestedTable.new.Given as goal
 
 -- the entries so far, and the visits that they took
-abbrev pub invariant-loop-shape : goal.invariant-loop-shape
-invariant-loop-shape l =
+abbrev pub invariant-loop-entered : goal.invariant-loop-entered
+invariant-loop-entered l =
     AreFirstEntries (entered_view l.entered) l.build.shapes.now l.marks l.by_index.items
     × (l.steps.visits ≤ l.fn.steps.visits + field_count (take (length l.by_index.items) l.build.shapes.now))
     × NoCountFalls l.fn.steps l.steps
 
-abbrev pub decreases-loop-shape : goal.decreases-loop-shape
-decreases-loop-shape l = length l.build.shapes.now - length l.by_index.items
+abbrev pub decreases-loop-entered : goal.decreases-loop-entered
+decreases-loop-entered l = length l.marks - length l.by_index.items

@@ -1,8 +1,10 @@
-use Rattle.std.proofs.Common.{◌≡◌, ◌++◌, ◌∙◌, ℕ, List, Bool, ap, length, slice_get, subst, sym, take}
+use Rattle.std.proofs.Common.{◌≡◌, ◌++◌, ◌+◌, ◌*◌, ◌<◌, ◌≤◌, ◌∙◌, ℕ, List, Bool, ap, arith, length, slice_get, subst, sym, take}
 use Rattle.std.proofs.Math.Seq.{take-append_seam}
-use Rattle.facet_solver.specs.Build.{build_of}
+use Rattle.facet_solver.specs.Build.{Catalogue, build_of, kind_at}
+use Rattle.facet_solver.specs.FieldCount.{field_count, fields_of_kind}
 use Rattle.facet_solver.specs.NestedTable.{IsFilled, IsMarked}
 use Rattle.facet_solver.specs.Reached.{reach}
+use Rattle.facet_solver.proofs.NestedTable.{fields_with_earlier}
 use Rattle.facet_solver.proofs.Reached.{shape_kept}
 use Rattle.facet_solver.proofs.build.nested.tables.NestedTables.new.Goals as goal
 
@@ -13,7 +15,7 @@ whole n xs ys same = ap (λ n. take n (xs ++ ys)) same ∙ take-append_seam xs y
 pub returns-clause-root : goal.returns-clause-root
 returns-clause-root c =
     let m = reach c.mark_reached.new.walked c.mark_reached.new.structs in
-    let count = c.len-count.ensures.value in
+    let count = c.index-count.ensures in
     let structs : c.deref.result.now ≡ c.mark_reached.new.structs =
     c.deref.ensures.value ∙ whole _ _ _ (c.in_ok-structs.ensures.len ∙ count ∙ sym c.mark_reached.ensures.structs_length) in
     let apart : c.deref-2.result.now ≡ c.mark_reached.new.apart =
@@ -28,3 +30,36 @@ returns-clause-root c =
       };
       reached = c.mark_reached.ensures.root;
     }
+
+-- the visits of the root and of both tables, whose marks end at the root
+module _ (cat : Catalogue) (root : ℕ) (has : root < length cat) (start marked : ℕ) (root_visits : marked ≡ start + fields_of_kind (kind_at cat root)) where
+  one_table : (n one : ℕ) → n ≡ root → one ≤ marked + field_count (take n cat) → one ≤ start + field_count cat
+  one_table n one at h =
+      let all = fields_with_earlier cat root has in
+      let same = ap (λ (i : ℕ). field_count (take i cat)) at in
+      omega (arith, all, same)
+
+  both_tables : (n m one two : ℕ) → n ≡ root → m ≡ root → one ≤ marked + field_count (take n cat) → two ≤ one + field_count (take m cat) → two ≤ start + 2 * field_count cat
+  both_tables n m one two at also h k =
+      let first = one_table n one at h in
+      let all = fields_with_earlier cat root has in
+      let same = ap (λ (i : ℕ). field_count (take i cat)) also in
+      omega (arith, first, all, same)
+
+pub returns-in_err-new-clause-visits : goal.returns-in_err-new-clause-visits
+returns-in_err-new-clause-visits c =
+    let at : length c.deref.result.now ≡ c.args.root = omega (arith, c.deref.ensures.len, c.in_ok-structs.ensures.len, c.index-count.ensures) in
+    let one = one_table c.args.build.shapes.now c.args.root c.requires c.args.steps.now.visits _ c.mark_reached.ensures.visits _ c.new.new.steps.visits at c.new.ensures.visits in
+    omega (arith, one)
+
+pub returns-in_err-new-2-clause-visits : goal.returns-in_err-new-2-clause-visits
+returns-in_err-new-2-clause-visits c =
+    let at : length c.deref.result.now ≡ c.args.root = omega (arith, c.deref.ensures.len, c.in_ok-structs.ensures.len, c.index-count.ensures) in
+    let also : length c.deref-2.result.now ≡ c.args.root = omega (arith, c.deref-2.ensures.len, c.in_ok-apart.ensures.len, c.index-count.ensures) in
+    both_tables c.args.build.shapes.now c.args.root c.requires c.args.steps.now.visits _ c.mark_reached.ensures.visits _ _ c.new.new.steps.visits c.new-2.new.steps.visits at also c.new.ensures.visits c.new-2.ensures.visits
+
+pub returns-clause-visits : goal.returns-clause-visits
+returns-clause-visits c =
+    let at : length c.deref.result.now ≡ c.args.root = omega (arith, c.deref.ensures.len, c.in_ok-structs.ensures.len, c.index-count.ensures) in
+    let also : length c.deref-2.result.now ≡ c.args.root = omega (arith, c.deref-2.ensures.len, c.in_ok-apart.ensures.len, c.index-count.ensures) in
+    both_tables c.args.build.shapes.now c.args.root c.requires c.args.steps.now.visits _ c.mark_reached.ensures.visits _ _ c.new.new.steps.visits c.new-2.new.steps.visits at also c.new.ensures.visits c.new-2.ensures.visits
