@@ -7,7 +7,7 @@ use Rattle.std.proofs.lemmas.Option.{slice_get_past}
 use Rattle.facet_solver_shape.specs.declared.shape.Shape.{Shape}
 use Rattle.facet_solver_shape.specs.declared.shape.Field.{Field}
 use Rattle.facet_solver_shape.specs.Catalogues.{NamesEarlier}
-use Rattle.facet_solver.specs.Content.{effective, effective_within, go_on, next_inside, struct_fields, is_zero, IsNewtypeOf}
+use Rattle.facet_solver.specs.Content.{effective, effective_of_only, effective_within, go_on, newtype_fields, next_inside, struct_fields, is_zero, IsNewtypeOf}
 use Rattle.facet_solver.proofs.Roles.{next_inside-below, effective-le}
 use Rattle.std.specs.Cmp.Lexicographic.{pointwise, same_text}
 use Rattle.facet_solver_shape.specs.declared.shape.ShapeKind.{ShapeKind}
@@ -70,6 +70,7 @@ module _ (cat : Catalogue) (checked : NamesEarlier cat) where
   single : (f : Field) (id : ℕ) (s : Shape) → is_zero (string_bytes f.name) ≡ true → id ≡ effective cat f.shape → slice_get cat id ≡ Some s → IsSome (struct_fields s.kind) → IsNewtypeOf cat (f ∷ []) id
   single f id s zero_named is_effective here is_struct =
       record {
+        is_effective = ap Some (sym is_effective);
         is_struct = subst (λ (k : ShapeKind). IsSome (struct_fields k)) (sym (kind-at id s here)) is_struct;
         same_fields = if-zero (is_zero (string_bytes f.name)) (effective cat f.shape) zero_named ∙ ap (λ (i : ℕ). struct_fields (kind_at cat i)) (sym is_effective);
         earlier = λ limit below. let le = effective-le cat checked f.shape in omega (arith, below.0);
@@ -77,6 +78,16 @@ module _ (cat : Catalogue) (checked : NamesEarlier cat) where
 
   pub newtype_of : (fs : List Field) (f : Field) (id : ℕ) (s : Shape) → fs ≡ f ∷ [] → is_zero (string_bytes f.name) ≡ true → id ≡ effective cat f.shape → slice_get cat id ≡ Some s → IsSome (struct_fields s.kind) → IsNewtypeOf cat fs id
   newtype_of fs f id s one zero_named is_effective here is_struct = subst (λ (gs : List Field). IsNewtypeOf cat gs id) (sym one) (single f id s zero_named is_effective here is_struct)
+
+-- the struct of a newtype stands at its effective shape
+pub newtype_at : (cat : Catalogue) (fs gs : List Field) → newtype_fields cat fs ≡ Some gs → (id : ℕ) × (effective_of_only cat fs ≡ Some id) × (struct_fields (kind_at cat id) ≡ Some gs)
+newtype_at cat [] gs e = absurd (cc)
+newtype_at cat (f ∷ []) gs e = go (is_zero (string_bytes f.name)) e
+  where
+    go : (b : Bool) → (if b then struct_fields (kind_at cat (effective cat f.shape)) else None) ≡ Some gs → (id : ℕ) × (effective_of_only cat (f ∷ []) ≡ Some id) × (struct_fields (kind_at cat id) ≡ Some gs)
+    go true e = (effective cat f.shape, refl, e)
+    go false e = absurd (cc)
+newtype_at cat (f ∷ g ∷ fs) gs e = absurd (cc)
 
 not-false : (b : Bool) → false ≡ not b → true ≡ b
 not-false true e = refl

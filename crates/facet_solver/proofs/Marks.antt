@@ -1,9 +1,14 @@
 -- Marks of shapes: more of them keep what is asked answered.
 use Rattle.std.proofs.Common.{◌≡◌, ◌<◌, ◌≤◌, ◌+◌, inl, inr, ℕ, zero, suc, List, [], ◌∷◌, Bool, Some, true, false, refl, ap, ◌∙◌, sym, subst, slice_get, length, get_or, set, length-set, arith}
+use Rattle.std.specs.Prelude.{replicate}
 use Rattle.std.proofs.lemmas.Bool.{cases_eq, cases_lt}
 use Rattle.std.proofs.lemmas.List.{get_or_default}
 use Rattle.std.proofs.lemmas.Option.{slice_get-get_or, slice_get_within}
-use Rattle.facet_solver.specs.NestedTable.{IsMarked, IsMarkedMore}
+use Rattle.facet_solver_shape.specs.declared.shape.ShapeKind.{ShapeKind}
+use Rattle.facet_solver_shape.specs.declared.shape.ShapeKind.TheVariants.{Enum, Struct}
+use Rattle.facet_solver.specs.Build.{Catalogue}
+use Rattle.facet_solver.specs.Nested.{Entered}
+use Rattle.facet_solver.specs.NestedTable.{IsMarked, IsMarkedMore, KindAsks, MarksAmong}
 
 pub more-refl : (limit : ℕ) (ms : List Bool) → IsMarkedMore limit ms ms
 more-refl limit ms = record { same_length = refl; kept = λ id m. m; below = λ id le m. m }
@@ -41,12 +46,38 @@ more-set ms i lt = record {
   below = λ id le m. sym (set_other ms i id (λ e. omega (arith, e, le))) ∙ m;
 }
 
+-- a mark that others make too
+pub among-set : (ms others : List Bool) (i : ℕ) → MarksAmong ms others → IsMarked others i → MarksAmong (set ms i true) others
+among-set ms others i among here id m = elim (cases_eq id i) [
+  | inl same ↦ subst (IsMarked others) (sym same) here
+  | inr apart ↦ among id (sym (set_other ms i id apart) ∙ m)
+]
+
+-- more marks keep what a kind of shape asks for
+pub asks_kept : (entered : Entered) (cat : Catalogue) (a b : List Bool) → MarksAmong a b → (k : ShapeKind) → KindAsks (IsMarked a) entered cat k → KindAsks (IsMarked b) entered cat k
+asks_kept entered cat a b kept (Struct kind fs) h = λ i d lt asked. kept _ (h i d lt asked)
+asks_kept entered cat a b kept (Enum vs) h = λ i d lt j e within asked. kept _ (h i d lt j e within asked)
+asks_kept entered cat a b kept _ h = tt
+
 -- what the items before one have, and that one, all have that are not behind it
 pub up_to_one : {X : Type 0} (P Q : X → Type 0) (xs : List X) (i : ℕ) (x : X) → x ≡ get_or xs i x → i < length xs → ((y : X) → P y → Q y) → Q x → ((j : ℕ) (d : X) → j < i → P (get_or xs j d)) → (j : ℕ) (d : X) → j < i + 1 → Q (get_or xs j d)
 up_to_one P Q xs i x is lt up q h j d l = elim (cases_lt j i) [
   | inl before ↦ up (get_or xs j d) (h j d before)
   | inr past ↦ (let same : j ≡ i = omega (arith, l, past) in subst (λ (k : ℕ). Q (get_or xs k d)) (sym same) (subst Q (is ∙ get_or_default xs i x d lt) q))
 ]
+
+-- where nothing is marked
+not_in_none : (n id : ℕ) → IsMarked (replicate n false) id → ⊥
+not_in_none zero id m = cc
+not_in_none (suc n) zero m = cc
+not_in_none (suc n) (suc id) m = not_in_none n id m
+
+pub among-none : (n : ℕ) (ms others : List Bool) → ms ≡ replicate n false → MarksAmong ms others
+among-none n ms others none id m = absurd (not_in_none n id (subst (λ (ms : List Bool). IsMarked ms id) none m))
+
+-- the mark of a shape
+pub mark_at : (ms : List Bool) (i : ℕ) (b : Bool) → i < length ms → get_or ms i false ≡ b → slice_get ms i ≡ Some b
+mark_at ms i b lt e = slice_get-get_or ms i false lt ∙ ap Some e
 
 -- an index where the mark is not made
 pub not_marked : (ms : List Bool) (i id : ℕ) → get_or ms i false ≡ false → i ≡ id → IsMarked ms id → ⊥

@@ -1,7 +1,7 @@
 -- Marks of what walks go through: more of them keep what is reached.
-use Rattle.std.proofs.Common.{◌≡◌, ◌<◌, ◌≤◌, ◌+◌, ℕ, List, Option, Some, None, Bool, true, false, refl, sym, subst, slice_get, inl, inr, get_or, length, set, arith}
+use Rattle.std.proofs.Common.{◌≡◌, ◌<◌, ◌≤◌, ◌+◌, ℕ, List, Option, Some, None, Bool, true, false, sym, subst, slice_get, inl, inr, get_or, length, set, arith}
 use Rattle.std.proofs.lemmas.Bool.{cases_lt}
-use Rattle.std.specs.Prelude.{IsSome, Vec}
+use Rattle.std.specs.Prelude.{All, IfSome, IsSome, Vec}
 use Rattle.std.specs.declared.alloc.Global.{Global}
 use Rattle.facet_solver_shape.specs.declared.shape.Field.{Field}
 use Rattle.facet_solver_shape.specs.declared.shape.Shape.{Shape}
@@ -10,7 +10,7 @@ use Rattle.facet_solver_shape.specs.declared.shape.ShapeKind.TheVariants.{Enum, 
 use Rattle.facet_solver_shape.specs.declared.shape.Variant.{Variant}
 use Rattle.facet_solver.specs.declared.build.role.Target.{Target}
 use Rattle.facet_solver.specs.Build.{Build, Catalogue, kind_at, repr_for}
-use Rattle.facet_solver.specs.Content.{IsNewtypeOf, newtype_fields, struct_fields}
+use Rattle.facet_solver.specs.Content.{IsNewtypeOf, effective_of_only, newtype_fields, struct_fields}
 use Rattle.facet_solver.specs.NestedTable.{IsMarked, IsMarkedMore}
 use Rattle.facet_solver.specs.Reached.{ContentReached, ContentReachedBy, FieldReached, IsReachedAt, IsReachedMore, KindReached, Reach, RoleReached, ShapeReached, VariantReached, reach}
 use Rattle.facet_solver.specs.Representation.{is_walked}
@@ -51,14 +51,17 @@ module _ (m : Reach) (cat : Catalogue) where
   field_marked f target e h = role_marked f.shape (role_of cat f) target e h
 
   -- so does a newtype whose struct is marked
-  by_newtype : (fs : List Field) (id : ℕ) (o : Option (List Field)) → struct_fields (kind_at cat id) ≡ o → IsSome o → IsMarked m.walked id → ContentReachedBy m cat fs o
-  by_newtype fs id None e some h = absurd (cc)
-  by_newtype fs id (Some gs) e some h = record { id = id; marked = h; has_fields = e }
+  module _ (fs : List Field) (id : ℕ) (newtype : IsNewtypeOf cat fs id) where
+    by_newtype : (o : Option (List Field)) → IsSome o → IsMarked m.walked id → ContentReachedBy m cat fs o
+    by_newtype None some h = absurd (cc)
+    by_newtype (Some gs) some h = subst (λ (o : Option ℕ). IfSome o (IsMarked m.walked)) (sym newtype.is_effective) h
 
-  pub newtype_marked : (fs : List Field) (id : ℕ) → IsNewtypeOf cat fs id → IsMarked m.walked id → ContentReached m cat fs
-  newtype_marked fs id newtype h =
-      subst (ContentReachedBy m cat fs) (sym newtype.same_fields)
-      (by_newtype fs id (struct_fields (kind_at cat id)) refl newtype.is_struct h)
+    pub newtype_marked : IsMarked m.walked id → ContentReached m cat fs
+    newtype_marked h = subst (ContentReachedBy m cat fs) (sym newtype.same_fields) (by_newtype (struct_fields (kind_at cat id)) newtype.is_struct h)
+
+  -- else what the fields lead to is marked
+  pub own_reached : (fs : List Field) → newtype_fields cat fs ≡ None → ContentReached m cat fs → All (FieldReached m cat) fs
+  own_reached fs none h = subst (ContentReachedBy m cat fs) none h
 
   -- an enum that is written apart
   pub apart_marked : (A : Type 0) (k : ShapeKind) (vs : Vec Variant Global) (b : Bool) → k ≡ Enum vs → b ≡ false → A → KindReached m cat A b k
@@ -82,7 +85,11 @@ module _ (a b : Reach) (walked_kept : (id : ℕ) → IsMarked a.walked id → Is
 
   content_kept : (fs : List Field) (o : Option (List Field)) → ContentReachedBy a cat fs o → ContentReachedBy b cat fs o
   content_kept fs None h = λ i d lt. field_kept (get_or fs i d) (h i d lt)
-  content_kept fs (Some gs) h = record { id = h.id; marked = walked_kept h.id h.marked; has_fields = h.has_fields }
+  content_kept fs (Some gs) h = still (effective_of_only cat fs) h
+    where
+      still : (o : Option ℕ) → IfSome o (IsMarked a.walked) → IfSome o (IsMarked b.walked)
+      still None h = tt
+      still (Some id) h = walked_kept id h
 
   pub variant_kept : (v : Variant) → VariantReached a cat v → VariantReached b cat v
   variant_kept v h = content_kept v.fields.items (newtype_fields cat v.fields.items) h

@@ -20,10 +20,11 @@ use Rattle.facet_solver.specs.declared.build.role.Target.{Target}
 use Rattle.facet_solver.specs.Build.{Build, Catalogue, kind_at, kind_of, repr_for}
 use Rattle.facet_solver.specs.Content.{newtype_fields, struct_fields}
 use Rattle.facet_solver.specs.Nested.{Entered, KeyPaths, content_paths, every_kind, named, nested_paths, no_paths, structs_alone, under_shape, under_variant, with_key_paths}
-use Rattle.facet_solver.specs.NestedTable.{AreEntries, EntryLeadsTo, IsFilled, LeadEarlier, StandFor, entry_at, is_filled, paths_by_name, variant_at, variants_of}
+use Rattle.facet_solver.specs.NestedTable.{AreEntries, EntryLeadsTo, IsFilled, IsMarked, LeadEarlier, StandFor, entry_at, is_filled, paths_by_name, variant_at, variants_of}
 use Rattle.facet_solver.specs.Reached.{ContentReachedBy, FieldReached, IsChosen, KindReached, Reach, RoleReached, ServesEnum, ServesField, ServesFields, ServesVariant, ShapeReached, VariantReached}
 use Rattle.facet_solver.specs.Representation.{is_walked}
 use Rattle.facet_solver.specs.Roles.{Role, alternatives, block, catch_all, leaf, regular, role_by_kind, role_of, role_of_target, target_of}
+use Rattle.facet_solver.proofs.Content.{newtype_at}
 use Rattle.facet_solver.proofs.Nested.{under_shape-step}
 use Rattle.facet_solver.proofs.NestedFields.{entry_leads_also, second_of}
 
@@ -174,10 +175,13 @@ module _ (build : Build) (tables : NestedTables) where
 
     pub newtype_served : (fs : List Field) → Some fs ≡ newtype_fields build.catalogue v.fields.items → ServesFields build tables fs
     newtype_served fs e =
-        let at = content_reached (Some fs) (sym e) in record {
+        let at = newtype_at build.catalogue v.fields.items fs (sym e) in
+        let marked : IsMarked serves.marks.walked at.0 =
+        subst (λ (o : Option ℕ). IfSome o (IsMarked serves.marks.walked)) at.1 (content_reached (Some fs) (sym e)) in
+        record {
           marks = serves.marks;
           follows = serves.follows;
-          reached = struct_reached serves.marks (IsFilled tables.contents.by_index.items at.id) build (slice_get build.catalogue at.id) fs (serves.follows.closed at.id at.marked) at.has_fields;
+          reached = struct_reached serves.marks (IsFilled tables.contents.by_index.items at.0) build (slice_get build.catalogue at.0) fs (serves.follows.closed at.0 marked) at.2;
         }
 
     pub own_served : None ≡ newtype_fields build.catalogue v.fields.items → ServesFields build tables v.fields.items

@@ -49,6 +49,12 @@ newtype_fields cat (f ∷ []) =
     else None
 newtype_fields cat (f ∷ g ∷ fs) = None
 
+-- the effective shape of a single field
+abbrev pub effective_of_only : Catalogue → List Field → Option ℕ
+effective_of_only cat [] = None
+effective_of_only cat (f ∷ []) = Some (effective cat f.shape)
+effective_of_only cat (f ∷ g ∷ fs) = None
+
 -- fields, and what their path has more than the variant's
 pub record Content : Type 0 where
   pub fields : List Field
@@ -66,6 +72,7 @@ content_of cat v = content_or v (newtype_fields cat v.fields.items)
 -- fields are a single field `0`, and the struct behind it stands at an index, which is earlier than
 -- what they name
 pub record IsNewtypeOf (cat : Catalogue) (fs : List Field) (id : ℕ) : Type 0 where
+  pub is_effective : effective_of_only cat fs ≡ Some id
   pub is_struct : IsSome (struct_fields (kind_at cat id))
   pub same_fields : newtype_fields cat fs ≡ struct_fields (kind_at cat id)
   pub earlier : (limit : ℕ) → FieldsBelow limit fs → id < limit

@@ -45,10 +45,14 @@ KindAsks Holds entered cat _ = ⊤
 abbrev pub IsMarked : List Bool → ℕ → Type 0
 IsMarked marks id = slice_get marks id ≡ Some true
 
+-- all that is marked is marked in others too
+abbrev pub MarksAmong : List Bool → List Bool → Type 0
+MarksAmong marks others = (id : ℕ) → IsMarked marks id → IsMarked others id
+
 -- marks were made below a limit, and none went
 pub record IsMarkedMore (limit : ℕ) (old new : List Bool) : Type 0 where
   pub same_length : length new ≡ length old
-  pub kept : (id : ℕ) → IsMarked old id → IsMarked new id
+  pub kept : MarksAmong old new
   pub below : (id : ℕ) → limit ≤ id → IsMarked new id → IsMarked old id
 
 -- every shape that a marked one asks for is marked

@@ -1,6 +1,6 @@
 -- The shapes that the walks of a root's choices go through, and those whose nested key paths they
 -- ask for. Only private contracts and proofs speak of it.
-use Rattle.std.specs.Prelude.{◌≡◌, ℕ, Bool, true, false, List, Option, None, Some, All, ⊤, Vec, slice_get}
+use Rattle.std.specs.Prelude.{◌≡◌, ℕ, Bool, true, false, List, Option, None, Some, All, IfSome, ⊤, Vec, slice_get}
 use Rattle.std.specs.declared.alloc.Global.{Global}
 use Rattle.facet_solver_shape.specs.declared.shape.Field.{Field}
 use Rattle.facet_solver_shape.specs.declared.shape.Shape.{Shape}
@@ -10,9 +10,9 @@ use Rattle.facet_solver_shape.specs.declared.shape.Variant.{Variant}
 use Rattle.facet_solver.specs.declared.build.nested.tables.NestedTables.{NestedTables}
 use Rattle.facet_solver.specs.declared.build.place.Chosen.{Chosen}
 use Rattle.facet_solver.specs.Build.{Build, Catalogue, kind_at, repr_for}
-use Rattle.facet_solver.specs.Content.{newtype_fields, struct_fields}
+use Rattle.facet_solver.specs.Content.{effective_of_only, newtype_fields}
 use Rattle.facet_solver.specs.Nested.{every_kind, structs_alone}
-use Rattle.facet_solver.specs.NestedTable.{AreEntries, IsFilled, IsMarked, IsMarkedMore, LeadEarlier}
+use Rattle.facet_solver.specs.NestedTable.{AreEntries, IsClosed, IsFilled, IsMarked, IsMarkedMore, LeadEarlier, MarksAmong}
 use Rattle.facet_solver.specs.Representation.{is_walked}
 use Rattle.facet_solver.specs.Roles.{Role, alternatives, block, catch_all, leaf, regular, role_of}
 
@@ -30,6 +30,11 @@ pub record IsReachedMore (limit : ℕ) (old new : Reach) : Type 0 where
   pub walked : IsMarkedMore limit old.walked new.walked
   pub structs : IsMarkedMore limit old.structs new.structs
 
+-- all that is marked is marked in others too
+pub record ReachAmong (m n : Reach) : Type 0 where
+  pub walked : MarksAmong m.walked n.walked
+  pub structs : MarksAmong m.structs n.structs
+
 -- what a field with a shape and a role leads to is marked
 abbrev pub RoleReached : Reach → Catalogue → ℕ → Role → Type 0
 RoleReached m cat id regular = structs_alone (kind_at cat id) ≡ true → IsMarked m.structs id
@@ -42,16 +47,10 @@ RoleReached m cat id (leaf target) = ⊤
 abbrev pub FieldReached : Reach → Catalogue → Field → Type 0
 FieldReached m cat f = RoleReached m cat f.shape (role_of cat f)
 
--- fields are those of a struct that is marked
-pub record IsWalkedStruct (walked : List Bool) (cat : Catalogue) (fs : List Field) : Type 0 where
-  pub id : ℕ
-  pub marked : IsMarked walked id
-  pub has_fields : struct_fields (kind_at cat id) ≡ Some fs
-
 -- the struct of a newtype is marked, or else what the fields lead to
 abbrev pub ContentReachedBy : Reach → Catalogue → List Field → Option (List Field) → Type 0
 ContentReachedBy m cat fs None = All (FieldReached m cat) fs
-ContentReachedBy m cat fs (Some gs) = IsWalkedStruct m.walked cat gs
+ContentReachedBy m cat fs (Some gs) = IfSome (effective_of_only cat fs) (IsMarked m.walked)
 
 -- the same of fields that are a variant's
 abbrev pub ContentReached : Reach → Catalogue → List Field → Type 0
@@ -84,6 +83,33 @@ IsReachedAt m apart build id =
 abbrev pub RootReached : Reach → Catalogue → ℕ → Type 0
 RootReached m cat root = KindReached m cat ⊤ true (kind_at cat root)
 
+-- marks of what walks go through, and of the enums that are written apart, each with the shapes
+-- that its key paths are made from
+pub record Asked : Type 0 where
+  pub reach : Reach
+  pub apart : List Bool
+
+-- these marks
+abbrev pub asked : List Bool → List Bool → List Bool → Asked
+asked walked structs apart = record { reach = reach walked structs; apart = apart }
+
+-- all that is marked is marked in others too
+pub record AskedAmong (m n : Asked) : Type 0 where
+  pub reach : ReachAmong m.reach n.reach
+  pub apart : MarksAmong m.apart n.apart
+
+-- what the walked shapes lead to is marked
+abbrev pub AreReached : Build → Asked → Type 0
+AreReached build m =
+    (id : ℕ) → IsMarked m.reach.walked id → IsReachedAt m.reach m.apart build id
+
+-- all that the walks of a root ask for is marked
+pub record HoldAsked (build : Build) (root : ℕ) (m : Asked) : Type 0 where
+  pub reached : RootReached m.reach build.catalogue root
+  pub walked : AreReached build m
+  pub structs : IsClosed structs_alone build.catalogue m.reach.structs
+  pub apart : IsClosed every_kind build.catalogue m.apart
+
 -- tables have the entries of a build's shapes, and each entry leads to earlier ones
 pub record AreTables (build : Build) (tables : NestedTables) : Type 0 where
   pub structs : AreEntries structs_alone build.catalogue tables.structs.by_index.items
@@ -97,6 +123,11 @@ pub record Follows (build : Build) (tables : NestedTables) (m : Reach) : Type 0 
       → ShapeReached m (IsFilled tables.contents.by_index.items id) build
       (slice_get build.catalogue id)
   pub structs : (id : ℕ) → IsMarked m.structs id → IsFilled tables.structs.by_index.items id
+
+-- tables have entries only of what is marked
+pub record HaveOnly (m : Asked) (tables : NestedTables) : Type 0 where
+  pub structs : (id : ℕ) → IsFilled tables.structs.by_index.items id → IsMarked m.reach.structs id
+  pub contents : (id : ℕ) → IsFilled tables.contents.by_index.items id → IsMarked m.apart id
 
 -- tables have the entries that walks ask for from where they lead to what is marked
 pub record Serves (build : Build) (tables : NestedTables) (Reached : Reach → Type 0) : Type 0 where

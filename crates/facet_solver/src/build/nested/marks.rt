@@ -1,19 +1,22 @@
 //! Marks of the shapes that nested key paths reach, by index.
-ghost use Rattle.std.specs.Prelude.{◌≡◌, ◌+◌, ◌<◌, ◌≤◌, ℕ, All, length};
+ghost use Rattle.std.specs.Prelude.{◌≡◌, ◌+◌, ◌<◌, ◌≤◌, ℕ, All, Bool, List, length};
 ghost use Rattle.facet_solver_shape.specs.Catalogues.{FieldsBelow, VariantsBelow};
 ghost use Rattle.facet_solver.specs.Build.{kind_at};
 ghost use Rattle.facet_solver.specs.Nested.{entered_view};
 ghost use Rattle.facet_solver.specs.NestedTable as table;
-ghost use Rattle.facet_solver.specs.NestedTable.{FieldAsks, IsClosed, IsMarked, IsMarkedMore, KindAsks, VariantAsks};
+ghost use Rattle.facet_solver.specs.NestedTable.{FieldAsks, IsClosed, IsMarked, IsMarkedMore, KindAsks, MarksAmong, VariantAsks};
 
 use crate::build::nested::Entered;
 use facet_solver_shape::{Field, ShapeId, ShapeKind, Shapes, Variant};
 
-/// Marks every shape that a marked one asks for, from the last index down: what a shape asks for stands before it.
+/// Marks every shape that a marked one asks for, and no other, from the last index down: what a shape asks for stands before
+/// it.
 pub(crate) fn close_marks(shapes: &Shapes, entered: Entered, marks: &mut [bool])
     ensures all { length marks.new ≡ length marks.old }
-    ensures kept { (id : ℕ) → IsMarked marks.old id → IsMarked marks.new id }
+    ensures kept { MarksAmong marks.old marks.new }
     ensures closed { IsClosed (entered_view entered) shapes.now marks.new }
+    ensures least { (others : List Bool) → MarksAmong marks.old others
+        → IsClosed (entered_view entered) shapes.now others → MarksAmong marks.new others }
 {
     let mut left = marks.len();
     while left > 0 {
@@ -30,6 +33,9 @@ fn mark_asked(shapes: &Shapes, entered: Entered, index: usize, marks: &mut [bool
     ensures more { IsMarkedMore index marks.old marks.new }
     ensures asked { KindAsks (IsMarked marks.new) (entered_view entered) shapes.now
         (kind_at shapes.now index) }
+    ensures least { (others : List Bool) → MarksAmong marks.old others
+        → KindAsks (IsMarked others) (entered_view entered) shapes.now (kind_at shapes.now index)
+        → MarksAmong marks.new others }
 {
     let Some(shape) = shapes.get(ShapeId::new(index)) else {
         return;
@@ -48,6 +54,9 @@ fn mark_variants(shapes: &Shapes, entered: Entered, variants: &[Variant], marks:
         → IsMarkedMore limit marks.old marks.new }
     ensures asked { All (VariantAsks (IsMarked marks.new) (entered_view entered) shapes.now)
         variants.now }
+    ensures least { (others : List Bool) → MarksAmong marks.old others
+        → All (VariantAsks (IsMarked others) (entered_view entered) shapes.now) variants.now
+        → MarksAmong marks.new others }
 {
     for variant in variants {
         mark_fields(shapes, entered, &variant.fields, marks);
@@ -61,6 +70,9 @@ fn mark_fields(shapes: &Shapes, entered: Entered, fields: &[Field], marks: &mut 
         → IsMarkedMore limit marks.old marks.new }
     ensures asked { All (FieldAsks (IsMarked marks.new) (entered_view entered) shapes.now)
         fields.now }
+    ensures least { (others : List Bool) → MarksAmong marks.old others
+        → All (FieldAsks (IsMarked others) (entered_view entered) shapes.now) fields.now
+        → MarksAmong marks.new others }
 {
     for field in fields {
         mark_field(shapes, entered, field, marks);
@@ -72,6 +84,9 @@ fn mark_field(shapes: &Shapes, entered: Entered, field: &Field, marks: &mut [boo
     requires { field.now.shape < length marks.old }
     ensures more { IsMarkedMore (field.now.shape + 1) marks.old marks.new }
     ensures asked { FieldAsks (IsMarked marks.new) (entered_view entered) shapes.now field.now }
+    ensures least { (others : List Bool) → MarksAmong marks.old others
+        → FieldAsks (IsMarked others) (entered_view entered) shapes.now field.now
+        → MarksAmong marks.new others }
 {
     if !asks(shapes, entered, field) {
         return;

@@ -1,13 +1,13 @@
 //! Marks, by index, of the shapes that the walks of a root's choices go through, and of those whose nested key paths they
 //! ask for.
-ghost use Rattle.std.specs.Prelude.{◌≡◌, ◌+◌, ◌<◌, ℕ, All, true, length, sum_by};
+ghost use Rattle.std.specs.Prelude.{◌≡◌, ◌+◌, ◌<◌, ℕ, All, Bool, List, true, length, sum_by};
 ghost use Rattle.facet_solver_shape.specs.Catalogues.{FieldsBelow, NamesEarlier, VariantsBelow};
 ghost use Rattle.facet_solver_shape.specs.Steps.{NoCountFalls};
 ghost use Rattle.facet_solver.specs.Build.{build_of, kind_at};
 ghost use Rattle.facet_solver.specs.FieldCount.{fields_of_kind};
-ghost use Rattle.facet_solver.specs.Nested.{every_kind, structs_alone};
-ghost use Rattle.facet_solver.specs.NestedTable.{IsClosed, IsMarked, IsMarkedMore};
-ghost use Rattle.facet_solver.specs.Reached.{ContentReached, FieldReached, IsReachedAt, IsReachedMore, RootReached, VariantReached, reach};
+ghost use Rattle.facet_solver.specs.Nested.{structs_alone};
+ghost use Rattle.facet_solver.specs.NestedTable.{IsMarked, IsMarkedMore, MarksAmong};
+ghost use Rattle.facet_solver.specs.Reached.{AreReached, Asked, AskedAmong, ContentReached, FieldReached, HoldAsked, IsReachedAt, IsReachedMore, Reach, ReachAmong, RootReached, VariantReached, asked, reach};
 
 use crate::build::Build;
 use crate::build::content::newtype_of;
@@ -17,8 +17,8 @@ use crate::build::role::{Role, role_of};
 use crate::build::visit::visited;
 use facet_solver_shape::{Field, ShapeId, ShapeKind, Shapes, Steps, Variant};
 
-/// Marks what the walks of a root's choices go through: in `structs` the structs whose nested key paths they ask for, in
-/// `apart` the enums whose content is written apart, each with all shapes that its key paths are made from.
+/// Marks what the walks of a root's choices go through, and nothing else: in `structs` the structs whose nested key paths they
+/// ask for, in `apart` the enums whose content is written apart, each with all shapes that its key paths are made from.
 pub(crate) fn mark_reached(
     build: Build,
     root: ShapeId,
@@ -36,11 +36,11 @@ pub(crate) fn mark_reached(
     ensures visits { steps.new.visits
         ≡ steps.old.visits + fields_of_kind (kind_at build.entry.shapes.now root) }
     ensures no_fall { NoCountFalls steps.old steps.new }
-    ensures root { RootReached (reach walked.new structs.new) build.entry.shapes.now root }
-    ensures walked { (id : ℕ) → IsMarked walked.new id
-        → IsReachedAt (reach walked.new structs.new) apart.new (build_of build.entry) id }
-    ensures structs { IsClosed structs_alone build.entry.shapes.now structs.new }
-    ensures apart { IsClosed every_kind build.entry.shapes.now apart.new }
+    ensures asked { HoldAsked (build_of build.entry) root
+        (asked walked.new structs.new apart.new) }
+    ensures least { (others : Asked) → AskedAmong (asked walked.old structs.old apart.old) others
+        → HoldAsked (build_of build.entry) root others
+        → AskedAmong (asked walked.new structs.new apart.new) others }
 {
     mark_root(build, root, walked, structs, steps);
     mark_walked(build, walked, structs, apart);
@@ -67,6 +67,9 @@ fn mark_root(
         (reach walked.new structs.new) }
     ensures checked { NamesEarlier build.entry.shapes.now }
     ensures reached { RootReached (reach walked.new structs.new) build.entry.shapes.now root }
+    ensures least { (others : Reach) → ReachAmong (reach walked.old structs.old) others
+        → RootReached others build.entry.shapes.now root
+        → ReachAmong (reach walked.new structs.new) others }
 {
     match &build.shape(root).kind {
         ShapeKind::Struct { fields, .. } => {
@@ -88,8 +91,11 @@ fn mark_walked(build: Build, walked: &mut [bool], structs: &mut [bool], apart: &
     ensures more { IsReachedMore (length walked.old) (reach walked.old structs.old)
         (reach walked.new structs.new) }
     ensures apart { length apart.new ≡ length apart.old }
-    ensures closed { (id : ℕ) → IsMarked walked.new id
-        → IsReachedAt (reach walked.new structs.new) apart.new (build_of build.entry) id }
+    ensures closed { AreReached (build_of build.entry)
+        (asked walked.new structs.new apart.new) }
+    ensures least { (others : Asked) → AskedAmong (asked walked.old structs.old apart.old) others
+        → AreReached (build_of build.entry) others
+        → AskedAmong (asked walked.new structs.new apart.new) others }
 {
     let mut left = walked.len();
     while left > 0 {
@@ -101,7 +107,7 @@ fn mark_walked(build: Build, walked: &mut [bool], structs: &mut [bool], apart: &
 }
 
 /// Marks what the shape at an index leads to, or the shape itself in `apart` where it is an enum whose content is written
-/// apart. Below the root marking counts in steps of its own: there the tables count each visit.
+/// apart. Its fields are read in steps of its own: below the root the visits are those of the tables.
 fn mark_shape(
     build: Build,
     index: usize,
@@ -118,6 +124,9 @@ fn mark_shape(
     ensures apart { IsMarkedMore (index + 1) apart.old apart.new }
     ensures reached { IsReachedAt (reach walked.new structs.new) apart.new
         (build_of build.entry) index }
+    ensures least { (others : Asked) → AskedAmong (asked walked.old structs.old apart.old) others
+        → IsReachedAt others.reach others.apart (build_of build.entry) index
+        → AskedAmong (asked walked.new structs.new apart.new) others }
 {
     let Some(shape) = build.shapes.get(ShapeId::new(index)) else {
         return;
@@ -153,6 +162,9 @@ fn mark_variants(
         → IsReachedMore limit (reach walked.old structs.old) (reach walked.new structs.new) }
     ensures reached { All (VariantReached (reach walked.new structs.new) shapes.now)
         variants.now }
+    ensures least { (others : Reach) → ReachAmong (reach walked.old structs.old) others
+        → All (VariantReached others shapes.now) variants.now
+        → ReachAmong (reach walked.new structs.new) others }
     ensures visits { steps.new.visits
         ≡ steps.old.visits + sum_by (λ v. length v.fields.items) variants.now }
     ensures no_fall { NoCountFalls steps.old steps.new }
@@ -176,6 +188,9 @@ fn mark_content(
     ensures more { (limit : ℕ) → FieldsBelow limit fields.now
         → IsReachedMore limit (reach walked.old structs.old) (reach walked.new structs.new) }
     ensures reached { ContentReached (reach walked.new structs.new) shapes.now fields.now }
+    ensures least { (others : Reach) → ReachAmong (reach walked.old structs.old) others
+        → ContentReached others shapes.now fields.now
+        → ReachAmong (reach walked.new structs.new) others }
     ensures visits { steps.new.visits ≡ steps.old.visits + length fields.now }
     ensures no_fall { NoCountFalls steps.old steps.new }
 {
@@ -204,6 +219,9 @@ fn mark_fields(
     ensures more { (limit : ℕ) → FieldsBelow limit fields.now
         → IsReachedMore limit (reach walked.old structs.old) (reach walked.new structs.new) }
     ensures reached { All (FieldReached (reach walked.new structs.new) shapes.now) fields.now }
+    ensures least { (others : Reach) → ReachAmong (reach walked.old structs.old) others
+        → All (FieldReached others shapes.now) fields.now
+        → ReachAmong (reach walked.new structs.new) others }
     ensures visits { steps.new.visits ≡ steps.old.visits + length fields.now }
     ensures no_fall { NoCountFalls steps.old steps.new }
 {
@@ -221,6 +239,9 @@ fn mark_field(shapes: &Shapes, field: &Field, walked: &mut [bool], structs: &mut
     ensures more { IsReachedMore (field.now.shape + 1) (reach walked.old structs.old)
         (reach walked.new structs.new) }
     ensures reached { FieldReached (reach walked.new structs.new) shapes.now field.now }
+    ensures least { (others : Reach) → ReachAmong (reach walked.old structs.old) others
+        → FieldReached others shapes.now field.now
+        → ReachAmong (reach walked.new structs.new) others }
 {
     match role_of(shapes, field) {
         Role::Regular => mark_regular(shapes, field.shape, structs),
@@ -237,6 +258,9 @@ fn mark_regular(shapes: &Shapes, id: ShapeId, structs: &mut [bool])
     ensures more { IsMarkedMore (id + 1) structs.old structs.new }
     ensures reached { structs_alone (kind_at shapes.now id) ≡ true
         → IsMarked structs.new id }
+    ensures least { (others : List Bool) → MarksAmong structs.old others
+        → (structs_alone (kind_at shapes.now id) ≡ true → IsMarked others id)
+        → MarksAmong structs.new others }
 {
     if Entered::StructsAlone.has(shapes, id) {
         structs[id.index()] = true;

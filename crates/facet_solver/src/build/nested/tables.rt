@@ -6,7 +6,7 @@ ghost use Rattle.facet_solver.specs.Build.{build_of, kind_at};
 ghost use Rattle.facet_solver.specs.Nested.{content_paths, named, nested_paths, with_key_paths};
 ghost use Rattle.facet_solver.specs.FieldCount.{field_count, fields_of_kind};
 ghost use Rattle.facet_solver.specs.NestedTable.{IsFilled, variant_at};
-ghost use Rattle.facet_solver.specs.Reached.{AreTables, ServesRegular, ServesRoot};
+ghost use Rattle.facet_solver.specs.Reached.{AreTables, Asked, HaveOnly, HoldAsked, ServesRegular, ServesRoot};
 
 use crate::build::Build;
 use crate::build::nested::Entered;
@@ -35,6 +35,8 @@ impl<'c> NestedTables<'c> {
         requires { root < length build.shapes.now }
         ensures entries { IfOk result (AreTables (build_of build.entry)) }
         ensures root { IfOk result (λ tables. ServesRoot (build_of build.entry) tables root) }
+        ensures asked { IfOk result (λ tables.
+            (marks : Asked) → HoldAsked (build_of build.entry) root marks → HaveOnly marks tables) }
         ensures visits { steps.new.visits
             ≤ steps.old.visits + 2 * field_count build.entry.shapes.now }
         ensures visited { OnOk result

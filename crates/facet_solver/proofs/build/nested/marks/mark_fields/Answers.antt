@@ -1,4 +1,4 @@
-use Rattle.std.proofs.Common.{◌+◌, ap, arith, ◌∙◌}
+use Rattle.std.proofs.Common.{◌+◌, ap, arith, subst, sym, ◌∙◌}
 use Rattle.facet_solver_shape.specs.declared.shape.Field.{Field}
 use Rattle.facet_solver.specs.Nested.{entered_view}
 use Rattle.facet_solver.specs.NestedTable.{FieldAsks, IsMarked}
@@ -27,4 +27,6 @@ loop-field-preserved c =
       more.same_length ∙ before.1,
       up_to_one (FieldAsks (IsMarked c.loop-field.marks) entered cat) (FieldAsks (IsMarked c.mark_field.new.marks) entered cat) fs i f c.field-item.is lt
           (λ g h asked. more.kept g.shape (h asked)) c.mark_field.ensures.asked before.2,
+      λ others among all. c.mark_field.ensures.least others (before.3 others among all)
+          (subst (FieldAsks (IsMarked others) entered cat) (sym c.field-item.is) (all i f lt)),
     )

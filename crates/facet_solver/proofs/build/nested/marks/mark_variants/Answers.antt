@@ -31,4 +31,7 @@ loop-variant-preserved c =
       up_to_one (VariantAsks (IsMarked c.loop-variant.marks) entered cat) (VariantAsks (IsMarked c.mark_fields.new.marks) entered cat) vs c.loop-variant.variant-index c.variant-item.result c.variant-item.is c.loop-variant-test.true
           (λ v h k d lt asked. more.kept (get_or v.fields.items k d).shape (h k d lt asked))
           (subst (λ (fs : List Field). All (FieldAsks (IsMarked c.mark_fields.new.marks) entered cat) fs) c.deref.ensures.value c.mark_fields.ensures.asked) before.2,
+      λ others among all. c.mark_fields.ensures.least others (before.3 others among all)
+          (subst (λ (fs : List Field). All (FieldAsks (IsMarked others) entered cat) fs) (sym c.deref.ensures.value)
+          (subst (VariantAsks (IsMarked others) entered cat) (sym c.variant-item.is) (all c.loop-variant.variant-index c.variant-item.result c.loop-variant-test.true))),
     )

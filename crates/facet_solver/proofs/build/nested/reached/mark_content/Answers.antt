@@ -4,10 +4,10 @@ use Rattle.facet_solver_shape.specs.declared.shape.Field.{Field}
 use Rattle.facet_solver.specs.Build.{Catalogue}
 use Rattle.facet_solver.specs.Content.{IsNewtypeOf}
 use Rattle.facet_solver.specs.NestedTable.{IsMarked}
-use Rattle.facet_solver.specs.Reached.{reach}
+use Rattle.facet_solver.specs.Reached.{ContentReached, reach}
 use Rattle.facet_solver.proofs.Marks.{set_same}
 use Rattle.facet_solver.proofs.NestedTable.{one_item}
-use Rattle.facet_solver.proofs.Reached.{newtype_marked, reached-mono, reached-set}
+use Rattle.facet_solver.proofs.Reached.{newtype_marked, own_reached, reached-mono, reached-set}
 use Rattle.facet_solver.proofs.build.nested.reached.mark_content.Goals as goal
 
 -- the only field, and the struct that it stands for
@@ -47,3 +47,10 @@ pub returns-in-None-clause-more : goal.returns-in-None-clause-more
 returns-in-None-clause-more c = λ limit h.
     let low = below c.args.fields.now c.visited-field.result.now c.if-fields-ne1.false c.visited-field.ensures.field limit h in
     reached-mono (c.visited-field.result.now.shape + 1) limit (reach c.args.walked.now c.args.structs.now) (reach c.mark_field.new.walked c.mark_field.new.structs) (omega (arith, low)) c.mark_field.ensures.more
+
+pub returns-in-None-clause-least : goal.returns-in-None-clause-least
+returns-in-None-clause-least c = λ others among h.
+    let f = c.visited-field.result.now in
+    let is = one_item c.args.fields.now f c.if-fields-ne1.false c.visited-field.ensures.field in
+    let own = own_reached others c.args.shapes.now (f ∷ []) c.in-None.ensures (subst (ContentReached others c.args.shapes.now) is h) in
+    c.mark_field.ensures.least others among (own 0 f (omega arith))

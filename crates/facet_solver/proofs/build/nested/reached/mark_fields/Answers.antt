@@ -1,4 +1,4 @@
-use Rattle.std.proofs.Common.{◌+◌, ap, arith, length, sym}
+use Rattle.std.proofs.Common.{◌+◌, ap, arith, length, subst, sym}
 use Rattle.std.proofs.lemmas.Option.{get_or_from_slice_get}
 use Rattle.facet_solver_shape.specs.declared.shape.Field.{Field}
 use Rattle.facet_solver.specs.Reached.{FieldReached, reach}
@@ -40,4 +40,5 @@ loop-index-preserved c =
           (field_kept a b more.walked.kept more.structs.kept cat) c.mark_field.ensures.reached before.1,
       omega (arith, visits, before.2),
       no_fall-trans _ _ _ before.3 (visited _ _ c.visited-field.ensures.steps),
+      λ others among all. c.mark_field.ensures.least others (before.4 others among all) (subst (FieldReached others cat) (sym is) (all i f lt)),
     )

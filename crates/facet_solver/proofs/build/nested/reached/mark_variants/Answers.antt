@@ -41,4 +41,7 @@ loop-variant-preserved c =
       visits_so_far vs c.loop-variant.variant-index c.variant-item.result _ _ _ c.loop-variant-test.true c.variant-item.is before.2
           (subst (λ (fs : List Field). c.mark_content.new.steps.visits ≡ c.loop-variant.steps.visits + length fs) c.deref.ensures.value c.mark_content.ensures.visits),
       no_fall-trans _ _ _ before.3 c.mark_content.ensures.no_fall,
+      λ others among all. c.mark_content.ensures.least others (before.4 others among all)
+          (subst (ContentReached others cat) (sym c.deref.ensures.value)
+          (subst (VariantReached others cat) (sym c.variant-item.is) (all c.loop-variant.variant-index c.variant-item.result c.loop-variant-test.true))),
     )

@@ -1,7 +1,6 @@
-use Rattle.std.proofs.Common.{◌≡◌, ◌<◌, ◌≤◌, ◌+◌, true, ℕ, Bool, List, Option, Some, false, ap, arith, get_or, length, slice_get, subst, sym, take, ◌∙◌}
+use Rattle.std.proofs.Common.{◌≡◌, ◌<◌, ◌≤◌, ◌+◌, true, ℕ, List, Option, false, ap, arith, get_or, length, slice_get, subst, sym, take, ◌∙◌}
 use Rattle.std.specs.Prelude.{IfSome}
 use Rattle.std.proofs.lemmas.List.{length_push}
-use Rattle.std.proofs.lemmas.Option.{slice_get-get_or}
 use Rattle.facet_solver_shape.specs.declared.shape.ShapeKind.{ShapeKind}
 use Rattle.facet_solver.specs.Build.{kind_at, kind_of}
 use Rattle.facet_solver.specs.Nested.{entered_view}
@@ -9,12 +8,9 @@ use Rattle.facet_solver.specs.FieldCount.{field_count}
 use Rattle.facet_solver.specs.NestedTable.{AreEntries, AreFirstEntries, EntryLeadsTo, IsEntry, IsFilled, KindAsks, LeadEarlier, is_filled}
 use Rattle.facet_solver.specs.declared.build.nested.table.Entry.{Entry}
 use Rattle.facet_solver.proofs.Counted.{no_fall-trans}
+use Rattle.facet_solver.proofs.Marks.{mark_at}
 use Rattle.facet_solver.proofs.NestedTable.{all_marked, asked_next, fields_mono, made_of, one_entry, shape_visits_more}
 use Rattle.facet_solver.proofs.build.nested.table.NestedTable.new.Goals as goal
-
--- the mark of a shape
-mark_at : (marks : List Bool) (i : ℕ) (b : Bool) → i < length marks → get_or marks i false ≡ b → slice_get marks i ≡ Some b
-mark_at marks i b lt e = slice_get-get_or marks i false lt ∙ ap Some e
 
 pub entry_if-requires-clause-sound : goal.entry_if-requires-clause-sound
 entry_if-requires-clause-sound c = record {

@@ -3,7 +3,8 @@ use Rattle.std.proofs.Math.Seq.{take-append_seam}
 use Rattle.facet_solver.specs.Build.{Catalogue, build_of, kind_at}
 use Rattle.facet_solver.specs.FieldCount.{field_count, fields_of_kind}
 use Rattle.facet_solver.specs.NestedTable.{IsFilled, IsMarked}
-use Rattle.facet_solver.specs.Reached.{reach}
+use Rattle.facet_solver.specs.Reached.{AskedAmong, asked, reach}
+use Rattle.facet_solver.proofs.Marks.{among-none}
 use Rattle.facet_solver.proofs.NestedTable.{fields_with_earlier}
 use Rattle.facet_solver.proofs.Reached.{shape_kept}
 use Rattle.facet_solver.proofs.build.nested.tables.NestedTables.new.Goals as goal
@@ -25,10 +26,10 @@ returns-clause-root c =
       follows = record {
         closed = λ id marked. shape_kept m m (λ id m. m) (λ id m. m) (IsMarked c.mark_reached.new.apart id) (IsFilled c.in_ok-new-2.field-0.by_index.items id)
             (λ h. (c.in_ok-new-2.ensures.marked id).0 (subst (λ (ms : List Bool). IsMarked ms id) (sym apart) h))
-            (build_of c.args.build) (slice_get c.args.build.shapes.now id) (c.mark_reached.ensures.walked id marked);
+            (build_of c.args.build) (slice_get c.args.build.shapes.now id) (c.mark_reached.ensures.asked.walked id marked);
         structs = λ id h. (c.in_ok-new.ensures.marked id).0 (subst (λ (ms : List Bool). IsMarked ms id) (sym structs) h);
       };
-      reached = c.mark_reached.ensures.root;
+      reached = c.mark_reached.ensures.asked.reached;
     }
 
 -- the visits of the root and of both tables, whose marks end at the root
@@ -63,3 +64,23 @@ returns-clause-visits c =
     let at : length c.deref.result.now ≡ c.args.root = omega (arith, c.deref.ensures.len, c.in_ok-structs.ensures.len, c.index-count.ensures) in
     let also : length c.deref-2.result.now ≡ c.args.root = omega (arith, c.deref-2.ensures.len, c.in_ok-apart.ensures.len, c.index-count.ensures) in
     both_tables c.args.build.shapes.now c.args.root c.requires c.args.steps.now.visits _ c.mark_reached.ensures.visits _ _ c.new.new.steps.visits c.new-2.new.steps.visits at also c.new.ensures.visits c.new-2.ensures.visits
+
+pub returns-clause-asked : goal.returns-clause-asked
+returns-clause-asked c = λ marks holds.
+    let count = c.index-count.ensures in
+    let structs : c.deref.result.now ≡ c.mark_reached.new.structs =
+    c.deref.ensures.value ∙ whole _ _ _ (c.in_ok-structs.ensures.len ∙ count ∙ sym c.mark_reached.ensures.structs_length) in
+    let apart : c.deref-2.result.now ≡ c.mark_reached.new.apart =
+    c.deref-2.ensures.value ∙ whole _ _ _ (c.in_ok-apart.ensures.len ∙ count ∙ sym c.mark_reached.ensures.apart_length) in
+    let none : AskedAmong (asked c.deref_mut.result.now c.deref_mut-2.result.now c.deref_mut-3.result.now) marks = record {
+      reach = record {
+        walked = among-none _ _ marks.reach.walked (c.deref_mut.ensures.value ∙ c.in_ok-walked.ensures.items_if_clones_equal (λ b is. is));
+        structs = among-none _ _ marks.reach.structs (c.deref_mut-2.ensures.value ∙ c.in_ok-structs.ensures.items_if_clones_equal (λ b is. is));
+      };
+      apart = among-none _ _ marks.apart (c.deref_mut-3.ensures.value ∙ c.in_ok-apart.ensures.items_if_clones_equal (λ b is. is));
+    } in
+    let least = c.mark_reached.ensures.least marks none holds in
+    record {
+      structs = λ id filled. least.reach.structs id (subst (λ (ms : List Bool). IsMarked ms id) structs ((c.in_ok-new.ensures.marked id).1 filled));
+      contents = λ id filled. least.apart id (subst (λ (ms : List Bool). IsMarked ms id) apart ((c.in_ok-new-2.ensures.marked id).1 filled));
+    }
