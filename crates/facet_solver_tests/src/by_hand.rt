@@ -1,231 +1,225 @@
 //! Calls on paths and resolutions that are made by hand.
 
+use crate::answer::{Answer, BAR, Line};
 use crate::catalogue::Catalogue;
 use crate::error_by_hand::ErrorByHand;
-use crate::line::{BAR, End, Line, Stop, answered, barred, done, word};
-use crate::marks;
-use crate::resolution::{category_of, of_resolution, refusal, whole};
+use crate::resolution::{add_refusal, of_resolution};
 use facet_solver::{
     Field, FieldCategory, FieldInfo, FieldPath, KeyPath, PathSegment, Resolution, SchemaError,
     ShapeId,
 };
 use std::alloc::{AllocError, Global};
 use std::mem;
-use std::str::SplitWhitespace;
 
-/// A path that grows, the resolution that calls are about, the one that it may be merged with, the lists of an error,
-/// and the text of the last error.
+/// A path that grows, the resolution that calls are about, the one that it may be merged with, and the lists of an error.
 #[derive(Drop)]
-pub struct Hand<'c, 't> {
-    catalogue: Catalogue<'c, 't>,
+pub struct Hand<'c> {
+    catalogue: Catalogue<'c>,
     field: &'c Field,
     path: FieldPath<'c>,
     resolution: Resolution<'c>,
     other: Resolution<'c>,
     error: ErrorByHand<'c>,
-    told: String,
 }
 
-impl<'c, 't> Hand<'c, 't>
-where
-    't: 'c,
-{
+impl<'c> Hand<'c> {
     /// Nothing made yet. Each field to be made stands for this declared one.
-    pub fn new(catalogue: Catalogue<'c, 't>, field: &'c Field) -> Self {
+    pub fn new(catalogue: Catalogue<'c>, field: &'c Field, alloc: Global) -> Self {
         Hand {
             catalogue,
             field,
-            path: FieldPath::empty(catalogue.alloc),
-            resolution: Resolution::new(catalogue.alloc),
-            other: Resolution::new(catalogue.alloc),
-            error: ErrorByHand::new(catalogue.alloc),
-            told: String::new(catalogue.alloc),
+            path: FieldPath::empty(alloc),
+            resolution: Resolution::new(alloc),
+            other: Resolution::new(alloc),
+            error: ErrorByHand::new(alloc),
         }
     }
 
-    /// Makes the call of a line, and compares its answer with what is wanted. Where it is refused memory it has to change
-    /// nothing, and is made again.
-    pub fn make(&mut self, line: &Line<'t>) -> Result<(), End<'t>> {
-        let before = self.state()?;
-        let mut words = line.call_words();
-        let mut came = self.answer(&mut words);
-        if let Err(Stop::Refused) = came {
-            marks::out_of_memory(self.catalogue.alloc);
-            if self.state()?.as_str() != before.as_str() {
-                return Err(End::Broken(*line));
+    /// Makes calls, up to the first that does not answer what is wanted.
+    pub fn make_all<'t: 'c>(&mut self, calls: &[Line<'t>], answer: &mut Answer<'t>) {
+        for line in calls {
+            self.make(*line, answer);
+            if !answer.holds() {
+                break;
             }
-            words = line.call_words();
-            came = self.answer(&mut words);
-        }
-        line.expect(&mut words, came)
-    }
-
-    // All that calls change: both resolutions and the path. It is tried twice.
-    fn state(&self) -> Result<String, AllocError> {
-        match self.whole() {
-            Err(AllocError) => self.whole(),
-            whole => whole,
         }
     }
 
-    fn whole(&self) -> Result<String, AllocError> {
-        let path = &self.path;
-        let resolution = whole(self.catalogue, &self.resolution)?;
-        let other = whole(self.catalogue, &self.other)?;
-        format!(in self.catalogue.alloc; "{path}, {resolution}, {other}")
+    // Makes a call, and compares its answer with what is wanted. Where it is refused memory it has to change nothing, and is
+    // made again.
+    fn make<'t: 'c>(&mut self, line: Line<'t>, answer: &mut Answer<'t>) {
+        answer.begin(line);
+        self.add_state(answer);
+        answer.keep_state();
+        self.answer(answer);
+        if answer.begins_again() {
+            self.add_state(answer);
+            answer.compare_state();
+            self.answer(answer);
+        }
+        answer.compare();
     }
 
-    // What a call answers. Where memory is refused it may be made again: what it is about is as it was.
-    fn answer(&mut self, words: &mut SplitWhitespace<'t>) -> Result<String, Stop> {
-        match word(words)? {
-            "add_field" => self.add_field(words),
-            "add_key_path" => self.add_key_path(words),
-            "add_variant_selection" => self.add_variant_selection(words),
-            "set_catch_all_map" => self.set_catch_all_map(words),
-            "mark_all_optional" => self.mark_all_optional(),
-            "merge" => self.merge(),
-            "other" => self.exchange(),
-            "error" => self.add_to_error(words),
-            "no_match" => self.no_match(),
-            BAR => answered(barred(self.catalogue.alloc, self.told.as_str())),
-            call => self.path_answer(call, words),
+    // Tells all that calls change: the path and both resolutions.
+    fn add_state(&self, answer: &mut Answer<'_>) {
+        answer.add_value(&self.path);
+        answer.add_debug(&self.resolution);
+        answer.add_debug(&self.other);
+    }
+
+    // Answers a call. Where memory is refused it may be made again: what it is about is as it was.
+    fn answer<'t: 'c>(&mut self, answer: &mut Answer<'t>) {
+        match answer.word() {
+            "add_field" => self.add_field(answer),
+            "set_catch_all_map" => self.set_catch_all_map(answer),
+            "add_key_path" => self.add_key_path(answer),
+            "add_variant_selection" => self.add_variant_selection(answer),
+            "error" => self.error.add(answer),
+            "no_match" => self.no_match(answer),
+            BAR => answer.add_error(),
+            call => self.other_answer(call, answer),
         }
     }
 
-    fn mark_all_optional(&mut self) -> Result<String, Stop> {
-        self.resolution.mark_all_optional();
-        done(self.catalogue.alloc)
-    }
-
-    fn merge(&mut self) -> Result<String, Stop> {
-        let merged = self.resolution.merge(&self.other);
-        self.done(merged)
-    }
-
-    // The two resolutions change places.
-    fn exchange(&mut self) -> Result<String, Stop> {
-        mem::swap(&mut self.resolution, &mut self.other);
-        done(self.catalogue.alloc)
-    }
-
-    fn add_to_error(&mut self, words: &mut SplitWhitespace<'t>) -> Result<String, Stop> {
-        self.error.add(words)?;
-        done(self.catalogue.alloc)
+    // Answers a call that needs no words, or one that is about the path, or that reads the resolution.
+    fn other_answer<'t: 'c>(&mut self, call: &str, answer: &mut Answer<'t>) {
+        match call {
+            "mark_all_optional" => {
+                self.resolution.mark_all_optional();
+                answer.add("ok");
+            }
+            "merge" => {
+                let merged = self.resolution.merge(&self.other);
+                add_outcome(merged, answer);
+            }
+            "other" => {
+                mem::swap(&mut self.resolution, &mut self.other);
+                answer.add("ok");
+            }
+            "root" | "parent" | "push_field" | "push_variant" => self.go(call, answer),
+            "last" => self.add_last(answer),
+            _ => of_resolution(self.catalogue, &self.resolution, call, answer),
+        }
     }
 
     // The error of the lists so far, which are then empty again.
-    fn no_match(&mut self) -> Result<String, Stop> {
-        let alloc = self.catalogue.alloc;
-        let lists = mem::replace(&mut self.error, ErrorByHand::new(alloc));
-        let error = lists.into_error();
-        self.told = match error.to_string(alloc) {
-            Err(AllocError) => error.to_string(alloc)?,
-            Ok(told) => told,
-        };
-        done(alloc)
-    }
-
-    // What a call answers that is about the path, or that reads the resolution.
-    fn path_answer(&mut self, call: &str, words: &mut SplitWhitespace<'t>) -> Result<String, Stop> {
-        match call {
-            "root" | "parent" | "push_field" | "push_variant" => self.go(call, words),
-            "last" => answered(self.last()),
-            _ => of_resolution(self.catalogue, &self.resolution, call, words),
-        }
+    fn no_match(&mut self, answer: &mut Answer<'_>) {
+        let lists = mem::replace(&mut self.error, ErrorByHand::new(answer.alloc));
+        answer.keep_error(&lists.into_error());
+        answer.add("ok");
     }
 
     // Goes to another path.
-    fn go(&mut self, call: &str, words: &mut SplitWhitespace<'t>) -> Result<String, Stop> {
-        let path = self.next_path(call, words)?;
-        let answer = format!(in self.catalogue.alloc; "{} {path}", path.depth())?;
-        drop(mem::replace(&mut self.path, path));
-        Ok(answer)
-    }
-
-    fn next_path(
-        &self,
-        call: &str,
-        words: &mut SplitWhitespace<'t>,
-    ) -> Result<FieldPath<'c>, Stop> {
-        let alloc = self.catalogue.alloc;
-        match call {
-            "push_field" => Ok(self.path.push_field(alloc, word(words)?)?),
-            "push_variant" => Ok(self.path.push_variant(alloc, word(words)?, word(words)?)?),
-            "parent" => Ok(self.path.parent(alloc)?),
-            _ => Ok(FieldPath::empty(alloc)),
-        }
-    }
-
-    fn last(&self) -> Result<String, AllocError> {
-        let alloc = self.catalogue.alloc;
-        match self.path.last() {
-            Some(PathSegment::Field(name)) => format!(in alloc; "field {name}"),
-            Some(PathSegment::Variant(field, name)) => format!(in alloc; "variant {field} {name}"),
-            None => String::from_str(alloc, "none"),
-        }
-    }
-
-    fn done(&mut self, outcome: Result<(), SchemaError<'c>>) -> Result<String, Stop> {
-        match outcome {
-            Ok(()) => done(self.catalogue.alloc),
-            Err(error) => {
-                self.told = error.to_string(self.catalogue.alloc)?;
-                refusal(self.catalogue.alloc, &error)
+    fn go<'t: 'c>(&mut self, call: &str, answer: &mut Answer<'t>) {
+        let alloc = answer.alloc;
+        let next = match call {
+            "push_field" => self.path.push_field(alloc, answer.word()),
+            "push_variant" => {
+                let field = answer.word();
+                self.path.push_variant(alloc, field, answer.word())
             }
+            "parent" => self.path.parent(alloc),
+            _ => Ok(FieldPath::empty(alloc)),
+        };
+        match next {
+            Ok(path) => {
+                answer.add_value(&path.depth());
+                answer.add_value(&path);
+                drop(mem::replace(&mut self.path, path));
+            }
+            Err(AllocError) => answer.refused(),
         }
     }
 
-    // A field of a name, at the path.
+    fn add_last(&self, answer: &mut Answer<'_>) {
+        match self.path.last() {
+            Some(PathSegment::Field(name)) => answer.add_all(&["field", name]),
+            Some(PathSegment::Variant(field, name)) => answer.add_all(&["variant", field, name]),
+            None => answer.add("none"),
+        }
+    }
+
+    // A field at the path.
     fn info(
         &self,
-        name: &'c str,
-        required: bool,
         category: FieldCategory,
-    ) -> Result<FieldInfo<'c>, AllocError> {
-        let alloc = self.catalogue.alloc;
-        Ok(FieldInfo {
+        name: &'c str,
+        answer: &mut Answer<'_>,
+    ) -> Option<FieldInfo<'c>> {
+        let path = self.copied_path(answer)?;
+        Some(FieldInfo {
             serialized_name: name,
-            path: copied(alloc, &self.path)?,
-            required,
+            path,
+            required: answer.next_word() == "required",
             value_shape: ShapeId::new(0),
             field: self.field,
             category,
         })
     }
 
-    fn add_field(&mut self, words: &mut SplitWhitespace<'t>) -> Result<String, Stop> {
-        let category = category_of(words)?;
-        let name = word(words)?;
-        let required = word(words)? == "required";
-        let info = self.info(name, required, category)?;
-        let added = self.resolution.add_field(info);
-        self.done(added)
-    }
-
-    fn set_catch_all_map(&mut self, words: &mut SplitWhitespace<'t>) -> Result<String, Stop> {
-        let category = category_of(words)?;
-        let info = self.info(word(words)?, false, category)?;
-        self.resolution.set_catch_all_map(category, info)?;
-        done(self.catalogue.alloc)
-    }
-
-    fn add_variant_selection(&mut self, words: &mut SplitWhitespace<'t>) -> Result<String, Stop> {
-        let path = copied(self.catalogue.alloc, &self.path)?;
-        self.resolution
-            .add_variant_selection(path, word(words)?, word(words)?)?;
-        done(self.catalogue.alloc)
-    }
-
-    fn add_key_path(&mut self, words: &mut SplitWhitespace<'t>) -> Result<String, Stop> {
-        let mut path: KeyPath<'c> = Vec::new(self.catalogue.alloc);
-        for name in words {
-            path.push(name)?;
+    fn copied_path(&self, answer: &mut Answer<'_>) -> Option<FieldPath<'c>> {
+        match Vec::from_slice(answer.alloc, self.path.segments()) {
+            Ok(segments) => Some(FieldPath::from(segments)),
+            Err(AllocError) => {
+                answer.refused();
+                None
+            }
         }
-        self.resolution.add_key_path(path)?;
-        done(self.catalogue.alloc)
+    }
+
+    fn add_field<'t: 'c>(&mut self, answer: &mut Answer<'t>) {
+        let category = answer.category();
+        let name = answer.word();
+        if let Some(info) = self.info(category, name, answer) {
+            let added = self.resolution.add_field(info);
+            add_outcome(added, answer);
+        }
+    }
+
+    fn set_catch_all_map<'t: 'c>(&mut self, answer: &mut Answer<'t>) {
+        let category = answer.category();
+        let name = answer.word();
+        if let Some(info) = self.info(category, name, answer) {
+            let set = self.resolution.set_catch_all_map(category, info);
+            add_done(set, answer);
+        }
+    }
+
+    fn add_variant_selection<'t: 'c>(&mut self, answer: &mut Answer<'t>) {
+        let enumeration = answer.word();
+        let variant = answer.word();
+        if let Some(path) = self.copied_path(answer) {
+            let added = self
+                .resolution
+                .add_variant_selection(path, enumeration, variant);
+            add_done(added, answer);
+        }
+    }
+
+    fn add_key_path<'t: 'c>(&mut self, answer: &mut Answer<'t>) {
+        let mut path: KeyPath<'c> = Vec::new(answer.alloc);
+        for _ in 0..usize::MAX {
+            let name = answer.next_word();
+            if name.is_empty() {
+                break;
+            }
+            answer.push(&mut path, name);
+        }
+        let added = self.resolution.add_key_path(path);
+        add_done(added, answer);
     }
 }
 
-fn copied<'c>(alloc: Global, path: &FieldPath<'c>) -> Result<FieldPath<'c>, AllocError> {
-    Ok(FieldPath::from(Vec::from_slice(alloc, path.segments())?))
+fn add_outcome(outcome: Result<(), SchemaError<'_>>, answer: &mut Answer<'_>) {
+    match outcome {
+        Ok(()) => answer.add("ok"),
+        Err(error) => add_refusal(&error, answer),
+    }
+}
+
+fn add_done(outcome: Result<(), AllocError>, answer: &mut Answer<'_>) {
+    match outcome {
+        Ok(()) => answer.add("ok"),
+        Err(AllocError) => answer.refused(),
+    }
 }

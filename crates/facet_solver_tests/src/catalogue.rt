@@ -1,65 +1,74 @@
 //! Calls that are about types alone.
 
-use crate::line::{Stop, add, add_number, answered, number, word};
+use crate::answer::{Answer, BAR};
 use crate::types::place_of;
 use facet_solver::{
     EnumRepr, Field, Format, Schema, SchemaError, Shape, ShapeId, ShapeKind, Shapes, Steps,
     Variant, VariantFormat, VariantsByFormat, specificity_score,
 };
-use std::alloc::{AllocError, Global};
-use std::str::SplitWhitespace;
+use std::alloc::AllocError;
 
 /// A catalogue and the names of its types.
 #[derive(Clone, Copy)]
-pub struct Catalogue<'c, 't> {
-    pub alloc: Global,
+pub struct Catalogue<'c> {
     pub shapes: &'c Shapes,
-    pub names: &'c [&'t str],
+    pub names: &'c [&'c str],
 }
 
-impl<'c, 't> Catalogue<'c, 't> {
-    /// What a call answers.
-    pub fn answer(&self, words: &mut SplitWhitespace<'t>) -> Result<String, Stop> {
-        match word(words)? {
-            "check" => answered(String::from_str(self.alloc, "accepted")),
-            "count" => self.count(words),
-            "representation" => self.representation(words),
-            "score" => self.score(words),
-            "variant" => self.variant(words),
-            "variants" => self.variants(words),
-            _ => Err(Stop::Unread),
+impl<'c> Catalogue<'c> {
+    /// Answers a call.
+    pub fn answer(&self, answer: &mut Answer<'_>) {
+        match answer.word() {
+            "check" => answer.add("accepted"),
+            "count" => self.count(answer),
+            "representation" => self.representation(answer),
+            "score" => self.score(answer),
+            "variant" => self.variant(answer),
+            "variants" => self.variants(answer),
+            BAR => answer.add_error(),
+            _ => answer.unread(),
         }
-    }
-
-    fn score(&self, words: &mut SplitWhitespace<'t>) -> Result<String, Stop> {
-        let score = specificity_score(self.shape(words)?);
-        answered(format!(in self.alloc; "{score}"))
     }
 
     /// The place of the type that is named next.
-    pub fn id(&self, words: &mut SplitWhitespace<'t>) -> Result<ShapeId, Stop> {
-        self.id_of(word(words)?)
+    pub fn id(&self, answer: &mut Answer<'_>) -> ShapeId {
+        let name = answer.word();
+        self.id_of(name, answer)
     }
 
-    /// The place of the type of a name.
-    pub fn id_of(&self, name: &str) -> Result<ShapeId, Stop> {
-        let id = place_of(self.names, name).ok_or(Stop::Unread)?;
-        if self.shapes.has(id) {
-            Ok(id)
-        } else {
-            Err(Stop::Unread)
+    fn id_of(&self, name: &str, answer: &mut Answer<'_>) -> ShapeId {
+        let id = place_of(self.names, name).unwrap_or(ShapeId::new(usize::MAX));
+        if !self.shapes.has(id) {
+            answer.unread();
+        }
+        id
+    }
+
+    /// Reads the types of all words that are left.
+    pub fn read_shapes(&self, answer: &mut Answer<'_>) {
+        answer.shapes.clear();
+        for _ in 0..usize::MAX {
+            let name = answer.next_word();
+            if name.is_empty() {
+                break;
+            }
+            let id = self.id_of(name, answer);
+            if answer.shapes.push(id).is_err() {
+                answer.refused();
+            }
         }
     }
 
-    fn shape(&self, words: &mut SplitWhitespace<'t>) -> Result<&'c Shape, Stop> {
-        self.shapes.get(self.id(words)?).ok_or(Stop::Unread)
+    fn shape(&self, answer: &mut Answer<'_>) -> Option<&'c Shape> {
+        let id = self.id(answer);
+        self.shapes.get(id)
     }
 
     /// The first field of the struct that is named next.
-    pub fn first_field(&self, words: &mut SplitWhitespace<'t>) -> Result<&'c Field, Stop> {
-        match &self.shape(words)?.kind {
-            ShapeKind::Struct { fields, .. } => fields.first().ok_or(Stop::Unread),
-            _ => Err(Stop::Unread),
+    pub fn first_field(&self, answer: &mut Answer<'_>) -> Option<&'c Field> {
+        match &self.shape(answer)?.kind {
+            ShapeKind::Struct { fields, .. } => fields.first(),
+            _ => None,
         }
     }
 
@@ -71,191 +80,205 @@ impl<'c, 't> Catalogue<'c, 't> {
         }
     }
 
-    /// The schema of a root, as the words behind it say.
-    pub fn build(
-        &self,
-        words: &mut SplitWhitespace<'t>,
-    ) -> Result<Result<Schema<'c>, SchemaError<'c>>, Stop>
+    /// The schema of a root, as the words behind it say. Where they can't be read, that is noted.
+    pub fn build<'t>(&self, answer: &mut Answer<'t>) -> Result<Schema<'c>, SchemaError<'c>>
     where
         't: 'c,
     {
-        let root = self.id(words)?;
-        if !self.shapes.has(root) {
-            return Err(Stop::Unread);
+        let (alloc, shapes) = (answer.alloc, self.shapes);
+        let root = self.id(answer);
+        let builder = answer.next_word();
+        if !shapes.has(root) {
+            return Err(SchemaError::OutOfMemory);
         }
-        match words.next() {
-            None => Ok(Schema::build(self.alloc, self.shapes, root)),
-            Some("external") => Ok(Schema::build_externally_tagged(self.alloc, self.shapes, root)),
-            Some("auto") => Ok(Schema::build_auto(self.alloc, self.shapes, root)),
-            Some("dom") => Ok(Schema::build_dom(self.alloc, self.shapes, root)),
-            Some("format") => {
-                let format = format(words)?;
-                Ok(Schema::build_with_format(self.alloc, self.shapes, root, format))
+        match builder {
+            "" => Schema::build(alloc, shapes, root),
+            "external" => Schema::build_externally_tagged(alloc, shapes, root),
+            "auto" => Schema::build_auto(alloc, shapes, root),
+            "dom" => Schema::build_dom(alloc, shapes, root),
+            "format" => Schema::build_with_format(alloc, shapes, root, format(answer)),
+            "with" => Schema::build_with_repr(alloc, shapes, root, asked(answer)),
+            "counted" => {
+                let asked = Some(asked(answer));
+                let steps = &mut Steps::new();
+                Schema::build_counted(alloc, shapes, root, asked, Format::Flat, steps)
             }
-            Some("with") => {
-                let repr = repr(words)?;
-                Ok(Schema::build_with_repr(self.alloc, self.shapes, root, repr))
+            _ => {
+                answer.unread();
+                Err(SchemaError::OutOfMemory)
             }
-            Some("counted") => {
-                let repr = Some(repr(words)?);
-                Ok(Schema::build_counted(
-                    self.alloc,
-                    self.shapes,
-                    root,
-                    repr,
-                    Format::Flat,
-                    &mut Steps::new(),
-                ))
-            }
-            Some(_) => Err(Stop::Unread),
         }
     }
 
-    fn count(&self, words: &mut SplitWhitespace<'t>) -> Result<String, Stop> {
-        let root = self.id(words)?;
-        if !self.shapes.has(root) {
-            return Err(Stop::Unread);
-        }
-        let asked = match words.next() {
-            None => Some(EnumRepr::Flattened),
-            Some("auto") => None,
-            Some("with") => Some(repr(words)?),
-            Some(_) => return Err(Stop::Unread),
+    fn count(&self, answer: &mut Answer<'_>) {
+        let root = self.id(answer);
+        let asked = match answer.next_word() {
+            "" => Some(EnumRepr::Flattened),
+            "with" => Some(asked(answer)),
+            "auto" => None,
+            _ => {
+                answer.unread();
+                None
+            }
         };
-        match Schema::resolution_count(self.alloc, self.shapes, root, asked)? {
-            Some(count) => Ok(format!(in self.alloc; "{count}")?),
-            None => Ok(String::from_str(self.alloc, "none")?),
+        if !self.shapes.has(root) {
+            return;
+        }
+        match Schema::resolution_count(answer.alloc, self.shapes, root, asked) {
+            Ok(Some(count)) => answer.add_value(&count),
+            Ok(None) => answer.add("none"),
+            Err(AllocError) => answer.refused(),
         }
     }
 
-    fn representation(&self, words: &mut SplitWhitespace<'t>) -> Result<String, Stop> {
-        let asked = EnumRepr::from_shape(self.shape(words)?);
-        Ok(repr_words(self.alloc, asked)?)
+    fn representation(&self, answer: &mut Answer<'_>) {
+        let Some(shape) = self.shape(answer) else {
+            return;
+        };
+        match EnumRepr::from_shape(shape) {
+            EnumRepr::Flattened => answer.add("flattened"),
+            EnumRepr::ExternallyTagged => answer.add("external"),
+            EnumRepr::InternallyTagged { tag } => answer.add_all(&["internal", tag]),
+            EnumRepr::AdjacentlyTagged { tag, content } => {
+                answer.add_all(&["adjacent", tag, content]);
+            }
+        }
+    }
+
+    fn score(&self, answer: &mut Answer<'_>) {
+        if let Some(shape) = self.shape(answer) {
+            answer.add_value(&specificity_score(shape));
+        }
     }
 
     // The format of a variant of an enum, and what it expects.
-    fn variant(&self, words: &mut SplitWhitespace<'t>) -> Result<String, Stop> {
-        let ShapeKind::Enum { variants } = &self.shape(words)?.kind else {
-            return Err(Stop::Unread);
-        };
-        let name = word(words)?;
-        for variant in variants {
-            if variant.name.as_str() == name {
-                return Ok(self.format_of(variant)?);
-            }
+    fn variant(&self, answer: &mut Answer<'_>) {
+        let shape = self.shape(answer);
+        let name = answer.word();
+        if let Some(variant) = variant_of(shape, name) {
+            let format = VariantFormat::from_variant(self.shapes, variant);
+            self.add_format(format, answer);
+            answer.put(",");
+            answer.add(expected(&format));
+        } else {
+            answer.unread();
         }
-        Err(Stop::Unread)
     }
 
-    fn format_of(&self, variant: &Variant) -> Result<String, AllocError> {
-        let alloc = self.alloc;
-        let format = VariantFormat::from_variant(self.shapes, variant);
-        let class = self.class(&format)?;
-        format!(in alloc; "{class}, {}", expected(&format))
-    }
-
-    fn class(&self, format: &VariantFormat) -> Result<String, AllocError> {
-        let alloc = self.alloc;
+    fn add_format(&self, format: VariantFormat, answer: &mut Answer<'_>) {
         match format {
-            VariantFormat::Unit => String::from_str(alloc, "unit"),
-            VariantFormat::Struct => String::from_str(alloc, "struct"),
-            VariantFormat::Tuple { arity } => format!(in alloc; "tuple {arity}"),
-            VariantFormat::NewtypeScalar { inner_shape: of } => self.newtype("scalar", *of),
-            VariantFormat::NewtypeStruct { inner_shape: of } => self.newtype("struct", *of),
-            VariantFormat::NewtypeSequence { inner_shape: of } => self.newtype("sequence", *of),
-            VariantFormat::NewtypeOther { inner_shape: of } => self.newtype("other", *of),
-            VariantFormat::NewtypeTuple {
-                inner_shape: of,
-                arity,
-            } => format!(in alloc; "newtype tuple {} {arity}", self.name(*of)),
-        }
-    }
-
-    fn newtype(&self, class: &str, of: ShapeId) -> Result<String, AllocError> {
-        format!(in self.alloc; "newtype {class} {}", self.name(of))
-    }
-
-    // One of the lists of an enum's variants.
-    fn variants(&self, words: &mut SplitWhitespace<'t>) -> Result<String, Stop> {
-        let id = self.id(words)?;
-        let Some(groups) = VariantsByFormat::from_shape(self.alloc, self.shapes, id)? else {
-            return Ok(String::from_str(self.alloc, "no enum")?);
-        };
-        match word(words)? {
-            "arity" => {
-                let found = groups.tuple_variants_with_arity(self.alloc, number(words)?)?;
-                self.plain(&found)
+            VariantFormat::Unit => answer.add("unit"),
+            VariantFormat::Struct => answer.add("struct"),
+            VariantFormat::Tuple { arity } => {
+                answer.add("tuple");
+                answer.add_value(&arity);
             }
-            list => self.listed(&groups, list),
+            VariantFormat::NewtypeScalar { inner_shape } => {
+                self.add_newtype("scalar", inner_shape, answer);
+            }
+            VariantFormat::NewtypeStruct { inner_shape } => {
+                self.add_newtype("struct", inner_shape, answer);
+            }
+            VariantFormat::NewtypeSequence { inner_shape } => {
+                self.add_newtype("sequence", inner_shape, answer);
+            }
+            VariantFormat::NewtypeOther { inner_shape } => {
+                self.add_newtype("other", inner_shape, answer);
+            }
+            VariantFormat::NewtypeTuple { inner_shape, arity } => {
+                self.add_newtype("tuple", inner_shape, answer);
+                answer.add_value(&arity);
+            }
         }
     }
 
-    // The variants of a list.
-    fn listed(&self, groups: &VariantsByFormat<'_>, list: &str) -> Result<String, Stop> {
-        match list {
-            "unit" => self.plain(&groups.unit_variants),
-            "struct" => self.plain(&groups.struct_variants),
-            "other" => self.plain(&groups.other_variants),
-            "scalar" => self.typed(&groups.scalar_variants),
-            "bool" => self.typed(&groups.bool_variants),
-            "int" => self.typed(&groups.int_variants),
-            "float" => self.typed(&groups.float_variants),
-            "string" => self.typed(&groups.string_variants),
-            "tuple" => self.sized(&groups.tuple_variants),
-            "any" => self.kinds(groups),
-            _ => Err(Stop::Unread),
+    fn add_newtype(&self, class: &str, inner_shape: ShapeId, answer: &mut Answer<'_>) {
+        answer.add_all(&["newtype", class, self.name(inner_shape)]);
+    }
+
+    fn variants(&self, answer: &mut Answer<'_>) {
+        let id = self.id(answer);
+        match VariantsByFormat::from_shape(answer.alloc, self.shapes, id) {
+            Ok(Some(groups)) => self.list(&groups, answer),
+            Ok(None) => answer.add("no enum"),
+            Err(AllocError) => answer.refused(),
         }
     }
 
-    fn plain(&self, variants: &[&Variant]) -> Result<String, Stop> {
-        let mut answer = String::new(self.alloc);
-        for variant in variants {
-            add(&mut answer, variant.name.as_str())?;
+    // One of the lists of an enum's variants, each with its type, or else another list.
+    fn list(&self, groups: &VariantsByFormat<'_>, answer: &mut Answer<'_>) {
+        let list = match answer.word() {
+            "scalar" => &groups.scalar_variants,
+            "bool" => &groups.bool_variants,
+            "int" => &groups.int_variants,
+            "float" => &groups.float_variants,
+            "string" => &groups.string_variants,
+            list => {
+                add_other_list(groups, list, answer);
+                return;
+            }
+        };
+        for (variant, shape) in list {
+            answer.add_all(&[variant.name.as_str(), self.name(*shape)]);
         }
-        Ok(answer)
-    }
-
-    fn typed(&self, variants: &[(&Variant, ShapeId)]) -> Result<String, Stop> {
-        let mut answer = String::new(self.alloc);
-        for (variant, shape) in variants {
-            add(&mut answer, variant.name.as_str())?;
-            add(&mut answer, self.name(*shape))?;
-        }
-        Ok(answer)
-    }
-
-    fn sized(&self, variants: &[(&Variant, usize)]) -> Result<String, Stop> {
-        let mut answer = String::new(self.alloc);
-        for (variant, arity) in variants {
-            add(&mut answer, variant.name.as_str())?;
-            add_number(&mut answer, *arity)?;
-        }
-        Ok(answer)
-    }
-
-    fn kinds(&self, groups: &VariantsByFormat<'_>) -> Result<String, Stop> {
-        let mut answer = String::new(self.alloc);
-        if groups.has_scalar_variants() {
-            add(&mut answer, "scalar")?;
-        }
-        if groups.has_tuple_variants() {
-            add(&mut answer, "tuple")?;
-        }
-        if groups.has_struct_variants() {
-            add(&mut answer, "struct")?;
-        }
-        Ok(answer)
     }
 }
 
-fn repr_words(alloc: Global, repr: EnumRepr<'_>) -> Result<String, AllocError> {
-    match repr {
-        EnumRepr::Flattened => String::from_str(alloc, "flattened"),
-        EnumRepr::ExternallyTagged => String::from_str(alloc, "external"),
-        EnumRepr::InternallyTagged { tag } => format!(in alloc; "internal {tag}"),
-        EnumRepr::AdjacentlyTagged { tag, content } => {
-            format!(in alloc; "adjacent {tag} {content}")
+fn add_other_list(groups: &VariantsByFormat<'_>, list: &str, answer: &mut Answer<'_>) {
+    let list = match list {
+        "unit" => &groups.unit_variants,
+        "struct" => &groups.struct_variants,
+        "other" => &groups.other_variants,
+        "tuple" => return add_sized(&groups.tuple_variants, answer),
+        "arity" => return add_of_arity(groups, answer),
+        "any" => return add_kinds(groups, answer),
+        _ => return answer.unread(),
+    };
+    add_names(list, answer);
+}
+
+fn variant_of<'c>(shape: Option<&'c Shape>, name: &str) -> Option<&'c Variant> {
+    let ShapeKind::Enum { variants } = &shape?.kind else {
+        return None;
+    };
+    for variant in variants {
+        if variant.name.as_str() == name {
+            return Some(variant);
         }
+    }
+    None
+}
+
+fn add_names(variants: &[&Variant], answer: &mut Answer<'_>) {
+    for variant in variants {
+        answer.add(variant.name.as_str());
+    }
+}
+
+fn add_sized(variants: &[(&Variant, usize)], answer: &mut Answer<'_>) {
+    for (variant, arity) in variants {
+        answer.add(variant.name.as_str());
+        answer.add_value(arity);
+    }
+}
+
+fn add_of_arity(groups: &VariantsByFormat<'_>, answer: &mut Answer<'_>) {
+    let arity = answer.number();
+    match groups.tuple_variants_with_arity(answer.alloc, arity) {
+        Ok(variants) => add_names(&variants, answer),
+        Err(AllocError) => answer.refused(),
+    }
+}
+
+fn add_kinds(groups: &VariantsByFormat<'_>, answer: &mut Answer<'_>) {
+    if groups.has_scalar_variants() {
+        answer.add("scalar");
+    }
+    if groups.has_tuple_variants() {
+        answer.add("tuple");
+    }
+    if groups.has_struct_variants() {
+        answer.add("struct");
     }
 }
 
@@ -273,25 +296,27 @@ fn expected(format: &VariantFormat) -> &'static str {
     }
 }
 
-// A format in a word.
-fn format(words: &mut SplitWhitespace<'_>) -> Result<Format, Stop> {
-    match word(words)? {
-        "flat" => Ok(Format::Flat),
-        "dom" => Ok(Format::Dom),
-        _ => Err(Stop::Unread),
-    }
+const FORMATS: [(&str, Format); 2] = [("flat", Format::Flat), ("dom", Format::Dom)];
+
+// The next word as a format.
+fn format(answer: &mut Answer<'_>) -> Format {
+    let word = answer.word();
+    answer.meaning(&FORMATS, word, Format::Flat)
 }
 
-// A representation in words.
-fn repr<'t>(words: &mut SplitWhitespace<'t>) -> Result<EnumRepr<'t>, Stop> {
-    match word(words)? {
-        "flattened" => Ok(EnumRepr::Flattened),
-        "external" => Ok(EnumRepr::ExternallyTagged),
-        "internal" => Ok(EnumRepr::InternallyTagged { tag: word(words)? }),
-        "adjacent" => Ok(EnumRepr::AdjacentlyTagged {
-            tag: word(words)?,
-            content: word(words)?,
-        }),
-        _ => Err(Stop::Unread),
+// The representation that the next words ask for.
+fn asked<'t>(answer: &mut Answer<'t>) -> EnumRepr<'t> {
+    match answer.word() {
+        "flattened" => EnumRepr::Flattened,
+        "external" => EnumRepr::ExternallyTagged,
+        "internal" => EnumRepr::InternallyTagged { tag: answer.word() },
+        "adjacent" => EnumRepr::AdjacentlyTagged {
+            tag: answer.word(),
+            content: answer.word(),
+        },
+        _ => {
+            answer.unread();
+            EnumRepr::Flattened
+        }
     }
 }

@@ -1,10 +1,9 @@
 //! Calls on an error that is made by hand.
 
-use crate::line::{Stop, word};
+use crate::answer::Answer;
 use facet_solver::{CandidateFailure, MissingFieldInfo, SolverError};
 use std::alloc::Global;
 use std::mem;
-use std::str::SplitWhitespace;
 
 /// The lists of an error, which grow, and those of its next failure.
 #[derive(Drop)]
@@ -30,54 +29,46 @@ impl<'c> ErrorByHand<'c> {
         }
     }
 
-    /// Makes a call that adds to the lists.
-    pub fn add<'t>(&mut self, words: &mut SplitWhitespace<'t>) -> Result<(), Stop>
-    where
-        't: 'c,
-    {
-        let call = word(words)?;
-        let name = word(words)?;
+    /// Answers a call that adds to the lists.
+    pub fn add<'t: 'c>(&mut self, answer: &mut Answer<'t>) {
+        let call = answer.word();
+        let name = answer.word();
         match call {
-            "missing_field" => self.add_missing(name, word(words)?),
-            _ => self.add_text(call, name),
-        }
-    }
-
-    // Makes a call that adds a text.
-    fn add_text(&mut self, call: &str, name: &str) -> Result<(), Stop> {
-        let text = String::from_str(self.alloc, name)?;
-        match call {
-            "input_field" => push(&mut self.input, text),
-            "unknown_field" => push(&mut self.unknown, text),
-            "closest_resolution" => {
-                self.closest = Some(text);
-                Ok(())
+            "missing_field" => self.add_missing(name, answer),
+            "input_field" => {
+                let text = answer.copied(name);
+                answer.push(&mut self.input, text);
             }
-            "failure" => self.add_failure(text),
-            _ => Err(Stop::Unread),
+            "unknown_field" => {
+                let text = answer.copied(name);
+                answer.push(&mut self.unknown, text);
+            }
+            "closest_resolution" => self.closest = Some(answer.copied(name)),
+            "failure" => self.add_failure(name, answer),
+            _ => answer.unread(),
         }
+        answer.add("ok");
     }
 
-    fn add_missing(&mut self, name: &'c str, path: &str) -> Result<(), Stop> {
-        self.missing.push(MissingFieldInfo {
+    fn add_missing(&mut self, name: &'c str, answer: &mut Answer<'_>) {
+        let path = answer.word();
+        let missing = MissingFieldInfo {
             name,
-            path: String::from_str(self.alloc, path)?,
+            path: answer.copied(path),
             defined_in: String::new(self.alloc),
-        })?;
-        Ok(())
+        };
+        answer.push(&mut self.missing, missing);
     }
 
     // A failure of the missing and unknown fields so far, which are then none again.
-    fn add_failure(&mut self, variant_name: String) -> Result<(), Stop> {
-        // The lists are moved, so nothing is to be refused behind that.
-        self.failures.reserve(1)?;
-        self.failures.push(CandidateFailure {
-            variant_name,
+    fn add_failure(&mut self, variant_name: &str, answer: &mut Answer<'_>) {
+        let failure = CandidateFailure {
+            variant_name: answer.copied(variant_name),
             missing_fields: mem::replace(&mut self.missing, Vec::new(self.alloc)),
             unknown_fields: mem::replace(&mut self.unknown, Vec::new(self.alloc)),
             suggestion_matches: 0,
-        })?;
-        Ok(())
+        };
+        answer.push(&mut self.failures, failure);
     }
 
     /// The error of the lists so far.
@@ -91,9 +82,4 @@ impl<'c> ErrorByHand<'c> {
             candidate_failures: self.failures,
         }
     }
-}
-
-fn push(list: &mut Vec<String>, text: String) -> Result<(), Stop> {
-    list.push(text)?;
-    Ok(())
 }

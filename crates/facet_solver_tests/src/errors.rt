@@ -1,87 +1,88 @@
 //! Calls that read the error of a solver.
 
-use crate::line::{Stop, add, answered, barred, number, word};
+use crate::answer::Answer;
 use facet_solver::{CandidateFailure, MissingFieldInfo, SolverError};
-use std::alloc::{AllocError, Global};
-use std::str::SplitWhitespace;
 
-/// The text of an error.
-pub fn text(alloc: Global, error: &SolverError<'_>) -> Result<String, AllocError> {
-    barred(alloc, error.to_string(alloc)?.as_str())
-}
-
-/// What a call answers.
-pub fn answer(
-    alloc: Global,
-    error: &SolverError<'_>,
-    words: &mut SplitWhitespace<'_>,
-) -> Result<String, Stop> {
-    match error {
-        SolverError::NoMatch {
-            input_fields,
-            missing_required,
-            missing_required_detailed,
-            unknown_fields,
-            closest_resolution,
-            candidate_failures,
-        } => match word(words)? {
-            "input_fields" => answered(quoted(alloc, input_fields)),
-            "missing_required" => answered(format!(in alloc; "{missing_required:?}")),
-            "missing_required_detailed" => answered(missing(alloc, missing_required_detailed)),
-            "unknown_fields" => answered(quoted(alloc, unknown_fields)),
-            "closest_resolution" => answered(or_none(alloc, closest_resolution)),
-            "candidate_failures" => answered(format!(in alloc; "{}", candidate_failures.len())),
-            "failure" => match candidate_failures.get(number(words)?) {
-                Some(failure) => failure_answer(alloc, failure, words),
-                None => Err(Stop::Unread),
-            },
-            _ => Err(Stop::Unread),
-        },
-        SolverError::Ambiguous {
-            candidates,
-            disambiguating_fields,
-        } => match word(words)? {
-            "candidates" => answered(quoted(alloc, candidates)),
-            "disambiguating_fields" => answered(quoted(alloc, disambiguating_fields)),
-            _ => Err(Stop::Unread),
-        },
-        SolverError::OutOfMemory => Err(Stop::Refused),
+/// Answers a call.
+pub fn of_error(error: &SolverError<'_>, answer: &mut Answer<'_>) {
+    let word = answer.word();
+    if let Some(list) = list(error, word) {
+        answer.add_debug(list);
+        return;
+    }
+    let SolverError::NoMatch {
+        missing_required,
+        missing_required_detailed,
+        closest_resolution,
+        candidate_failures,
+        ..
+    } = error
+    else {
+        answer.unread();
+        return;
+    };
+    match word {
+        "missing_required" => answer.add_debug(missing_required),
+        "missing_required_detailed" => add_missing(missing_required_detailed, answer),
+        "closest_resolution" => answer.add(closest_resolution.as_deref().unwrap_or("none")),
+        "candidate_failures" => answer.add_value(&candidate_failures.len()),
+        "failure" => of_failure(candidate_failures, answer),
+        _ => answer.unread(),
     }
 }
 
-fn quoted(alloc: Global, names: &[String]) -> Result<String, AllocError> {
-    format!(in alloc; "{names:?}")
-}
-
-fn or_none(alloc: Global, text: &Option<String>) -> Result<String, AllocError> {
-    match text {
-        Some(text) => String::from_str(alloc, text.as_str()),
-        None => String::from_str(alloc, "none"),
+// The list of texts of a name.
+fn list<'e>(error: &'e SolverError<'_>, name: &str) -> Option<&'e Vec<String>> {
+    match (error, name) {
+        (SolverError::NoMatch { input_fields, .. }, "input_fields") => Some(input_fields),
+        (SolverError::NoMatch { unknown_fields, .. }, "unknown_fields") => Some(unknown_fields),
+        (SolverError::Ambiguous { candidates, .. }, "candidates") => Some(candidates),
+        (
+            SolverError::Ambiguous {
+                disambiguating_fields,
+                ..
+            },
+            "disambiguating_fields",
+        ) => Some(disambiguating_fields),
+        _ => None,
     }
 }
 
 // Name, path and type of each field.
-fn missing(alloc: Global, fields: &[MissingFieldInfo<'_>]) -> Result<String, AllocError> {
-    let mut answer = String::new(alloc);
+fn add_missing(fields: &[MissingFieldInfo<'_>], answer: &mut Answer<'_>) {
     for field in fields {
-        add(&mut answer, field.name)?;
-        add(&mut answer, field.path.as_str())?;
-        add(&mut answer, field.defined_in.as_str())?;
+        answer.add(field.name);
+        answer.add(field.path.as_str());
+        answer.add(field.defined_in.as_str());
     }
-    Ok(answer)
 }
 
-// What a call answers that reads a failure.
-fn failure_answer(
-    alloc: Global,
-    failure: &CandidateFailure<'_>,
-    words: &mut SplitWhitespace<'_>,
-) -> Result<String, Stop> {
-    match word(words)? {
-        "variant_name" => answered(String::from_str(alloc, failure.variant_name.as_str())),
-        "missing_fields" => answered(missing(alloc, &failure.missing_fields)),
-        "unknown_fields" => answered(quoted(alloc, &failure.unknown_fields)),
-        "suggestion_matches" => answered(format!(in alloc; "{}", failure.suggestion_matches)),
-        _ => Err(Stop::Unread),
+// Answers a call that reads the failure of a number.
+fn of_failure(failures: &[CandidateFailure<'_>], answer: &mut Answer<'_>) {
+    let Some(failure) = failures.get(answer.number()) else {
+        answer.unread();
+        return;
+    };
+    match answer.word() {
+        "variant_name" => answer.add(failure.variant_name.as_str()),
+        "missing_fields" => add_missing(&failure.missing_fields, answer),
+        "unknown_fields" => answer.add_debug(&failure.unknown_fields),
+        "suggestion_matches" => answer.add_value(&failure.suggestion_matches),
+        _ => answer.unread(),
+    }
+}
+
+/// Tells how a solver ended without a resolution, and keeps the text of the error.
+pub fn add_verdict(error: &SolverError<'_>, answer: &mut Answer<'_>) {
+    answer.keep_error(error);
+    match error {
+        SolverError::NoMatch { .. } => answer.add("no match"),
+        SolverError::Ambiguous { candidates, .. } => {
+            answer.add("ambiguous");
+            for candidate in candidates {
+                answer.add(candidate.as_str());
+            }
+        }
+        SolverError::OutOfMemory => answer.refused(),
     }
 }

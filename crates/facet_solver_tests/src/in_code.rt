@@ -2,7 +2,7 @@
 
 mod errors;
 
-use crate::line::Stop;
+use crate::answer::{Answer, Line};
 use crate::public_names::public_types_have_their_derives;
 use crate::readme::keys_tell_the_payload;
 use crate::types::Types;
@@ -10,55 +10,10 @@ use errors::{
     a_second_field_is_an_error_of_a_schema, names_in_lists_are_escaped, refused_memory_has_a_text,
 };
 use facet_solver::{
-    CatalogueError, FieldKey, FieldPath, PathSegment, ScalarType, Schema, SchemaError, Shape,
-    ShapeId, ShapeKind, Shapes, Solver, specificity_score,
+    FieldKey, FieldPath, PathSegment, ResolutionHandle, Schema, Shape, ShapeId, ShapeKind, Shapes,
+    Solver, specificity_score,
 };
-use std::alloc::{AllocError, AllocFailed, Global};
-
-/// Why a check does not hold.
-#[derive(Drop)]
-pub enum Failure {
-    /// Memory was refused.
-    Refused,
-    /// What does not hold.
-    Broken(&'static str),
-}
-
-impl From<AllocError> for Failure {
-    fn from(_refused: AllocError) -> Failure {
-        Failure::Refused
-    }
-}
-
-impl<T: Drop> From<AllocFailed<T>> for Failure {
-    fn from(_refused: AllocFailed<T>) -> Failure {
-        Failure::Refused
-    }
-}
-
-impl From<Stop> for Failure {
-    fn from(stop: Stop) -> Failure {
-        match stop {
-            Stop::Refused => Failure::Refused,
-            Stop::Unread | Stop::Broken => Failure::Broken("the types can't be read"),
-        }
-    }
-}
-
-impl From<CatalogueError> for Failure {
-    fn from(_fault: CatalogueError) -> Failure {
-        Failure::Broken("the types are no catalogue")
-    }
-}
-
-impl From<SchemaError<'_>> for Failure {
-    fn from(error: SchemaError<'_>) -> Failure {
-        match error {
-            SchemaError::OutOfMemory => Failure::Refused,
-            SchemaError::DuplicateField(_) => Failure::Broken("there is a clash"),
-        }
-    }
-}
+use std::alloc::AllocError;
 
 /// One check.
 #[derive(Clone, Copy)]
@@ -93,166 +48,181 @@ pub const CHECKS: [(&str, Check); 10] = [
 ];
 
 impl Check {
-    /// Makes the check.
-    pub fn run(self, alloc: Global) -> Result<(), Failure> {
+    /// Makes the check, and notes where something else comes than is claimed.
+    pub fn run(self, answer: &mut Answer<'static>) {
         match self {
-            Check::PublicTypes => public_types_have_their_derives(),
-            Check::Keys => keys_have_names_and_an_order(),
-            Check::Catalogue => a_catalogue_gives_its_shapes(alloc),
-            Check::UnnamedType => a_type_without_a_name_has_the_score_of_any_other(alloc),
-            Check::EqualHandles => handles_are_equal_by_their_numbers(alloc),
-            Check::RefusedMemory => refused_memory_has_a_text(alloc),
-            Check::Escapes => names_in_lists_are_escaped(alloc),
-            Check::SecondField => a_second_field_is_an_error_of_a_schema(alloc),
-            Check::PathSegments => a_path_gives_its_segments(alloc),
-            Check::Readme => keys_tell_the_payload(alloc),
+            Check::PublicTypes => public_types_have_their_derives(answer),
+            Check::Keys => keys_have_names_and_an_order(answer),
+            Check::Catalogue => a_catalogue_gives_its_shapes(answer),
+            Check::UnnamedType => a_type_without_a_name_has_the_score_of_any_other(answer),
+            Check::EqualHandles => handles_are_equal_by_their_numbers(answer),
+            Check::RefusedMemory => refused_memory_has_a_text(answer),
+            Check::Escapes => names_in_lists_are_escaped(answer),
+            Check::SecondField => a_second_field_is_an_error_of_a_schema(answer),
+            Check::PathSegments => a_path_gives_its_segments(answer),
+            Check::Readme => keys_tell_the_payload(answer),
         }
     }
 }
 
-/// Fails where what is said does not hold.
-pub fn hold(holds: bool, what: &'static str) -> Result<(), Failure> {
-    if holds {
-        Ok(())
-    } else {
-        Err(Failure::Broken(what))
+// The catalogue of two types, each on a line.
+fn catalogue(
+    first: &'static str,
+    second: &'static str,
+    answer: &mut Answer<'static>,
+) -> Option<Shapes> {
+    let mut types = Types::new(answer.alloc);
+    for text in [first, second] {
+        types.declare(Line { number: 0, text }, answer);
+        if !answer.holds() {
+            return None;
+        }
+    }
+    Shapes::new(types.shapes).ok()
+}
+
+fn handles_are_equal_by_their_numbers(answer: &mut Answer<'static>) {
+    let letters = "enum T { A { x: u8 }, B { y: u8 } }";
+    match catalogue(letters, "struct S { flat e: T }", answer) {
+        Some(shapes) => of_catalogue(&shapes, answer),
+        None => answer.unread(),
     }
 }
 
-/// `S { flat e: T { A { x: u8 }, B { y: u8 } } }`, and its place.
-const LETTERS: [&str; 2] = [
-    "enum T { A { x: u8 }, B { y: u8 } }",
-    "struct S { flat e: T }",
-];
-
-const S: usize = 2;
-
-fn catalogue(alloc: Global, lines: &[&'static str]) -> Result<Shapes, Failure> {
-    let mut types = Types::new(alloc);
-    for line in lines {
-        types.declare(line)?;
-    }
-    let Types { shapes, .. } = types;
-    match Shapes::new(shapes) {
-        Ok(shapes) => Ok(shapes),
-        Err(_fault) => Err(Failure::Broken("the types are no catalogue")),
-    }
-}
-
-fn schema(alloc: Global, shapes: &Shapes, root: usize) -> Result<Schema<'_>, Failure> {
-    let root = ShapeId::new(root);
+fn of_catalogue(shapes: &Shapes, answer: &mut Answer<'static>) {
+    let root = ShapeId::new(2);
     if !shapes.has(root) {
-        return Err(Failure::Broken("there is no root"));
+        answer.unread();
+        return;
     }
-    Ok(Schema::build(alloc, shapes, root)?)
-}
-
-fn handles_are_equal_by_their_numbers(alloc: Global) -> Result<(), Failure> {
-    let shapes = catalogue(alloc, &LETTERS)?;
-    let schema = schema(alloc, &shapes, S)?;
-    let handles = Solver::new(alloc, &schema)?.candidates(alloc)?;
-    hold(handles.first() == handles.first(), "equal numbers")?;
-    hold(handles.first() != handles.last(), "other numbers")
-}
-
-fn a_catalogue_gives_its_shapes(alloc: Global) -> Result<(), Failure> {
-    let shapes = catalogue(
-        alloc,
-        &[
-            "struct B { rename=new a: bool, b: bool }",
-            "pointer P untagged tag=t of B",
-        ],
-    )?;
-    indices_tell(&shapes)?;
-    scalar_tells(shape_at(&shapes, 0)?)?;
-    names_tell(shape_at(&shapes, 1)?)?;
-    attributes_tell(shape_at(&shapes, 2)?)
-}
-
-fn shape_at(shapes: &Shapes, index: usize) -> Result<&Shape, Failure> {
-    match shapes.get(ShapeId::new(index)) {
-        Some(shape) => Ok(shape),
-        None => Err(Failure::Broken("three shapes")),
+    match Schema::build(answer.alloc, shapes, root) {
+        Ok(schema) => of_schema(&schema, answer),
+        Err(_) => answer.refused(),
     }
 }
 
-fn indices_tell(shapes: &Shapes) -> Result<(), Failure> {
-    hold(shapes.len() == 3, "its length")?;
-    hold(shapes.has(ShapeId::new(2)), "its last place")?;
-    hold(!shapes.has(ShapeId::new(3)), "the place behind")?;
-    hold(shapes.get(ShapeId::new(3)).is_none(), "no shape behind")
+fn of_schema(schema: &Schema<'_>, answer: &mut Answer<'static>) {
+    match Solver::new(answer.alloc, schema) {
+        Ok(solver) => of_solver(&solver, answer),
+        Err(AllocError) => answer.refused(),
+    }
 }
 
-fn scalar_tells(scalar: &Shape) -> Result<(), Failure> {
-    let is_bool = scalar.scalar_type() == Some(ScalarType::Bool);
-    hold(is_bool, "the type of a scalar")?;
-    hold(scalar.get_tag_attr().is_none(), "no tag")?;
-    hold(!scalar.is_untagged(), "not untagged")
+fn of_solver(solver: &Solver<'_, '_, '_>, answer: &mut Answer<'static>) {
+    match solver.candidates(answer.alloc) {
+        Ok(handles) => of_handles(&handles, answer),
+        Err(AllocError) => answer.refused(),
+    }
 }
 
-fn names_tell(structure: &Shape) -> Result<(), Failure> {
-    let ShapeKind::Struct { fields, .. } = &structure.kind else {
-        return Err(Failure::Broken("a struct"));
-    };
-    match fields.as_slice() {
-        [renamed, declared] => {
-            hold(renamed.effective_name() == "new", "the new name")?;
-            hold(declared.effective_name() == "b", "the declared name")
+fn of_handles(handles: &[ResolutionHandle<'_, '_>], answer: &mut Answer<'static>) {
+    if let [first, second] = handles {
+        answer.add_debug(&(first == first));
+        answer.add_debug(&(first == second));
+    }
+    answer.claim("true false");
+}
+
+fn a_catalogue_gives_its_shapes(answer: &mut Answer<'static>) {
+    let pair = "struct B { rename=new a: bool, b: bool }";
+    match catalogue(pair, "pointer P untagged tag=t of B", answer) {
+        Some(shapes) => {
+            indices_tell(&shapes, answer);
+            shape_tells(&shapes, 0, "Some(Bool) None None false", answer);
+            names_tell(&shapes, answer);
+            shape_tells(&shapes, 2, "None Some(\"t\") None true", answer);
         }
-        _ => Err(Failure::Broken("two fields")),
+        None => answer.unread(),
     }
 }
 
-fn attributes_tell(pointer: &Shape) -> Result<(), Failure> {
-    hold(pointer.scalar_type().is_none(), "no scalar")?;
-    hold(pointer.get_tag_attr() == Some("t"), "the tag")?;
-    hold(pointer.get_content_attr().is_none(), "no content")?;
-    hold(pointer.is_untagged(), "untagged")
+fn indices_tell(shapes: &Shapes, answer: &mut Answer<'static>) {
+    let behind = ShapeId::new(3);
+    answer.add_value(&shapes.len());
+    answer.add_debug(&shapes.has(ShapeId::new(2)));
+    answer.add_debug(&shapes.has(behind));
+    answer.add_debug(&shapes.get(behind).is_none());
+    answer.claim("3 true false true");
 }
 
-fn a_type_without_a_name_has_the_score_of_any_other(alloc: Global) -> Result<(), Failure> {
-    let mut unnamed = Types::new(alloc);
-    unnamed.declare("other X")?;
-    let Some(mut shape) = unnamed.shapes.pop() else {
-        return Err(Failure::Broken("a type"));
+fn shape_tells(shapes: &Shapes, index: usize, wanted: &'static str, answer: &mut Answer<'static>) {
+    if let Some(shape) = shapes.get(ShapeId::new(index)) {
+        answer.add_debug(&shape.scalar_type());
+        answer.add_debug(&shape.get_tag_attr());
+        answer.add_debug(&shape.get_content_attr());
+        answer.add_debug(&shape.is_untagged());
+    }
+    answer.claim(wanted);
+}
+
+fn names_tell(shapes: &Shapes, answer: &mut Answer<'static>) {
+    if let Some(
+        Shape {
+            kind: ShapeKind::Struct { fields, .. },
+            ..
+        },
+    ) = shapes.get(ShapeId::new(1))
+    {
+        for field in fields {
+            answer.add(field.effective_name());
+        }
+    }
+    answer.claim("new b");
+}
+
+fn a_type_without_a_name_has_the_score_of_any_other(answer: &mut Answer<'static>) {
+    let unnamed = Shape {
+        type_identifier: String::new(answer.alloc),
+        kind: ShapeKind::Other,
+        inner: None,
+        proxy: None,
+        tag: None,
+        content: None,
+        untagged: false,
+        metadata_container: false,
     };
-    shape.type_identifier = String::new(alloc);
-    hold(specificity_score(&shape) == 1000, "its score")
+    answer.add_value(&specificity_score(&unnamed));
+    answer.claim("1000");
 }
 
-fn keys_have_names_and_an_order() -> Result<(), Failure> {
+fn keys_have_names_and_an_order(answer: &mut Answer<'static>) {
     let rising = [
-        (FieldKey::flat("b"), "b"),
-        (FieldKey::attribute("a"), "a"),
-        (FieldKey::attribute("b"), "b"),
-        (FieldKey::element("a"), "a"),
-        (FieldKey::element("b"), "b"),
-        (FieldKey::text(), ""),
-        (FieldKey::tag(), ""),
-        (FieldKey::elements(), ""),
+        FieldKey::flat("b"),
+        FieldKey::attribute("a"),
+        FieldKey::attribute("b"),
+        FieldKey::element("a"),
+        FieldKey::element("b"),
+        FieldKey::text(),
+        FieldKey::tag(),
+        FieldKey::elements(),
     ];
-    for (key, name) in &rising {
-        hold(key.name() == *name, "the name of a key")?;
+    let mut last = FieldKey::flat("a");
+    for key in &rising {
+        answer.add_debug(&(last < *key));
+        answer.add(key.name());
+        last = *key;
     }
-    for pair in rising.windows(2) {
-        let [(first, _), (second, _)] = pair else {
-            return Err(Failure::Broken("two keys"));
-        };
-        hold(first < second, "the order of keys")?;
-    }
-    Ok(())
+    answer.claim("true b true a true b true a true b true  true  true ");
 }
 
-fn a_path_gives_its_segments(alloc: Global) -> Result<(), Failure> {
-    let foo = FieldPath::empty(alloc).push_field(alloc, "foo")?;
-    let same = FieldPath::empty(alloc).push_field(alloc, "foo")?;
-    hold(foo == same, "paths of the same segments")?;
-    let longer = foo.push_variant(alloc, "config", "Advanced")?;
-    hold(foo != longer, "a path and a longer one")?;
-    let segments = longer.segments();
-    let variant = PathSegment::Variant("config", "Advanced");
-    hold(
-        segments.first() == Some(&PathSegment::Field("foo")) && segments.get(1) == Some(&variant),
-        "the segments of a path",
-    )
+fn a_path_gives_its_segments(answer: &mut Answer<'static>) {
+    let segments = [
+        PathSegment::Field("foo"),
+        PathSegment::Variant("config", "Advanced"),
+    ];
+    let path = path_of(&segments, answer);
+    answer.add_debug(&path.segments());
+    answer.claim("[Field(\"foo\"), Variant(\"config\", \"Advanced\")]");
+    let (same, other) = (path_of(&segments, answer), path_of(&segments[1..], answer));
+    answer.add_debug(&(path == same));
+    answer.add_debug(&(path == other));
+    answer.claim("true false");
+}
+
+fn path_of(segments: &[PathSegment<'static>], answer: &mut Answer<'static>) -> FieldPath<'static> {
+    let mut path = Vec::new(answer.alloc);
+    for segment in segments {
+        answer.push(&mut path, *segment);
+    }
+    FieldPath::from(path)
 }

@@ -8,56 +8,39 @@ use facet_solver::{
 };
 use std::alloc::{AllocError, Global};
 
-// A key may live shorter than the schema and its catalogue, and what it tells outlives it and the solver.
-fn answer<'s, 'c>(
+// A key may live shorter than the schema and its catalogue. What it tells, also at a path, outlives it and the solver.
+fn answers<'s, 'c, 'd>(
     alloc: Global,
-    schema: &'s Schema<'c>,
-    document: &str,
-) -> Result<KeyResult<'s, 'c>, AllocError> {
-    Solver::new(alloc, schema)?.see_key(alloc, FieldKey::flat(document))
-}
-
-// What a key at a path tells outlives the solver and the path.
-fn answer_at_path<'s, 'c>(
-    alloc: Global,
-    solver: &mut Solver<'s, 'c, '_>,
+    solver: &mut Solver<'s, 'c, 'd>,
+    document: &'d str,
     path: &[&str],
-    key: &str,
-) -> Result<KeyResult<'s, 'c>, AllocError> {
-    solver.probe_key(alloc, path, key)
+) -> [Result<KeyResult<'s, 'c>, AllocError>; 2] {
+    [
+        solver.see_key(alloc, FieldKey::flat(document)),
+        solver.probe_key(alloc, path, document),
+    ]
 }
 
 // The fields of an ambiguous answer outlive it.
-fn first_field<'s, 'c>(answer: &KeyResult<'s, 'c>) -> Option<&'s FieldInfo<'c>> {
+fn fields<'a, 's, 'c>(answer: &'a KeyResult<'s, 'c>) -> Option<&'a Vec<(&'s FieldInfo<'c>, u64)>> {
     match answer {
-        KeyResult::Ambiguous { fields } => fields.first().map(|field| field.0),
+        KeyResult::Ambiguous { fields } => Some(fields),
         _ => None,
     }
 }
 
-// What fields that are fit tell outlives the solver and the fields.
+// What fields and shapes that are fit tell outlives the solver, and the lists.
 fn satisfied<'s, 'c>(
     solver: &mut Solver<'s, 'c, '_>,
     fields: &[&FieldInfo<'_>],
-) -> SatisfyResult<'s, 'c> {
-    solver.satisfy(fields)
-}
-
-// What shapes that are fit tell outlives the solver and the shapes.
-fn satisfied_shapes<'s, 'c>(
-    solver: &mut Solver<'s, 'c, '_>,
-    shapes: &[ShapeId],
-) -> SatisfyResult<'s, 'c> {
-    solver.satisfy_shapes(shapes)
-}
-
-// What shapes that are fit at a path tell outlives the solver, the path and the shapes.
-fn satisfied_at_path<'s, 'c>(
-    solver: &mut Solver<'s, 'c, '_>,
     path: &[&str],
     shapes: &[ShapeId],
-) -> SatisfyResult<'s, 'c> {
-    solver.satisfy_at_path(path, shapes)
+) -> [SatisfyResult<'s, 'c>; 3] {
+    [
+        solver.satisfy(fields),
+        solver.satisfy_shapes(shapes),
+        solver.satisfy_at_path(path, shapes),
+    ]
 }
 
 // A handle among the candidates outlives the solver.
@@ -88,22 +71,17 @@ fn shape<'c>(schema: &Schema<'c>, index: usize) -> Option<&'c Shape> {
 }
 
 // A candidate of a probing solver outlives it.
-fn probed_candidate<'s, 'c>(solver: &ProbingSolver<'s, 'c>) -> Option<&'s Resolution<'c>> {
-    solver.candidates().first().copied()
+fn probed_candidates<'p, 's, 'c>(solver: &'p ProbingSolver<'s, 'c>) -> &'p [&'s Resolution<'c>] {
+    solver.candidates()
 }
 
-// What a key that is probed tells outlives the probing solver and the path.
+// What a key that is probed tells outlives the probing solver and the path, and so does what the end tells.
 fn probed<'s, 'c>(
     solver: &mut ProbingSolver<'s, 'c>,
     path: &[&str],
     key: &str,
-) -> ProbeResult<'s, 'c> {
-    solver.probe_key(path, key)
-}
-
-// What the end of probing tells outlives the probing solver.
-fn probed_end<'s, 'c>(solver: &ProbingSolver<'s, 'c>) -> ProbeResult<'s, 'c> {
-    solver.finish()
+) -> [ProbeResult<'s, 'c>; 2] {
+    [solver.probe_key(path, key), solver.finish()]
 }
 
 // Variants outlive the lists that they stand in.
@@ -114,16 +92,12 @@ fn pairs<'c>(
     variants.tuple_variants_with_arity(alloc, 2)
 }
 
-// A field is found by a key that lives shorter, and a name of it outlives its resolution.
+// A field is found by a key that lives shorter. Its name, and that of a catch-all, outlives its resolution.
 fn name_of<'c>(resolution: &Resolution<'c>, key: &FieldKey<'_>) -> Option<&'c str> {
-    resolution
-        .field_by_key(key)
-        .map(|field| field.serialized_name)
-}
-
-// So does the name of a catch-all.
-fn name_of_catch_all<'c>(resolution: &Resolution<'c>) -> Option<&'c str> {
-    let field = resolution.catch_all_map(FieldCategory::Flat)?;
+    let field = match resolution.field_by_key(key) {
+        Some(field) => field,
+        None => resolution.catch_all_map(FieldCategory::Flat)?,
+    };
     Some(field.serialized_name)
 }
 

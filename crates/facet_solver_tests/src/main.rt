@@ -5,31 +5,31 @@
 //! before that what was to change is compared with what it was.
 #![tactic(auto)]
 
+mod answer;
 mod by_hand;
 mod catalogue;
 mod error_by_hand;
 mod errors;
 mod in_code;
-mod line;
 mod lives;
 mod marks;
 mod probing;
 mod public_names;
 mod readme;
 mod resolution;
+mod runs;
 mod solving;
-mod steps;
 mod transcript;
 mod types;
+mod words;
 
-use in_code::{CHECKS, Failure};
-use line::{End, Line};
-use std::alloc::Global;
+use answer::{Answer, Line, Outcome};
+use in_code::CHECKS;
 use std::io::ErrorKind;
 use std::process::ExitCode;
 use std::rt::{Env, Files};
 use std::{env, fs, io};
-use transcript::{Transcript, transcripts_twice};
+use transcript::{HEAD, lines, of_one, run as run_transcript};
 
 /// The argument that asks for the checks that only code can make.
 const IN_CODE: &str = "in_code";
@@ -91,15 +91,17 @@ fn run<R: Env + Files + AllocGlobal + Print>(rt: &R) -> io::Result<Tally> {
 }
 
 fn run_checks<R: AllocGlobal + Print>(rt: &R, tally: &mut Tally) -> io::Result<()> {
+    let mut answer = Answer::new(rt.alloc());
     for (name, check) in &CHECKS {
-        let outcome = match check.run(rt.alloc()) {
-            Err(Failure::Refused) => {
-                marks::out_of_memory(rt.alloc());
-                check.run(rt.alloc())
-            }
-            outcome => outcome,
-        };
-        report(rt, tally, name, outcome)?;
+        answer.begin(Line {
+            number: 0,
+            text: "",
+        });
+        check.run(&mut answer);
+        if answer.begins_again() {
+            check.run(&mut answer);
+        }
+        report(rt, tally, IN_CODE, name, &mut answer)?;
     }
     Ok(())
 }
@@ -109,51 +111,12 @@ fn run_file<R: Files + AllocGlobal + Print>(
     tally: &mut Tally,
     file: &str,
 ) -> io::Result<()> {
-    let text = read(rt, file)?;
-    for transcript in &transcripts_twice(rt.alloc(), text.as_str())? {
-        match run_twice(rt.alloc(), transcript) {
-            Ok(()) => println!(rt; "ok {}", transcript.name)?,
-            Err(end) => tell_end(rt, tally, file, transcript.name, end)?,
+    match read(rt, file) {
+        Ok(text) => {
+            let mut answer = Answer::new(rt.alloc());
+            run_text(rt, tally, file, text.as_str(), &mut answer)
         }
-    }
-    Ok(())
-}
-
-// Runs a transcript, again where memory is refused.
-fn run_twice<'t>(alloc: Global, transcript: &Transcript<'t>) -> Result<(), End<'t>> {
-    match transcript.run(alloc) {
-        Err(End::Refused) => {
-            marks::out_of_memory(alloc);
-            transcript.run(alloc)
-        }
-        end => end,
-    }
-}
-
-// Says why a transcript ended early, and counts it.
-fn tell_end<R: Print>(
-    rt: &R,
-    tally: &mut Tally,
-    file: &str,
-    name: &str,
-    end: End<'_>,
-) -> io::Result<()> {
-    match end {
-        End::Refused => {
-            tally.refused = tally.refused.saturating_add(1);
-            println!(rt; "refused {name}")
-        }
-        End::Broken(line) => {
-            tally.wrong = tally.wrong.saturating_add(1);
-            println!(rt; "wrong {name}")?;
-            println!(rt; "  {file} line {}: {}", line.number, line.call())?;
-            println!(rt; "  was refused memory and changed something, or had no need of it")
-        }
-        End::Wrong(line, came) => {
-            tally.wrong = tally.wrong.saturating_add(1);
-            println!(rt; "wrong {name}")?;
-            tell(rt, file, line, came)
-        }
+        Err(error) => Err(error),
     }
 }
 
@@ -164,33 +127,36 @@ fn read<R: Files + AllocGlobal>(rt: &R, file: &str) -> io::Result<String> {
     }
 }
 
-// Says which line was wrong, what was wanted and what came.
-fn tell<R: Print>(rt: &R, file: &str, line: Line<'_>, came: Option<String>) -> io::Result<()> {
-    println!(rt; "  {file} line {}: {}", line.number, line.call())?;
-    match came {
-        Some(came) => {
-            println!(rt; "  wanted: {}", line.wanted())?;
-            println!(rt; "  came:   {came}")
+fn run_text<'t, R: Print>(
+    rt: &R,
+    tally: &mut Tally,
+    file: &str,
+    text: &'t str,
+    answer: &mut Answer<'t>,
+) -> io::Result<()> {
+    let lines = lines(text, answer);
+    for index in 0..lines.len() {
+        if let Some(name) = lines[index].text.strip_prefix(HEAD) {
+            run_transcript(of_one(&lines[index + 1..]), answer);
+            report(rt, tally, file, name, answer)?;
         }
-        None => println!(rt; "  can't be read"),
     }
+    Ok(())
 }
 
+// Prints how a transcript or a check went, and counts it.
 fn report<R: Print>(
     rt: &R,
     tally: &mut Tally,
+    file: &str,
     name: &str,
-    outcome: Result<(), Failure>,
+    answer: &mut Answer<'_>,
 ) -> io::Result<()> {
-    match outcome {
-        Ok(()) => println!(rt; "ok {name}"),
-        Err(Failure::Refused) => {
-            tally.refused = tally.refused.saturating_add(1);
-            println!(rt; "refused {name}")
-        }
-        Err(Failure::Broken(what)) => {
-            tally.wrong = tally.wrong.saturating_add(1);
-            println!(rt; "wrong {name}: {what}")
-        }
+    match answer.outcome {
+        Outcome::Held => (),
+        Outcome::Refused => tally.refused = tally.refused.saturating_add(1),
+        _ => tally.wrong = tally.wrong.saturating_add(1),
     }
+    answer.report(file, name);
+    println!(rt; "{}", answer.text)
 }

@@ -1,101 +1,101 @@
 //! Calls of a solver that is only probed.
 
-use crate::line::{Stop, add, done, number, word};
+use crate::answer::Answer;
 use crate::marks;
-use crate::resolution::path;
 use facet_solver::{ProbeResult, ProbingSolver, Schema};
 use std::alloc::{AllocError, Global};
 use std::mem;
-use std::str::SplitWhitespace;
 
 /// A schema, and the solver that is probed now.
 #[derive(Drop)]
 pub struct Probing<'s, 'c> {
-    alloc: Global,
     schema: &'s Schema<'c>,
     solver: ProbingSolver<'s, 'c>,
 }
 
 impl<'s, 'c> Probing<'s, 'c> {
+    /// A new solver of all resolutions.
     pub fn new(alloc: Global, schema: &'s Schema<'c>) -> Result<Self, AllocError> {
-        Ok(Probing {
-            alloc,
-            schema,
-            solver: ProbingSolver::new(alloc, schema)?,
-        })
+        let solver = ProbingSolver::new(alloc, schema)?;
+        Ok(Probing { schema, solver })
     }
 
-    /// What a call answers.
-    pub fn answer(&mut self, words: &mut SplitWhitespace<'_>) -> Result<String, Stop> {
-        match word(words)? {
+    /// Answers a call.
+    pub fn answer(&mut self, answer: &mut Answer<'_>) {
+        match answer.word() {
             "new" => {
-                let solver = ProbingSolver::new(self.alloc, self.schema)?;
-                self.put(solver)
+                let solver = ProbingSolver::new(answer.alloc, self.schema);
+                self.renew(solver, answer);
             }
-            "from" => self.from(words),
-            "probe" => self.probe(words),
-            "candidates" => Ok(self.candidates()?),
-            "finish" => self.finish(),
-            _ => Err(Stop::Unread),
+            "from" => self.renew_from(answer),
+            "probe" => self.probe(answer),
+            "candidates" => self.add_candidates(answer),
+            "finish" => self.finish(answer),
+            _ => answer.unread(),
         }
     }
 
-    fn put(&mut self, solver: ProbingSolver<'s, 'c>) -> Result<String, Stop> {
-        drop(mem::replace(&mut self.solver, solver));
-        done(self.alloc)
+    fn renew(
+        &mut self,
+        solver: Result<ProbingSolver<'s, 'c>, AllocError>,
+        answer: &mut Answer<'_>,
+    ) {
+        match solver {
+            Ok(solver) => {
+                drop(mem::replace(&mut self.solver, solver));
+                answer.add("ok");
+            }
+            Err(AllocError) => answer.refused(),
+        }
     }
 
     // A new solver of the resolutions from a number on.
-    fn from(&mut self, words: &mut SplitWhitespace<'_>) -> Result<String, Stop> {
-        let first = number(words)?;
-        let resolutions = self.schema.resolutions().get(first..).ok_or(Stop::Unread)?;
-        let solver = ProbingSolver::from_resolutions(self.alloc, resolutions)?;
-        self.put(solver)
-    }
-
-    fn probe(&mut self, words: &mut SplitWhitespace<'_>) -> Result<String, Stop> {
-        let path = path(self.alloc, word(words)?)?;
-        let (key, path) = path.split_last().ok_or(Stop::Unread)?;
-        marks::begin(self.alloc);
-        let answer = self.solver.probe_key(path, key);
-        marks::no_request(self.alloc);
-        probed_told(self.alloc, &answer)
-    }
-
-    fn finish(&self) -> Result<String, Stop> {
-        marks::begin(self.alloc);
-        let answer = self.solver.finish();
-        marks::no_request(self.alloc);
-        probed_told(self.alloc, &answer)
-    }
-
-    fn candidates(&self) -> Result<String, AllocError> {
-        let mut answer = String::new(self.alloc);
-        for resolution in self.solver.candidates() {
-            add(&mut answer, resolution.describe(self.alloc)?.as_str())?;
+    fn renew_from(&mut self, answer: &mut Answer<'_>) {
+        let first = answer.number();
+        match self.schema.resolutions().get(first..) {
+            Some(resolutions) => {
+                let solver = ProbingSolver::from_resolutions(answer.alloc, resolutions);
+                self.renew(solver, answer);
+            }
+            None => answer.unread(),
         }
-        Ok(answer)
     }
-}
 
-// It is tried twice, since the call was made.
-fn probed_told(alloc: Global, answer: &ProbeResult<'_, '_>) -> Result<String, Stop> {
-    match probed(alloc, answer) {
-        Ok(told) => Ok(told),
-        Err(AllocError) => {
-            marks::out_of_memory(alloc);
-            Ok(probed(alloc, answer)?)
+    fn probe(&mut self, answer: &mut Answer<'_>) {
+        answer.read_path();
+        match answer.path.split_last() {
+            Some((key, path)) if answer.holds() => {
+                marks::begin(answer.alloc);
+                let probed = self.solver.probe_key(path, key);
+                marks::no_request(answer.alloc);
+                add_probed(probed, answer);
+            }
+            _ => answer.unread(),
+        }
+    }
+
+    fn finish(&self, answer: &mut Answer<'_>) {
+        marks::begin(answer.alloc);
+        let probed = self.solver.finish();
+        marks::no_request(answer.alloc);
+        add_probed(probed, answer);
+    }
+
+    fn add_candidates(&self, answer: &mut Answer<'_>) {
+        for resolution in self.solver.candidates() {
+            answer.add_description(resolution);
         }
     }
 }
 
 // A resolution is told by its description.
-fn probed(alloc: Global, answer: &ProbeResult<'_, '_>) -> Result<String, AllocError> {
-    match answer {
-        ProbeResult::KeepGoing => String::from_str(alloc, "keep going"),
+fn add_probed(probed: ProbeResult<'_, '_>, answer: &mut Answer<'_>) {
+    match probed {
+        ProbeResult::KeepGoing => answer.add("keep going"),
         ProbeResult::Solved(resolution) => {
-            format!(in alloc; "solved {}", resolution.describe(alloc)?)
+            answer.add("solved");
+            answer.add_description(resolution);
         }
-        ProbeResult::NoMatch => String::from_str(alloc, "no match"),
+        ProbeResult::NoMatch => answer.add("no match"),
     }
 }

@@ -1,11 +1,69 @@
 //! The sample of the README, whole.
 
-use crate::in_code::{Failure, hold};
+use crate::answer::Answer;
 use facet_solver::{
-    DomMark, Field, FieldKey, KeyResult, ResolutionHandle, ScalarType, Schema, Shape, ShapeId,
-    ShapeKind, Shapes, Solver, SolverError, StructKind, Variant,
+    DomMark, Field, FieldKey, KeyResult, ScalarType, Schema, Shape, ShapeId, ShapeKind, Shapes,
+    Solver, StructKind, Variant,
 };
 use std::alloc::{AllocError, Global};
+
+// The shapes of `Message`. A shape names others by index, and stands after those that it names.
+fn shapes(alloc: Global) -> Result<Vec<Shape>, AllocError> {
+    let mut shapes = Vec::new(alloc);
+    add(&mut shapes, "String", ShapeKind::Scalar(ScalarType::String))?;
+    add(&mut shapes, "u8", ShapeKind::Scalar(ScalarType::U8))?;
+    add(&mut shapes, "Vec<u8>", ShapeKind::List(ShapeId::new(1)))?;
+    add_messages(&mut shapes)?;
+    Ok(shapes)
+}
+
+fn add_messages(shapes: &mut Vec<Shape>) -> Result<(), AllocError> {
+    add_struct(shapes, "TextMessage", &[("content", 0, OWN)])?;
+    add_struct(
+        shapes,
+        "BinaryMessage",
+        &[("data", 2, OWN), ("encoding", 0, OWN)],
+    )?;
+    add_enum(shapes, "MessagePayload", &[("Text", 3), ("Binary", 4)])?;
+    add_struct(
+        shapes,
+        "Message",
+        &[("id", 0, OWN), ("payload", 5, FLATTENED)],
+    )
+}
+
+// What one key tells.
+fn learned(answer: &KeyResult<'_, '_>) -> (&'static str, usize) {
+    match answer {
+        KeyResult::Unambiguous { shape } => ("a value of shape", shape.index()),
+        KeyResult::Ambiguous { fields } => ("a value of one of the shapes", fields.len()),
+        KeyResult::Solved(handle) => ("resolution", handle.index()),
+        KeyResult::Unknown => ("no such field", 0),
+    }
+}
+
+// What the end of the document tells: the variants that it means, or why that is not clear.
+fn meaning(alloc: Global, solver: Solver<'_, '_, '_>) -> Result<String, AllocError> {
+    match solver.finish(alloc) {
+        Ok(handle) => handle.resolution().describe(alloc),
+        Err(error) => error.to_string(alloc),
+    }
+}
+
+const OWN: bool = false;
+
+const FLATTENED: bool = true;
+
+// The fields of these names, with the indices of their shapes.
+fn fields(alloc: Global, named: &[(&str, usize, bool)]) -> Result<Vec<Field>, AllocError> {
+    let mut fields = Vec::new(alloc);
+    for (name, shape, flattened) in named {
+        let mut field = field(alloc, name, *shape)?;
+        field.flattened = *flattened;
+        fields.push(field)?;
+    }
+    Ok(fields)
+}
 
 fn field(alloc: Global, name: &str, shape: usize) -> Result<Field, AllocError> {
     Ok(Field {
@@ -19,12 +77,35 @@ fn field(alloc: Global, name: &str, shape: usize) -> Result<Field, AllocError> {
     })
 }
 
-fn variant(alloc: Global, name: &str, value: usize) -> Result<Variant, AllocError> {
+fn variant(alloc: Global, name: &str, shape: usize) -> Result<Variant, AllocError> {
     Ok(Variant {
         name: String::from_str(alloc, name)?,
         kind: StructKind::TupleStruct,
-        fields: vec![in alloc; field(alloc, "0", value)?]?,
+        fields: fields(alloc, &[("0", shape, OWN)])?,
     })
+}
+
+fn add_struct(
+    shapes: &mut Vec<Shape>,
+    name: &str,
+    named: &[(&str, usize, bool)],
+) -> Result<(), AllocError> {
+    let kind = StructKind::Struct;
+    let fields = fields(*shapes.allocator(), named)?;
+    add(shapes, name, ShapeKind::Struct { kind, fields })
+}
+
+fn add_enum(
+    shapes: &mut Vec<Shape>,
+    name: &str,
+    named: &[(&str, usize)],
+) -> Result<(), AllocError> {
+    let alloc = *shapes.allocator();
+    let mut variants = Vec::new(alloc);
+    for (name, shape) in named {
+        variants.push(variant(alloc, name, *shape)?)?;
+    }
+    add(shapes, name, ShapeKind::Enum { variants })
 }
 
 fn add(shapes: &mut Vec<Shape>, name: &str, kind: ShapeKind) -> Result<(), AllocError> {
@@ -42,101 +123,66 @@ fn add(shapes: &mut Vec<Shape>, name: &str, kind: ShapeKind) -> Result<(), Alloc
     Ok(())
 }
 
-fn structure(fields: Vec<Field>) -> ShapeKind {
-    ShapeKind::Struct {
-        kind: StructKind::Struct,
-        fields,
-    }
-}
-
-// The shapes of `Message`. A shape names others by index, and stands after those that it names.
-fn shapes(alloc: Global) -> Result<Vec<Shape>, AllocError> {
-    let mut shapes = Vec::new(alloc);
-    add(&mut shapes, "String", ShapeKind::Scalar(ScalarType::String))?;
-    add(&mut shapes, "u8", ShapeKind::Scalar(ScalarType::U8))?;
-    add(&mut shapes, "Vec<u8>", ShapeKind::List(ShapeId::new(1)))?;
-    add(&mut shapes, "TextMessage", text_message(alloc)?)?;
-    add(&mut shapes, "BinaryMessage", binary_message(alloc)?)?;
-    add(&mut shapes, "MessagePayload", message_payload(alloc)?)?;
-    add(&mut shapes, "Message", message(alloc)?)?;
-    Ok(shapes)
-}
-
-fn text_message(alloc: Global) -> Result<ShapeKind, AllocError> {
-    Ok(structure(vec![in alloc; field(alloc, "content", 0)?]?))
-}
-
-fn binary_message(alloc: Global) -> Result<ShapeKind, AllocError> {
-    Ok(structure(vec![in alloc; field(alloc, "data", 2)?, field(alloc, "encoding", 0)?]?))
-}
-
-fn message_payload(alloc: Global) -> Result<ShapeKind, AllocError> {
-    let variants = vec![in alloc; variant(alloc, "Text", 3)?, variant(alloc, "Binary", 4)?]?;
-    Ok(ShapeKind::Enum { variants })
-}
-
-fn message(alloc: Global) -> Result<ShapeKind, AllocError> {
-    let mut payload = field(alloc, "payload", 5)?;
-    payload.flattened = true;
-    Ok(structure(vec![in alloc; field(alloc, "id", 0)?, payload]?))
-}
-
-// What one key tells.
-fn learned(alloc: Global, answer: &KeyResult<'_, '_>) -> Result<String, AllocError> {
-    match answer {
-        KeyResult::Unambiguous { shape } => format!(in alloc; "a value of shape {}", shape.index()),
-        KeyResult::Ambiguous { fields } => format!(in alloc; "one of {} shapes", fields.len()),
-        KeyResult::Solved(handle) => format!(in alloc; "resolution {}", handle.index()),
-        KeyResult::Unknown => format!(in alloc; "no such field"),
-    }
-}
-
-// What the end of the document tells.
-fn meaning(alloc: Global, solver: Solver<'_, '_, '_>) -> Result<String, AllocError> {
-    match solver.finish(alloc) {
-        Ok(handle) => named(alloc, handle),
-        Err(error) => unmatched(alloc, &error),
-    }
-}
-
-fn named(alloc: Global, handle: ResolutionHandle<'_, '_>) -> Result<String, AllocError> {
-    let description = handle.resolution().describe(alloc)?;
-    format!(in alloc; "{}: {description}", handle.index())
-}
-
-fn unmatched(alloc: Global, error: &SolverError<'_>) -> Result<String, AllocError> {
-    match error {
-        SolverError::NoMatch { .. } => format!(in alloc; "each lacks a field"),
-        SolverError::Ambiguous { candidates, .. } => format!(in alloc;
-            "one of {}",
-            candidates.len()
-        ),
-        SolverError::OutOfMemory => Err(AllocError),
-    }
-}
-
 /// The keys of a message tell its payload.
-pub fn keys_tell_the_payload(alloc: Global) -> Result<(), Failure> {
-    let shapes = Shapes::new(shapes(alloc)?)?;
+pub fn keys_tell_the_payload(answer: &mut Answer<'static>) {
+    match shapes(answer.alloc) {
+        Ok(shapes) => of_shapes(shapes, answer),
+        Err(AllocError) => answer.refused(),
+    }
+}
+
+fn of_shapes(shapes: Vec<Shape>, answer: &mut Answer<'static>) {
+    match Shapes::new(shapes) {
+        Ok(shapes) => of_catalogue(&shapes, answer),
+        Err(_) => answer.unread(),
+    }
+}
+
+fn of_catalogue(shapes: &Shapes, answer: &mut Answer<'static>) {
     let root = ShapeId::new(6);
     if !shapes.has(root) {
-        return Err(Failure::Broken("the root of the README's shapes"));
+        answer.unread();
+        return;
     }
-    let schema = Schema::build(alloc, &shapes, root)?;
-    tell(alloc, &schema)
+    match Schema::build(answer.alloc, shapes, root) {
+        Ok(schema) => of_schema(&schema, answer),
+        Err(_) => answer.refused(),
+    }
 }
 
-fn tell(alloc: Global, schema: &Schema<'_>) -> Result<(), Failure> {
-    let mut solver = Solver::new(alloc, schema)?;
+fn of_schema(schema: &Schema<'_>, answer: &mut Answer<'static>) {
+    match Solver::new(answer.alloc, schema) {
+        Ok(solver) => of_solver(solver, answer),
+        Err(AllocError) => answer.refused(),
+    }
+}
+
+fn of_solver(mut solver: Solver<'_, '_, '_>, answer: &mut Answer<'static>) {
     // An identifier is a String, the shape of index 0, in both.
-    let id = solver.see_key(alloc, FieldKey::flat("id"))?;
-    holds(learned(alloc, &id)?, "a value of shape 0")?;
+    let id = solver.see_key(answer.alloc, FieldKey::flat("id"));
+    claim_learned(id, "a value of shape 0", answer);
     // Only a text has content.
-    let content = solver.see_key(alloc, FieldKey::flat("content"))?;
-    holds(learned(alloc, &content)?, "resolution 0")?;
-    holds(meaning(alloc, solver)?, "0: MessagePayload::Text")
+    let content = solver.see_key(answer.alloc, FieldKey::flat("content"));
+    claim_learned(content, "resolution 0", answer);
+    match meaning(answer.alloc, solver) {
+        Ok(meaning) => answer.add(meaning.as_str()),
+        Err(AllocError) => answer.refused(),
+    }
+    answer.claim("MessagePayload::Text");
 }
 
-fn holds(came: String, wanted: &'static str) -> Result<(), Failure> {
-    hold(came.as_str() == wanted, wanted)
+fn claim_learned(
+    told: Result<KeyResult<'_, '_>, AllocError>,
+    wanted: &'static str,
+    answer: &mut Answer<'static>,
+) {
+    match told {
+        Ok(told) => {
+            let (what, number) = learned(&told);
+            answer.add(what);
+            answer.add_value(&number);
+        }
+        Err(AllocError) => answer.refused(),
+    }
+    answer.claim(wanted);
 }

@@ -1,33 +1,25 @@
 //! Calls that are about a schema and its resolutions.
 
+use crate::answer::Answer;
 use crate::catalogue::Catalogue;
-use crate::line::{Stop, add, answered, number, word};
 use facet_solver::{FieldCategory, FieldInfo, FieldKey, Format, Resolution, Schema, SchemaError};
-use std::alloc::{AllocError, Global};
-use std::collections::BTreeSet;
-use std::str::SplitWhitespace;
 
-/// What a call answers that is no call of a solver.
-pub fn answer<'t>(
-    catalogue: Catalogue<'_, 't>,
+/// Answers a call that is no call of a solver.
+pub fn of_schema(
+    catalogue: Catalogue<'_>,
     schema: &Schema<'_>,
     call: &str,
-    words: &mut SplitWhitespace<'t>,
-) -> Result<String, Stop> {
-    let alloc = catalogue.alloc;
+    answer: &mut Answer<'_>,
+) {
     match call {
-        "resolutions" => answered(digits(alloc, schema.resolutions().len())),
-        "format" => answered(String::from_str(alloc, format_word(schema.format()))),
-        "shapes" => answered(digits(alloc, schema.shapes().len())),
-        _ => match schema.resolutions().get(number(words)?) {
-            Some(resolution) => of_resolution(catalogue, resolution, call, words),
-            None => Err(Stop::Unread),
+        "resolutions" => answer.add_value(&schema.resolutions().len()),
+        "shapes" => answer.add_value(&schema.shapes().len()),
+        "format" => answer.add(format_word(schema.format())),
+        _ => match schema.resolutions().get(answer.number()) {
+            Some(resolution) => of_resolution(catalogue, resolution, call, answer),
+            None => answer.unread(),
         },
     }
-}
-
-fn digits(alloc: Global, number: usize) -> Result<String, AllocError> {
-    format!(in alloc; "{number}")
 }
 
 fn format_word(format: Format) -> &'static str {
@@ -37,87 +29,47 @@ fn format_word(format: Format) -> &'static str {
     }
 }
 
-/// What a call answers that reads a resolution.
-pub fn of_resolution<'t>(
-    catalogue: Catalogue<'_, 't>,
+/// Answers a call that reads a resolution.
+pub fn of_resolution(
+    catalogue: Catalogue<'_>,
     resolution: &Resolution<'_>,
     call: &str,
-    words: &mut SplitWhitespace<'t>,
-) -> Result<String, Stop> {
-    let alloc = catalogue.alloc;
+    answer: &mut Answer<'_>,
+) {
     match call {
-        "describe" => answered(resolution.describe(alloc)),
-        "keys" => answered(keys(alloc, resolution)),
-        "required" => answered(required(alloc, resolution)),
-        "paths" => answered(paths(alloc, resolution)),
-        "path_count" => answered(digits(alloc, resolution.known_paths().len())),
-        "has_path" => has_path(alloc, resolution, words),
-        "picks" => answered(picks(alloc, resolution)),
-        _ => {
-            let field = field(resolution, call, words)?;
-            answered(field_text(catalogue, field))
+        "describe" => answer.add_description(resolution),
+        "keys" => add_keys(resolution, answer),
+        "required" => add_required(resolution, answer),
+        "paths" => add_paths(resolution, answer),
+        "path_count" => answer.add_value(&resolution.known_paths().len()),
+        "has_path" => {
+            answer.read_path();
+            let has_path = resolution.has_key_path(&answer.path);
+            answer.add_yes_or_no(has_path);
+        }
+        "picks" => add_picks(resolution, answer),
+        "matched_by" => add_matched_by(resolution, answer),
+        _ => add_field(catalogue, resolution, call, answer),
+    }
+}
+
+fn add_keys(resolution: &Resolution<'_>, answer: &mut Answer<'_>) {
+    for (key, _) in resolution.fields() {
+        add_key(*key, answer);
+    }
+}
+
+/// Tells a key, as it is read.
+pub fn add_key(key: FieldKey<'_>, answer: &mut Answer<'_>) {
+    match key {
+        FieldKey::Flat(name) => answer.add(name),
+        FieldKey::Dom(category, name) => {
+            answer.add(category_word(category));
+            answer.put("=");
+            answer.put(name);
         }
     }
 }
-
-// The field that a call reads.
-fn field<'f, 'c>(
-    resolution: &'f Resolution<'c>,
-    call: &str,
-    words: &mut SplitWhitespace<'_>,
-) -> Result<Option<&'f FieldInfo<'c>>, Stop> {
-    match call {
-        "field" => Ok(resolution.field_by_name(word(words)?)),
-        "field_by_key" => Ok(resolution.field_by_key(&key(word(words)?)?)),
-        "catch_all" => Ok(resolution.catch_all_map(category_of(words)?)),
-        _ => Err(Stop::Unread),
-    }
-}
-
-/// A key: a name alone, or behind its category, as `attribute=id`.
-pub fn key(word: &str) -> Result<FieldKey<'_>, Stop> {
-    match word.split_once('=') {
-        Some((prefix, name)) => {
-            let category = category(prefix).ok_or(Stop::Unread)?;
-            Ok(FieldKey::Dom(category, name))
-        }
-        None => Ok(FieldKey::flat(word)),
-    }
-}
-
-/// The names of a path, between its dots; `<root>` is the path without names.
-pub fn path(alloc: Global, word: &str) -> Result<Vec<&str>, AllocError> {
-    if word == "<root>" {
-        return Ok(Vec::new(alloc));
-    }
-    word.split('.').collect(alloc)
-}
-
-/// The category that is named next.
-pub fn category_of(words: &mut SplitWhitespace<'_>) -> Result<FieldCategory, Stop> {
-    category(word(words)?).ok_or(Stop::Unread)
-}
-
-fn category(word: &str) -> Option<FieldCategory> {
-    match word {
-        "flat" => Some(FieldCategory::Flat),
-        "attribute" => Some(FieldCategory::Attribute),
-        "element" => Some(FieldCategory::Element),
-        "text" => Some(FieldCategory::Text),
-        "tag" => Some(FieldCategory::Tag),
-        "elements" => Some(FieldCategory::Elements),
-        _ => None,
-    }
-}
-
-const CATEGORIES: [FieldCategory; 6] = [
-    FieldCategory::Flat,
-    FieldCategory::Attribute,
-    FieldCategory::Element,
-    FieldCategory::Text,
-    FieldCategory::Tag,
-    FieldCategory::Elements,
-];
 
 fn category_word(category: FieldCategory) -> &'static str {
     match category {
@@ -130,115 +82,57 @@ fn category_word(category: FieldCategory) -> &'static str {
     }
 }
 
-/// Adds a key to an answer, as it is read.
-pub fn add_key(answer: &mut String, key: FieldKey<'_>) -> Result<(), AllocError> {
-    match key {
-        FieldKey::Flat(name) => add(answer, name),
-        FieldKey::Dom(category, name) => {
-            add(answer, category_word(category))?;
-            answer.push_str("=")?;
-            answer.push_str(name)
-        }
-    }
-}
-
-fn keys(alloc: Global, resolution: &Resolution<'_>) -> Result<String, AllocError> {
-    let mut answer = String::new(alloc);
-    for (key, _) in resolution.fields() {
-        add_key(&mut answer, *key)?;
-    }
-    Ok(answer)
-}
-
-fn required(alloc: Global, resolution: &Resolution<'_>) -> Result<String, AllocError> {
-    let mut answer = String::new(alloc);
+fn add_required(resolution: &Resolution<'_>, answer: &mut Answer<'_>) {
     for name in resolution.required_field_names() {
-        add(&mut answer, name)?;
+        answer.add(name);
     }
-    Ok(answer)
 }
 
-fn paths(alloc: Global, resolution: &Resolution<'_>) -> Result<String, AllocError> {
-    let mut answer = String::new(alloc);
+fn add_paths(resolution: &Resolution<'_>, answer: &mut Answer<'_>) {
     for path in resolution.known_paths() {
-        add(&mut answer, dotted(alloc, path)?.as_str())?;
+        add_path(path, answer);
     }
-    Ok(answer)
 }
 
-fn dotted(alloc: Global, names: &[&str]) -> Result<String, AllocError> {
-    let mut path = String::new(alloc);
-    for name in names {
-        if !path.is_empty() {
-            path.push_str(".")?;
-        }
-        path.push_str(name)?;
+// Tells the names of a path, with dots between them.
+fn add_path(path: &[&str], answer: &mut Answer<'_>) {
+    answer.add("");
+    let mut dot = "";
+    for name in path {
+        answer.put(dot);
+        answer.put(name);
+        dot = ".";
     }
-    Ok(path)
 }
 
-fn has_path(
-    alloc: Global,
-    resolution: &Resolution<'_>,
-    words: &mut SplitWhitespace<'_>,
-) -> Result<String, Stop> {
-    let path = path(alloc, word(words)?)?;
-    let answer = if resolution.has_key_path(&path) {
-        "yes"
-    } else {
-        "no"
-    };
-    Ok(String::from_str(alloc, answer)?)
-}
-
-/// All of a resolution.
-pub fn whole(
-    catalogue: Catalogue<'_, '_>,
-    resolution: &Resolution<'_>,
-) -> Result<String, AllocError> {
-    let alloc = catalogue.alloc;
-    let mut text = keys(alloc, resolution)?;
-    add_fields(&mut text, catalogue, resolution)?;
-    add(&mut text, required(alloc, resolution)?.as_str())?;
-    add(&mut text, paths(alloc, resolution)?.as_str())?;
-    add(&mut text, picks(alloc, resolution)?.as_str())?;
-    Ok(text)
-}
-
-// Adds each field and each catch-all.
-fn add_fields(
-    text: &mut String,
-    catalogue: Catalogue<'_, '_>,
-    resolution: &Resolution<'_>,
-) -> Result<(), AllocError> {
-    for (_, field) in resolution.fields() {
-        add(text, field_text(catalogue, Some(field))?.as_str())?;
-    }
-    for category in &CATEGORIES {
-        let field = resolution.catch_all_map(*category);
-        add(text, field_text(catalogue, field)?.as_str())?;
-    }
-    Ok(())
-}
-
-fn picks(alloc: Global, resolution: &Resolution<'_>) -> Result<String, AllocError> {
-    let mut answer = String::new(alloc);
+fn add_picks(resolution: &Resolution<'_>, answer: &mut Answer<'_>) {
     for pick in resolution.variant_selections() {
-        add(&mut answer, pick.path.to_string(alloc)?.as_str())?;
-        add(&mut answer, pick.enum_name)?;
-        add(&mut answer, pick.variant_name)?;
+        answer.add_value(&pick.path);
+        answer.add_all(&[pick.enum_name, pick.variant_name]);
     }
-    Ok(answer)
 }
 
-// A field: its path, its type, and whether it is required.
-fn field_text(
-    catalogue: Catalogue<'_, '_>,
-    field: Option<&FieldInfo<'_>>,
-) -> Result<String, AllocError> {
-    let alloc = catalogue.alloc;
-    let Some(field) = field else {
-        return String::from_str(alloc, "none");
+// Tells whether the field of a name is matched by a key.
+fn add_matched_by(resolution: &Resolution<'_>, answer: &mut Answer<'_>) {
+    match resolution.field_by_name(answer.word()) {
+        Some(field) => {
+            let is_matched = field.matched_by(&answer.key());
+            answer.add_yes_or_no(is_matched);
+        }
+        None => answer.unread(),
+    }
+}
+
+// Tells the field that a call reads: its path, its type, and whether it is required.
+fn add_field(
+    catalogue: Catalogue<'_>,
+    resolution: &Resolution<'_>,
+    call: &str,
+    answer: &mut Answer<'_>,
+) {
+    let Some(field) = field(resolution, call, answer) else {
+        answer.add("none");
+        return;
     };
     let name = catalogue.name(field.value_shape);
     let required = if field.required {
@@ -246,16 +140,35 @@ fn field_text(
     } else {
         "optional"
     };
-    format!(in alloc; "{} {name} {required}", field.path)
+    answer.add_value(&field.path);
+    answer.add_all(&[name, required]);
 }
 
-/// Why there is no schema, or why a field was not added.
-pub fn refusal(alloc: Global, error: &SchemaError<'_>) -> Result<String, Stop> {
+fn field<'f, 'c>(
+    resolution: &'f Resolution<'c>,
+    call: &str,
+    answer: &mut Answer<'_>,
+) -> Option<&'f FieldInfo<'c>> {
+    match call {
+        "field" => resolution.field_by_name(answer.word()),
+        "field_by_key" => resolution.field_by_key(&answer.key()),
+        "catch_all" => resolution.catch_all_map(answer.category()),
+        _ => {
+            answer.unread();
+            None
+        }
+    }
+}
+
+/// Tells why there is no schema, or why a field was not added, and keeps the text of the error.
+pub fn add_refusal(error: &SchemaError<'_>, answer: &mut Answer<'_>) {
     match error {
-        SchemaError::DuplicateField(duplicate) => Ok(format!(in alloc;
-            "duplicate {} {} {}",
-            duplicate.field_name, duplicate.first_path, duplicate.second_path
-        )?),
-        SchemaError::OutOfMemory => Err(Stop::Refused),
+        SchemaError::DuplicateField(duplicate) => {
+            answer.keep_error(error);
+            answer.add_all(&["duplicate", duplicate.field_name]);
+            answer.add_value(&duplicate.first_path);
+            answer.add_value(&duplicate.second_path);
+        }
+        SchemaError::OutOfMemory => answer.refused(),
     }
 }

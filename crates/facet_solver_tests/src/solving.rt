@@ -1,509 +1,429 @@
 //! Calls of a solver, and those about its schema.
 
+use crate::answer::{Answer, BAR, Line};
 use crate::catalogue::Catalogue;
-use crate::line::{BAR, End, Line, Stop, add, add_number, done, number, parsed, word, yes_or_no};
 use crate::probing::Probing;
-use crate::resolution::{add_key, key, path};
-use crate::steps::Step;
-use crate::{errors, marks, resolution};
+use crate::resolution::{add_key, of_schema};
+use crate::runs::{Step, calls};
+use crate::{errors, marks};
 use facet_solver::{
-    Call, FieldInfo, FieldKey, KeyResult, ResolutionHandle, SatisfyResult, Schema, ShapeId, Solver,
-    SolverError, Steps,
+    Call, FieldInfo, KeyResult, ResolutionHandle, SatisfyResult, Schema, Solver, SolverError, Steps,
 };
 use std::alloc::{AllocError, Global};
 use std::mem;
-use std::str::SplitWhitespace;
-
-// All that calls change of a solver: its candidates, and the keys that it has seen.
-#[derive(Drop)]
-struct State<'a> {
-    candidates: Vec<usize>,
-    seen: Vec<FieldKey<'a>>,
-}
-
-impl<'a> State<'a> {
-    fn of(alloc: Global, solver: &Solver<'_, '_, 'a>) -> Result<Self, AllocError> {
-        let mut candidates = Vec::new(alloc);
-        for index in solver.candidate_set().iter() {
-            candidates.push(index)?;
-        }
-        let mut seen = Vec::new(alloc);
-        for key in solver.seen_keys() {
-            seen.push(*key)?;
-        }
-        Ok(State { candidates, seen })
-    }
-
-    // Whether it is the same as another.
-    fn is(&self, other: &State<'_>) -> bool {
-        self.candidates.as_slice() == other.candidates.as_slice()
-            && self.seen.as_slice() == other.seen.as_slice()
-    }
-}
 
 /// A schema, the solvers that are told keys now, and the error of the one before.
 #[derive(Drop)]
-pub struct Session<'s, 'c, 'r, 't> {
-    catalogue: Catalogue<'c, 't>,
+pub struct Session<'s, 'c, 't> {
+    catalogue: Catalogue<'c>,
     schema: &'s Schema<'c>,
-    solver: Solver<'s, 'c, 'r>,
+    solver: Solver<'s, 'c, 's>,
     probing: Probing<'s, 'c>,
-    calls: &'r [Line<'t>],
-    runs: &'r [Vec<Step<'t>>],
-    /// The calls and runs that the solver was made behind, and those that come next.
-    begun: Place,
-    next: Place,
+    calls: &'s [Line<'t>],
+    steps: &'s [Step<'t>],
+    /// The number of the line behind which the solver was new.
+    begun: usize,
     error: Option<SolverError<'c>>,
 }
 
-/// How many calls, and how many runs among them, were made.
-#[derive(Clone, Copy)]
-struct Place {
-    calls: usize,
-    runs: usize,
-}
-
-impl<'s, 'c, 'r, 't> Session<'s, 'c, 'r, 't>
-where
-    't: 'r,
-{
+impl<'s, 'c, 't: 's> Session<'s, 'c, 't> {
+    /// Solvers that were told nothing. The steps are those of the runs among the calls.
     pub fn new(
-        catalogue: Catalogue<'c, 't>,
+        catalogue: Catalogue<'c>,
         schema: &'s Schema<'c>,
-        runs: &'r [Vec<Step<'t>>],
-        calls: &'r [Line<'t>],
+        steps: &'s [Step<'t>],
+        calls: &'s [Line<'t>],
+        alloc: Global,
     ) -> Result<Self, AllocError> {
-        let start = Place { calls: 0, runs: 0 };
+        let solver = new_solver(alloc, schema)?;
+        let probing = Probing::new(alloc, schema)?;
         Ok(Session {
             catalogue,
             schema,
-            solver: new_solver(catalogue.alloc, schema)?,
-            probing: Probing::new(catalogue.alloc, schema)?,
+            solver,
+            probing,
             calls,
-            runs,
-            begun: start,
-            next: start,
+            steps,
+            begun: 0,
             error: None,
         })
     }
 
-    /// Makes the call at an index, whose line is given, and compares its answer with what is wanted. Where it is refused
-    /// memory it has to change nothing, and is made again.
-    pub fn make(&mut self, index: usize, line: &Line<'t>) -> Result<(), End<'t>> {
-        let before = self.state()?;
-        let mut words = line.call_words();
-        let mut came = self.answer(index, &mut words);
-        if let Err(Stop::Refused) = came {
-            marks::out_of_memory(self.catalogue.alloc);
-            if !self.state()?.is(&before) {
-                return Err(End::Broken(*line));
-            }
-            words = line.call_words();
-            came = self.answer(index, &mut words);
-        }
-        line.expect(&mut words, came)
-    }
-
-    // The state of the solver that is told keys. It is tried twice.
-    fn state(&self) -> Result<State<'r>, AllocError> {
-        match State::of(self.catalogue.alloc, &self.solver) {
-            Err(AllocError) => State::of(self.catalogue.alloc, &self.solver),
-            state => state,
-        }
-    }
-
-    // What the call at an index answers. Where memory is refused it may be made again: the solver is as it was.
-    fn answer(&mut self, index: usize, words: &mut SplitWhitespace<'t>) -> Result<String, Stop> {
-        self.next.calls = index;
-        match word(words)? {
-            "run" => self.run(words),
-            "finish" => self.finish(),
-            "new" => self.new_answer(),
-            call => self.call_answer(call, words),
-        }
-    }
-
-    fn call_answer(&mut self, call: &str, words: &mut SplitWhitespace<'t>) -> Result<String, Stop> {
-        match call {
-            "see" => self.see(words),
-            "see_counted" => self.see_counted(words),
-            "see_attribute" => self.see_attribute(words),
-            "see_element" => self.see_element(words),
-            "see_text" => self.see_text(),
-            "mark_seen" => self.mark_seen(words),
-            "was_seen" => self.was_seen(words),
-            "probing" => self.probing.answer(words),
-            "candidates" => self.candidates(),
-            "candidate_set" => self.candidate_set(),
-            "contains" => self.contains(words),
-            "last" => self.last(),
-            "seen" => self.seen(),
-            call => self.narrowing_answer(call, words),
-        }
-    }
-
-    // What a call answers that narrows by other than a key, or that reads the error or the schema.
-    fn narrowing_answer(
-        &mut self,
-        call: &str,
-        words: &mut SplitWhitespace<'t>,
-    ) -> Result<String, Stop> {
-        match call {
-            "probe" => self.probe(words),
-            "hint_variant" => self.hint_variant(words),
-            "hint_variant_for_tag" => self.hint_variant_for_tag(words),
-            "satisfy" => self.satisfy(words),
-            "satisfy_shapes" => self.satisfy_shapes(words),
-            "satisfy_at_path" => self.satisfy_at_path(words),
-            "shapes_at_path" => self.shapes_at_path(words),
-            "error" => errors::answer(self.catalogue.alloc, self.error()?, words),
-            BAR => Ok(errors::text(self.catalogue.alloc, self.error()?)?),
-            _ => resolution::answer(self.catalogue, self.schema, call, words),
-        }
-    }
-
-    fn see(&mut self, words: &mut SplitWhitespace<'t>) -> Result<String, Stop> {
-        let key = next_key(words)?;
-        let answer = self.solver.see_key(self.catalogue.alloc, key);
-        self.key_told(answer)
-    }
-
-    fn see_counted(&mut self, words: &mut SplitWhitespace<'t>) -> Result<String, Stop> {
-        let key = next_key(words)?;
-        let alloc = self.catalogue.alloc;
-        let answer = self.solver.see_key_counted(alloc, key, &mut Steps::new());
-        self.key_told(answer)
-    }
-
-    fn see_attribute(&mut self, words: &mut SplitWhitespace<'t>) -> Result<String, Stop> {
-        let name = word(words)?;
-        let answer = self.solver.see_attribute(self.catalogue.alloc, name);
-        self.key_told(answer)
-    }
-
-    fn see_element(&mut self, words: &mut SplitWhitespace<'t>) -> Result<String, Stop> {
-        let name = word(words)?;
-        let answer = self.solver.see_element(self.catalogue.alloc, name);
-        self.key_told(answer)
-    }
-
-    fn see_text(&mut self) -> Result<String, Stop> {
-        let answer = self.solver.see_text(self.catalogue.alloc);
-        self.key_told(answer)
-    }
-
-    fn mark_seen(&mut self, words: &mut SplitWhitespace<'t>) -> Result<String, Stop> {
-        let key = next_key(words)?;
-        self.solver.mark_seen(key)?;
-        done(self.catalogue.alloc)
-    }
-
-    fn was_seen(&self, words: &mut SplitWhitespace<'t>) -> Result<String, Stop> {
-        let was_seen = self.solver.was_field_seen(word(words)?);
-        yes_or_no(self.catalogue.alloc, was_seen)
-    }
-
-    fn hint_variant(&mut self, words: &mut SplitWhitespace<'t>) -> Result<String, Stop> {
-        let variant = word(words)?;
-        marks::begin(self.catalogue.alloc);
-        let is_picked = self.solver.hint_variant(variant);
-        marks::no_request(self.catalogue.alloc);
-        yes_or_no(self.catalogue.alloc, is_picked)
-    }
-
-    fn hint_variant_for_tag(&mut self, words: &mut SplitWhitespace<'t>) -> Result<String, Stop> {
-        let tag = word(words)?;
-        let variant = word(words)?;
-        marks::begin(self.catalogue.alloc);
-        let is_picked = self.solver.hint_variant_for_tag(tag, variant);
-        marks::no_request(self.catalogue.alloc);
-        yes_or_no(self.catalogue.alloc, is_picked)
-    }
-
-    fn probe(&mut self, words: &mut SplitWhitespace<'t>) -> Result<String, Stop> {
-        let alloc = self.catalogue.alloc;
-        let path = path(alloc, word(words)?)?;
-        let (key, path) = path.split_last().ok_or(Stop::Unread)?;
-        let answer = self.solver.probe_key(alloc, path, key);
-        self.key_told(answer)
-    }
-
-    // The calls were made of the words before.
-    fn run(&mut self, words: &mut SplitWhitespace<'t>) -> Result<String, Stop> {
-        let alloc = self.catalogue.alloc;
-        let run = self.next.runs;
-        let steps = self.run_calls(run)?;
-        let calls = steps.as_slice();
-        for _ in &mut *words {}
-        if let Err(made) = self.solver.run(alloc, calls) {
-            marks::out_of_memory(alloc);
-            self.run_rest(calls, made)?;
-        }
-        self.next.runs = run.saturating_add(1);
-        done(alloc)
-    }
-
-    fn run_calls(&self, run: usize) -> Result<Vec<Call<'r>>, Stop> {
-        let runs: &'r [Vec<Step<'t>>] = self.runs;
-        let mut calls = Vec::new(self.catalogue.alloc);
-        for step in runs.get(run).ok_or(Stop::Unread)? {
-            calls.push(step.call()?)?;
-        }
-        Ok(calls)
-    }
-
-    // Where a run was refused memory behind its first calls, the solver is as one that made these, and goes on from there.
-    fn run_rest(&mut self, calls: &[Call<'r>], made: usize) -> Result<(), Stop> {
-        let alloc = self.catalogue.alloc;
-        let refused = self.state()?;
-        let (first, rest) = calls.split_at_checked(made).ok_or(Stop::Broken)?;
-        self.tell_anew()?;
-        self.solver.run(alloc, first).ok().ok_or(Stop::Refused)?;
-        if !refused.is(&self.state()?) {
-            return Err(Stop::Broken);
-        }
-        self.solver.run(alloc, rest).ok().ok_or(Stop::Refused)
-    }
-
-    // Makes the calls since the last finish again, of a new solver.
-    fn tell_anew(&mut self) -> Result<(), Stop> {
-        let alloc = self.catalogue.alloc;
-        let calls: &'r [Line<'t>] = self.calls;
-        drop(mem::replace(&mut self.solver, new_solver(alloc, self.schema)?));
-        let mut run = self.begun.runs;
-        for line in calls.get(self.begun.calls..self.next.calls).unwrap_or(&[]) {
-            let mut words = line.call_words();
-            match word(&mut words)? {
-                "run" => {
-                    let calls = self.run_calls(run)?;
-                    self.solver.run(alloc, &calls).ok().ok_or(Stop::Refused)?;
-                    run = run.saturating_add(1);
-                }
-                call => {
-                    let _answer = self.call_answer(call, &mut words)?;
-                }
+    /// Makes the calls, up to the first that does not answer what is wanted.
+    pub fn make_all(&mut self, answer: &mut Answer<'t>) {
+        for line in self.calls {
+            self.make(*line, answer);
+            if !answer.holds() {
+                break;
             }
         }
-        Ok(())
     }
 
-    // What a key told. It is tried twice, since the call was made.
-    fn key_told(&self, answer: Result<KeyResult<'_, '_>, AllocError>) -> Result<String, Stop> {
-        let answer = answer?;
-        match self.key_answer(&answer) {
-            Ok(told) => Ok(told),
-            Err(AllocError) => Ok(self.key_answer(&answer)?),
+    // Makes a call, and compares its answer with what is wanted. Where it is refused memory it has to change nothing, and is
+    // made again.
+    fn make(&mut self, line: Line<'t>, answer: &mut Answer<'t>) {
+        answer.begin(line);
+        self.add_state(answer);
+        answer.keep_state();
+        self.answer(answer);
+        if answer.begins_again() {
+            self.add_state(answer);
+            answer.compare_state();
+            self.answer(answer);
+        }
+        answer.compare();
+    }
+
+    // Tells all that calls change of the solver that is told keys: its candidates, and the keys that it has seen.
+    fn add_state(&self, answer: &mut Answer<'_>) {
+        self.add_candidate_set(answer);
+        self.add_seen(answer);
+    }
+
+    // Answers a call. Where memory is refused it may be made again: the solver is as it was.
+    fn answer(&mut self, answer: &mut Answer<'t>) {
+        match answer.word() {
+            "run" => self.run(answer),
+            "finish" => self.finish(answer),
+            "new" => self.renew(answer),
+            call => self.call(call, answer),
         }
     }
 
-    fn key_answer(&self, answer: &KeyResult<'_, '_>) -> Result<String, AllocError> {
-        let alloc = self.catalogue.alloc;
-        match answer {
-            KeyResult::Unambiguous { shape } => {
-                format!(in alloc; "unambiguous {}", self.catalogue.name(*shape))
+    // Answers a call that tells a key.
+    fn call(&mut self, call: &str, answer: &mut Answer<'t>) {
+        let alloc = answer.alloc;
+        let told = match call {
+            "see" => self.solver.see_key(alloc, answer.key()),
+            "see_counted" => {
+                let key = answer.key();
+                self.solver.see_key_counted(alloc, key, &mut Steps::new())
             }
-            KeyResult::Ambiguous { fields } => ambiguous_fields(alloc, fields),
-            KeyResult::Solved(handle) => format!(in alloc; "solved {}", handle.index()),
-            KeyResult::Unknown => String::from_str(alloc, "unknown"),
-        }
-    }
-
-    fn candidates(&self) -> Result<String, Stop> {
-        let mut answer = String::new(self.catalogue.alloc);
-        for handle in &self.solver.candidates(self.catalogue.alloc)? {
-            add_number(&mut answer, handle.index())?;
-        }
-        Ok(answer)
-    }
-
-    // The number of the candidates, the first, and all of them.
-    fn candidate_set(&self) -> Result<String, Stop> {
-        let alloc = self.catalogue.alloc;
-        let set = self.solver.candidate_set();
-        let Some(first) = set.first() else {
-            let answer = if set.is_empty() { "empty" } else { "not empty" };
-            return Ok(String::from_str(alloc, answer)?);
+            "see_attribute" => self.solver.see_attribute(alloc, answer.word()),
+            "see_element" => self.solver.see_element(alloc, answer.word()),
+            "see_text" => self.solver.see_text(alloc),
+            _ => {
+                self.other_call(call, answer);
+                return;
+            }
         };
-        let mut answer = format!(in alloc; "{} from {first}:", set.len())?;
-        for index in set.iter() {
-            add_number(&mut answer, index)?;
-        }
-        Ok(answer)
+        self.add_told(told, answer);
     }
 
-    fn contains(&self, words: &mut SplitWhitespace<'t>) -> Result<String, Stop> {
-        let contained = self.solver.candidate_set().contains(number(words)?);
-        yes_or_no(self.catalogue.alloc, contained)
+    // Answers a call that narrows by other than a key, or that reads.
+    fn other_call(&mut self, call: &str, answer: &mut Answer<'t>) {
+        match call {
+            "mark_seen" => self.mark_seen(answer),
+            "probe" => self.probe(answer),
+            "probing" => self.probing.answer(answer),
+            "hint_variant" | "hint_variant_for_tag" => self.hint(call, answer),
+            "satisfy" => self.satisfy(answer),
+            "satisfy_shapes" => self.satisfy_shapes(answer),
+            "satisfy_at_path" => self.satisfy_at_path(answer),
+            _ => self.reading_call(call, answer),
+        }
     }
 
-    // The types of all words that are left.
-    fn shapes(&self, words: &mut SplitWhitespace<'t>) -> Result<Vec<ShapeId>, Stop> {
-        let mut shapes = Vec::new(self.catalogue.alloc);
-        for name in words {
-            shapes.push(self.catalogue.id_of(name)?)?;
+    // Answers a call that reads what the solver is, its error, or the schema.
+    fn reading_call(&self, call: &str, answer: &mut Answer<'_>) {
+        match call {
+            "candidates" | "last" => self.add_candidates(call, answer),
+            "candidate_set" => self.add_candidate_set(answer),
+            "contains" => {
+                let contains = self.solver.candidate_set().contains(answer.number());
+                answer.add_yes_or_no(contains);
+            }
+            "seen" => self.add_seen(answer),
+            "was_seen" => {
+                let was_seen = self.solver.was_field_seen(answer.word());
+                answer.add_yes_or_no(was_seen);
+            }
+            "shapes_at_path" => self.add_shapes_at_path(answer),
+            "error" => self.add_of_error(answer),
+            BAR => answer.add_error(),
+            _ => of_schema(self.catalogue, self.schema, call, answer),
         }
-        Ok(shapes)
+    }
+
+    fn mark_seen(&mut self, answer: &mut Answer<'t>) {
+        let key = answer.key();
+        match self.solver.mark_seen(key) {
+            Ok(()) => answer.add("ok"),
+            Err(AllocError) => answer.refused(),
+        }
+    }
+
+    fn probe(&mut self, answer: &mut Answer<'_>) {
+        answer.read_path();
+        match answer.path.split_last() {
+            Some((key, path)) if answer.holds() => {
+                let told = self.solver.probe_key(answer.alloc, path, key);
+                self.add_told(told, answer);
+            }
+            _ => answer.unread(),
+        }
+    }
+
+    // Tells what a key told.
+    fn add_told(&self, told: Result<KeyResult<'s, 'c>, AllocError>, answer: &mut Answer<'_>) {
+        match &told {
+            Ok(KeyResult::Unambiguous { shape }) => {
+                answer.add("unambiguous");
+                answer.add(self.catalogue.name(*shape));
+            }
+            Ok(KeyResult::Ambiguous { fields }) => add_ambiguous(fields, answer),
+            Ok(KeyResult::Solved(handle)) => add_solved(*handle, answer),
+            Ok(KeyResult::Unknown) => answer.add("unknown"),
+            Err(AllocError) => answer.refused(),
+        }
+    }
+
+    // Hints a variant, and for a tag its text before.
+    fn hint(&mut self, call: &str, answer: &mut Answer<'_>) {
+        let word = answer.word();
+        let variant = answer.next_word();
+        marks::begin(answer.alloc);
+        let is_picked = match call {
+            "hint_variant" => self.solver.hint_variant(word),
+            _ => self.solver.hint_variant_for_tag(word, variant),
+        };
+        marks::no_request(answer.alloc);
+        answer.add_yes_or_no(is_picked);
+    }
+
+    fn satisfy(&mut self, answer: &mut Answer<'_>) {
+        let fields = self.fields(answer);
+        if answer.holds() {
+            marks::begin(answer.alloc);
+            let satisfied = self.solver.satisfy(&fields);
+            marks::no_request(answer.alloc);
+            add_satisfied(satisfied, answer);
+        }
     }
 
     // The fields of all words that are left, each the number of a resolution and a name.
-    fn fields(&self, words: &mut SplitWhitespace<'t>) -> Result<Vec<&'s FieldInfo<'c>>, Stop> {
-        let mut fields = Vec::new(self.catalogue.alloc);
-        for word in words {
-            fields.push(self.field(word)?)?;
+    fn fields(&self, answer: &mut Answer<'_>) -> Vec<&'s FieldInfo<'c>> {
+        let mut fields = Vec::new(answer.alloc);
+        for _ in 0..usize::MAX {
+            let word = answer.next_word();
+            if word.is_empty() {
+                break;
+            }
+            match self.field(word, answer) {
+                Some(field) => answer.push(&mut fields, field),
+                None => answer.unread(),
+            }
         }
-        Ok(fields)
+        fields
     }
 
-    // The field that the number of a resolution and a name tell.
-    fn field(&self, word: &str) -> Result<&'s FieldInfo<'c>, Stop> {
-        let (number, name) = word.split_once('.').ok_or(Stop::Unread)?;
-        match self.schema.resolutions().get(parsed(number)?) {
-            Some(resolution) => resolution.field_by_name(name).ok_or(Stop::Unread),
-            None => Err(Stop::Unread),
+    fn field(&self, word: &str, answer: &mut Answer<'_>) -> Option<&'s FieldInfo<'c>> {
+        let (number, name) = word.split_once('.')?;
+        let resolution = self.schema.resolutions().get(answer.number_of(number))?;
+        resolution.field_by_name(name)
+    }
+
+    fn satisfy_shapes(&mut self, answer: &mut Answer<'_>) {
+        self.catalogue.read_shapes(answer);
+        if answer.holds() {
+            marks::begin(answer.alloc);
+            let satisfied = self.solver.satisfy_shapes(&answer.shapes);
+            marks::no_request(answer.alloc);
+            add_satisfied(satisfied, answer);
         }
     }
 
-    fn satisfy(&mut self, words: &mut SplitWhitespace<'t>) -> Result<String, Stop> {
-        let alloc = self.catalogue.alloc;
-        let fields = self.fields(words)?;
-        marks::begin(alloc);
-        let answer = self.solver.satisfy(&fields);
-        marks::no_request(alloc);
-        satisfied_told(alloc, &answer)
-    }
-
-    fn satisfy_shapes(&mut self, words: &mut SplitWhitespace<'t>) -> Result<String, Stop> {
-        let alloc = self.catalogue.alloc;
-        let shapes = self.shapes(words)?;
-        marks::begin(alloc);
-        let answer = self.solver.satisfy_shapes(&shapes);
-        marks::no_request(alloc);
-        satisfied_told(alloc, &answer)
-    }
-
-    fn satisfy_at_path(&mut self, words: &mut SplitWhitespace<'t>) -> Result<String, Stop> {
-        let alloc = self.catalogue.alloc;
-        let path = path(alloc, word(words)?)?;
-        let shapes = self.shapes(words)?;
-        marks::begin(alloc);
-        let answer = self.solver.satisfy_at_path(&path, &shapes);
-        marks::no_request(alloc);
-        satisfied_told(alloc, &answer)
-    }
-
-    fn shapes_at_path(&self, words: &mut SplitWhitespace<'t>) -> Result<String, Stop> {
-        let alloc = self.catalogue.alloc;
-        let path = path(alloc, word(words)?)?;
-        let mut answer = String::new(alloc);
-        for shape in &self.solver.get_shapes_at_path(alloc, &path)? {
-            add(&mut answer, self.catalogue.name(*shape))?;
+    fn satisfy_at_path(&mut self, answer: &mut Answer<'_>) {
+        answer.read_path();
+        self.catalogue.read_shapes(answer);
+        if answer.holds() {
+            marks::begin(answer.alloc);
+            let satisfied = self.solver.satisfy_at_path(&answer.path, &answer.shapes);
+            marks::no_request(answer.alloc);
+            add_satisfied(satisfied, answer);
         }
-        Ok(answer)
     }
 
-    // The last candidate.
-    fn last(&self) -> Result<String, Stop> {
-        let alloc = self.catalogue.alloc;
-        let mut answer = String::new(alloc);
-        match self.solver.candidates(alloc)?.last() {
-            Some(handle) => add_number(&mut answer, handle.index())?,
-            None => add(&mut answer, "none")?,
+    fn add_shapes_at_path(&self, answer: &mut Answer<'_>) {
+        answer.read_path();
+        match self.solver.get_shapes_at_path(answer.alloc, &answer.path) {
+            Ok(shapes) => {
+                for shape in &shapes {
+                    answer.add(self.catalogue.name(*shape));
+                }
+            }
+            Err(AllocError) => answer.refused(),
         }
-        Ok(answer)
     }
 
-    fn seen(&self) -> Result<String, Stop> {
-        let mut answer = String::new(self.catalogue.alloc);
+    // Tells the numbers of the candidates, or the last of them.
+    fn add_candidates(&self, call: &str, answer: &mut Answer<'_>) {
+        let Ok(candidates) = self.solver.candidates(answer.alloc) else {
+            answer.refused();
+            return;
+        };
+        if call == "candidates" {
+            for handle in &candidates {
+                answer.add_value(&handle.index());
+            }
+        } else if let Some(handle) = candidates.last() {
+            answer.add_value(&handle.index());
+        } else {
+            answer.add("none");
+        }
+    }
+
+    // Tells the number of the candidates, the first, and all of them.
+    fn add_candidate_set(&self, answer: &mut Answer<'_>) {
+        let set = self.solver.candidate_set();
+        match set.first() {
+            Some(first) => {
+                answer.add_value(&set.len());
+                answer.add("from");
+                answer.add_value(&first);
+                answer.put(":");
+            }
+            None if set.is_empty() => answer.add("empty"),
+            None => answer.add("not empty"),
+        }
+        for index in set.iter() {
+            answer.add_value(&index);
+        }
+    }
+
+    fn add_seen(&self, answer: &mut Answer<'_>) {
         for key in self.solver.seen_keys() {
-            add_key(&mut answer, *key)?;
+            add_key(*key, answer);
         }
-        Ok(answer)
+    }
+
+    fn add_of_error(&self, answer: &mut Answer<'_>) {
+        match &self.error {
+            Some(error) => errors::of_error(error, answer),
+            None => answer.unread(),
+        }
+    }
+
+    // A new solver in place of the one before, with a mark of what it holds.
+    fn renew(&mut self, answer: &mut Answer<'_>) {
+        match new_solver(answer.alloc, self.schema) {
+            Ok(solver) => {
+                marks::held(answer.alloc);
+                self.solver = solver;
+                self.begun = answer.line.number;
+                answer.add("ok");
+            }
+            Err(AllocError) => answer.refused(),
+        }
     }
 
     // Finishes, and starts a new solver. Where memory is refused it is tried again on a solver that was told the same, and
     // there was need of memory only if not one resolution is viable.
-    fn finish(&mut self) -> Result<String, Stop> {
-        let finished = match self.finished()? {
-            Err(SolverError::OutOfMemory) => {
-                marks::out_of_memory(self.catalogue.alloc);
-                self.tell_anew()?;
-                match self.finished()? {
-                    Ok(_handle) => return Err(Stop::Broken),
-                    finished => finished,
-                }
-            }
-            finished => finished,
-        };
-        self.begin_anew();
+    fn finish(&mut self, answer: &mut Answer<'t>) {
         self.error = None;
-        match finished {
-            Ok(handle) => self.solved_told(&handle),
-            Err(error) => self.unsolved(error),
-        }
-    }
-
-    fn finished(
-        &mut self,
-    ) -> Result<Result<ResolutionHandle<'s, 'c>, SolverError<'c>>, AllocError> {
-        let alloc = self.catalogue.alloc;
-        let next = new_solver(alloc, self.schema)?;
-        let solver = mem::replace(&mut self.solver, next);
-        marks::begin(alloc);
-        let finished = solver.finish(alloc);
-        if finished.is_ok() {
-            marks::no_request(alloc);
-        }
-        Ok(finished)
-    }
-
-    // A new solver in place of the one before, with a mark of what it holds.
-    fn new_answer(&mut self) -> Result<String, Stop> {
-        let alloc = self.catalogue.alloc;
-        let solver = new_solver(alloc, self.schema)?;
-        marks::held(alloc);
-        drop(mem::replace(&mut self.solver, solver));
-        self.begin_anew();
-        done(alloc)
-    }
-
-    // The solver is told the calls behind this one.
-    fn begin_anew(&mut self) {
-        self.begun = Place {
-            calls: self.next.calls.saturating_add(1),
-            runs: self.next.runs,
-        };
-    }
-
-    // It is tried twice, since the solver was finished.
-    fn solved_told(&self, handle: &ResolutionHandle<'_, '_>) -> Result<String, Stop> {
-        match self.solved(handle) {
-            Ok(told) => Ok(told),
-            Err(AllocError) => {
-                marks::out_of_memory(self.catalogue.alloc);
-                Ok(self.solved(handle)?)
+        self.finish_once(answer);
+        if let Some(SolverError::OutOfMemory) = self.error {
+            marks::out_of_memory(answer.alloc);
+            self.tell_anew(answer);
+            self.finish_once(answer);
+            if self.error.is_none() {
+                answer.broken();
             }
         }
+        if answer.holds() {
+            self.begun = answer.line.number;
+        }
     }
 
-    fn solved(&self, handle: &ResolutionHandle<'_, '_>) -> Result<String, AllocError> {
-        let alloc = self.catalogue.alloc;
-        let description = handle.resolution().describe(alloc)?;
-        format!(in alloc; "{} {description}", handle.index())
+    fn finish_once(&mut self, answer: &mut Answer<'_>) {
+        match new_solver(answer.alloc, self.schema) {
+            Ok(next) => {
+                let solver = mem::replace(&mut self.solver, next);
+                marks::begin(answer.alloc);
+                let finished = solver.finish(answer.alloc);
+                self.add_finished(finished, answer);
+            }
+            Err(AllocError) => answer.refused(),
+        }
     }
 
-    fn error(&self) -> Result<&SolverError<'c>, Stop> {
-        self.error.as_ref().ok_or(Stop::Unread)
-    }
-
-    // Keeps the error for the calls that read it.
-    fn unsolved(&mut self, error: SolverError<'c>) -> Result<String, Stop> {
-        let alloc = self.catalogue.alloc;
-        let answer = match verdict(alloc, &error) {
-            Err(AllocError) => verdict(alloc, &error),
-            told => told,
+    fn add_finished(
+        &mut self,
+        finished: Result<ResolutionHandle<'s, 'c>, SolverError<'c>>,
+        answer: &mut Answer<'_>,
+    ) {
+        self.error = match finished {
+            Ok(handle) => {
+                marks::no_request(answer.alloc);
+                answer.add_value(&handle.index());
+                answer.add_description(handle.resolution());
+                None
+            }
+            Err(error) => {
+                errors::add_verdict(&error, answer);
+                Some(error)
+            }
         };
-        self.error = Some(error);
-        Ok(answer?)
+    }
+
+    fn run(&mut self, answer: &mut Answer<'t>) {
+        let calls = calls(self.steps, answer.line.number, answer);
+        if answer.holds() {
+            if let Err(made) = self.solver.run(answer.alloc, &calls) {
+                marks::out_of_memory(answer.alloc);
+                self.run_rest(&calls, made, answer);
+            }
+        }
+        answer.words = "".split_whitespace();
+        answer.add("ok");
+    }
+
+    // Where a run was refused memory behind its first calls, the solver is as one that made these, and goes on from there.
+    fn run_rest(&mut self, calls: &[Call<'s>], made: usize, answer: &mut Answer<'t>) {
+        let Some((first, rest)) = calls.split_at_checked(made) else {
+            answer.broken();
+            return;
+        };
+        self.add_state(answer);
+        answer.keep_state();
+        self.tell_anew(answer);
+        self.run_calls(first, answer);
+        self.add_state(answer);
+        answer.compare_state();
+        self.run_calls(rest, answer);
+    }
+
+    fn run_calls(&mut self, calls: &[Call<'s>], answer: &mut Answer<'_>) {
+        if self.solver.run(answer.alloc, calls).is_err() {
+            answer.refused();
+        }
+    }
+
+    // Makes the calls that the solver was told before this one again, of a new solver.
+    fn tell_anew(&mut self, answer: &mut Answer<'t>) {
+        let line = answer.line;
+        match new_solver(answer.alloc, self.schema) {
+            Ok(solver) => self.solver = solver,
+            Err(AllocError) => answer.refused(),
+        }
+        for told in self.calls {
+            if self.begun < told.number && told.number < line.number {
+                answer.begin(*told);
+                self.tell(answer);
+            }
+        }
+        answer.begin(line);
+        answer.word();
+    }
+
+    fn tell(&mut self, answer: &mut Answer<'t>) {
+        match answer.word() {
+            "run" => {
+                let calls = calls(self.steps, answer.line.number, answer);
+                self.run_calls(&calls, answer);
+            }
+            call => self.call(call, answer),
+        }
     }
 }
 
@@ -520,47 +440,24 @@ fn new_solver<'s, 'c, 'a>(
     solver
 }
 
-// The next word as a key.
-fn next_key<'t>(words: &mut SplitWhitespace<'t>) -> Result<FieldKey<'t>, Stop> {
-    key(word(words)?)
-}
-
-// The path and the score of each field that a key may mean.
-fn ambiguous_fields(alloc: Global, fields: &[(&FieldInfo<'_>, u64)]) -> Result<String, AllocError> {
-    let mut answer = String::from_str(alloc, "ambiguous")?;
+// Tells the path and the score of each field that a key may mean.
+fn add_ambiguous(fields: &[(&FieldInfo<'_>, u64)], answer: &mut Answer<'_>) {
+    answer.add("ambiguous");
     for (field, score) in fields {
-        let told = format!(in alloc; "{} {score}", field.path)?;
-        add(&mut answer, told.as_str())?;
-    }
-    Ok(answer)
-}
-
-fn verdict(alloc: Global, error: &SolverError<'_>) -> Result<String, AllocError> {
-    match error {
-        SolverError::NoMatch { .. } => String::from_str(alloc, "no match"),
-        SolverError::Ambiguous { candidates, .. } => {
-            let mut answer = String::from_str(alloc, "ambiguous")?;
-            for candidate in candidates {
-                add(&mut answer, candidate.as_str())?;
-            }
-            Ok(answer)
-        }
-        SolverError::OutOfMemory => Err(AllocError),
+        answer.add_value(&field.path);
+        answer.add_value(score);
     }
 }
 
-// It is tried twice, since the call was made.
-fn satisfied_told(alloc: Global, answer: &SatisfyResult<'_, '_>) -> Result<String, Stop> {
-    match satisfied(alloc, answer) {
-        Ok(told) => Ok(told),
-        Err(AllocError) => Ok(satisfied(alloc, answer)?),
-    }
+fn add_solved(handle: ResolutionHandle<'_, '_>, answer: &mut Answer<'_>) {
+    answer.add("solved");
+    answer.add_value(&handle.index());
 }
 
-fn satisfied(alloc: Global, answer: &SatisfyResult<'_, '_>) -> Result<String, AllocError> {
-    match answer {
-        SatisfyResult::Continue => String::from_str(alloc, "continue"),
-        SatisfyResult::Solved(handle) => format!(in alloc; "solved {}", handle.index()),
-        SatisfyResult::NoMatch => String::from_str(alloc, "no match"),
+fn add_satisfied(satisfied: SatisfyResult<'_, '_>, answer: &mut Answer<'_>) {
+    match satisfied {
+        SatisfyResult::Continue => answer.add("continue"),
+        SatisfyResult::Solved(handle) => add_solved(handle, answer),
+        SatisfyResult::NoMatch => answer.add("no match"),
     }
 }

@@ -1,216 +1,231 @@
 //! The types that a transcript declares, each on a line.
 
-use crate::line::{Stop, parsed, plain_word, word};
+use crate::answer::{Answer, Line};
+use crate::words::{assigned, meaning, plain};
 use facet_solver::{DomMark, Field, ScalarType, Shape, ShapeId, ShapeKind, StructKind, Variant};
 use std::alloc::{AllocError, Global};
 use std::str::SplitWhitespace;
 
+const KEYWORDS: [&str; 12] = [
+    "struct", "enum", "option", "pointer", "opaque", "list", "array", "slice", "set", "map",
+    "dynamic", "other",
+];
+
 /// Whether a line that begins with the word declares a type.
 pub fn declares(keyword: &str) -> bool {
-    matches!(
-        keyword,
-        "struct"
-            | "enum"
-            | "option"
-            | "pointer"
-            | "opaque"
-            | "list"
-            | "array"
-            | "slice"
-            | "set"
-            | "map"
-            | "dynamic"
-            | "other"
-    )
+    position(&KEYWORDS, keyword).is_some()
 }
 
 /// The place of a name, or the place that a word as `#3` says.
 pub fn place_of(names: &[&str], word: &str) -> Option<ShapeId> {
     let place = match word.strip_prefix('#') {
         Some(place) => place.parse::<usize>().ok(),
-        None => names.iter().position(|name| *name == word),
+        None => position(names, word),
     };
     Some(ShapeId::new(place?))
+}
+
+fn position(names: &[&str], word: &str) -> Option<usize> {
+    for index in 0..names.len() {
+        if names[index] == word {
+            return Some(index);
+        }
+    }
+    None
 }
 
 /// The types so far, each at its place, and their names.
 #[derive(Drop)]
 pub struct Types<'t> {
-    alloc: Global,
     pub names: Vec<&'t str>,
     pub shapes: Vec<Shape>,
+    /// The number in place of `#` in the names of a variant that stands for many.
+    number: usize,
+}
+
+/// What stands before the body of a type.
+#[derive(Clone, Copy)]
+struct Attributes<'t> {
+    inner: Option<ShapeId>,
+    proxy: Option<ShapeId>,
+    tag: Option<&'t str>,
+    content: Option<&'t str>,
+    untagged: bool,
+    container: bool,
+    opening: &'t str,
+}
+
+impl Attributes<'_> {
+    const NONE: Attributes<'static> = Attributes {
+        inner: None,
+        proxy: None,
+        tag: None,
+        content: None,
+        untagged: false,
+        container: false,
+        opening: "",
+    };
 }
 
 impl<'t> Types<'t> {
     pub fn new(alloc: Global) -> Self {
         Types {
-            alloc,
             names: Vec::new(alloc),
             shapes: Vec::new(alloc),
+            number: 0,
         }
     }
 
     /// Adds the type that a line declares.
-    pub fn declare(&mut self, line: &'t str) -> Result<(), Stop> {
-        let mut words = line.split_whitespace();
-        let keyword = word(&mut words)?;
-        let name = word(&mut words)?;
-        let mut shape = shape(self.alloc, name)?;
-        let opening = self.attributes(&mut shape, &mut words)?;
-        shape.kind = self.kind(keyword, opening, &mut words)?;
-        if words.next().is_some() {
-            return Err(Stop::Unread);
+    pub fn declare(&mut self, line: Line<'t>, answer: &mut Answer<'t>) {
+        answer.begin(line);
+        answer.words = line.text.split_whitespace();
+        let keyword = answer.word();
+        let name = answer.word();
+        let attributes = self.attributes(answer);
+        let kind = self.kind(keyword, attributes.opening, answer);
+        self.put(name, attributes, kind, answer);
+        if answer.words.next().is_some() {
+            answer.unread();
         }
-        self.put(name, shape)
     }
 
-    fn put(&mut self, name: &'t str, shape: Shape) -> Result<(), Stop> {
-        self.names.push(name)?;
-        self.shapes.push(shape)?;
-        Ok(())
+    fn put(
+        &mut self,
+        name: &'t str,
+        attributes: Attributes<'t>,
+        kind: ShapeKind,
+        answer: &mut Answer<'t>,
+    ) {
+        let shape = Shape {
+            type_identifier: answer.copied(name),
+            kind,
+            inner: attributes.inner,
+            proxy: attributes.proxy,
+            tag: copied_if(attributes.tag, answer),
+            content: copied_if(attributes.content, answer),
+            untagged: attributes.untagged,
+            metadata_container: attributes.container,
+        };
+        answer.push(&mut self.shapes, shape);
+        answer.push(&mut self.names, name);
     }
 
     // The place that a word names. A scalar is declared where it is named first.
-    fn id(&mut self, word: &'t str) -> Result<ShapeId, Stop> {
+    fn id(&mut self, word: &'t str, answer: &mut Answer<'t>) -> ShapeId {
         if let Some(id) = place_of(&self.names, word) {
-            return Ok(id);
+            return id;
         }
-        let scalar = scalar(word).ok_or(Stop::Unread)?;
         let id = ShapeId::new(self.shapes.len());
-        let mut shape = shape(self.alloc, word)?;
-        shape.kind = ShapeKind::Scalar(scalar);
-        self.put(word, shape)?;
-        Ok(id)
+        match meaning(&SCALARS, word) {
+            Some(scalar) => self.put(word, Attributes::NONE, ShapeKind::Scalar(scalar), answer),
+            None => answer.unread(),
+        }
+        id
     }
 
-    fn next_id(&mut self, words: &mut SplitWhitespace<'t>) -> Result<ShapeId, Stop> {
-        self.id(plain_word(words)?)
+    fn next_id(&mut self, answer: &mut Answer<'t>) -> ShapeId {
+        let word = plain(answer.word());
+        self.id(word, answer)
     }
 
-    // Sets what the words before the body say; gives the word that opens the body, if there is one.
-    fn attributes(
-        &mut self,
-        shape: &mut Shape,
-        words: &mut SplitWhitespace<'t>,
-    ) -> Result<&'t str, Stop> {
+    fn attributes(&mut self, answer: &mut Answer<'t>) -> Attributes<'t> {
+        let mut attributes = Attributes::NONE;
         for _ in 0..usize::MAX {
-            let Some(word) = words.next() else {
-                break;
-            };
-            match word.split_once('=') {
-                Some((attribute, value)) => self.attribute(shape, attribute, value)?,
-                None if word == "untagged" => shape.untagged = true,
-                None if word == "container" => shape.metadata_container = true,
-                None => return Ok(word),
+            let word = answer.next_word();
+            let (name, value) = assigned(word);
+            match name {
+                "tag" => attributes.tag = Some(value),
+                "content" => attributes.content = Some(value),
+                "inner" => attributes.inner = Some(self.id(value, answer)),
+                "proxy" => attributes.proxy = Some(self.id(value, answer)),
+                "untagged" => attributes.untagged = true,
+                "container" => attributes.container = true,
+                _ => {
+                    attributes.opening = word;
+                    break;
+                }
             }
         }
-        Ok("")
+        attributes
     }
 
-    fn attribute(
-        &mut self,
-        shape: &mut Shape,
-        attribute: &str,
-        value: &'t str,
-    ) -> Result<(), Stop> {
-        match attribute {
-            "tag" => shape.tag = Some(String::from_str(self.alloc, value)?),
-            "content" => shape.content = Some(String::from_str(self.alloc, value)?),
-            "inner" => shape.inner = Some(self.id(value)?),
-            "proxy" => shape.proxy = Some(self.id(value)?),
-            _ => return Err(Stop::Unread),
-        }
-        Ok(())
-    }
-
-    fn kind(
-        &mut self,
-        keyword: &str,
-        opening: &str,
-        words: &mut SplitWhitespace<'t>,
-    ) -> Result<ShapeKind, Stop> {
+    fn kind(&mut self, keyword: &str, opening: &str, answer: &mut Answer<'t>) -> ShapeKind {
         match keyword {
             "struct" => {
-                let kind = body_kind(opening)?;
-                let fields = self.fields(kind, words)?;
-                Ok(ShapeKind::Struct { kind, fields })
+                let kind = body_kind(opening, answer);
+                let fields = self.fields(kind, answer);
+                ShapeKind::Struct { kind, fields }
             }
             "enum" => {
-                let variants = self.variants(words)?;
-                Ok(ShapeKind::Enum { variants })
+                let variants = self.variants(answer);
+                ShapeKind::Enum { variants }
             }
-            "map" => Ok(ShapeKind::Map(self.next_id(words)?, self.next_id(words)?)),
-            "opaque" => Ok(ShapeKind::Pointer(None)),
-            "dynamic" => Ok(ShapeKind::DynamicValue),
-            "other" => Ok(ShapeKind::Other),
-            _ => kind_over(keyword, self.next_id(words)?).ok_or(Stop::Unread),
+            "map" => ShapeKind::Map(self.next_id(answer), self.next_id(answer)),
+            "opaque" => ShapeKind::Pointer(None),
+            "dynamic" => ShapeKind::DynamicValue,
+            "other" => ShapeKind::Other,
+            _ => kind_over(keyword, self.next_id(answer)),
         }
     }
 
-    fn variants(&mut self, words: &mut SplitWhitespace<'t>) -> Result<Vec<Variant>, Stop> {
-        let mut variants = Vec::new(self.alloc);
+    fn variants(&mut self, answer: &mut Answer<'t>) -> Vec<Variant> {
+        let mut variants = Vec::new(answer.alloc);
         for _ in 0..usize::MAX {
-            let name = word(words)?;
-            if name == "}" {
-                break;
-            }
+            let name = answer.word();
             match name.strip_prefix("times=") {
-                Some(times) => self.add_variants(&mut variants, parsed(times)?, words)?,
-                None => variants.push(self.variant(name, words)?)?,
+                Some(times) => self.add_variants(times, &mut variants, answer),
+                None if name == "}" || name.is_empty() => break,
+                None => self.add_variant(name, &mut variants, answer),
             }
         }
-        Ok(variants)
+        variants
     }
 
     // Adds the next variant so many times, each time with its number in its names.
-    fn add_variants(
-        &mut self,
-        variants: &mut Vec<Variant>,
-        times: usize,
-        words: &mut SplitWhitespace<'t>,
-    ) -> Result<(), Stop> {
-        let variant = self.variant(word(words)?, words)?;
-        for number in 0..times {
-            variants.push(numbered_variant(self.alloc, &variant, number)?)?;
+    fn add_variants(&mut self, times: &str, variants: &mut Vec<Variant>, answer: &mut Answer<'t>) {
+        let words = same_words(&answer.words);
+        for number in 0..answer.number_of(times) {
+            answer.words = same_words(&words);
+            self.number = number;
+            let name = answer.word();
+            self.add_variant(name, variants, answer);
         }
-        Ok(())
     }
 
     // A name with a comma behind it stands for a unit variant.
-    fn variant(&mut self, name: &'t str, words: &mut SplitWhitespace<'t>) -> Result<Variant, Stop> {
+    fn add_variant(&mut self, name: &'t str, variants: &mut Vec<Variant>, answer: &mut Answer<'t>) {
         let (name, kind) = match name.strip_suffix(',') {
             Some(name) => (name, StructKind::Unit),
-            None => (name, body_kind(word(words)?)?),
+            None => (name, body_kind(answer.word(), answer)),
         };
-        Ok(Variant {
-            name: String::from_str(self.alloc, name)?,
+        self.put_name(name, answer);
+        let variant = Variant {
+            name: answer.take(),
             kind,
-            fields: self.fields(kind, words)?,
-        })
+            fields: self.fields(kind, answer),
+        };
+        answer.push(variants, variant);
     }
 
     // The fields of a body, up to the bracket that closes it.
-    fn fields(
-        &mut self,
-        kind: StructKind,
-        words: &mut SplitWhitespace<'t>,
-    ) -> Result<Vec<Field>, Stop> {
-        let mut fields = Vec::new(self.alloc);
+    fn fields(&mut self, kind: StructKind, answer: &mut Answer<'t>) -> Vec<Field> {
+        let mut fields = Vec::new(answer.alloc);
         if kind == StructKind::Unit {
-            return Ok(fields);
+            return fields;
         }
         let mut marks = Marks::NONE;
         for _ in 0..usize::MAX {
-            let word = plain_word(words)?;
-            if matches!(word, "}" | ")" | "]") {
+            let word = plain(answer.word());
+            if matches!(word, "}" | ")" | "]" | "") {
                 break;
             }
-            if !marks.take(word) {
-                self.add_fields(&mut fields, marks, word, words)?;
+            if !marks.take(word, answer) {
+                self.add_fields(&mut fields, marks, word, answer);
                 marks = Marks::NONE;
             }
         }
-        Ok(fields)
+        fields
     }
 
     // Adds a field with a name, as `x: u8`, or one that goes by its number, as `u8`.
@@ -219,23 +234,58 @@ impl<'t> Types<'t> {
         fields: &mut Vec<Field>,
         marks: Marks<'t>,
         word: &'t str,
-        words: &mut SplitWhitespace<'t>,
-    ) -> Result<(), Stop> {
-        let Some(name) = word.strip_suffix(':') else {
-            let name = format!(in self.alloc; "{}", fields.len())?;
-            let field = marks.field(self.alloc, name, self.id(word)?)?;
-            return Ok(fields.push(field)?);
+        answer: &mut Answer<'t>,
+    ) {
+        let (name, shape) = match word.strip_suffix(':') {
+            Some(name) => (name, self.next_id(answer)),
+            None => ("", self.id(word, answer)),
         };
-        let shape = self.next_id(words)?;
-        let Some(times) = marks.times else {
-            let name = String::from_str(self.alloc, name)?;
-            return Ok(fields.push(marks.field(self.alloc, name, shape)?)?);
-        };
-        for index in 0..times {
-            let name = format!(in self.alloc; "{name}{index}")?;
-            fields.push(marks.field(self.alloc, name, shape)?)?;
+        for index in 0..marks.times.unwrap_or(1) {
+            self.put_name(name, answer);
+            if name.is_empty() {
+                answer.put_value(&fields.len());
+            } else if marks.times.is_some() {
+                answer.put_value(&index);
+            }
+            self.add_field(fields, marks, shape, answer);
         }
-        Ok(())
+    }
+
+    // Adds a field whose name is the text so far.
+    fn add_field(
+        &self,
+        fields: &mut Vec<Field>,
+        marks: Marks<'t>,
+        shape: ShapeId,
+        answer: &mut Answer<'t>,
+    ) {
+        let field = Field {
+            name: answer.take(),
+            rename: self.renamed(marks.rename, answer),
+            shape,
+            flattened: marks.flattened,
+            has_default: marks.has_default,
+            metadata: marks.metadata,
+            dom: marks.dom,
+        };
+        answer.push(fields, field);
+    }
+
+    fn renamed(&self, rename: Option<&'t str>, answer: &mut Answer<'t>) -> Option<String> {
+        self.put_name(rename?, answer);
+        Some(answer.take())
+    }
+
+    // Puts a name, with the number in place of `#`.
+    fn put_name(&self, name: &str, answer: &mut Answer<'t>) {
+        match name.split_once('#') {
+            Some((before, behind)) => {
+                answer.put(before);
+                answer.put_value(&self.number);
+                answer.put(behind);
+            }
+            None => answer.put(name),
+        }
     }
 }
 
@@ -261,153 +311,82 @@ impl<'t> Marks<'t> {
     };
 
     // Takes a word in, if it is a mark.
-    fn take(&mut self, word: &'t str) -> bool {
-        match word {
+    fn take(&mut self, word: &'t str, answer: &mut Answer<'t>) -> bool {
+        let (name, value) = assigned(word);
+        match name {
             "flat" => self.flattened = true,
             "default" => self.has_default = true,
             "metadata" => self.metadata = true,
-            "attribute" => self.dom = DomMark::Attribute,
-            "element" => self.dom = DomMark::Element,
-            "text" => self.dom = DomMark::Text,
-            "tag" => self.dom = DomMark::Tag,
-            "elements" => self.dom = DomMark::Elements,
-            _ => return self.take_value(word),
+            "rename" => self.rename = Some(value),
+            "times" => self.times = Some(answer.number_of(value)),
+            _ => match meaning(&DOM_MARKS, name) {
+                Some(mark) => self.dom = mark,
+                None => return false,
+            },
         }
         true
     }
-
-    fn take_value(&mut self, word: &'t str) -> bool {
-        match word.split_once('=') {
-            Some(("rename", name)) => self.rename = Some(name),
-            Some(("times", times)) => self.times = times.parse::<usize>().ok(),
-            _ => return false,
-        }
-        true
-    }
-
-    fn field(self, alloc: Global, name: String, shape: ShapeId) -> Result<Field, AllocError> {
-        let rename = match self.rename {
-            Some(rename) => Some(String::from_str(alloc, rename)?),
-            None => None,
-        };
-        Ok(Field {
-            name,
-            rename,
-            shape,
-            flattened: self.flattened,
-            has_default: self.has_default,
-            metadata: self.metadata,
-            dom: self.dom,
-        })
-    }
 }
 
-// The same variant, with a number in its names.
-fn numbered_variant(
-    alloc: Global,
-    variant: &Variant,
-    number: usize,
-) -> Result<Variant, AllocError> {
-    let mut fields = Vec::new(alloc);
-    for field in &variant.fields {
-        fields.push(numbered_field(alloc, field, number)?)?;
-    }
-    Ok(Variant {
-        name: numbered(alloc, variant.name.as_str(), number)?,
-        kind: variant.kind,
-        fields,
-    })
+fn copied_if(text: Option<&str>, answer: &mut Answer<'_>) -> Option<String> {
+    Some(answer.copied(text?))
 }
 
-fn numbered_field(alloc: Global, field: &Field, number: usize) -> Result<Field, AllocError> {
-    let rename = match &field.rename {
-        Some(rename) => Some(numbered(alloc, rename.as_str(), number)?),
-        None => None,
-    };
-    Ok(Field {
-        name: numbered(alloc, field.name.as_str(), number)?,
-        rename,
-        shape: field.shape,
-        flattened: field.flattened,
-        has_default: field.has_default,
-        metadata: field.metadata,
-        dom: field.dom,
-    })
+fn same_words<'t>(words: &SplitWhitespace<'t>) -> SplitWhitespace<'t> {
+    let same: Result<SplitWhitespace<'t>, AllocError> = words.clone();
+    same.unwrap()
 }
 
-// A name with a number in place of `#`, if that stands in it.
-fn numbered(alloc: Global, name: &str, number: usize) -> Result<String, AllocError> {
-    match name.split_once('#') {
-        Some((before, behind)) => format!(in alloc; "{before}{number}{behind}"),
-        None => String::from_str(alloc, name),
-    }
+const DOM_MARKS: [(&str, DomMark); 5] = [
+    ("attribute", DomMark::Attribute),
+    ("element", DomMark::Element),
+    ("text", DomMark::Text),
+    ("tag", DomMark::Tag),
+    ("elements", DomMark::Elements),
+];
+
+const BODIES: [(&str, StructKind); 4] = [
+    ("{", StructKind::Struct),
+    ("(", StructKind::TupleStruct),
+    ("[", StructKind::Tuple),
+    ("", StructKind::Unit),
+];
+
+fn body_kind(opening: &str, answer: &mut Answer<'_>) -> StructKind {
+    answer.meaning(&BODIES, opening, StructKind::Unit)
 }
 
-fn body_kind(opening: &str) -> Result<StructKind, Stop> {
-    match opening {
-        "{" => Ok(StructKind::Struct),
-        "(" => Ok(StructKind::TupleStruct),
-        "[" => Ok(StructKind::Tuple),
-        "" => Ok(StructKind::Unit),
-        _ => Err(Stop::Unread),
-    }
-}
-
-fn kind_over(keyword: &str, of: ShapeId) -> Option<ShapeKind> {
+fn kind_over(keyword: &str, of: ShapeId) -> ShapeKind {
     match keyword {
-        "option" => Some(ShapeKind::Option(of)),
-        "pointer" => Some(ShapeKind::Pointer(Some(of))),
-        "list" => Some(ShapeKind::List(of)),
-        "array" => Some(ShapeKind::Array(of)),
-        "slice" => Some(ShapeKind::Slice(of)),
-        "set" => Some(ShapeKind::Set(of)),
-        _ => None,
+        "option" => ShapeKind::Option(of),
+        "pointer" => ShapeKind::Pointer(Some(of)),
+        "list" => ShapeKind::List(of),
+        "array" => ShapeKind::Array(of),
+        "slice" => ShapeKind::Slice(of),
+        _ => ShapeKind::Set(of),
     }
 }
 
-// A shape with no attribute.
-fn shape(alloc: Global, name: &str) -> Result<Shape, AllocError> {
-    Ok(Shape {
-        type_identifier: String::from_str(alloc, name)?,
-        kind: ShapeKind::Other,
-        inner: None,
-        proxy: None,
-        tag: None,
-        content: None,
-        untagged: false,
-        metadata_container: false,
-    })
-}
-
-fn scalar(name: &str) -> Option<ScalarType> {
-    match name {
-        "()" => Some(ScalarType::Unit),
-        "bool" => Some(ScalarType::Bool),
-        "char" => Some(ScalarType::Char),
-        "&str" => Some(ScalarType::Str),
-        "String" => Some(ScalarType::String),
-        "Cow<str>" => Some(ScalarType::CowStr),
-        "f32" => Some(ScalarType::F32),
-        "f64" => Some(ScalarType::F64),
-        "Instant" => Some(ScalarType::Other),
-        _ => integer(name),
-    }
-}
-
-fn integer(name: &str) -> Option<ScalarType> {
-    match name {
-        "u8" => Some(ScalarType::U8),
-        "u16" => Some(ScalarType::U16),
-        "u32" => Some(ScalarType::U32),
-        "u64" => Some(ScalarType::U64),
-        "u128" => Some(ScalarType::U128),
-        "usize" => Some(ScalarType::USize),
-        "i8" => Some(ScalarType::I8),
-        "i16" => Some(ScalarType::I16),
-        "i32" => Some(ScalarType::I32),
-        "i64" => Some(ScalarType::I64),
-        "i128" => Some(ScalarType::I128),
-        "isize" => Some(ScalarType::ISize),
-        _ => None,
-    }
-}
+const SCALARS: [(&str, ScalarType); 21] = [
+    ("()", ScalarType::Unit),
+    ("bool", ScalarType::Bool),
+    ("char", ScalarType::Char),
+    ("&str", ScalarType::Str),
+    ("String", ScalarType::String),
+    ("Cow<str>", ScalarType::CowStr),
+    ("f32", ScalarType::F32),
+    ("f64", ScalarType::F64),
+    ("u8", ScalarType::U8),
+    ("u16", ScalarType::U16),
+    ("u32", ScalarType::U32),
+    ("u64", ScalarType::U64),
+    ("u128", ScalarType::U128),
+    ("usize", ScalarType::USize),
+    ("i8", ScalarType::I8),
+    ("i16", ScalarType::I16),
+    ("i32", ScalarType::I32),
+    ("i64", ScalarType::I64),
+    ("i128", ScalarType::I128),
+    ("isize", ScalarType::ISize),
+    ("Instant", ScalarType::Other),
+];
