@@ -183,7 +183,8 @@ impl<'c> Schema<'c> {
     /// each enum's own attributes ask for.
     ///
     /// Nested key paths visit each field of the catalogue at most twice, by the visits of `steps`, also where the build
-    /// is refused, and each field of the root at least once where it is not. It is refused where two fields of one choice have one key, and where memory is refused.
+    /// is refused, and each field of the root at least once where it is not. The build is refused where two fields of one
+    /// choice have one key, and where memory is refused.
     pub fn build_counted(
         alloc: Global,
         shapes: &'c Shapes,
