@@ -1,4 +1,5 @@
 -- What structs bring is found bottom up.
+use Rattle.std.specs.Prelude.{if◌then◌else◌}
 use Rattle.std.proofs.Common.{◌≡◌, ◌⊎◌, inl, inr, ◌<◌, ◌≤◌, ◌+◌, ℕ, zero, suc, List, [], ◌∷◌, ◌++◌, Some, refl, sym, ap, ◌∙◌, subst, slice_get, length, get_or, drop, arith}
 use Rattle.std.proofs.Math.Bool.{or-false, or_assoc}
 use Rattle.std.proofs.Math.ListN.{drop_of_length-le}
@@ -9,7 +10,7 @@ use Rattle.facet_solver_shape.specs.declared.shape.Field.{Field}
 use Rattle.facet_solver_shape.specs.declared.shape.ShapeKind.{ShapeKind}
 use Rattle.facet_solver_shape.specs.declared.shape.ShapeKind.TheVariants.{Struct}
 use Rattle.facet_solver.specs.declared.build.brings.Brings.{Brings}
-use Rattle.facet_solver.specs.declared.build.brings.Brings.TheVariants.{CatchAlls, Emissions, Variants}
+use Rattle.facet_solver.specs.declared.build.brings.Brings.TheVariants.{CatchAlls, Emissions, Choices as BringsChoices}
 use Rattle.facet_solver.specs.declared.build.role.Target.{Target}
 use Rattle.facet_solver.specs.declared.build.brings.categories.Categories.{Categories}
 use Rattle.facet_solver.specs.Brings.{AreBrought, at, both, field_brings, fields_bring, kind_brings, none, role_brings, union}
@@ -34,32 +35,32 @@ union_assoc a b c i = record {
 pub both_none : (a : Brings) → both a (CatchAlls none) ≡ a
 both_none (CatchAlls a) = ap CatchAlls (union_none a)
 both_none Emissions = refl
-both_none Variants = refl
+both_none BringsChoices = refl
 
 both_assoc : (a b c : Brings) → both (both a b) c ≡ both a (both b c)
 both_assoc (CatchAlls a) (CatchAlls b) (CatchAlls c) = ap CatchAlls (union_assoc a b c)
 both_assoc (CatchAlls a) (CatchAlls b) Emissions = refl
-both_assoc (CatchAlls a) (CatchAlls b) Variants = refl
+both_assoc (CatchAlls a) (CatchAlls b) BringsChoices = refl
 both_assoc (CatchAlls a) Emissions c = emissions c
   where
     emissions : (c : Brings) → both Emissions c ≡ both (CatchAlls a) (both Emissions c)
     emissions (CatchAlls c) = refl
     emissions Emissions = refl
-    emissions Variants = refl
-both_assoc (CatchAlls a) Variants c = variants c
+    emissions BringsChoices = refl
+both_assoc (CatchAlls a) BringsChoices c = choices c
   where
-    variants : (c : Brings) → both Variants c ≡ both (CatchAlls a) (both Variants c)
-    variants (CatchAlls c) = refl
-    variants Emissions = refl
-    variants Variants = refl
-both_assoc Variants b c = refl
+    choices : (c : Brings) → both BringsChoices c ≡ both (CatchAlls a) (both BringsChoices c)
+    choices (CatchAlls c) = refl
+    choices Emissions = refl
+    choices BringsChoices = refl
+both_assoc BringsChoices b c = refl
 both_assoc Emissions (CatchAlls b) (CatchAlls c) = refl
 both_assoc Emissions (CatchAlls b) Emissions = refl
-both_assoc Emissions (CatchAlls b) Variants = refl
+both_assoc Emissions (CatchAlls b) BringsChoices = refl
 both_assoc Emissions Emissions (CatchAlls c) = refl
 both_assoc Emissions Emissions Emissions = refl
-both_assoc Emissions Emissions Variants = refl
-both_assoc Emissions Variants c = refl
+both_assoc Emissions Emissions BringsChoices = refl
+both_assoc Emissions BringsChoices c = refl
 
 module _ (table : List Brings) (build : Build) (fs : List Field) (i : ℕ) (so_far : Brings) where
   pub both_more : (f : Field) → i < length fs → f ≡ get_or fs i f → both (both so_far (field_brings table build f)) (fields_bring table build (drop (i + 1) fs)) ≡ both so_far (fields_bring table build (drop i fs))
@@ -81,12 +82,12 @@ module _ (build : Build) (checked : NamesEarlier build.catalogue) (ts : List Bri
   more = ts ++ b ∷ []
 
   at_same : (id : ℕ) → id < length ts → at more id ≡ at ts id
-  at_same id lt = get_or_from_slice_get more id (at ts id) Variants (before_end ts b id lt ∙ slice_get-get_or ts id Variants lt)
+  at_same id lt = get_or_from_slice_get more id (at ts id) BringsChoices (before_end ts b id lt ∙ slice_get-get_or ts id BringsChoices lt)
 
   role_same : (f : Field) (r : Role) → ((target : Target) → Some target ≡ target_in r → target.shape < length ts) → role_brings more build.format f r ≡ role_brings ts build.format f r
   unfolding target_in
   role_same f regular h = refl
-  role_same f (block target fs) h = at_same target.shape (h target refl)
+  role_same f (block target fs) h = ap (λ (x : Brings). if target.optional then BringsChoices else x) (at_same target.shape (h target refl))
   role_same f (alternatives target s vs) h = refl
   role_same f (catch_all target) h = refl
   role_same f (leaf target) h = refl

@@ -1,7 +1,6 @@
--- What a table says that structs bring: what brings catch-alls alone emits them alone, and what brings no variants has no
--- choices.
-use Rattle.std.specs.Prelude.{◌||◌}
-use Rattle.std.proofs.Common.{◌≡◌, ◌<◌, ◌≤◌, ℕ, zero, suc, List, [], ◌∷◌, Some, refl, sym, ap, ◌∙◌, subst, slice_get, length, arith}
+-- What a table says that structs bring: what brings catch-alls alone emits them alone, and what brings no choices has none.
+use Rattle.std.specs.Prelude.{◌||◌, if◌then◌else◌}
+use Rattle.std.proofs.Common.{◌≡◌, ◌<◌, ◌≤◌, ℕ, zero, suc, List, [], ◌∷◌, Some, Bool, true, false, refl, sym, ap, ◌∙◌, subst, slice_get, length, arith}
 use Rattle.facet_solver_shape.specs.Catalogues.{FieldsBelow, NamesEarlier}
 use Rattle.facet_solver_shape.specs.declared.resolution.key.FieldCategory.{FieldCategory}
 use Rattle.facet_solver_shape.specs.declared.resolution.key.FieldCategory.TheVariants.{Flat, Attribute, Element, Text, Tag, Elements}
@@ -9,12 +8,12 @@ use Rattle.facet_solver_shape.specs.declared.shape.Field.{Field}
 use Rattle.facet_solver_shape.specs.declared.shape.ShapeKind.{ShapeKind}
 use Rattle.facet_solver_shape.specs.declared.shape.ShapeKind.TheVariants.{Enum, Struct}
 use Rattle.facet_solver.specs.declared.build.brings.Brings.{Brings}
-use Rattle.facet_solver.specs.declared.build.brings.Brings.TheVariants.{CatchAlls, Emissions, Variants}
+use Rattle.facet_solver.specs.declared.build.brings.Brings.TheVariants.{CatchAlls, Emissions, Choices as BringsChoices}
 use Rattle.facet_solver.specs.declared.build.role.Target.{Target}
 use Rattle.facet_solver.specs.Brings.{AreBrought, AreCatchAlls, at, both, field_brings, fields_bring, has, has_last, kind_brings, role_brings, union}
 use Rattle.facet_solver.specs.Build.{Build, kind_at}
 use Rattle.facet_solver.specs.Content.{struct_fields}
-use Rattle.facet_solver.specs.Listing.{Choices, choices_of_fields, choices_of_fields_step, choices_of_role, no_choice, product}
+use Rattle.facet_solver.specs.Listing.{Choices, choices_of_fields, choices_of_fields_step, choices_of_optional, choices_of_role, no_choice, product}
 use Rattle.facet_solver.specs.Roles.{Role, alternatives, block, catch_all, leaf, regular, role_of}
 use Rattle.facet_solver.proofs.Roles.{FieldsBelow-mono, RoleBelow, role_of-below}
 use Rattle.facet_solver.proofs.Serving.{role_of-target}
@@ -23,11 +22,11 @@ use Rattle.facet_solver.proofs.WalkSteps.{choices_of_fields-step}
 pub both_catch_alls : (a b : Brings) → AreCatchAlls (both a b) → AreCatchAlls a × AreCatchAlls b
 both_catch_alls (CatchAlls a) (CatchAlls b) h = (tt, tt)
 both_catch_alls (CatchAlls a) Emissions h = absurd h
-both_catch_alls (CatchAlls a) Variants h = absurd h
+both_catch_alls (CatchAlls a) BringsChoices h = absurd h
 both_catch_alls Emissions (CatchAlls b) h = absurd h
 both_catch_alls Emissions Emissions h = absurd h
-both_catch_alls Emissions Variants h = absurd h
-both_catch_alls Variants b h = absurd h
+both_catch_alls Emissions BringsChoices h = absurd h
+both_catch_alls BringsChoices b h = absurd h
 
 pub both_has : (category : FieldCategory) (a b : Brings) → AreCatchAlls a → AreCatchAlls b → has_last category (both a b) ≡ (has_last category a || has_last category b)
 both_has category (CatchAlls a) (CatchAlls b) h k = union_has category
@@ -40,23 +39,23 @@ both_has category (CatchAlls a) (CatchAlls b) h k = union_has category
     union_has Tag = refl
     union_has Elements = refl
 both_has category (CatchAlls a) Emissions h k = absurd k
-both_has category (CatchAlls a) Variants h k = absurd k
+both_has category (CatchAlls a) BringsChoices h k = absurd k
 both_has category Emissions b h k = absurd h
-both_has category Variants b h k = absurd h
+both_has category BringsChoices b h k = absurd h
 
-both_first : (a b : Brings) → (both a b ≡ Variants → ⊥) → a ≡ Variants → ⊥
+both_first : (a b : Brings) → (both a b ≡ BringsChoices → ⊥) → a ≡ BringsChoices → ⊥
 both_first (CatchAlls a) b h e = cc
 both_first Emissions b h e = cc
-both_first Variants b h e = h refl
+both_first BringsChoices b h e = h refl
 
-both_second : (a b : Brings) → (both a b ≡ Variants → ⊥) → b ≡ Variants → ⊥
+both_second : (a b : Brings) → (both a b ≡ BringsChoices → ⊥) → b ≡ BringsChoices → ⊥
 both_second (CatchAlls a) (CatchAlls b) h e = cc
 both_second (CatchAlls a) Emissions h e = cc
-both_second (CatchAlls a) Variants h e = h refl
+both_second (CatchAlls a) BringsChoices h e = h refl
 both_second Emissions b h e = h (ap (both Emissions) e)
-both_second Variants b h e = h refl
+both_second BringsChoices b h e = h refl
 
-there : (table : List Brings) (id : ℕ) (b : Brings) → at table id ≡ b → (b ≡ Variants → ⊥) → slice_get table id ≡ Some b
+there : (table : List Brings) (id : ℕ) (b : Brings) → at table id ≡ b → (b ≡ BringsChoices → ⊥) → slice_get table id ≡ Some b
 there [] id b e h = absurd (h (sym e))
 there (c ∷ table) zero b e h = ap Some e
 there (c ∷ table) (suc id) b e h = there table id b e h
@@ -68,7 +67,7 @@ module _ (build : Build) (checked : NamesEarlier build.catalogue) (table : List 
   by_kind _ fs e = absurd (cc)
 
   -- the fields of a block bring what the table has for its target
-  pub block_brings : (f : Field) (target : Target) (fs : List Field) → block target fs ≡ role_of build.catalogue f → (at table target.shape ≡ Variants → ⊥) → fields_bring table build fs ≡ at table target.shape
+  pub block_brings : (f : Field) (target : Target) (fs : List Field) → block target fs ≡ role_of build.catalogue f → (at table target.shape ≡ BringsChoices → ⊥) → fields_bring table build fs ≡ at table target.shape
   block_brings f target fs e h =
       sym (are target.shape (at table target.shape) (there table target.shape (at table target.shape) refl h)
       ∙ by_kind (kind_at build.catalogue target.shape) fs (role_of-target build.catalogue f (block target fs) e))
@@ -76,24 +75,28 @@ module _ (build : Build) (checked : NamesEarlier build.catalogue) (table : List 
   pub block_below : (f : Field) (target : Target) (fs : List Field) (n : ℕ) → block target fs ≡ role_of build.catalogue f → f.shape < suc n → FieldsBelow n fs
   block_below f target fs n e lt = FieldsBelow-mono f.shape n fs (omega (arith, lt)) (subst (RoleBelow f.shape) (sym e) (role_of-below build.catalogue checked f))
 
-  -- ---- what brings no variants has no choices
-  one_role : (n : ℕ) (f : Field) → f.shape < suc n → ((fs : List Field) → FieldsBelow n fs → (fields_bring table build fs ≡ Variants → ⊥) → choices_of_fields build fs ≡ no_choice)
-      → (r : Role) → r ≡ role_of build.catalogue f → (role_brings table build.format f r ≡ Variants → ⊥) → choices_of_role (choices_of_fields build) build r ≡ no_choice
+  -- ---- what brings no choices has none
+  one_role : (n : ℕ) (f : Field) → f.shape < suc n → ((fs : List Field) → FieldsBelow n fs → (fields_bring table build fs ≡ BringsChoices → ⊥) → choices_of_fields build fs ≡ no_choice)
+      → (r : Role) → r ≡ role_of build.catalogue f → (role_brings table build.format f r ≡ BringsChoices → ⊥) → choices_of_role (choices_of_fields build) build r ≡ no_choice
   one_role n f lt deeper regular e h = refl
-  one_role n f lt deeper (block target fs) e h = deeper fs (block_below f target fs n e lt) (λ v. h (sym (block_brings f target fs e h) ∙ v))
+  one_role n f lt deeper (block target fs) e h = by_presence target.optional h
+    where
+      by_presence : (b : Bool) → ((if b then BringsChoices else at table target.shape) ≡ BringsChoices → ⊥) → choices_of_optional b (choices_of_fields build fs) ≡ no_choice
+      by_presence true h = absurd (h refl)
+      by_presence false h = deeper fs (block_below f target fs n e lt) (λ v. h (sym (block_brings f target fs e h) ∙ v))
   one_role n f lt deeper (alternatives target s vs) e h = absurd (h refl)
   one_role n f lt deeper (catch_all target) e h = refl
   one_role n f lt deeper (leaf target) e h = refl
 
-  one_fields : (n : ℕ) → ((fs : List Field) → FieldsBelow n fs → (fields_bring table build fs ≡ Variants → ⊥) → choices_of_fields build fs ≡ no_choice)
-      → (fs : List Field) → FieldsBelow (suc n) fs → (fields_bring table build fs ≡ Variants → ⊥) → choices_of_fields_step (choices_of_fields build) build fs ≡ no_choice
+  one_fields : (n : ℕ) → ((fs : List Field) → FieldsBelow n fs → (fields_bring table build fs ≡ BringsChoices → ⊥) → choices_of_fields build fs ≡ no_choice)
+      → (fs : List Field) → FieldsBelow (suc n) fs → (fields_bring table build fs ≡ BringsChoices → ⊥) → choices_of_fields_step (choices_of_fields build) build fs ≡ no_choice
   unfolding choices_of_fields_step product
   one_fields n deeper [] b h = refl
   one_fields n deeper (f ∷ fs) b h =
       ap (λ (cs : Choices). product cs (choices_of_fields_step (choices_of_fields build) build fs)) (one_role n f b.0 deeper (role_of build.catalogue f) refl (both_first _ (fields_bring table build fs) h))
       ∙ ap (product no_choice) (one_fields n deeper fs b.1 (both_second (field_brings table build f) _ h))
 
-  one_choice : (n : ℕ) → n ≤ length build.catalogue → (fs : List Field) → FieldsBelow n fs → (fields_bring table build fs ≡ Variants → ⊥) → choices_of_fields build fs ≡ no_choice
+  one_choice : (n : ℕ) → n ≤ length build.catalogue → (fs : List Field) → FieldsBelow n fs → (fields_bring table build fs ≡ BringsChoices → ⊥) → choices_of_fields build fs ≡ no_choice
   unfolding choices_of_fields_step
   one_choice zero le [] b h = choices_of_fields-step build checked [] tt
   one_choice zero le (f ∷ fs) b h = absurd (omega (arith, b.0))
@@ -101,7 +104,7 @@ module _ (build : Build) (checked : NamesEarlier build.catalogue) (table : List 
       choices_of_fields-step build checked fs (FieldsBelow-mono (suc n) (length build.catalogue) fs le b)
       ∙ one_fields n (one_choice n (omega (arith, le))) fs b h
 
-  -- a block that brings no variants
-  pub block_of_one : (f : Field) (target : Target) (fs : List Field) → f.shape ≤ length build.catalogue → block target fs ≡ role_of build.catalogue f → (at table target.shape ≡ Variants → ⊥) → choices_of_fields build fs ≡ no_choice
+  -- a block that brings no choices
+  pub block_of_one : (f : Field) (target : Target) (fs : List Field) → f.shape ≤ length build.catalogue → block target fs ≡ role_of build.catalogue f → (at table target.shape ≡ BringsChoices → ⊥) → choices_of_fields build fs ≡ no_choice
   block_of_one f target fs le e h =
       one_choice f.shape le fs (subst (RoleBelow f.shape) (sym e) (role_of-below build.catalogue checked f)) (λ v. h (sym (block_brings f target fs e h) ∙ v))

@@ -1,24 +1,23 @@
 -- In the flat format seen keys say of a resolution what their names say.
-use Rattle.std.proofs.Common.{◌≡◌, Bool, true, false, cond, ◌||◌, ◌&&◌, not, T, ◌⊎◌, inl, inr, List, [], ◌∷◌, Option, Some, None, All, filter, map, refl, ap, sym, subst, ◌∙◌, ⊎_elim}
-use Rattle.std.specs.Cmp.Lexicographic.{slice_cmp, nat_list_eq_equiv, texts_ties}
-use Rattle.std.specs.declared.cmp.Ordering.{Ordering}
-use Rattle.std.specs.declared.cmp.Ordering.TheVariants.{Less, Equal, Greater}
+use Rattle.std.proofs.Common.{◌≡◌, Bool, true, false, cond, ◌||◌, ◌&&◌, not, T, List, [], ◌∷◌, Option, Some, filter, map, refl, ap, sym, subst, ◌∙◌, ⊎_elim}
+use Rattle.std.specs.Cmp.Lexicographic.{slice_cmp}
+use Rattle.std.specs.declared.cmp.Ordering.TheVariants.{Less}
 use Rattle.std.specs.FinMap as finite
 use Rattle.std.specs.FinMap.{find as find_at}
 use Rattle.std.specs.FinMap.Entries.{below_all}
 use Rattle.std.specs.FinSet as set
-use Rattle.std.specs.List.{AllByRecursion, filter_map, find, list_all, list_any, cons_option}
+use Rattle.std.specs.List.{AllByRecursion, filter_map, list_all, list_any, cons_option}
 use Rattle.std.specs.List.Sorted.{IsStrictlySortedBy}
 use Rattle.std.specs.Ordering.{eq_by_cmp, is_eq, nat_cmp}
-use Rattle.std.proofs.lemmas.Bool.{and_from, and_parts, cases_Bool, false≢true, or_cases, or_left, or_right}
-use Rattle.std.proofs.lemmas.Cmp.{eq_by_cmp_equiv, nat_list_cmp_total, tied_itself}
+use Rattle.std.proofs.lemmas.Bool.{and_from, and_parts, false≢true, or_cases, or_left, or_right}
+use Rattle.std.proofs.lemmas.Cmp.{nat_list_cmp_total, tied_itself}
 use Rattle.std.proofs.lemmas.List.Elements.{All-from_recursion}
 use Rattle.std.proofs.lemmas.List.Kept.{IsStrictlySortedBy-filter}
 use Rattle.facet_solver_shape.specs.declared.resolution.key.FieldCategory.TheVariants.{Flat as FlatCategory}
-use Rattle.facet_solver_shape.specs.Fields.{FieldView, IsStored, has_name, key_of_field, matches, means}
+use Rattle.facet_solver_shape.specs.Fields.{FieldView, IsStored, has_name, matches, means}
 use Rattle.facet_solver_shape.specs.Keys.{Key, flat_key, key_cmp, stored_key}
-use Rattle.facet_solver_shape.specs.Names.{Name, name_eq}
-use Rattle.facet_solver_shape.specs.Resolved.{AreRequiredNames, IsRequiredName, Resolved, field_by_name}
+use Rattle.facet_solver_shape.specs.Names.{Name}
+use Rattle.facet_solver_shape.specs.Resolved.{AreRequiredNames, Resolved, field_by_name}
 use Rattle.facet_solver_shape.proofs.Fields.{flat_by_name}
 use Rattle.facet_solver_shape.proofs.Finite.{equal, none_is_some, same_value}
 use Rattle.facet_solver_shape.proofs.Keys.{name_cmp_same}

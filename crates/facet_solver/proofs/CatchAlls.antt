@@ -22,9 +22,9 @@ use Rattle.facet_solver_shape.specs.declared.shape.Variant.{Variant}
 use Rattle.facet_solver_shape.proofs.Keys.{category_cmp_same, category_cmp_total}
 use Rattle.facet_solver_shape.proofs.Resolved.{or_none}
 use Rattle.facet_solver.specs.declared.build.brings.Brings.{Brings}
-use Rattle.facet_solver.specs.declared.build.brings.Brings.TheVariants.{CatchAlls, Emissions, Variants}
+use Rattle.facet_solver.specs.declared.build.brings.Brings.TheVariants.{CatchAlls, Emissions, Choices as BringsChoices}
 use Rattle.facet_solver.specs.declared.build.brings.categories.Categories.{Categories}
-use Rattle.facet_solver.specs.Place.{Place}
+use Rattle.facet_solver.specs.Place.{Path, field_path}
 use Rattle.facet_solver.specs.declared.build.representation.Format.{Format}
 use Rattle.facet_solver.specs.declared.build.representation.Format.TheVariants.{Dom, Flat as FlatFormat}
 use Rattle.facet_solver.specs.declared.build.role.Role as code
@@ -35,10 +35,9 @@ use Rattle.facet_solver.specs.Build.{Build}
 use Rattle.facet_solver.specs.CatchAlls.{as_catch_all, emitted, emitted_by, last_catch_all, last_with, with_last}
 use Rattle.facet_solver.specs.Emissions.{Emission, a_catch_all, a_field, a_pick, catch_all_field, emit_catch_all, emit_plain, some_key_paths}
 use Rattle.facet_solver.specs.Outcome.{resolved, take_all, take_in}
-use Rattle.facet_solver.specs.Place.{inside_field}
 use Rattle.facet_solver.specs.Representation.{catch_all_category}
 use Rattle.facet_solver.specs.Roles.{Role, alternatives, block, catch_all, leaf, regular, role_of, role_view}
-use Rattle.facet_solver.specs.Walk.{Walked, Walking, and_then, emit, put_before, walk_fields, walk_fields_step, walk_role}
+use Rattle.facet_solver.specs.Walk.{Walked, Walking, and_then, emit, put_before, walk_fields, walk_fields_step, walk_optional, walk_role}
 use Rattle.facet_solver.proofs.Brought.{block_below, block_brings, both_catch_alls, both_has}
 use Rattle.facet_solver.proofs.WalkSteps.{walk-is_step}
 
@@ -138,7 +137,7 @@ is_only FlatFormat mark category = is_flat category
 is_only Dom AttributeMark category = is_attribute category
 is_only Dom _ category = is_element category
 
-emits-one : (build : Build) (f : Field) (target : Target) (place : Place) → Emits (emit (emit_catch_all build f target place)) (emit_catch_all build f target place) (CatchAlls (only (catch_all_category build.format f.dom)))
+emits-one : (build : Build) (f : Field) (target : Target) (place : Path) → Emits (emit (emit_catch_all build f target place)) (emit_catch_all build f target place) (CatchAlls (only (catch_all_category build.format f.dom)))
 unfolding emit_catch_all catch_all_field
 emits-one build f target place = record {
   walked = λ ns. refl;
@@ -153,29 +152,39 @@ emits-same walk other es b same h = record { walked = λ ns. same ns ∙ h.walke
 emits-emitted : (walk : Walking) (es : List Emission) (b : Brings) → Emits walk es b → Emits walk (emitted (walk [])) b
 emits-emitted walk es b h = subst (λ (fs : List Emission). Emits walk fs b) (sym (ap emitted (h.walked []))) h
 
-not_variants : (b c : Brings) → AreCatchAlls b → b ≡ c → c ≡ Variants → ⊥
-not_variants (CatchAlls a) c h e v = let no : CatchAlls a ≡ Variants = e ∙ v in cc
-not_variants Emissions c h e v = absurd h
-not_variants Variants c h e v = absurd h
+not_choices : (b c : Brings) → AreCatchAlls b → b ≡ c → c ≡ BringsChoices → ⊥
+not_choices (CatchAlls a) c h e v = let no : CatchAlls a ≡ BringsChoices = e ∙ v in cc
+not_choices Emissions c h e v = absurd h
+not_choices BringsChoices c h e v = absurd h
+
+-- what brings catch-alls alone is never absent
+never_absent : (b : Bool) (brings : Brings) → AreCatchAlls (if b then BringsChoices else brings) → (b ≡ false) × AreCatchAlls brings
+never_absent true brings h = absurd h
+never_absent false brings h = (refl, h)
 
 module _ (build : Build) (checked : NamesEarlier build.catalogue) (table : List Brings) (are : AreBrought build table) where
   -- the walk of fields below an index
   abbrev Emitting : ℕ → Type 0
-  Emitting n = (fs : List Field) (place : Place) → FieldsBelow n fs → AreCatchAlls (fields_bring table build fs) → (es : List Emission) × Emits (walk_fields build fs place) es (fields_bring table build fs)
+  Emitting n = (fs : List Field) (place : Path) → FieldsBelow n fs → AreCatchAlls (fields_bring table build fs) → (es : List Emission) × Emits (walk_fields build fs place) es (fields_bring table build fs)
 
-  emits_role : (n : ℕ) (f : Field) (place : Place) → f.shape < suc n → Emitting n → (r : Role) → r ≡ role_of build.catalogue f → AreCatchAlls (role_brings table build.format f r)
+  emits_role : (n : ℕ) (f : Field) (place : Path) → f.shape < suc n → Emitting n → (r : Role) → r ≡ role_of build.catalogue f → AreCatchAlls (role_brings table build.format f r)
       → (es : List Emission) × Emits (walk_role (walk_fields build) build f place r) es (role_brings table build.format f r)
   unfolding emit_plain
   emits_role n f place lt deeper regular e h = absurd h
-  emits_role n f place lt deeper (block target fs) e h =
-      let same = block_brings build checked table are f target fs e (not_variants (at table target.shape) (at table target.shape) h refl) in
-      subst (λ (b : Brings). (es : List Emission) × Emits (walk_fields build fs (inside_field place f target)) es b) same
-      (deeper fs (inside_field place f target) (block_below build checked table are f target fs n e lt) (subst AreCatchAlls (sym same) h))
+  emits_role n f place lt deeper (block target fs) e h = by_presence target.optional h
+    where
+      by_presence : (b : Bool) → AreCatchAlls (if b then BringsChoices else at table target.shape)
+          → (es : List Emission) × Emits (λ ns. walk_optional b (walk_fields build fs (field_path place f)) ns) es (if b then BringsChoices else at table target.shape)
+      by_presence true h = absurd h
+      by_presence false h =
+          let same = block_brings build checked table are f target fs e (not_choices (at table target.shape) (at table target.shape) h refl) in
+          subst (λ (b : Brings). (es : List Emission) × Emits (walk_fields build fs (field_path place f)) es b) same
+          (deeper fs (field_path place f) (block_below build checked table are f target fs n e lt) (subst AreCatchAlls (sym same) h))
   emits_role n f place lt deeper (alternatives target s vs) e h = absurd h
   emits_role n f place lt deeper (catch_all target) e h = (emit_catch_all build f target place, emits-one build f target place)
   emits_role n f place lt deeper (leaf target) e h = absurd h
 
-  emits_fields : (n : ℕ) → Emitting n → (fs : List Field) (place : Place) → FieldsBelow (suc n) fs → AreCatchAlls (fields_bring table build fs)
+  emits_fields : (n : ℕ) → Emitting n → (fs : List Field) (place : Path) → FieldsBelow (suc n) fs → AreCatchAlls (fields_bring table build fs)
       → (es : List Emission) × Emits (λ ns. walk_fields_step (walk_fields build) build fs place ns) es (fields_bring table build fs)
   unfolding walk_fields_step
   emits_fields n deeper [] place b h = ([], emits-none)
@@ -194,24 +203,24 @@ module _ (build : Build) (checked : NamesEarlier build.catalogue) (table : List 
       (e.0, emits-same (λ ns. walk_fields_step (walk_fields build) build fs place ns) (walk_fields build fs place) e.0 (fields_bring table build fs) (λ ns. walk-is_step build checked fs place ns) e.1)
 
   -- fields that bring catch-alls alone
-  fields_emit : (n : ℕ) (fs : List Field) (place : Place) → FieldsBelow n fs → AreCatchAlls (fields_bring table build fs) → Emits (walk_fields build fs place) (emitted_by build fs place) (fields_bring table build fs)
+  fields_emit : (n : ℕ) (fs : List Field) (place : Path) → FieldsBelow n fs → AreCatchAlls (fields_bring table build fs) → Emits (walk_fields build fs place) (emitted_by build fs place) (fields_bring table build fs)
   fields_emit n fs place b h =
       let e = emits_below n fs place b h in
       emits-emitted (walk_fields build fs place) e.0 (fields_bring table build fs) e.1
 
-  pub fields_walked : (n : ℕ) (fs : List Field) (place : Place) (ns : List ℕ) → FieldsBelow n fs → AreCatchAlls (fields_bring table build fs) → walk_fields build fs place ns ≡ Some (emitted_by build fs place, ns)
+  pub fields_walked : (n : ℕ) (fs : List Field) (place : Path) (ns : List ℕ) → FieldsBelow n fs → AreCatchAlls (fields_bring table build fs) → walk_fields build fs place ns ≡ Some (emitted_by build fs place, ns)
   fields_walked n fs place ns b h = (fields_emit n fs place b h).walked ns
 
   -- fields of a struct that brings catch-alls alone
   pub struct-alone : (f : Field) (target : Target) (fs : List Field) (a : Categories) → block target fs ≡ role_of build.catalogue f → at table target.shape ≡ CatchAlls a → AreCatchAlls (fields_bring table build fs)
   struct-alone f target fs a e is =
-      subst AreCatchAlls (sym (block_brings build checked table are f target fs e (λ v. let no : CatchAlls a ≡ Variants = sym is ∙ v in cc) ∙ is)) tt
+      subst AreCatchAlls (sym (block_brings build checked table are f target fs e (λ v. let no : CatchAlls a ≡ BringsChoices = sym is ∙ v in cc) ∙ is)) tt
 
   -- what one of them emits
-  abbrev emitted_at : Field → Place → List Emission
+  abbrev emitted_at : Field → Path → List Emission
   emitted_at f place = emitted (walk_role (walk_fields build) build f place (role_of build.catalogue f) [])
 
-  field_emits : (n : ℕ) (f : Field) (place : Place) → f.shape < suc n → AreCatchAlls (field_brings table build f) → Emits (walk_role (walk_fields build) build f place (role_of build.catalogue f)) (emitted_at f place) (field_brings table build f)
+  field_emits : (n : ℕ) (f : Field) (place : Path) → f.shape < suc n → AreCatchAlls (field_brings table build f) → Emits (walk_role (walk_fields build) build f place (role_of build.catalogue f)) (emitted_at f place) (field_brings table build f)
   field_emits n f place lt h =
       let e = emits_role n f place lt (emits_below n) (role_of build.catalogue f) refl h in
       emits-emitted (walk_role (walk_fields build) build f place (role_of build.catalogue f)) e.0 (field_brings table build f) e.1
@@ -229,11 +238,11 @@ module _ (build : Build) (checked : NamesEarlier build.catalogue) (table : List 
         ∙ sym (both_has category (field_brings table build f) (fields_bring table build fs) alone.0 alone.1)
 
     -- the last catch-all is that of the last field that brings one
-    pub last_at : Place → Option Field → Option FieldView
+    pub last_at : Path → Option Field → Option FieldView
     last_at place None = None
     last_at place (Some f) = last_catch_all category (emitted_at f place)
 
-    emitted-more : (n : ℕ) (f : Field) (fs : List Field) (place : Place) → FieldsBelow (suc n) (f ∷ fs) → AreCatchAlls (fields_bring table build (f ∷ fs)) → emitted_by build (f ∷ fs) place ≡ emitted_at f place ++ emitted_by build fs place
+    emitted-more : (n : ℕ) (f : Field) (fs : List Field) (place : Path) → FieldsBelow (suc n) (f ∷ fs) → AreCatchAlls (fields_bring table build (f ∷ fs)) → emitted_by build (f ∷ fs) place ≡ emitted_at f place ++ emitted_by build fs place
     unfolding walk_fields_step
     emitted-more n f fs place b h =
         let alone = both_catch_alls (field_brings table build f) (fields_bring table build fs) h in
@@ -245,11 +254,11 @@ module _ (build : Build) (checked : NamesEarlier build.catalogue) (table : List 
         ∙ ap (put_before (emitted_at f place)) (sym (walk-is_step build checked fs place []) ∙ rest.walked [])
         )
 
-    pub last_at-none : (place : Place) → last_at place None ≡ None
+    pub last_at-none : (place : Path) → last_at place None ≡ None
     unfolding last_at
     last_at-none place = refl
 
-    pub last-is : (n : ℕ) (fs : List Field) (place : Place) → FieldsBelow n fs → AreCatchAlls (fields_bring table build fs) → last_catch_all category (emitted_by build fs place) ≡ last_at place (last_with table build category fs)
+    pub last-is : (n : ℕ) (fs : List Field) (place : Path) → FieldsBelow n fs → AreCatchAlls (fields_bring table build fs) → last_catch_all category (emitted_by build fs place) ≡ last_at place (last_with table build category fs)
     unfolding walk_fields_step last_at
     last-is n [] place b h = ap (λ (w : Walked). last_catch_all category (emitted w)) (walk-is_step build checked [] place [])
     last-is zero (f ∷ fs) place b h = absurd (omega (arith, b.0))
@@ -268,7 +277,7 @@ module _ (build : Build) (checked : NamesEarlier build.catalogue) (table : List 
 has-alone : (category : FieldCategory) (b : Brings) → has_last category b ≡ true → AreCatchAlls b
 has-alone category (CatchAlls a) h = tt
 has-alone category Emissions h = absurd (cc)
-has-alone category Variants h = absurd (cc)
+has-alone category BringsChoices h = absurd (cc)
 
 -- where it stands
 record IsFound (table : List Brings) (build : Build) (category : FieldCategory) (fs : List Field) (f : Field) : Type 0 where
@@ -330,17 +339,20 @@ IsOther (alternatives target s vs) = ⊤
 IsOther (catch_all target) = ⊥
 IsOther (leaf target) = ⊤
 
-module _ (build : Build) (checked : NamesEarlier build.catalogue) (table : List Brings) (are : AreBrought build table) (category : FieldCategory) (f : Field) (place : Place) where
+module _ (build : Build) (checked : NamesEarlier build.catalogue) (table : List Brings) (are : AreBrought build table) (category : FieldCategory) (f : Field) (place : Path) where
   -- at a struct, the last is that of its fields
-  pub at-block : (target : Target) (fs : List Field) → block target fs ≡ role_of build.catalogue f → last_at build checked table are category place (Some f) ≡ last_catch_all category (emitted_by build fs (inside_field place f target))
+  pub at-block : (target : Target) (fs : List Field) → block target fs ≡ role_of build.catalogue f → AreCatchAlls (field_brings table build f) → last_at build checked table are category place (Some f) ≡ last_catch_all category (emitted_by build fs (field_path place f))
   unfolding last_at
-  at-block target fs e = ap (λ (r : Role). last_catch_all category (emitted (walk_role (walk_fields build) build f place r []))) (sym e)
+  at-block target fs e h =
+      let there = never_absent target.optional (at table target.shape) (subst (λ (r : Role). AreCatchAlls (role_brings table build.format f r)) (sym e) h) in
+      ap (λ (r : Role). last_catch_all category (emitted (walk_role (walk_fields build) build f place r []))) (sym e)
+      ∙ ap (λ (b : Bool). last_catch_all category (emitted (walk_optional b (walk_fields build fs (field_path place f)) []))) there.0
 
   -- and they bring catch-alls alone
   pub block-alone : (target : Target) (fs : List Field) → block target fs ≡ role_of build.catalogue f → AreCatchAlls (field_brings table build f) → AreCatchAlls (fields_bring table build fs)
   block-alone target fs e h =
-      let alone = subst (λ (r : Role). AreCatchAlls (role_brings table build.format f r)) (sym e) h in
-      subst AreCatchAlls (sym (block_brings build checked table are f target fs e (not_variants (at table target.shape) (at table target.shape) alone refl))) alone
+      let alone = (never_absent target.optional (at table target.shape) (subst (λ (r : Role). AreCatchAlls (role_brings table build.format f r)) (sym e) h)).1 in
+      subst AreCatchAlls (sym (block_brings build checked table are f target fs e (not_choices (at table target.shape) (at table target.shape) alone refl))) alone
 
   -- at a catch-all, it is this
   pub at-catch_all : (target : Target) → catch_all target ≡ role_of build.catalogue f → has_last category (field_brings table build f) ≡ true → last_at build checked table are category place (Some f) ≡ Some (catch_all_field build f target place)
@@ -463,19 +475,19 @@ module _ (r : Resolved) (es : List Emission) (b : Brings) (alone : AreCatchAlls 
       none_text : (b : Brings) → AreCatchAlls b → has_last Text b ≡ false
       none_text (CatchAlls a) h = refl
       none_text Emissions h = absurd h
-      none_text Variants h = absurd h
+      none_text BringsChoices h = absurd h
   each Tag = others Tag (get-laid Element _ m2 Tag ∙ get-laid Attribute _ m1 Tag ∙ get-laid Flat _ m0 Tag) (none_tag b alone)
     where
       none_tag : (b : Brings) → AreCatchAlls b → has_last Tag b ≡ false
       none_tag (CatchAlls a) h = refl
       none_tag Emissions h = absurd h
-      none_tag Variants h = absurd h
+      none_tag BringsChoices h = absurd h
   each Elements = others Elements (get-laid Element _ m2 Elements ∙ get-laid Attribute _ m1 Elements ∙ get-laid Flat _ m0 Elements) (none_elements b alone)
     where
       none_elements : (b : Brings) → AreCatchAlls b → has_last Elements b ≡ false
       none_elements (CatchAlls a) h = refl
       none_elements Emissions h = absurd h
-      none_elements Variants h = absurd h
+      none_elements BringsChoices h = absurd h
 
   all_laid : with_last Element (last_catch_all Element es) (with_last Attribute (last_catch_all Attribute es) (with_last Flat (last_catch_all Flat es) r)) ≡ record r { catch_alls = overlaid m0 es }
   all_laid =
@@ -485,7 +497,7 @@ module _ (r : Resolved) (es : List Emission) (b : Brings) (alone : AreCatchAlls 
       ∙ ap (λ (m : Catching). record r { catch_alls = m }) (finite.same_map category_cmp_total category_cmp_same m3 (overlaid m0 es) each)
 
 -- the last catch-all of each category is what fields leave that bring catch-alls alone
-pub all_set : (build : Build) (checked : NamesEarlier build.catalogue) (table : List Brings) → AreBrought build table → (fs : List Field) (place : Place) → FieldsBelow (length build.catalogue) fs → AreCatchAlls (fields_bring table build fs)
+pub all_set : (build : Build) (checked : NamesEarlier build.catalogue) (table : List Brings) → AreBrought build table → (fs : List Field) (place : Path) → FieldsBelow (length build.catalogue) fs → AreCatchAlls (fields_bring table build fs)
     → (r s t u : Resolved)
     → s ≡ with_last Flat (last_catch_all Flat (emitted_by build fs place)) r
     → t ≡ with_last Attribute (last_catch_all Attribute (emitted_by build fs place)) s

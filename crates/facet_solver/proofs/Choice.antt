@@ -7,15 +7,14 @@ use Rattle.facet_solver_shape.specs.declared.shape.ShapeKind.{ShapeKind}
 use Rattle.facet_solver_shape.specs.declared.shape.ShapeKind.TheVariants.{Struct, Enum}
 use Rattle.facet_solver_shape.specs.declared.shape.Field.{Field}
 use Rattle.facet_solver_shape.specs.declared.shape.Variant.{Variant}
-use Rattle.facet_solver.specs.Place.{at_root, choosing, inside_variant, Path}
+use Rattle.facet_solver.specs.Place.{at_root, choosing, variant_path, Path}
 use Rattle.facet_solver.specs.Emissions.{emit_variant, pick_of, Emission}
-use Rattle.facet_solver.specs.Walk.{Walk, emit, walk_variant_step, walk_content_step, walk_role, walk_fields_step, walk_within, walk_fields, walk_root, walk_root_shape, walk_root_kind, walk_root_variant, walk_content}
+use Rattle.facet_solver.specs.Walk.{Walk, emit, walk_variant_step, walk_content_step, walk_present, walk_role, walk_fields_step, walk_within, walk_fields, walk_root, walk_root_shape, walk_root_kind, walk_root_variant, walk_content}
 use Rattle.facet_solver.specs.Representation.{is_walked}
-use Rattle.facet_solver.specs.Roles.{Role, regular, block, alternatives, catch_all, leaf, role_of}
-use Rattle.facet_solver.specs.Listing.{Choices, no_choice, product, indexed, choices_of_variant, choices_of_role, choices_of_fields_step, choices_within, choices_of_fields, choices_of_root, choices_of_root_shape, choices_of_root_kind}
+use Rattle.facet_solver.specs.Roles.{Role, regular, block, alternatives, catch_all, leaf, role_of, may_be_absent}
+use Rattle.facet_solver.specs.Listing.{Choices, no_choice, product, indexed, choices_of_variant, choices_of_present, choices_of_optional, choices_of_role, choices_of_fields_step, choices_within, choices_of_fields, choices_of_root, choices_of_root_shape, choices_of_root_kind}
 use Rattle.facet_solver.specs.Choice.{ListsChoices, Emits, IsChoice, IsResolution, Enumerates, HasNoClash, IsClash, resolution_of}
-use Rattle.facet_solver.proofs.Listing.{In, In-append, In-map_from, In-product_from, IsExact, IsExact-none, IsExact-emit, IsExact-put_before, IsExact-and_then, IsExact-choose}
-use Rattle.facet_solver.specs.Place.{Place}
+use Rattle.facet_solver.proofs.Listing.{In, In-append, In-map_from, In-product_from, IsExact, IsExact-none, IsExact-emit, IsExact-put_before, IsExact-and_then, IsExact-choose, IsExact-optional}
 use Rattle.std.specs.Cmp.Lexicographic.{slice_cmp}
 use Rattle.std.specs.Ordering.{nat_cmp, ordering_then, ordering_reverse}
 use Rattle.std.specs.List.{AllByRecursion, AllZip}
@@ -32,25 +31,29 @@ use Rattle.std.proofs.lemmas.Cmp.{nat_list_cmp_total}
 -- ---- the list of choices by parts lists the choices of the walk, each once and in order
 -- a walk of lists of fields, at any path and flag, agrees with the choices of each
 abbrev AllExact : Walk → (List Field → Choices) → Type 0
-AllExact below choices = (fs : List Field) (place : Place) → IsExact (below fs place) (choices fs)
+AllExact below choices = (fs : List Field) (place : Path) → IsExact (below fs place) (choices fs)
 
 module _ (build : Build) where
-  exact_content : (walked : Bool) (below : Walk) (choices : List Field → Choices) (v : Variant) (place : Place) → AllExact below choices
+  exact_content : (walked : Bool) (below : Walk) (choices : List Field → Choices) (v : Variant) (place : Path) → AllExact below choices
       → IsExact (λ ns. if walked then walk_content_step below build.catalogue v place ns else emit [] ns) (choices_of_variant choices build.catalogue walked v)
   exact_content true below choices v place x = x _ _
   exact_content false below choices v place x = IsExact-emit []
 
-  exact_role : (below : Walk) (choices : List Field → Choices) (f : Field) (place : Place) (r : Role) → AllExact below choices
-      → IsExact (λ ns. walk_role below build f place r ns) (choices_of_role choices build r)
-  exact_role below choices f place regular x = IsExact-emit _
-  exact_role below choices f place (block target fs) x = x fs _
-  exact_role below choices f place (alternatives target s vs) x =
+  exact_present : (below : Walk) (choices : List Field → Choices) (f : Field) (place : Path) (r : Role) → AllExact below choices
+      → IsExact (λ ns. walk_present below build f place r ns) (choices_of_present choices build r)
+  exact_present below choices f place regular x = IsExact-emit _
+  exact_present below choices f place (block target fs) x = x fs _
+  exact_present below choices f place (alternatives target s vs) x =
       IsExact-choose (λ v rest. walk_variant_step below build (choosing f target s v) place rest) (choices_of_variant choices build.catalogue (is_walked (repr_for build s)))
       (λ v.
       IsExact-put_before (emit_variant build (choosing f target s v) place) _ _
-      (exact_content (is_walked (repr_for build s)) below choices v (inside_variant place (choosing f target s v)) x)) vs
-  exact_role below choices f place (catch_all target) x = IsExact-emit _
-  exact_role below choices f place (leaf target) x = IsExact-emit _
+      (exact_content (is_walked (repr_for build s)) below choices v (variant_path place (choosing f target s v)) x)) vs
+  exact_present below choices f place (catch_all target) x = IsExact-emit _
+  exact_present below choices f place (leaf target) x = IsExact-emit _
+
+  exact_role : (below : Walk) (choices : List Field → Choices) (f : Field) (place : Path) (r : Role) → AllExact below choices
+      → IsExact (λ ns. walk_role below build f place r ns) (choices_of_role choices build r)
+  exact_role below choices f place r x = IsExact-optional (may_be_absent r) _ _ (exact_present below choices f place r x)
 
   exact_fields : (below : Walk) (choices : List Field → Choices) → AllExact below choices → AllExact (walk_fields_step below build) (choices_of_fields_step choices build)
   unfolding walk_fields_step choices_of_fields_step
@@ -173,6 +176,13 @@ Rising-indexed k choices h (v ∷ vs) =
 Rising-one : Rising no_choice
 Rising-one = (λ d i. absurd i, tt)
 
+Rising-optional : (b : Bool) (cs : Choices) → Rising cs → Rising (choices_of_optional b cs)
+Rising-optional false cs h = h
+Rising-optional true cs h = (
+  λ d i. let r = In-map_from (λ c. 1 ∷ c) d cs i in subst (Forks (0 ∷ [])) r.2 (inl (omega arith)),
+  Rising-before 1 cs h,
+)
+
 -- the choices of every list of fields rise
 abbrev AllRise : (List Field → Choices) → Type 0
 AllRise choices = (fs : List Field) → Rising (choices fs)
@@ -182,12 +192,15 @@ module _ (build : Build) where
   rise_variant true choices v x = x _
   rise_variant false choices v x = Rising-one
 
+  rise_present : (choices : List Field → Choices) (r : Role) → AllRise choices → Rising (choices_of_present choices build r)
+  rise_present choices regular x = Rising-one
+  rise_present choices (block target fs) x = x fs
+  rise_present choices (alternatives target s vs) x = Rising-indexed 0 _ (λ v. rise_variant (is_walked (repr_for build s)) choices v x) vs
+  rise_present choices (catch_all target) x = Rising-one
+  rise_present choices (leaf target) x = Rising-one
+
   rise_role : (choices : List Field → Choices) (r : Role) → AllRise choices → Rising (choices_of_role choices build r)
-  rise_role choices regular x = Rising-one
-  rise_role choices (block target fs) x = x fs
-  rise_role choices (alternatives target s vs) x = Rising-indexed 0 _ (λ v. rise_variant (is_walked (repr_for build s)) choices v x) vs
-  rise_role choices (catch_all target) x = Rising-one
-  rise_role choices (leaf target) x = Rising-one
+  rise_role choices r x = Rising-optional (may_be_absent r) _ (rise_present choices r x)
 
   rise_fields : (choices : List Field → Choices) → AllRise choices → AllRise (choices_of_fields_step choices build)
   unfolding choices_of_fields_step

@@ -10,10 +10,10 @@ use Rattle.facet_solver_shape.specs.declared.shape.ShapeKind.TheVariants.{Struct
 use Rattle.facet_solver_shape.specs.declared.shape.Field.{Field}
 use Rattle.facet_solver_shape.specs.declared.shape.Variant.{Variant}
 use Rattle.facet_solver.specs.Representation.{is_walked, Repr}
-use Rattle.facet_solver.specs.Roles.{Role, regular, block, alternatives, catch_all, leaf, role_of, target_of, role_of_target, role_by_kind}
+use Rattle.facet_solver.specs.Roles.{Role, regular, block, alternatives, catch_all, leaf, role_of, target_of, role_of_target, role_by_kind, may_be_absent}
 use Rattle.facet_solver.specs.Content.{content_of, content_or, struct_fields, newtype_fields, IsNewtypeOf}
-use Rattle.facet_solver.specs.Listing.{Choices, product, indexed, choices_of_variant, choices_of_role, choices_of_fields_step, choices_within, choices_of_fields, choices_of_root, choices_of_root_shape, choices_of_root_kind}
-use Rattle.facet_solver.specs.Count.{Count, count_variant, count_role, count_fields_step, count_within, count_fields, count_of_root, count_of_shape, count_kind, below_2_64, IsCountOf, count_shape, count_field, count_content}
+use Rattle.facet_solver.specs.Listing.{Choices, product, indexed, choices_of_variant, choices_of_present, choices_of_optional, choices_of_role, choices_of_fields_step, choices_within, choices_of_fields, choices_of_root, choices_of_root_shape, choices_of_root_kind}
+use Rattle.facet_solver.specs.Count.{Count, count_variant, count_present, count_optional, count_role, count_fields_step, count_within, count_fields, count_of_root, count_of_shape, count_kind, below_2_64, IsCountOf, count_shape, count_field, count_content}
 use Rattle.facet_solver_shape.specs.Catalogues.{FieldsBelow, VariantsBelow, NamesEarlier}
 use Rattle.facet_solver.proofs.Roles.{RoleBelow, role_of-below, content_of-below, IsLocal, one_step, target_in, target_in_role, target_in_role-le, FieldsBelow-mono}
 use Rattle.facet_solver.proofs.Outcome.{get_push}
@@ -49,6 +49,10 @@ length-indexed k choices count h (v ∷ vs) =
     ∙ ap (λ (n : ℕ). count v + n) (length-indexed (suc k) choices count h vs)
     ∙ sym (sum_by-cons count v vs)
 
+optional_count : (b : Bool) (cs : Choices) (n : ℕ) → length cs ≡ n → length (choices_of_optional b cs) ≡ count_optional b n
+optional_count false cs n h = h
+optional_count true cs n h = ap suc (length-map' (λ c. 1 ∷ c) cs ∙ h)
+
 -- a count is the length of each list of choices
 abbrev pub AllCount : (List Field → Choices) → Count → Type 0
 AllCount choices count = (fs : List Field) → length (choices fs) ≡ count fs
@@ -58,12 +62,15 @@ module _ (build : Build) where
   variant_count true choices count v h = h _
   variant_count false choices count v h = refl
 
+  present_count : (choices : List Field → Choices) (count : Count) (r : Role) → AllCount choices count → length (choices_of_present choices build r) ≡ count_present count build r
+  present_count choices count regular h = refl
+  present_count choices count (block target fs) h = h fs
+  present_count choices count (alternatives target s vs) h = length-indexed 0 _ _ (λ v. variant_count (is_walked (repr_for build s)) choices count v h) vs
+  present_count choices count (catch_all target) h = refl
+  present_count choices count (leaf target) h = refl
+
   pub role_count : (choices : List Field → Choices) (count : Count) (r : Role) → AllCount choices count → length (choices_of_role choices build r) ≡ count_role count build r
-  role_count choices count regular h = refl
-  role_count choices count (block target fs) h = h fs
-  role_count choices count (alternatives target s vs) h = length-indexed 0 _ _ (λ v. variant_count (is_walked (repr_for build s)) choices count v h) vs
-  role_count choices count (catch_all target) h = refl
-  role_count choices count (leaf target) h = refl
+  role_count choices count r h = optional_count (may_be_absent r) (choices_of_present choices build r) (count_present count build r) (present_count choices count r h)
 
   fields_count : (choices : List Field → Choices) (count : Count) → AllCount choices count → AllCount (choices_of_fields_step choices build) (count_fields_step count build)
   unfolding choices_of_fields_step count_fields_step
@@ -109,12 +116,15 @@ module _ (build : Build) (checked : NamesEarlier build.catalogue) where
   count_variant-same true g h limit v b x = x (content_of build.catalogue v).fields (content_of-below build.catalogue checked limit v b)
   count_variant-same false g h limit v b x = refl
 
+  count_present-same : (g h : Count) (limit : ℕ) (r : Role) → RoleBelow limit r → ((gs : List Field) → FieldsBelow limit gs → g gs ≡ h gs) → count_present g build r ≡ count_present h build r
+  count_present-same g h limit regular b x = refl
+  count_present-same g h limit (block target fs) b x = x fs b
+  count_present-same g h limit (alternatives target s vs) b x = sum_by-same limit _ _ vs b (λ v below. count_variant-same (is_walked (repr_for build s)) g h limit v below x)
+  count_present-same g h limit (catch_all target) b x = refl
+  count_present-same g h limit (leaf target) b x = refl
+
   pub count_role-same : (g h : Count) (limit : ℕ) (r : Role) → RoleBelow limit r → ((gs : List Field) → FieldsBelow limit gs → g gs ≡ h gs) → count_role g build r ≡ count_role h build r
-  count_role-same g h limit regular b x = refl
-  count_role-same g h limit (block target fs) b x = x fs b
-  count_role-same g h limit (alternatives target s vs) b x = sum_by-same limit _ _ vs b (λ v below. count_variant-same (is_walked (repr_for build s)) g h limit v below x)
-  count_role-same g h limit (catch_all target) b x = refl
-  count_role-same g h limit (leaf target) b x = refl
+  count_role-same g h limit r b x = ap (count_optional (may_be_absent r)) (count_present-same g h limit r b x)
 
   pub count-local : IsLocal (λ below fs. count_fields_step below build fs)
   unfolding count_fields_step
@@ -219,25 +229,25 @@ module _ (build : Build) where
   pub entry_counted : (counts : List SaturatingCount) (id : ℕ) (d : SaturatingCount) → AreFirstCounts build counts → id < length counts → CountsTo (get_or counts id d) (count_at build id)
   entry_counted counts id d counted h = counted.each id (get_or counts id d) (slice_get-get_or counts id d h)
 
-  role-count : (target : Target) (s : Shape) (k : ShapeKind) → count_role (count_fields build) build (role_by_kind target s k) ≡ count_kind build (is_walked (repr_for build s)) k
+  role-count : (target : Target) (s : Shape) (k : ShapeKind) → count_present (count_fields build) build (role_by_kind target s k) ≡ count_kind build (is_walked (repr_for build s)) k
   role-count target s (Struct kind fs) = refl
   role-count target s (Enum vs) = refl
   role-count target s _ = refl
 
-  target-count : (target : Target) (o : Option Shape) → count_role (count_fields build) build (role_of_target target o) ≡ option_map_or (count_shape build) o 1
+  target-count : (target : Target) (o : Option Shape) → count_present (count_fields build) build (role_of_target target o) ≡ option_map_or (count_shape build) o 1
   target-count target None = refl
   target-count target (Some s) = role-count target s s.kind
 
   flag-count : (b : Bool) (f : Field) → b ≡ true → count_at build (target_of build.catalogue f).shape
-      ≡ count_role (count_fields build) build (if b then role_of_target (target_of build.catalogue f) (slice_get build.catalogue (target_of build.catalogue f).shape) else regular)
+      ≡ count_present (count_fields build) build (if b then role_of_target (target_of build.catalogue f) (slice_get build.catalogue (target_of build.catalogue f).shape) else regular)
   unfolding count_at
   flag-count true f e = sym (target-count (target_of build.catalogue f) (slice_get build.catalogue (target_of build.catalogue f).shape))
   flag-count false f e = absurd (cc)
 
-  -- the entry at the target of a field's role is the field's count
-  pub field_counted : (counts : List SaturatingCount) (f : Field) (target : Target) (d : SaturatingCount) → NamesEarlier build.catalogue → AreFirstCounts build counts → f.shape < length counts
-      → Some target ≡ target_in (role_of build.catalogue f) → CountsTo (get_or counts target.shape d) (count_field build f)
-  field_counted counts f target d checked counted h e =
+  -- the entry at the target of a field's role is the count of the field where it is present
+  pub present_counted : (counts : List SaturatingCount) (f : Field) (target : Target) (d : SaturatingCount) → NamesEarlier build.catalogue → AreFirstCounts build counts → f.shape < length counts
+      → Some target ≡ target_in (role_of build.catalogue f) → CountsTo (get_or counts target.shape d) (count_present (count_fields build) build (role_of build.catalogue f))
+  present_counted counts f target d checked counted h e =
       let t = target_in_role build.catalogue f target e in
       let le = target_in_role-le build.catalogue checked f target e in
       subst (CountsTo (get_or counts target.shape d))

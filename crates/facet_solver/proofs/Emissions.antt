@@ -5,12 +5,11 @@ use Rattle.facet_solver_shape.specs.declared.shape.Field.{Field}
 use Rattle.facet_solver_shape.specs.Names.{Name, effective_name}
 use Rattle.facet_solver.specs.Representation.{Repr, flattened, externally_tagged, internally_tagged, adjacently_tagged}
 use Rattle.facet_solver.specs.Nested.{no_paths, named, nested_paths, content_paths}
-use Rattle.facet_solver.specs.Place.{Chosen}
+use Rattle.facet_solver.specs.Place.{Chosen, Path}
 use Rattle.facet_solver.specs.Emissions.{a_field, some_key_paths, a_catch_all, field_and_paths, regular_field, catch_all_field, selector_field, emit_regular, emit_catch_all, emit_selector_by}
-use Rattle.facet_solver.specs.Place.{Place}
 use Rattle.facet_solver.specs.declared.build.role.Target.{Target}
 
-module _ (build : Build) (f : Field) (place : Place) where
+module _ (build : Build) (f : Field) (place : Path) where
   -- a regular field, and then the key paths of its name and behind it
   pub regular-part : emit_regular build f place
       ≡ a_field (regular_field build f place) ∷ some_key_paths (named (effective_name f) (nested_paths build.catalogue f.shape)) ∷ []
@@ -22,7 +21,7 @@ module _ (build : Build) (f : Field) (place : Place) where
   catch_all-part target = refl
 
 -- a selector by the representation
-module _ (repr : Repr) (build : Build) (chosen : Chosen) (place : Place) where
+module _ (repr : Repr) (build : Build) (chosen : Chosen) (place : Path) where
   pub selector-flattened : flattened ≡ repr → emit_selector_by repr build chosen place ≡ []
   unfolding emit_selector_by
   selector-flattened e = ap (λ (repr : Repr). emit_selector_by repr build chosen place) (sym e)
@@ -37,7 +36,7 @@ module _ (repr : Repr) (build : Build) (chosen : Chosen) (place : Place) where
   selector-adjacent tag content e = ap (λ (repr : Repr). emit_selector_by repr build chosen place) (sym e)
 
 -- the selector of a variant whose name holds the content, and then the key paths of the name and behind it
-pub selector-external : (build : Build) (chosen : Chosen) (place : Place) (name : Name) → name ≡ string_bytes chosen.variant.name → emit_selector_by externally_tagged build chosen place
+pub selector-external : (build : Build) (chosen : Chosen) (place : Path) (name : Name) → name ≡ string_bytes chosen.variant.name → emit_selector_by externally_tagged build chosen place
     ≡ a_field (selector_field build name chosen place) ∷ some_key_paths (named name (content_paths build.catalogue chosen.variant)) ∷ []
 unfolding emit_selector_by selector_field field_and_paths
 selector-external build chosen place name same =

@@ -27,15 +27,14 @@ use Rattle.facet_solver.specs.declared.build.representation.Format.{Format}
 use Rattle.facet_solver.specs.declared.build.representation.Format.TheVariants.{Flat, Dom}
 use Rattle.facet_solver.specs.Representation.{category_of_mark, Repr, flattened, externally_tagged, internally_tagged, adjacently_tagged, is_walked, field_category, selector_category}
 use Rattle.facet_solver.specs.Content.{content_of}
-use Rattle.facet_solver.specs.Roles.{Role, regular, block, alternatives, catch_all, leaf, role_of}
+use Rattle.facet_solver.specs.Roles.{Role, regular, block, alternatives, catch_all, leaf, role_of, may_be_absent}
 use Rattle.facet_solver.specs.Nested.{with_key_paths}
 use Rattle.facet_solver.specs.Emissions.{Emission, a_field, some_key_paths, a_pick, a_catch_all, field_and_paths, pick_of, regular_field, leaf_field, selector_field, emit_regular, emit_catch_all, emit_leaf, emit_selector_by, emit_variant, emit_plain}
-use Rattle.facet_solver.specs.Place.{Chosen, at_root, at_root_variant, choosing, further, inside_field, inside_variant}
-use Rattle.facet_solver.specs.Walk.{Walked, Walk, put_before, and_then, emit, choose, at_chosen, walk_variant_step, walk_content_step, walk_role, walk_fields_step, walk_within, walk_fields, walk_root, walk_root_shape, walk_root_kind, walk_root_variant, walk_content}
+use Rattle.facet_solver.specs.Place.{Chosen, at_root, at_root_variant, choosing, field_path, variant_path, Path}
+use Rattle.facet_solver.specs.Walk.{Walked, Walk, put_before, and_then, emit, choose, at_chosen, walk_variant_step, walk_content_step, Walking, walk_present, walk_optional, walk_role, walk_fields_step, walk_within, walk_fields, walk_root, walk_root_shape, walk_root_kind, walk_root_variant, walk_content}
 use Rattle.facet_solver.specs.Choice.{with_emission, resolution_of, IsResolution, GoesByName}
 use Rattle.facet_solver.specs.Indexed.{AreOfFormat, IsOfFormat}
 use Rattle.facet_solver.specs.Schema.{IsBuilt, SchemaView}
-use Rattle.facet_solver.specs.Place.{Place}
 
 -- all categories that fields and selectors get in a format
 pub record HasCategories (P : FieldCategory → Type 0) (format : Format) : Type 0 where
@@ -96,11 +95,19 @@ module _ (P : FieldCategory → Type 0) where
   having-choose vs [] go h = tt
   having-choose vs (k ∷ ns) go h = having-at_chosen (slice_get vs k) (λ v. go v ns) (λ v. h v ns)
 
+  having-optional : (b : Bool) (walk : Walking) (ns : List ℕ) → ((ms : List ℕ) → EmitsHaving (walk ms)) → EmitsHaving (walk_optional b walk ns)
+  unfolding EmitsHaving AllHave
+  having-optional false walk ns h = h ns
+  having-optional true walk [] h = tt
+  having-optional true walk (zero ∷ ns) h = tt
+  having-optional true walk (suc zero ∷ ns) h = h ns
+  having-optional true walk (suc (suc k) ∷ ns) h = tt
+
   module _ (build : Build) (has : HasCategories P build.format) where
     AllWalksHave : Walk → Type 0
-    AllWalksHave below = (fs : List Field) (place : Place) (ns : List ℕ) → EmitsHaving (below fs place ns)
+    AllWalksHave below = (fs : List Field) (place : Path) (ns : List ℕ) → EmitsHaving (below fs place ns)
 
-    having-selector : (repr : Repr) (chosen : Chosen) (place : Place) → AllHave (emit_selector_by repr build chosen place)
+    having-selector : (repr : Repr) (chosen : Chosen) (place : Path) → AllHave (emit_selector_by repr build chosen place)
     unfolding emit_selector_by AllHave selector_field field_and_paths
     having-selector flattened chosen place = tt
     having-selector externally_tagged chosen place =
@@ -109,11 +116,11 @@ module _ (P : FieldCategory → Type 0) where
     having-selector (adjacently_tagged tag content) chosen place =
         (has.selectors, tt)
 
-    having-variant : (chosen : Chosen) (place : Place) → AllHave (emit_variant build chosen place)
+    having-variant : (chosen : Chosen) (place : Path) → AllHave (emit_variant build chosen place)
     unfolding emit_variant AllHave
     having-variant chosen place = having-selector (repr_for build chosen.shape) chosen place
 
-    having-plain : (f : Field) (place : Place) (r : Role) → AllHave (emit_plain build f place r)
+    having-plain : (f : Field) (place : Path) (r : Role) → AllHave (emit_plain build f place r)
     unfolding emit_plain emit_regular emit_catch_all emit_leaf regular_field leaf_field field_and_paths AllHave
     having-plain f place regular =
         (has.fields f.dom, tt)
@@ -122,44 +129,47 @@ module _ (P : FieldCategory → Type 0) where
     having-plain f place (catch_all target) = tt
     having-plain f place (leaf target) = (has.fields f.dom, tt)
 
-    having-content : (walked : Bool) (below : Walk) (v : Variant) (place : Place) (ns : List ℕ) → AllWalksHave below
+    having-content : (walked : Bool) (below : Walk) (v : Variant) (place : Path) (ns : List ℕ) → AllWalksHave below
         → EmitsHaving (if walked then walk_content_step below build.catalogue v place ns else emit [] ns)
     unfolding AllWalksHave EmitsHaving AllHave
     having-content true below v place ns h =
-        h (content_of build.catalogue v).fields (further place (content_of build.catalogue v).path) ns
+        h (content_of build.catalogue v).fields (place ++ (content_of build.catalogue v).path) ns
     having-content false below v place ns h = tt
 
-    having-role : (below : Walk) (f : Field) (place : Place) (r : Role) (ns : List ℕ) → AllWalksHave below → EmitsHaving (walk_role below build f place r ns)
+    having-present : (below : Walk) (f : Field) (place : Path) (r : Role) (ns : List ℕ) → AllWalksHave below → EmitsHaving (walk_present below build f place r ns)
     unfolding AllWalksHave EmitsHaving
-    having-role below f place regular ns h = having-plain f place regular
-    having-role below f place (block target fs) ns h = h fs (inside_field place f target) ns
-    having-role below f place (alternatives target s vs) ns h =
+    having-present below f place regular ns h = having-plain f place regular
+    having-present below f place (block target fs) ns h = h fs (field_path place f) ns
+    having-present below f place (alternatives target s vs) ns h =
         having-choose vs ns (λ v rest. walk_variant_step below build (choosing f target s v) place rest)
         (λ v rest.
         having-put_before (emit_variant build (choosing f target s v) place) _ (having-variant (choosing f target s v) place)
-        (having-content (is_walked (repr_for build s)) below v (inside_variant place (choosing f target s v)) rest h))
-    having-role below f place (catch_all target) ns h = having-plain f place (catch_all target)
-    having-role below f place (leaf target) ns h = having-plain f place (leaf target)
+        (having-content (is_walked (repr_for build s)) below v (variant_path place (choosing f target s v)) rest h))
+    having-present below f place (catch_all target) ns h = having-plain f place (catch_all target)
+    having-present below f place (leaf target) ns h = having-plain f place (leaf target)
 
-    having-fields : (below : Walk) → AllWalksHave below → (fs : List Field) (place : Place) (ns : List ℕ) → EmitsHaving (walk_fields_step below build fs place ns)
+    having-role : (below : Walk) (f : Field) (place : Path) (r : Role) (ns : List ℕ) → AllWalksHave below → EmitsHaving (walk_role below build f place r ns)
+    having-role below f place r ns h = having-optional (may_be_absent r) (walk_present below build f place r) ns (λ ms. having-present below f place r ms h)
+
+    having-fields : (below : Walk) → AllWalksHave below → (fs : List Field) (place : Path) (ns : List ℕ) → EmitsHaving (walk_fields_step below build fs place ns)
     unfolding walk_fields_step EmitsHaving AllHave
     having-fields below h [] place ns = tt
     having-fields below h (f ∷ fs) place ns =
         having-and_then (walk_role below build f place (role_of build.catalogue f) ns) _
         (having-role below f place (role_of build.catalogue f) ns h) (λ rest. having-fields below h fs place rest)
 
-    having-within : (n : ℕ) (fs : List Field) (place : Place) (ns : List ℕ) → EmitsHaving (walk_within n build fs place ns)
+    having-within : (n : ℕ) (fs : List Field) (place : Path) (ns : List ℕ) → EmitsHaving (walk_within n build fs place ns)
     unfolding walk_within EmitsHaving AllWalksHave
     having-within zero fs place ns = tt
     having-within (suc n) fs place ns = having-fields (walk_within n build) (having-within n) fs place ns
 
-    having-walk : (fs : List Field) (place : Place) (ns : List ℕ) → EmitsHaving (walk_fields build fs place ns)
+    having-walk : (fs : List Field) (place : Path) (ns : List ℕ) → EmitsHaving (walk_fields build fs place ns)
     unfolding walk_fields
     having-walk fs place ns = having-within (suc (length build.catalogue)) fs place ns
 
-    having-inside : (v : Variant) (place : Place) (ns : List ℕ) → EmitsHaving (walk_content build v place ns)
+    having-inside : (v : Variant) (place : Path) (ns : List ℕ) → EmitsHaving (walk_content build v place ns)
     unfolding walk_content
-    having-inside v place ns = having-walk (content_of build.catalogue v).fields (further place (content_of build.catalogue v).path) ns
+    having-inside v place ns = having-walk (content_of build.catalogue v).fields (place ++ (content_of build.catalogue v).path) ns
 
     having-root_variant : (s : Shape) (v : Variant) (ns : List ℕ) → EmitsHaving (walk_root_variant build s v ns)
     unfolding walk_root_variant AllHave

@@ -2,8 +2,8 @@
 use Rattle.std.proofs.Common.{◌≡◌, ℕ, zero, suc, ◌+◌, ◌⊎◌, inl, inr, List, [], ◌∷◌, ◌++◌, map, Option, Some, None, sym, refl, ap, ◌∙◌, subst, append_assoc, slice_get, add-zero, zero-add, arith, ◌<◌, ◌≤◌, Bool, true, false, length, get_or, drop, append-nil}
 use Rattle.facet_solver_shape.specs.declared.shape.Variant.{Variant}
 use Rattle.facet_solver.specs.Emissions.{Emission}
-use Rattle.facet_solver.specs.Walk.{Walking, Walked, put_before, and_then, emit, choose, at_chosen}
-use Rattle.facet_solver.specs.Listing.{Choices, no_choice, product, indexed, choices_of_variant, choices_of_role, choices_of_fields_step, choices_of_fields, choices_of_field, choices_of_variants, choices_of_root, choices_of_root_shape, choices_of_root_kind}
+use Rattle.facet_solver.specs.Walk.{Walking, Walked, put_before, and_then, emit, choose, at_chosen, walk_optional}
+use Rattle.facet_solver.specs.Listing.{Choices, no_choice, product, indexed, choices_of_variant, choices_of_optional, choices_of_role, choices_of_fields_step, choices_of_fields, choices_of_field, choices_of_variants, choices_of_root, choices_of_root_shape, choices_of_root_kind}
 use Rattle.facet_solver.specs.Build.{Build, repr_for, Catalogue}
 use Rattle.std.proofs.lemmas.List.{drop_more}
 use Rattle.std.proofs.Math.ListN.{drop_of_length-le}
@@ -173,6 +173,28 @@ module _ (go : Variant → List ℕ → Walked) (choices : Variant → Choices) 
         (r.0 ∷ a.0, subst P (zero-add r.0) (indexed_In 0 r.0 r.1 a.0 vs r.3 a.1), ap (λ (n : List ℕ). r.0 ∷ n) a.2 ∙ r.5);
   }
 
+-- what may be absent: one choice more
+pub IsExact-optional : (b : Bool) (w : Walking) (cs : Choices) → IsExact w cs → IsExact (λ ns. walk_optional b w ns) (choices_of_optional b cs)
+IsExact-optional false w cs x = x
+IsExact-optional true w cs x = record { sound = sound; complete = complete }
+  where
+    sound : (c : List ℕ) → In c (choices_of_optional true cs) → (es : List Emission) × ((rest : List ℕ) → walk_optional true w (c ++ rest) ≡ Some (es, rest))
+    sound c (inl e) = ([], λ rest. ap (λ (n : List ℕ). walk_optional true w (n ++ rest)) (sym e))
+    sound c (inr h) =
+        let r = In-map_from (λ c. 1 ∷ c) c cs h in
+        let s = x.sound r.0 r.1 in
+        (s.0, λ rest. ap (λ (n : List ℕ). walk_optional true w (n ++ rest)) (sym r.2) ∙ s.1 rest)
+
+    complete : (ns : List ℕ) (es : List Emission) (rest : List ℕ) → walk_optional true w ns ≡ Some (es, rest) → (c : List ℕ) × (In c (choices_of_optional true cs)) × (c ++ rest ≡ ns)
+    complete [] es rest e = absurd (cc)
+    complete (zero ∷ ns) es rest e =
+        let same : ([], ns) ≡ (es, rest) = cc in
+        (0 ∷ [], inl refl, ap (λ (w : List Emission × List ℕ). 0 ∷ w.1) (sym same))
+    complete (suc zero ∷ ns) es rest e =
+        let r = x.complete ns es rest e in
+        (1 ∷ r.0, inr (In-map (λ c. 1 ∷ c) r.0 cs r.1), ap (λ (n : List ℕ). 1 ∷ n) r.2)
+    complete (suc (suc k) ∷ ns) es rest e = absurd (cc)
+
 -- ---- laws of products, and the choices of fields and variants part by part
 product-append : (cs ds es : Choices) → product (cs ++ ds) es ≡ product cs es ++ product ds es
 unfolding product
@@ -258,12 +280,12 @@ module _ (choices : Variant → Choices) where
 
 -- what a function that goes by a field's role needs
 module _ (build : Build) (f : Field) where
-  pub at-block : (target : Target) (fs : List Field) → block target fs ≡ role_of build.catalogue f → choices_of_field build f ≡ choices_of_fields build fs
+  pub at-block : (target : Target) (fs : List Field) → block target fs ≡ role_of build.catalogue f → choices_of_field build f ≡ choices_of_optional target.optional (choices_of_fields build fs)
   unfolding choices_of_field
   at-block target fs e = ap (choices_of_role (choices_of_fields build) build) (sym e)
 
   pub at-alternatives : (target : Target) (s : Shape) (vs : List Variant) → alternatives target s vs ≡ role_of build.catalogue f
-      → choices_of_field build f ≡ choices_of_variants build (is_walked (repr_for build s)) vs
+      → choices_of_field build f ≡ choices_of_optional target.optional (choices_of_variants build (is_walked (repr_for build s)) vs)
   unfolding choices_of_field choices_of_variants
   at-alternatives target s vs e = ap (choices_of_role (choices_of_fields build) build) (sym e)
 

@@ -14,7 +14,7 @@ use Rattle.facet_solver_shape.specs.declared.shape.Variant.{Variant}
 use Rattle.facet_solver_shape.specs.Catalogues.{FieldsBelow, VariantsBelow, KindBelow, NamesEarlier}
 use Rattle.facet_solver.specs.Build.{Catalogue, kind_of, kind_at}
 use Rattle.facet_solver.specs.Content.{effective, effective_within, go_on, next_inside, struct_fields, newtype_fields, content_of, content_or, is_zero}
-use Rattle.facet_solver.specs.Roles.{Role, regular, block, alternatives, catch_all, leaf, target_of, target_by_kind, role_of, role_of_target, role_by_kind, role_view, IsPlain}
+use Rattle.facet_solver.specs.Roles.{Role, regular, block, alternatives, catch_all, leaf, target_of, target_by_kind, role_of, role_of_target, role_by_kind, role_view, may_be_absent, IsPlain}
 use Rattle.facet_solver.specs.declared.build.role.Target.{Target}
 use Rattle.std.specs.Borrow.{Bor}
 use Rattle.facet_solver.specs.declared.build.role.Role as role
@@ -252,3 +252,10 @@ pub target_in_hand : (cat : Catalogue) (f : Field) (r : role.Role) (t : Target) 
 unfolding target_in
 target_in_hand cat f r t e (inl h) = sym (ap (λ (r : role.Role). target_in (role_view r)) h.1) ∙ ap target_in e
 target_in_hand cat f r t e (inr h) = sym (ap (λ (r : role.Role). target_in (role_view r)) h.2) ∙ ap target_in e
+
+-- and the field may be absent where its shape is an option
+pub optional_in_hand : (cat : Catalogue) (f : Field) (r : role.Role) (t : Target) → role_view r ≡ role_of cat f
+    → ((fs : Bor (List Field)) × (r ≡ Block t fs)) ⊎ ((s : Bor Shape) × (vs : Bor (List Variant)) × (r ≡ Alternatives t s vs))
+    → may_be_absent (role_of cat f) ≡ t.optional
+optional_in_hand cat f r t e (inl h) = sym (ap may_be_absent e) ∙ ap (λ (r : role.Role). may_be_absent (role_view r)) h.1
+optional_in_hand cat f r t e (inr h) = sym (ap may_be_absent e) ∙ ap (λ (r : role.Role). may_be_absent (role_view r)) h.2

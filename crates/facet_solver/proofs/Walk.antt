@@ -1,6 +1,6 @@
 -- The walk part by part, and what each part makes of a resolution.
 use Rattle.facet_solver.specs.Build.{Build, repr_for}
-use Rattle.std.proofs.Common.{◌≡◌, ℕ, zero, suc, ◌+◌, ◌<◌, ◌≤◌, List, [], ◌∷◌, Option, Some, None, slice_get, Bool, true, false, sym, refl, ap, ◌∙◌, subst, length, get_or, drop, append-nil, arith, IsSome}
+use Rattle.std.proofs.Common.{◌≡◌, ℕ, zero, suc, ◌+◌, ◌<◌, ◌≤◌, List, [], ◌∷◌, ◌++◌, Option, Some, None, slice_get, Bool, true, false, sym, refl, ap, ◌∙◌, subst, length, get_or, drop, append-nil, arith, IsSome}
 use Rattle.std.specs.Prelude.{if◌then◌else◌, Result, IsErrAnd, slice_index, codes, Vec}
 use Rattle.std.specs.Borrow.{Bor}
 use Rattle.std.proofs.lemmas.Result.{err_from_is_err_and}
@@ -10,12 +10,12 @@ use Rattle.facet_solver_shape.specs.Catalogues.{FieldsBelow, VariantsBelow, Name
 use Rattle.facet_solver_shape.specs.Paths.{by_field}
 use Rattle.facet_solver_shape.specs.Resolved.{Resolved}
 use Rattle.facet_solver.specs.Outcome.{ErrorOf, StopsBy, Walks, duplicate_view, Outcome, resolved, take_all, effect, take_in}
-use Rattle.facet_solver.specs.Roles.{IsPlain, Role, regular, block, alternatives, catch_all, leaf, role_of}
+use Rattle.facet_solver.specs.Roles.{IsPlain, Role, regular, block, alternatives, catch_all, leaf, role_of, may_be_absent}
 use Rattle.facet_solver.specs.Representation.{is_walked}
 use Rattle.facet_solver.specs.Content.{newtype_fields, content_or}
 use Rattle.facet_solver.specs.Emissions.{Emission, emit_variant, emit_plain, pick_of}
-use Rattle.facet_solver.specs.Place.{Path, Chosen, choosing, further, inside_field, inside_variant, at_root, at_root_variant}
-use Rattle.facet_solver.specs.Walk.{Walked, put_before, and_then, emit, choose, at_chosen, walk_fields, walk_field, walk_variant, walk_content, walk_role, walk_content_step, walk_fields_step, HasChoice, Walk, walk_root, walk_root_shape, walk_root_kind, walk_root_variant}
+use Rattle.facet_solver.specs.Place.{Path, Chosen, choosing, field_path, variant_path, at_root, at_root_variant}
+use Rattle.facet_solver.specs.Walk.{Walked, put_before, and_then, emit, choose, at_chosen, walk_fields, walk_field, walk_present_field, walk_present, walk_optional, walk_variant, walk_content, walk_content_step, walk_fields_step, HasChoice, HasPresence, Walk, Walking, walk_root, walk_root_shape, walk_root_kind, walk_root_variant}
 use Rattle.facet_solver.proofs.Roles.{limit_of, limit_of-content, content_of-below}
 use Rattle.std.proofs.lemmas.List.{drop_more}
 use Rattle.std.proofs.Math.ListN.{drop_of_length-le}
@@ -24,7 +24,6 @@ use Rattle.facet_solver_shape.specs.declared.shape.Field.{Field}
 use Rattle.facet_solver_shape.specs.declared.shape.Variant.{Variant}
 use Rattle.facet_solver.proofs.Outcome.{take_all-nil, effect-put_before, effect-and_then, effect-and_then-stopped, effect-stopped, put_before-some, take_all-one}
 use Rattle.facet_solver.proofs.WalkSteps.{walk_step, walk-is_step}
-use Rattle.facet_solver.specs.Place.{Place}
 use Rattle.facet_solver.specs.declared.build.role.Target.{Target}
 use Rattle.std.specs.declared.alloc.Global.{Global}
 use Rattle.facet_solver_shape.specs.declared.shape.StructKind.{StructKind}
@@ -50,7 +49,7 @@ pub first-some : (w : Walked) (go : List ℕ → Walked) → IsSome (and_then w 
 first-some None go h = absurd (cc)
 first-some (Some w) go h = refl
 
-module _ (build : Build) (place : Place) where
+module _ (build : Build) (place : Path) where
   left-nil : (ns : List ℕ) → walk_left build [] place ns ≡ Some ([], ns)
   unfolding walk_left walk_fields_step
   left-nil ns = refl
@@ -99,27 +98,56 @@ walks-exit result new e err h k =
 pub walks-same : (result : Result (Bor (List ℕ)) schema.SchemaError) (new : Resolved) (e f : Option (Outcome × List ℕ)) → e ≡ f → Walks f result new → Walks e result new
 walks-same result new e f h k = subst (λ (x : Option (Outcome × List ℕ)). Walks x result new) (sym h) k
 
--- the walk of a field by its role
-module _ (build : Build) (f : Field) (place : Place) (ns : List ℕ) where
-  pub at-block : (target : Target) (fs : List Field) → block target fs ≡ role_of build.catalogue f → walk_field build f place ns ≡ walk_fields build fs (inside_field place f target) ns
-  unfolding walk_field
-  at-block target fs e = ap (λ (r : Role). walk_role (walk_fields build) build f place r ns) (sym e)
+-- where something may be absent that was walked, an index says whether it is
+pub has_presence : (b : Bool) (w : Walking) (ns : List ℕ) → IsSome (walk_optional b w ns) → HasPresence b ns
+has_presence false w ns h = tt
+has_presence true w [] h = absurd (cc)
+has_presence true w (zero ∷ ns) h = omega arith
+has_presence true w (suc zero ∷ ns) h = omega arith
+has_presence true w (suc (suc k) ∷ ns) h = absurd (cc)
+
+-- the walk of a field that is present, by its role
+module _ (build : Build) (f : Field) (place : Path) (ns : List ℕ) where
+  pub at-block : (target : Target) (fs : List Field) → block target fs ≡ role_of build.catalogue f → walk_present_field build f place ns ≡ walk_fields build fs (field_path place f) ns
+  unfolding walk_present_field
+  at-block target fs e = ap (λ (r : Role). walk_present (walk_fields build) build f place r ns) (sym e)
 
   pub at-alternatives : (target : Target) (s : Shape) (vs : List Variant) → alternatives target s vs ≡ role_of build.catalogue f
-      → walk_field build f place ns ≡ choose vs ns (λ v rest. walk_variant build (choosing f target s v) place rest)
-  unfolding walk_field walk_variant
-  at-alternatives target s vs e = ap (λ (r : Role). walk_role (walk_fields build) build f place r ns) (sym e)
+      → walk_present_field build f place ns ≡ choose vs ns (λ v rest. walk_variant build (choosing f target s v) place rest)
+  unfolding walk_present_field walk_variant
+  at-alternatives target s vs e = ap (λ (r : Role). walk_present (walk_fields build) build f place r ns) (sym e)
 
-  pub at-plain : (r : Role) → r ≡ role_of build.catalogue f → IsPlain r → walk_field build f place ns ≡ Some (emit_plain build f place r, ns)
-  unfolding walk_field
-  at-plain r e h = ap (λ (r : Role). walk_role (walk_fields build) build f place r ns) (sym e) ∙ go r h
+  pub at-plain : (r : Role) → r ≡ role_of build.catalogue f → IsPlain r → walk_present_field build f place ns ≡ Some (emit_plain build f place r, ns)
+  unfolding walk_present_field
+  at-plain r e h = ap (λ (r : Role). walk_present (walk_fields build) build f place r ns) (sym e) ∙ go r h
     where
-      go : (r : Role) → IsPlain r → walk_role (walk_fields build) build f place r ns ≡ Some (emit_plain build f place r, ns)
+      go : (r : Role) → IsPlain r → walk_present (walk_fields build) build f place r ns ≡ Some (emit_plain build f place r, ns)
       go regular h = refl
       go (block target fs) h = absurd h
       go (alternatives target s vs) h = absurd h
       go (catch_all target) h = refl
       go (leaf target) h = refl
+
+-- what is told of a field's presence: whether it is present, and the indices that are left
+abbrev pub Tells : Bool → List ℕ → Bool → List ℕ → Type 0
+Tells may_be_absent ns is_present rest = (w : Walking) → walk_optional may_be_absent w ns ≡ (if is_present then w rest else emit [] rest)
+
+-- the walk of a field whose presence is told
+module _ (build : Build) (f : Field) (place : Path) (ns : List ℕ) (b : Bool) (is : b ≡ may_be_absent (role_of build.catalogue f)) where
+  pub by_presence : walk_field build f place ns ≡ walk_optional b (walk_present_field build f place) ns
+  unfolding walk_field walk_present_field
+  by_presence = ap (λ (b : Bool). walk_optional b (walk_present (walk_fields build) build f place (role_of build.catalogue f)) ns) (sym is)
+
+  module _ (is_present : Bool) (rest : List ℕ) (told : Tells b ns is_present rest) where
+    pub when-present : is_present ≡ true → walk_field build f place ns ≡ walk_present_field build f place rest
+    when-present e =
+        by_presence ∙ told (walk_present_field build f place)
+        ∙ ap (λ (b : Bool). if b then walk_present_field build f place rest else emit [] rest) e
+
+    pub when-absent : is_present ≡ false → walk_field build f place ns ≡ Some ([], rest)
+    when-absent e =
+        by_presence ∙ told (walk_present_field build f place)
+        ∙ ap (λ (b : Bool). if b then walk_present_field build f place rest else emit [] rest) e
 
 -- a choice that was walked has its index
 pub has_choice : (vs : List Variant) (ns : List ℕ) (go : Variant → List ℕ → Walked) → IsSome (choose vs ns go) → HasChoice vs ns
@@ -141,14 +169,14 @@ VariantsBelow-get limit (w ∷ vs) zero v e b = let same : w ≡ v = cc in let P
 VariantsBelow-get limit (w ∷ vs) (suc k) v e b = VariantsBelow-get limit vs k v e b.1
 
 -- the walk of a chosen variant
-module _ (build : Build) (chosen : Chosen) (place : Place) (ns : List ℕ) where
+module _ (build : Build) (chosen : Chosen) (place : Path) (ns : List ℕ) where
   by_flag : Bool → Walked
   by_flag walked =
       put_before (emit_variant build chosen place)
-      (if walked then walk_content_step (walk_fields build) build.catalogue chosen.variant (inside_variant place chosen) ns else emit [] ns)
+      (if walked then walk_content_step (walk_fields build) build.catalogue chosen.variant (variant_path place chosen) ns else emit [] ns)
 
   pub chosen-walked : is_walked (repr_for build chosen.shape) ≡ true
-      → walk_variant build chosen place ns ≡ put_before (emit_variant build chosen place) (walk_content build chosen.variant (inside_variant place chosen) ns)
+      → walk_variant build chosen place ns ≡ put_before (emit_variant build chosen place) (walk_content build chosen.variant (variant_path place chosen) ns)
   unfolding walk_variant walk_content by_flag
   chosen-walked e = ap by_flag e
 
@@ -162,12 +190,12 @@ module _ (build : Build) (chosen : Chosen) (place : Place) (ns : List ℕ) where
   chosen-announced = (_, refl)
 
 -- the walk of a content
-module _ (build : Build) (v : Variant) (place : Place) (ns : List ℕ) where
+module _ (build : Build) (v : Variant) (place : Path) (ns : List ℕ) where
   by_content : Option (List Field) → Walked
-  by_content o = walk_fields build (content_or v o).fields (further place (content_or v o).path) ns
+  by_content o = walk_fields build (content_or v o).fields (place ++ (content_or v o).path) ns
 
   pub inside-newtype : (fs : List Field) → Some fs ≡ newtype_fields build.catalogue v.fields.items
-      → walk_content build v place ns ≡ walk_fields build fs (further place (by_field (codes "0") ∷ [])) ns
+      → walk_content build v place ns ≡ walk_fields build fs (place ++ by_field (codes "0") ∷ []) ns
   unfolding walk_content by_content
   inside-newtype fs e = ap by_content (sym e)
 
@@ -175,7 +203,7 @@ module _ (build : Build) (v : Variant) (place : Place) (ns : List ℕ) where
   unfolding walk_content by_content
   inside-own e =
       ap by_content (sym e)
-      ∙ ap (λ (path : Path). walk_fields build v.fields.items record { path = path; unwrapped = place.unwrapped } ns) (append-nil place.path)
+      ∙ ap (λ (path : Path). walk_fields build v.fields.items path ns) (append-nil place)
 
   newtype-below : (limit : ℕ) → NamesEarlier build.catalogue → (fs : List Field) → Some fs ≡ newtype_fields build.catalogue v.fields.items → FieldsBelow limit v.fields.items → FieldsBelow limit fs
   newtype-below limit checked fs e b =
@@ -196,7 +224,7 @@ module _ (build : Build) (v : Variant) (place : Place) (ns : List ℕ) where
       ∙ walk-is_step build checked [] place ns
 
 -- one turn of the loop over fields: what is left has the effect of the whole
-module _ (build : Build) (place : Place) (fs : List Field) (i : ℕ) (ns : List ℕ) (r r0 : Resolved) (whole : Walked) (walked : IsSome whole)
+module _ (build : Build) (place : Path) (fs : List Field) (i : ℕ) (ns : List ℕ) (r r0 : Resolved) (whole : Walked) (walked : IsSome whole)
     (left : effect r (walk_left build (drop i fs) place ns) ≡ effect r0 whole) where
   module _ (f : Field) (here : i < length fs) (is : f ≡ get_or fs i f) where
     parts : walk_left build (drop i fs) place ns ≡ and_then (walk_field build f place ns) (λ rest. walk_left build (drop (i + 1) fs) place rest)
@@ -224,14 +252,14 @@ module _ (build : Build) (place : Place) (fs : List Field) (i : ℕ) (ns : List 
       sym left ∙ ap (effect r) (walk-end build place fs i ns h) ∙ ap (λ (o : Outcome). Some (o, ns)) (take_all-nil r)
 
 -- a chosen variant, as the code goes through it
-module _ (build : Build) (chosen : Chosen) (place : Place) (ns : List ℕ) where
+module _ (build : Build) (chosen : Chosen) (place : Path) (ns : List ℕ) where
   module _ (r t : Resolved) (done : take_all r (emit_variant build chosen place) ≡ resolved t) where
-    pub then-inside : (inside : Place) → inside ≡ inside_variant place chosen → is_walked (repr_for build chosen.shape) ≡ true
+    pub then-inside : (inside : Path) → inside ≡ variant_path place chosen → is_walked (repr_for build chosen.shape) ≡ true
         → effect r (walk_variant build chosen place ns) ≡ effect t (walk_content build chosen.variant inside ns)
     then-inside inside is_inside walked =
         ap (effect r) (chosen-walked build chosen place ns walked)
         ∙ effect-put_before r t _ _ done
-        ∙ ap (λ (place : Place). effect t (walk_content build chosen.variant place ns)) (sym is_inside)
+        ∙ ap (λ (place : Path). effect t (walk_content build chosen.variant place ns)) (sym is_inside)
 
     pub then-alone : is_walked (repr_for build chosen.shape) ≡ false → effect r (walk_variant build chosen place ns) ≡ Some (resolved t, ns)
     then-alone alone =
@@ -244,12 +272,12 @@ module _ (build : Build) (chosen : Chosen) (place : Place) (ns : List ℕ) where
       where
         go : (b : Bool) → is_walked (repr_for build chosen.shape) ≡ b → effect r (walk_variant build chosen place ns) ≡ Some (resolved t, ns)
         go true walked =
-            then-inside (inside_variant place chosen) refl walked
-            ∙ ap (effect t) (content-nothing build chosen.variant (inside_variant place chosen) ns checked empty)
+            then-inside (variant_path place chosen) refl walked
+            ∙ ap (effect t) (content-nothing build chosen.variant (variant_path place chosen) ns checked empty)
             ∙ ap (λ (o : Outcome). Some (o, ns)) (take_all-nil t)
         go false alone = then-alone alone
 
-    pub inside-some : (inside : Place) → inside ≡ inside_variant place chosen → is_walked (repr_for build chosen.shape) ≡ true
+    pub inside-some : (inside : Path) → inside ≡ variant_path place chosen → is_walked (repr_for build chosen.shape) ≡ true
         → IsSome (walk_variant build chosen place ns) → IsSome (walk_content build chosen.variant inside ns)
     inside-some inside is_inside walked h =
         some-effect t _ (subst (λ (e : Option (Outcome × List ℕ)). IsSome e) (then-inside inside is_inside walked) (effect-some r _ h))
@@ -280,10 +308,10 @@ module _ (build : Build) (root : ℕ) (ns : List ℕ) (s : Shape) (is : slice_ge
       go (Enum vs) e = absurd (no_enum vs e)
       go _ e = refl
 
-module _ (build : Build) (s : Shape) (v : Variant) (ns : List ℕ) (inside : Place) (is_inside : inside ≡ at_root_variant v) where
+module _ (build : Build) (s : Shape) (v : Variant) (ns : List ℕ) (inside : Path) (is_inside : inside ≡ at_root_variant v) where
   root_parts : walk_root_variant build s v ns ≡ put_before (pick_of s v [] ∷ []) (walk_content build v inside ns)
   unfolding walk_root_variant
-  root_parts = ap (λ (place : Place). put_before (pick_of s v [] ∷ []) (walk_content build v place ns)) (sym is_inside)
+  root_parts = ap (λ (place : Path). put_before (pick_of s v [] ∷ []) (walk_content build v place ns)) (sym is_inside)
 
   pub picked : (r t : Resolved) (p : Path) → p ≡ [] → take_in r (pick_of s v p) ≡ resolved t → effect r (walk_root_variant build s v ns) ≡ effect t (walk_content build v inside ns)
   picked r t p e h =

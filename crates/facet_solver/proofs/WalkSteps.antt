@@ -7,14 +7,13 @@ use Rattle.facet_solver_shape.specs.declared.shape.Field.{Field}
 use Rattle.facet_solver_shape.specs.declared.shape.Variant.{Variant}
 use Rattle.facet_solver_shape.specs.Catalogues.{FieldsBelow, VariantsBelow, NamesEarlier}
 use Rattle.facet_solver.specs.Content.{content_of}
-use Rattle.facet_solver.specs.Place.{choosing, further, inside_field, inside_variant}
+use Rattle.facet_solver.specs.Place.{choosing, field_path, variant_path, Path}
 use Rattle.facet_solver.specs.Emissions.{emit_variant}
-use Rattle.facet_solver.specs.Walk.{Walked, Walk, put_before, and_then, emit, choose, at_chosen, walk_variant_step, walk_content_step, walk_role, walk_fields_step, walk_within, walk_fields, Walking}
+use Rattle.facet_solver.specs.Walk.{Walked, Walk, put_before, and_then, emit, choose, at_chosen, walk_variant_step, walk_content_step, walk_present, walk_optional, walk_role, walk_fields_step, walk_within, walk_fields, Walking}
 use Rattle.facet_solver.specs.Representation.{is_walked}
-use Rattle.facet_solver.specs.Roles.{Role, regular, block, alternatives, catch_all, leaf, role_of, target_of, role_of_target, IsPlain}
-use Rattle.facet_solver.specs.Listing.{Choices, product, indexed, choices_of_variant, choices_of_role, choices_of_fields_step, choices_within, choices_of_fields}
+use Rattle.facet_solver.specs.Roles.{Role, regular, block, alternatives, catch_all, leaf, role_of, target_of, role_of_target, may_be_absent, IsPlain}
+use Rattle.facet_solver.specs.Listing.{Choices, product, indexed, choices_of_variant, choices_of_present, choices_of_optional, choices_of_role, choices_of_fields_step, choices_within, choices_of_fields}
 use Rattle.facet_solver.proofs.Roles.{RoleBelow, role_of-below, content_of-below, IsLocal, one_step, role_of_target-below, same_levels}
-use Rattle.facet_solver.specs.Place.{Place}
 use Rattle.std.proofs.lemmas.Option.{slice_get_within}
 use Rattle.facet_solver.specs.Count.{Count, count_role, count_fields_step, count_within, count_fields}
 use Rattle.facet_solver.proofs.Count.{count_role-same, count-local, count-step}
@@ -32,12 +31,15 @@ module _ (build : Build) (checked : NamesEarlier build.catalogue) where
   choices_of_variant-same true g h limit v b x = x (content_of build.catalogue v).fields (content_of-below build.catalogue checked limit v b)
   choices_of_variant-same false g h limit v b x = refl
 
+  choices_of_present-same : (g h : List Field → Choices) (limit : ℕ) (r : Role) → RoleBelow limit r → ((gs : List Field) → FieldsBelow limit gs → g gs ≡ h gs) → choices_of_present g build r ≡ choices_of_present h build r
+  choices_of_present-same g h limit regular b x = refl
+  choices_of_present-same g h limit (block target fs) b x = x fs b
+  choices_of_present-same g h limit (alternatives target s vs) b x = indexed-same 0 limit _ _ vs b (λ v below. choices_of_variant-same (is_walked (repr_for build s)) g h limit v below x)
+  choices_of_present-same g h limit (catch_all target) b x = refl
+  choices_of_present-same g h limit (leaf target) b x = refl
+
   choices_of_role-same : (g h : List Field → Choices) (limit : ℕ) (r : Role) → RoleBelow limit r → ((gs : List Field) → FieldsBelow limit gs → g gs ≡ h gs) → choices_of_role g build r ≡ choices_of_role h build r
-  choices_of_role-same g h limit regular b x = refl
-  choices_of_role-same g h limit (block target fs) b x = x fs b
-  choices_of_role-same g h limit (alternatives target s vs) b x = indexed-same 0 limit _ _ vs b (λ v below. choices_of_variant-same (is_walked (repr_for build s)) g h limit v below x)
-  choices_of_role-same g h limit (catch_all target) b x = refl
-  choices_of_role-same g h limit (leaf target) b x = refl
+  choices_of_role-same g h limit r b x = ap (choices_of_optional (may_be_absent r)) (choices_of_present-same g h limit r b x)
 
   choices-local : IsLocal (λ below fs. choices_of_fields_step below build fs)
   unfolding choices_of_fields_step
@@ -56,10 +58,10 @@ module _ (build : Build) (checked : NamesEarlier build.catalogue) where
   choices_of_fields-step fs b = one_step (λ below gs. choices_of_fields_step below build gs) (λ n gs. choices_within n build gs) choices-step choices-local (length build.catalogue) fs b
 
   -- the same of the walk
-  content-same : (walked : Bool) (g h : Walk) (limit : ℕ) (v : Variant) (place : Place) (ns : List ℕ) → FieldsBelow limit v.fields.items → ((gs : List Field) → FieldsBelow limit gs → g gs ≡ h gs)
+  content-same : (walked : Bool) (g h : Walk) (limit : ℕ) (v : Variant) (place : Path) (ns : List ℕ) → FieldsBelow limit v.fields.items → ((gs : List Field) → FieldsBelow limit gs → g gs ≡ h gs)
       → (if walked then walk_content_step g build.catalogue v place ns else emit [] ns) ≡ (if walked then walk_content_step h build.catalogue v place ns else emit [] ns)
   content-same true g h limit v place ns b x =
-      ap (λ (w : Place → Walking). w (further place (content_of build.catalogue v).path) ns)
+      ap (λ (w : Path → Walking). w (place ++ (content_of build.catalogue v).path) ns)
       (x (content_of build.catalogue v).fields (content_of-below build.catalogue checked limit v b))
   content-same false g h limit v place ns b x = refl
 
@@ -72,20 +74,24 @@ module _ (build : Build) (checked : NamesEarlier build.catalogue) where
       go (v ∷ vs) zero b = x v ns b.0
       go (v ∷ vs) (suc k) b = go vs k b.1
 
-  pub walk_role-same : (g h : Walk) (limit : ℕ) (f : Field) (place : Place) (r : Role) (ns : List ℕ) → RoleBelow limit r → ((gs : List Field) → FieldsBelow limit gs → g gs ≡ h gs) → walk_role g build f place r ns ≡ walk_role h build f place r ns
-  walk_role-same g h limit f place regular ns b x = refl
-  walk_role-same g h limit f place (block target fs) ns b x = ap (λ (w : Place → Walking). w (inside_field place f target) ns) (x fs b)
-  walk_role-same g h limit f place (alternatives target s vs) ns b x =
+  walk_present-same : (g h : Walk) (limit : ℕ) (f : Field) (place : Path) (r : Role) (ns : List ℕ) → RoleBelow limit r → ((gs : List Field) → FieldsBelow limit gs → g gs ≡ h gs) → walk_present g build f place r ns ≡ walk_present h build f place r ns
+  walk_present-same g h limit f place regular ns b x = refl
+  walk_present-same g h limit f place (block target fs) ns b x = ap (λ (w : Path → Walking). w (field_path place f) ns) (x fs b)
+  walk_present-same g h limit f place (alternatives target s vs) ns b x =
       choose-same limit vs ns
       (λ v rest. walk_variant_step g build (choosing f target s v) place rest)
       (λ v rest. walk_variant_step h build (choosing f target s v) place rest) b
       (λ v rest below.
       ap (put_before (emit_variant build (choosing f target s v) place))
-      (content-same (is_walked (repr_for build s)) g h limit v (inside_variant place (choosing f target s v)) rest below x))
-  walk_role-same g h limit f place (catch_all target) ns b x = refl
-  walk_role-same g h limit f place (leaf target) ns b x = refl
+      (content-same (is_walked (repr_for build s)) g h limit v (variant_path place (choosing f target s v)) rest below x))
+  walk_present-same g h limit f place (catch_all target) ns b x = refl
+  walk_present-same g h limit f place (leaf target) ns b x = refl
 
-  walk-local_at : (g h : Walk) (limit : ℕ) (fs : List Field) (place : Place) (ns : List ℕ) → FieldsBelow limit fs → ((m : ℕ) (gs : List Field) → m < limit → FieldsBelow m gs → g gs ≡ h gs) → walk_fields_step g build fs place ns ≡ walk_fields_step h build fs place ns
+  pub walk_role-same : (g h : Walk) (limit : ℕ) (f : Field) (place : Path) (r : Role) (ns : List ℕ) → RoleBelow limit r → ((gs : List Field) → FieldsBelow limit gs → g gs ≡ h gs) → walk_role g build f place r ns ≡ walk_role h build f place r ns
+  walk_role-same g h limit f place r ns b x =
+      ap (λ (w : Walking). walk_optional (may_be_absent r) w ns) (λ i ms. walk_present-same g h limit f place r ms b x i)
+
+  walk-local_at : (g h : Walk) (limit : ℕ) (fs : List Field) (place : Path) (ns : List ℕ) → FieldsBelow limit fs → ((m : ℕ) (gs : List Field) → m < limit → FieldsBelow m gs → g gs ≡ h gs) → walk_fields_step g build fs place ns ≡ walk_fields_step h build fs place ns
   unfolding walk_fields_step
   walk-local_at g h limit [] place ns b x = refl
   walk-local_at g h limit (f ∷ fs) place ns b x =
@@ -100,9 +106,9 @@ module _ (build : Build) (checked : NamesEarlier build.catalogue) where
   walk-step n fs = refl
 
   -- the walk of fields, by that of what is flattened into them
-  pub walk_step : (fs : List Field) (place : Place) (ns : List ℕ) → FieldsBelow (length build.catalogue) fs → walk_fields build fs place ns ≡ walk_fields_step (walk_fields build) build fs place ns
+  pub walk_step : (fs : List Field) (place : Path) (ns : List ℕ) → FieldsBelow (length build.catalogue) fs → walk_fields build fs place ns ≡ walk_fields_step (walk_fields build) build fs place ns
   unfolding walk_fields
-  walk_step fs place ns b = ap (λ (w : Place → Walking). w place ns) (one_step (λ below gs. walk_fields_step below build gs) (λ n gs. walk_within n build gs) walk-step walk-local (length build.catalogue) fs b)
+  walk_step fs place ns b = ap (λ (w : Path → Walking). w place ns) (one_step (λ below gs. walk_fields_step below build gs) (λ n gs. walk_within n build gs) walk-step walk-local (length build.catalogue) fs b)
 
 -- ---- on a checked catalogue the walk and the count of any fields are their own steps, whatever the fields name
 module _ (build : Build) (checked : NamesEarlier build.catalogue) where
@@ -122,7 +128,7 @@ module _ (build : Build) (checked : NamesEarlier build.catalogue) where
       by_flag true = by_target (slice_get build.catalogue (target_of build.catalogue f).shape) refl
       by_flag false = inl tt
 
-  walk_plain-same : (g h : Walk) (f : Field) (place : Place) (r : Role) (ns : List ℕ) → IsPlain r → walk_role g build f place r ns ≡ walk_role h build f place r ns
+  walk_plain-same : (g h : Walk) (f : Field) (place : Path) (r : Role) (ns : List ℕ) → IsPlain r → walk_role g build f place r ns ≡ walk_role h build f place r ns
   walk_plain-same g h f place regular ns k = refl
   walk_plain-same g h f place (block target fs) ns k = absurd k
   walk_plain-same g h f place (alternatives target s vs) ns k = absurd k
@@ -130,7 +136,7 @@ module _ (build : Build) (checked : NamesEarlier build.catalogue) where
   walk_plain-same g h f place (leaf target) ns k = refl
 
   -- walks that agree on what stands before the shapes agree
-  walk_fields-same : (g h : Walk) → ((m : ℕ) (gs : List Field) → m < length build.catalogue → FieldsBelow m gs → g gs ≡ h gs) → (fs : List Field) (place : Place) (ns : List ℕ) → walk_fields_step g build fs place ns ≡ walk_fields_step h build fs place ns
+  walk_fields-same : (g h : Walk) → ((m : ℕ) (gs : List Field) → m < length build.catalogue → FieldsBelow m gs → g gs ≡ h gs) → (fs : List Field) (place : Path) (ns : List ℕ) → walk_fields_step g build fs place ns ≡ walk_fields_step h build fs place ns
   unfolding walk_fields_step Within
   walk_fields-same g h x [] place ns = refl
   walk_fields-same g h x (f ∷ fs) place ns =
@@ -141,7 +147,7 @@ module _ (build : Build) (checked : NamesEarlier build.catalogue) where
       here (inl plain) = walk_plain-same g h f place (role_of build.catalogue f) ns plain
       here (inr k) = walk_role-same build checked g h k.0 f place (role_of build.catalogue f) ns k.2 (λ gs below. x k.0 gs k.1 below)
 
-  pub walk-is_step : (fs : List Field) (place : Place) (ns : List ℕ) → walk_fields build fs place ns ≡ walk_fields_step (walk_fields build) build fs place ns
+  pub walk-is_step : (fs : List Field) (place : Path) (ns : List ℕ) → walk_fields build fs place ns ≡ walk_fields_step (walk_fields build) build fs place ns
   unfolding walk_fields walk_within
   walk-is_step fs place ns =
       walk_fields-same (walk_within (length build.catalogue) build) (walk_within (suc (length build.catalogue)) build)

@@ -1,13 +1,13 @@
 -- What the walk of a struct's fields brings where they are flattened: catch-alls alone, emissions
--- alone, or choices of variants. Only private contracts and proofs speak of it.
-use Rattle.std.specs.Prelude.{◌≡◌, ⊤, ℕ, Bool, true, false, ◌||◌, List, [], ◌∷◌, Some, get_or, slice_get}
+-- alone, or choices. Only private contracts and proofs speak of it.
+use Rattle.std.specs.Prelude.{◌≡◌, ⊤, ℕ, Bool, true, false, ◌||◌, List, [], ◌∷◌, Some, get_or, slice_get, if◌then◌else◌}
 use Rattle.facet_solver_shape.specs.declared.resolution.key.FieldCategory.{FieldCategory}
 use Rattle.facet_solver_shape.specs.declared.resolution.key.FieldCategory.TheVariants.{Flat, Attribute, Element}
 use Rattle.facet_solver_shape.specs.declared.shape.Field.{Field}
 use Rattle.facet_solver_shape.specs.declared.shape.ShapeKind.{ShapeKind}
 use Rattle.facet_solver_shape.specs.declared.shape.ShapeKind.TheVariants.{Struct}
 use Rattle.facet_solver.specs.declared.build.brings.Brings.{Brings}
-use Rattle.facet_solver.specs.declared.build.brings.Brings.TheVariants.{CatchAlls, Emissions, Variants}
+use Rattle.facet_solver.specs.declared.build.brings.Brings.TheVariants.{CatchAlls, Emissions, Choices}
 use Rattle.facet_solver.specs.declared.build.brings.categories.Categories.{Categories}
 use Rattle.facet_solver.specs.declared.build.representation.Format.{Format}
 use Rattle.facet_solver.specs.Build.{Build, kind_at}
@@ -44,9 +44,9 @@ has a _ = false
 abbrev pub both : Brings → Brings → Brings
 both (CatchAlls a) (CatchAlls b) = CatchAlls (union a b)
 both (CatchAlls a) b = b
-both Emissions Variants = Variants
+both Emissions Choices = Choices
 both Emissions _ = Emissions
-both Variants b = Variants
+both Choices b = Choices
 
 -- only catch-alls are brought
 abbrev pub AreCatchAlls : Brings → Type 0
@@ -60,13 +60,14 @@ has_last category _ = false
 
 -- what a shape brings by a table; one that the table lacks may bring choices
 abbrev pub at : List Brings → ℕ → Brings
-at table id = get_or table id Variants
+at table id = get_or table id Choices
 
 -- what a field of a role brings
 abbrev pub role_brings : List Brings → Format → Field → Role → Brings
 role_brings table format f regular = Emissions
-role_brings table format f (block target fs) = at table target.shape
-role_brings table format f (alternatives target s vs) = Variants
+role_brings table format f (block target fs) =
+    if target.optional then Choices else at table target.shape
+role_brings table format f (alternatives target s vs) = Choices
 role_brings table format f (catch_all target) =
     CatchAlls (only (catch_all_category format f.dom))
 role_brings table format f (leaf target) = Emissions
@@ -83,7 +84,7 @@ fields_bring table build (f ∷ fs) = both (field_brings table build f) (fields_
 -- what a struct brings by its fields; another kind may bring choices
 abbrev pub kind_brings : List Brings → Build → ShapeKind → Brings
 kind_brings table build (Struct kind fields) = fields_bring table build fields.items
-kind_brings table build _ = Variants
+kind_brings table build _ = Choices
 
 -- each entry of a table is what the shape at its index brings
 abbrev pub AreBrought : Build → List Brings → Type 0

@@ -9,7 +9,7 @@ use Rattle.facet_solver_shape.specs.Fields.{FieldView}
 use Rattle.facet_solver_shape.specs.Keys.{category_cmp}
 use Rattle.facet_solver_shape.specs.Resolved.{Resolved, with_catch_all}
 use Rattle.facet_solver.specs.declared.build.brings.Brings.{Brings}
-use Rattle.facet_solver.specs.Place.{Place}
+use Rattle.facet_solver.specs.Place.{Path}
 use Rattle.facet_solver.specs.Brings.{field_brings, has_last}
 use Rattle.facet_solver.specs.Build.{Build}
 use Rattle.facet_solver.specs.Emissions.{Emission, a_catch_all}
@@ -21,7 +21,7 @@ emitted None = []
 emitted (Some w) = w.0
 
 -- what the walk of fields emits that takes no index
-abbrev pub emitted_by : Build → List Field → Place → List Emission
+abbrev pub emitted_by : Build → List Field → Path → List Emission
 emitted_by build fs place = emitted (walk_fields build fs place [])
 
 -- an emission, where it is a catch-all of a category

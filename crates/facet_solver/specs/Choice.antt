@@ -1,4 +1,4 @@
--- The choices of variants of a root, their order, and what each resolves to.
+-- The choices of a root, their order, and what each resolves to.
 use Rattle.facet_solver.specs.Build.{Build}
 use Rattle.std.specs.Prelude.{◌≡◌, ℕ, ◌<◌, List, [], Some, Contains, slice_get, fold, ⊤, None}
 use Rattle.facet_solver_shape.specs.Names.{Name}
@@ -21,7 +21,7 @@ use Rattle.facet_solver.specs.Place.{Path}
 abbrev pub Emits : Build → ℕ → List ℕ → List Emission → Type 0
 Emits build root choice es = walk_root build root choice ≡ Some (es, [])
 
--- a choice: indices of variants that the walk of the root uses up exactly
+-- a choice: indices that the walk of the root uses up exactly
 abbrev pub IsChoice : Build → ℕ → List ℕ → Type 0
 IsChoice build root choice = (es : List Emission) × Emits build root choice es
 

@@ -1,6 +1,6 @@
 -- The number of choices, by cases on the shapes alone.
 use Rattle.facet_solver.specs.Build.{Build, build_with, repr_for, Catalogue}
-use Rattle.std.specs.Prelude.{ℕ, zero, suc, ◌*◌, List, [], ◌∷◌, Bool, true, if◌then◌else◌, Option, Some, None, slice_get, length, sum_by, ◌≡◌, ◌^◌, nat_lt}
+use Rattle.std.specs.Prelude.{ℕ, zero, suc, ◌*◌, List, [], ◌∷◌, Bool, true, false, if◌then◌else◌, Option, Some, None, slice_get, length, sum_by, ◌≡◌, ◌^◌, nat_lt}
 use Rattle.facet_solver_shape.specs.declared.shape.Shape.{Shape}
 use Rattle.facet_solver_shape.specs.declared.shape.Field.{Field}
 use Rattle.facet_solver_shape.specs.declared.shape.Variant.{Variant}
@@ -8,7 +8,7 @@ use Rattle.facet_solver_shape.specs.declared.shape.ShapeKind.{ShapeKind}
 use Rattle.facet_solver_shape.specs.declared.shape.ShapeKind.TheVariants.{Struct, Enum}
 use Rattle.facet_solver.specs.Representation.{is_walked, Repr}
 use Rattle.facet_solver.specs.Content.{content_of}
-use Rattle.facet_solver.specs.Roles.{Role, regular, block, alternatives, catch_all, leaf, role_of}
+use Rattle.facet_solver.specs.Roles.{Role, regular, block, alternatives, catch_all, leaf, role_of, may_be_absent}
 use Rattle.facet_solver.specs.declared.build.representation.Format.{Format}
 
 -- how the choices below fields are counted
@@ -19,14 +19,24 @@ Count = List Field → ℕ
 abbrev pub count_variant : Count → Catalogue → Bool → Variant → ℕ
 count_variant below cat walked v = if walked then below (content_of cat v).fields else 1
 
--- one field, by its role: an enum is the sum over its variants, and what takes no index counts one
-abbrev pub count_role : Count → Build → Role → ℕ
-count_role below build (block target fs) = below fs
-count_role below build (alternatives target s vs) =
+-- one field that is present, by its role: an enum is the sum over its variants, and what takes no
+-- index counts one
+abbrev pub count_present : Count → Build → Role → ℕ
+count_present below build (block target fs) = below fs
+count_present below build (alternatives target s vs) =
     sum_by (count_variant below build.catalogue (is_walked (repr_for build s))) vs
-count_role below build regular = 1
-count_role below build (catch_all target) = 1
-count_role below build (leaf target) = 1
+count_present below build regular = 1
+count_present below build (catch_all target) = 1
+count_present below build (leaf target) = 1
+
+-- what may be absent has one choice more
+abbrev pub count_optional : Bool → ℕ → ℕ
+count_optional false n = n
+count_optional true n = suc n
+
+-- one field, by its role
+abbrev pub count_role : Count → Build → Role → ℕ
+count_role below build role = count_optional (may_be_absent role) (count_present below build role)
 
 -- fields: the product
 unfoldable pub count_fields_step : Count → Build → Count

@@ -1,7 +1,7 @@
 -- The choices as a list, by parts: a product over fields, a sum over variants. No public clause
 -- speaks of it: those say what a list of all choices is.
 use Rattle.facet_solver.specs.Build.{Build, repr_for, Catalogue}
-use Rattle.std.specs.Prelude.{ℕ, zero, suc, List, [], ◌∷◌, ◌++◌, map, flat_map, Bool, true, if◌then◌else◌, Option, Some, None, slice_get, length}
+use Rattle.std.specs.Prelude.{ℕ, zero, suc, List, [], ◌∷◌, ◌++◌, map, flat_map, Bool, true, false, if◌then◌else◌, Option, Some, None, slice_get, length}
 use Rattle.facet_solver_shape.specs.declared.shape.Shape.{Shape}
 use Rattle.facet_solver_shape.specs.declared.shape.Field.{Field}
 use Rattle.facet_solver_shape.specs.declared.shape.Variant.{Variant}
@@ -9,7 +9,7 @@ use Rattle.facet_solver_shape.specs.declared.shape.ShapeKind.{ShapeKind}
 use Rattle.facet_solver_shape.specs.declared.shape.ShapeKind.TheVariants.{Struct, Enum}
 use Rattle.facet_solver.specs.Representation.{is_walked}
 use Rattle.facet_solver.specs.Content.{content_of}
-use Rattle.facet_solver.specs.Roles.{Role, regular, block, alternatives, catch_all, leaf, role_of}
+use Rattle.facet_solver.specs.Roles.{Role, regular, block, alternatives, catch_all, leaf, role_of, may_be_absent}
 
 -- lists of choices
 abbrev pub Choices : Type 0
@@ -33,14 +33,24 @@ abbrev pub choices_of_variant : (List Field → Choices) → Catalogue → Bool 
 choices_of_variant below cat walked v =
     if walked then below (content_of cat v).fields else no_choice
 
+-- those of a field that is present, by its role
+abbrev pub choices_of_present : (List Field → Choices) → Build → Role → Choices
+choices_of_present below build regular = no_choice
+choices_of_present below build (block target fs) = below fs
+choices_of_present below build (alternatives target s vs) =
+    indexed 0 (choices_of_variant below build.catalogue (is_walked (repr_for build s))) vs
+choices_of_present below build (catch_all target) = no_choice
+choices_of_present below build (leaf target) = no_choice
+
+-- those of what may be absent: 0 alone where it is, and 1 before each where it is present
+abbrev pub choices_of_optional : Bool → Choices → Choices
+choices_of_optional false cs = cs
+choices_of_optional true cs = (0 ∷ []) ∷ map (λ c. 1 ∷ c) cs
+
 -- those of a field by its role
 abbrev pub choices_of_role : (List Field → Choices) → Build → Role → Choices
-choices_of_role below build regular = no_choice
-choices_of_role below build (block target fs) = below fs
-choices_of_role below build (alternatives target s vs) =
-    indexed 0 (choices_of_variant below build.catalogue (is_walked (repr_for build s))) vs
-choices_of_role below build (catch_all target) = no_choice
-choices_of_role below build (leaf target) = no_choice
+choices_of_role below build role =
+    choices_of_optional (may_be_absent role) (choices_of_present below build role)
 
 -- those of fields
 unfoldable pub choices_of_fields_step : (List Field → Choices) → Build → List Field → Choices
@@ -78,6 +88,11 @@ choices_of_root build root = choices_of_root_shape build (slice_get build.catalo
 unfoldable pub choices_of_field : Build → Field → Choices
 choices_of_field build f =
     choices_of_role (choices_of_fields build) build (role_of build.catalogue f)
+
+-- those at one field that is present
+unfoldable pub choices_of_present_field : Build → Field → Choices
+choices_of_present_field build f =
+    choices_of_present (choices_of_fields build) build (role_of build.catalogue f)
 
 -- those among variants whose contents are walked or not
 unfoldable pub choices_of_variants : Build → Bool → List Variant → Choices

@@ -10,6 +10,6 @@ use Rattle.facet_solver.specs.PlaceView.{path_of, steps_of}
 pub deeper : (way : Way) → deep-Way way ≤ length (path_of way)
 deeper Root = omega arith
 deeper (Inside outer segment None) =
-    omega (arith, length-append outer.now.path (steps_of segment None))
+    omega (arith, length-append outer.now (steps_of segment None))
 deeper (Inside outer segment (Some second)) =
-    omega (arith, length-append outer.now.path (steps_of segment (Some second)))
+    omega (arith, length-append outer.now (steps_of segment (Some second)))

@@ -64,7 +64,15 @@ role_view (Alternatives target s vs) = alternatives target s.now vs.now
 role_view (CatchAll target) = catch_all target
 role_view (Leaf target) = leaf target
 
--- a role that takes no variant and has nothing below it
+-- whether a field of a role may be absent: an option of a struct or an enum
+abbrev pub may_be_absent : Role → Bool
+may_be_absent regular = false
+may_be_absent (block target fs) = target.optional
+may_be_absent (alternatives target s vs) = target.optional
+may_be_absent (catch_all target) = false
+may_be_absent (leaf target) = false
+
+-- a role that takes no index and has nothing below it
 abbrev pub IsPlain : Role → Type 0
 IsPlain regular = ⊤
 IsPlain (block target fs) = ⊥

@@ -1,17 +1,16 @@
--- The walk of a list of fields: what one choice of variants emits. It takes the indices of
--- variants, one for each enum that it meets, and hands on those that it leaves.
-use Rattle.std.specs.Prelude.{◌<◌, ℕ, zero, suc, List, [], ◌∷◌, ◌++◌, if◌then◌else◌, Option, Some, None, slice_get, length}
+-- The walk of a list of fields: what one choice emits. It takes the indices of the choice, one for
+-- each enum and for each field that may be absent, and hands on those that it leaves.
+use Rattle.std.specs.Prelude.{◌<◌, ⊤, Bool, true, false, ℕ, zero, suc, List, [], ◌∷◌, ◌++◌, if◌then◌else◌, Option, Some, None, slice_get, length}
 use Rattle.facet_solver_shape.specs.declared.shape.Shape.{Shape}
 use Rattle.facet_solver_shape.specs.declared.shape.Field.{Field}
 use Rattle.facet_solver_shape.specs.declared.shape.Variant.{Variant}
 use Rattle.facet_solver_shape.specs.declared.shape.ShapeKind.{ShapeKind}
 use Rattle.facet_solver_shape.specs.declared.shape.ShapeKind.TheVariants.{Struct, Enum}
-use Rattle.facet_solver.specs.Place.{Place}
 use Rattle.facet_solver.specs.Build.{Build, repr_for, Catalogue}
 use Rattle.facet_solver.specs.Representation.{is_walked}
 use Rattle.facet_solver.specs.Content.{content_of}
-use Rattle.facet_solver.specs.Roles.{Role, regular, block, alternatives, catch_all, leaf, role_of}
-use Rattle.facet_solver.specs.Place.{Chosen, choosing, at_root, at_root_variant, inside_field, inside_variant, further}
+use Rattle.facet_solver.specs.Roles.{Role, regular, block, alternatives, catch_all, leaf, role_of, may_be_absent}
+use Rattle.facet_solver.specs.Place.{Path, Chosen, choosing, at_root, at_root_variant, field_path, variant_path}
 use Rattle.facet_solver.specs.Emissions.{Emission, emit_plain, emit_variant, pick_of}
 
 -- what a walk emits and the indices that it leaves, or nothing
@@ -24,7 +23,7 @@ Walking = List ℕ → Walked
 
 -- how fields at a place are walked
 abbrev pub Walk : Type 0
-Walk = List Field → Place → Walking
+Walk = List Field → Path → Walking
 
 -- emissions before what is walked
 abbrev pub put_before : List Emission → Walked → Walked
@@ -51,28 +50,41 @@ choose vs [] go = None
 choose vs (k ∷ ns) go = at_chosen (slice_get vs k) (λ v. go v ns)
 
 -- the content of a variant, by the walk of what is below it
-abbrev pub walk_content_step : Walk → Catalogue → Variant → Place → Walking
+abbrev pub walk_content_step : Walk → Catalogue → Variant → Path → Walking
 walk_content_step below cat v place ns =
-    below (content_of cat v).fields (further place (content_of cat v).path) ns
+    below (content_of cat v).fields (place ++ (content_of cat v).path) ns
 
 -- a flattened enum at a chosen variant: the pick, the selector, and the content where it stands at
 -- this level
-abbrev pub walk_variant_step : Walk → Build → Chosen → Place → Walking
+abbrev pub walk_variant_step : Walk → Build → Chosen → Path → Walking
 walk_variant_step below build chosen place ns =
     put_before (emit_variant build chosen place)
     (if is_walked (repr_for build chosen.shape)
-    then walk_content_step below build.catalogue chosen.variant (inside_variant place chosen) ns
+    then walk_content_step below build.catalogue chosen.variant (variant_path place chosen) ns
     else emit [] ns)
 
--- one field, by its role
-abbrev pub walk_role : Walk → Build → Field → Place → Role → Walking
-walk_role below build f place (block target fs) = below fs (inside_field place f target)
-walk_role below build f place (alternatives target s vs) =
+-- what may be absent: the next index is 0 where it is, and 1 where it is present
+abbrev pub walk_optional : Bool → Walking → Walking
+walk_optional false walk ns = walk ns
+walk_optional true walk [] = None
+walk_optional true walk (zero ∷ ns) = emit [] ns
+walk_optional true walk (suc zero ∷ ns) = walk ns
+walk_optional true walk (suc (suc k) ∷ ns) = None
+
+-- one field that is present, by its role
+abbrev pub walk_present : Walk → Build → Field → Path → Role → Walking
+walk_present below build f place (block target fs) = below fs (field_path place f)
+walk_present below build f place (alternatives target s vs) =
     λ ns. choose vs ns (λ v rest. walk_variant_step below build (choosing f target s v) place rest)
-walk_role below build f place regular = emit (emit_plain build f place regular)
-walk_role below build f place (catch_all target) =
+walk_present below build f place regular = emit (emit_plain build f place regular)
+walk_present below build f place (catch_all target) =
     emit (emit_plain build f place (catch_all target))
-walk_role below build f place (leaf target) = emit (emit_plain build f place (leaf target))
+walk_present below build f place (leaf target) = emit (emit_plain build f place (leaf target))
+
+-- one field, by its role
+abbrev pub walk_role : Walk → Build → Field → Path → Role → Walking
+walk_role below build f place role =
+    walk_optional (may_be_absent role) (walk_present below build f place role)
 
 -- fields in order, each with the indices that the one before it left; `below` walks the fields of
 -- what is flattened into them
@@ -92,16 +104,21 @@ unfoldable pub walk_fields : Build → Walk
 walk_fields build = walk_within (suc (length build.catalogue)) build
 
 -- the walk of one field
-unfoldable pub walk_field : Build → Field → Place → Walking
+unfoldable pub walk_field : Build → Field → Path → Walking
 walk_field build f place ns =
     walk_role (walk_fields build) build f place (role_of build.catalogue f) ns
 
+-- the walk of one field that is present
+unfoldable pub walk_present_field : Build → Field → Path → Walking
+walk_present_field build f place ns =
+    walk_present (walk_fields build) build f place (role_of build.catalogue f) ns
+
 -- the walk of a flattened enum at a chosen variant
-unfoldable pub walk_variant : Build → Chosen → Place → Walking
+unfoldable pub walk_variant : Build → Chosen → Path → Walking
 walk_variant build chosen place ns = walk_variant_step (walk_fields build) build chosen place ns
 
 -- the walk of a variant's content
-unfoldable pub walk_content : Build → Variant → Place → Walking
+unfoldable pub walk_content : Build → Variant → Path → Walking
 walk_content build v place ns = walk_content_step (walk_fields build) build.catalogue v place ns
 
 -- a root enum at a chosen variant, whatever its representation
@@ -130,3 +147,9 @@ walk_root build root ns = walk_root_shape build (slice_get build.catalogue root)
 abbrev pub HasChoice : List Variant → List ℕ → Type 0
 HasChoice vs [] = ⊥
 HasChoice vs (k ∷ ns) = k < length vs
+
+-- where something may be absent, an index is left, and it is 0 or 1
+abbrev pub HasPresence : Bool → List ℕ → Type 0
+HasPresence false ns = ⊤
+HasPresence true [] = ⊥
+HasPresence true (k ∷ ns) = k < 2

@@ -15,7 +15,6 @@ ghost use Rattle.facet_solver.specs.Count.{IsCountOf, below_2_64, count_fields, 
 ghost use Rattle.facet_solver.specs.ByName.{is_viable_by_name, missing_by_name, unknown_by_name};
 ghost use Rattle.facet_solver.specs.Failure.{missing};
 ghost use Rattle.facet_solver.specs.Place.{Path};
-ghost use Rattle.facet_solver.specs.Place.{Place};
 ghost use Rattle.facet_solver.specs.declared.build.representation.Format.TheVariants.{Dom, Flat};
 ghost use Rattle.facet_solver.specs.Nested.{nested_paths, flattened_paths, variant_paths};
 ghost use Rattle.facet_solver.specs.Nested.{content_paths_of_shape, content_paths};
@@ -72,7 +71,7 @@ pub fn resolutions_are_counted()
 /// The walk of fields is made of the walks of what is flattened into them: no level of a catalogue lies too deep for it.
 pub fn walks_follow_their_fields()
     ensures { (build : Build) → IsChecked build.catalogue
-        → (fields : List Field) (place : Place) (indices : List ℕ)
+        → (fields : List Field) (place : Path) (indices : List ℕ)
         → walk_fields build fields place indices
         ≡ walk_fields_step (walk_fields build) build fields place indices }
 {}

@@ -27,7 +27,8 @@ use facet_solver_shape::{FieldKey, Resolution, SchemaError, ShapeId, Shapes, Ste
 use std::alloc::{AllocError, Global};
 use std::marker::Model;
 
-/// All resolutions of a type: one for each choice of variants, in order.
+/// All resolutions of a type: one for each choice of variants, in order. A flattened field whose shape is an option of a
+/// struct or an enum is a choice too: absent, and then present.
 #[derive(Debug)]
 pub struct Schema<'c> {
     shapes: &'c Shapes,

@@ -20,8 +20,8 @@ pub(crate) enum Brings {
     CatchAlls(Categories),
     /// Something else may be emitted, and nothing is to be chosen.
     Emissions,
-    /// Variants may be to be chosen.
-    Variants,
+    /// Something may be to be chosen.
+    Choices,
 }
 
 impl Brings {
@@ -35,7 +35,7 @@ impl Brings {
             }
             (Brings::CatchAlls(_), other) => other,
             (Brings::Emissions, Brings::CatchAlls(_) | Brings::Emissions) => Brings::Emissions,
-            (Brings::Emissions, Brings::Variants) | (Brings::Variants, _) => Brings::Variants,
+            (Brings::Emissions, Brings::Choices) | (Brings::Choices, _) => Brings::Choices,
         }
     }
 
@@ -45,7 +45,7 @@ impl Brings {
     {
         match self {
             Brings::CatchAlls(categories) => categories.has(category),
-            Brings::Emissions | Brings::Variants => false,
+            Brings::Emissions | Brings::Choices => false,
         }
     }
 }
@@ -90,7 +90,7 @@ fn at(table: &[Brings], id: ShapeId) -> Brings
 {
     match table.get(id.index()) {
         Some(brings) => *brings,
-        None => Brings::Variants,
+        None => Brings::Choices,
     }
 }
 
@@ -100,7 +100,7 @@ fn kind_brings(build: Build<'_>, kind: &ShapeKind, earlier: &[Brings]) -> Brings
 {
     match kind {
         ShapeKind::Struct { fields, .. } => fields_bring(build, fields, earlier),
-        _ => Brings::Variants,
+        _ => Brings::Choices,
     }
 }
 
@@ -120,8 +120,8 @@ fn field_brings(build: Build<'_>, field: &Field, earlier: &[Brings]) -> Brings
     ensures { result ≡ brings.field_brings earlier.now (build_of build.entry) field.now }
 {
     match role_of(build.shapes, field) {
-        Role::Block(target, _) => at(earlier, target.shape),
-        Role::Alternatives(_, _, _) => Brings::Variants,
+        Role::Block(target, _) if !target.optional => at(earlier, target.shape),
+        Role::Block(_, _) | Role::Alternatives(_, _, _) => Brings::Choices,
         Role::CatchAll(_) => {
             Brings::CatchAlls(Categories::only(build.format.catch_all_category(field.dom)))
         }

@@ -61,8 +61,8 @@ fn set_last<'c>(
         return Ok(());
     };
     match role_of(walker.build.shapes, field) {
-        Role::Block(target, flattened) => {
-            let inside = place.inside_field(field, target);
+        Role::Block(_, flattened) => {
+            let inside = place.inside_field(field);
             set_last(walker, flattened, category, &inside, resolution)
         }
         Role::CatchAll(target) => {

@@ -1,4 +1,4 @@
-//! The choices of variants of a root, as lists of the indices of variants.
+//! The choices of a root, as lists of indices.
 ghost use Rattle.std.specs.Prelude.{◌≡◌, ◌++◌, ◌<◌, ◌∷◌, map, length, IfOk, OnOk};
 ghost use Rattle.facet_solver_shape.specs.Catalogues.{FieldsBelow, VariantsBelow};
 ghost use Rattle.facet_solver.specs.Listing as listing;
@@ -59,7 +59,7 @@ fn product_found(
 }
 
 /// Adds `index` before each of `contents`, or alone where there is nothing to choose behind it.
-fn append_variant(
+fn append_index(
     found: &mut Choices,
     index: usize,
     contents: Option<Choices>,
@@ -71,6 +71,24 @@ fn append_variant(
         Some(contents) => append_each(found, &[index], &contents),
         None => found.push(&[index], &[]),
     }
+}
+
+/// The choices at what may be absent, from those where it is present: 0 alone, and then 1 before each of them.
+fn choices_of_optional(
+    alloc: Global,
+    may_be_absent: bool,
+    present: Option<Choices>,
+) -> Result<Option<Choices>, AllocError>
+    ensures { IfOk result (λ found. choices_found found
+        ≡ listing.choices_of_optional may_be_absent (choices_found present)) }
+{
+    if !may_be_absent {
+        return Ok(present);
+    }
+    let mut found = Choices::new(alloc);
+    append_index(&mut found, 0, None)?;
+    append_index(&mut found, 1, present)?;
+    Ok(Some(found))
 }
 
 /// The choices at a list of fields, `None` where there is nothing to choose: those at each field before those at the
@@ -109,12 +127,18 @@ fn choices_of_field<'c>(
 {
     match role_of(walker.build.shapes, field) {
         Role::Block(target, fields) => match walker.brings.of(target.shape) {
-            Brings::Variants => choices_of_fields(walker, fields),
-            Brings::CatchAlls(_) | Brings::Emissions => Ok(None),
+            Brings::Choices => {
+                let present = choices_of_fields(walker, fields)?;
+                choices_of_optional(walker.build.alloc, target.optional, present)
+            }
+            Brings::CatchAlls(_) | Brings::Emissions => {
+                choices_of_optional(walker.build.alloc, target.optional, None)
+            }
         },
-        Role::Alternatives(_, shape, variants) => {
+        Role::Alternatives(target, shape, variants) => {
             let walked = walker.build.walks_content(shape);
-            Ok(Some(choices_of_variants(walker, walked, variants)?))
+            let present = choices_of_variants(walker, walked, variants)?;
+            choices_of_optional(walker.build.alloc, target.optional, Some(present))
         }
         Role::Regular | Role::CatchAll(_) | Role::Leaf(_) => Ok(None),
     }
@@ -139,7 +163,7 @@ fn choices_of_variants<'c>(
         } else {
             None
         };
-        append_variant(&mut found, index, contents)?;
+        append_index(&mut found, index, contents)?;
     }
     Ok(found)
 }
@@ -153,7 +177,7 @@ fn no_choice(alloc: Global) -> Result<Choices, AllocError>
     Ok(found)
 }
 
-/// All choices of variants of a root, each once and in lexicographic order.
+/// All choices of a root, each once and in lexicographic order.
 pub(crate) fn choices_of_root<'c>(walker: &Walker<'c>, root: ShapeId) -> Result<Choices, AllocError>
     requires ready { IsReady walker.now }
     requires has { root < length walker.now.build.shapes.now }

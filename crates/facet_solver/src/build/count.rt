@@ -1,4 +1,4 @@
-//! The number of choices of variants, from a table by index.
+//! The number of choices, from a table by index.
 ghost use Rattle.std.specs.Prelude.{◌≡◌, ◌+◌, ◌<◌, ◌≤◌, length, take, IfOk, OnOk};
 ghost use Rattle.facet_solver_shape.specs.Catalogues.{NamesEarlier, FieldsBelow};
 ghost use Rattle.facet_solver_shape.specs.Steps.{NoCountFalls};

@@ -91,7 +91,7 @@ fn emit_leaf<'c>(
     add_with_path(walker, info, resolution)
 }
 
-/// What a field emits that takes no variant and has nothing below it.
+/// What a field emits that takes no index and has nothing below it.
 #[inline(never)]
 #[tactic(auto, unfolding(crate::specs::Emissions::emit_plain))]
 pub(crate) fn emit_plain<'c>(

@@ -10,7 +10,7 @@ use crate::build::role::{Target, is_option};
 use facet_solver_shape::{Field, FieldInfo};
 use std::alloc::AllocError;
 
-/// A regular field: required without default, unless it is an option or under one.
+/// A regular field: required without default, unless it is an option.
 #[tactic(auto, unfolding(crate::specs::Emissions::regular_field))]
 pub(crate) fn regular_field<'c>(
     build: Build<'c>,
@@ -23,7 +23,7 @@ pub(crate) fn regular_field<'c>(
     Ok(FieldInfo {
         serialized_name: field.effective_name(),
         path: place.field_path(build.alloc, field)?,
-        required: !place.unwrapped && !field.has_default && !is_option(build.shapes, field.shape),
+        required: !field.has_default && !is_option(build.shapes, field.shape),
         value_shape: field.shape,
         field,
         category: build.format.field_category(field.dom),
@@ -51,7 +51,7 @@ pub(crate) fn catch_all_field<'c>(
     })
 }
 
-/// Any other flattened field, with its target as its shape.
+/// Any other flattened field, with its target as its shape: never required where its own is an option.
 #[tactic(auto, unfolding(crate::specs::Emissions::leaf_field))]
 pub(crate) fn leaf_field<'c>(
     build: Build<'c>,
@@ -65,16 +65,14 @@ pub(crate) fn leaf_field<'c>(
     Ok(FieldInfo {
         serialized_name: field.effective_name(),
         path: place.field_path(build.alloc, field)?,
-        required: !place.unwrapped_at(target)
-            && !field.has_default
-            && !is_option(build.shapes, target.shape),
+        required: !target.optional && !field.has_default && !is_option(build.shapes, target.shape),
         value_shape: target.shape,
         field,
         category: build.format.field_category(field.dom),
     })
 }
 
-/// The field by which a reader of a flattened enum learns the chosen variant: required unless under an option.
+/// The field by which a reader of a flattened enum learns the chosen variant: always required.
 #[tactic(auto, unfolding(crate::specs::Emissions::selector_field))]
 pub(crate) fn selector_field<'c>(
     build: Build<'c>,
@@ -89,7 +87,7 @@ pub(crate) fn selector_field<'c>(
     Ok(FieldInfo {
         serialized_name: name,
         path: place.variant_path(build.alloc, chosen)?,
-        required: !place.unwrapped_at(chosen.target),
+        required: true,
         value_shape: chosen.target.shape,
         field: chosen.field,
         category: build.format.selector_category(),

@@ -19,14 +19,12 @@ pub(crate) enum Way<'p, 'c> {
     Inside(&'p Place<'p, 'c>, PathSegment<'c>, Option<PathSegment<'c>>),
 }
 
-/// Where fields stand, seen as the path to them and whether an option was unwrapped on the way. It refers to the place
-/// outside it, so that it takes no memory: a path is made only where one is emitted.
+/// Where fields stand, seen as the path to them. It refers to the place outside it, so that it takes no memory: a path is
+/// made only where one is emitted.
 #[cycle(place)]
 #[derive(Drop)]
 pub(crate) struct Place<'p, 'c> {
     way: Way<'p, 'c>,
-    /// Whether an option was unwrapped on the way to them.
-    pub(crate) unwrapped: bool,
     /// How many segments the path has, by which room is made for it.
     depth: usize,
 }
@@ -35,13 +33,13 @@ impl<'p, 'c> Model for Place<'p, 'c> {
     ghost use Rattle.std.specs.Prelude.{length};
     ghost use Rattle.facet_solver.specs.Place as places;
 
-    ghost Value = { places.Place };
+    ghost Value = { places.Path };
 
-    ghost use Rattle.facet_solver.specs.PlaceView.{place_of};
+    ghost use Rattle.facet_solver.specs.PlaceView.{path_of};
 
-    ghost view = { λ a. place_of a.way a.unwrapped };
+    ghost view = { λ a. path_of a.way };
 
-    ghost size = { λ v. length v.path };
+    ghost size = { λ v. length v };
 
     ghost use Rattle.std.proofs.Common.{arith};
     ghost use Rattle.facet_solver.specs.PlaceDepth.{deeper};
@@ -67,7 +65,6 @@ impl<'p, 'c> Place<'p, 'c> {
     {
         Place {
             way: Way::Root,
-            unwrapped: false,
             depth: 0,
         }
     }
@@ -79,23 +76,15 @@ impl<'p, 'c> Place<'p, 'c> {
     {
         Place {
             way: Way::Inside(&*self, PathSegment::Variant("", &variant.name), None),
-            unwrapped: false,
             depth: self.depth.saturating_add(1),
         }
-    }
-
-    /// Whether an option was unwrapped at a flattened field or further out.
-    pub(crate) fn unwrapped_at(&self, target: Target) -> bool
-        ensures { result ≡ places.unwrapped_at self.now target }
-    {
-        self.unwrapped || target.optional
     }
 
     /// The path here with more segments behind it, which are given the last first, as those of the places are then added. It goes
     /// outwards in a loop, since places lie as deep as a catalogue.
     fn path_before(&self, segments: Vec<PathSegment<'c>>) -> Result<FieldPath<'c>, AllocError>
         ensures { let behind = map step_of (reverse segments.entry.items) in
-            IfOk result (λ path. path ≡ self.now.path ++ behind) }
+            IfOk result (λ path. path ≡ self.now ++ behind) }
     {
         let mut segments = segments;
         let mut place = self;
@@ -139,36 +128,33 @@ impl<'p, 'c> Place<'p, 'c> {
     }
 
     /// Where the fields stand that a field here flattens.
-    pub(crate) fn inside_field<'q>(&'q self, field: &'c Field, target: Target) -> Place<'q, 'c>
-        ensures { result ≡ places.inside_field self.now field.now target }
+    pub(crate) fn inside_field<'q>(&'q self, field: &'c Field) -> Place<'q, 'c>
+        ensures { result ≡ places.field_path self.now field.now }
     {
         Place {
             way: Way::Inside(&*self, PathSegment::Field(&field.name), None),
-            unwrapped: self.unwrapped_at(target),
             depth: self.depth.saturating_add(1),
         }
     }
 
     /// Where the fields of a chosen variant stand.
     pub(crate) fn inside_variant<'q>(&'q self, chosen: &Chosen<'c>) -> Place<'q, 'c>
-        ensures { result ≡ places.inside_variant self.now (chosen_of chosen.now) }
+        ensures { result ≡ places.variant_path self.now (chosen_of chosen.now) }
     {
         let field = chosen.field;
         let alternative = PathSegment::Variant(&field.name, &chosen.variant.name);
         Place {
             way: Way::Inside(&*self, PathSegment::Field(&field.name), Some(alternative)),
-            unwrapped: self.unwrapped_at(chosen.target),
             depth: self.depth.saturating_add(2),
         }
     }
 
     /// Where the fields of the struct stand that is the only field, `0`, of a variant here.
     pub(crate) fn inside_newtype<'q>(&'q self) -> Place<'q, 'c>
-        ensures { result ≡ places.further self.now (by_field (codes "0") ∷ []) }
+        ensures { result ≡ self.now ++ by_field (codes "0") ∷ [] }
     {
         Place {
             way: Way::Inside(&*self, PathSegment::Field("0"), None),
-            unwrapped: self.unwrapped,
             depth: self.depth.saturating_add(1),
         }
     }

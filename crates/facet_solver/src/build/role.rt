@@ -28,6 +28,18 @@ pub(crate) enum Role<'c> {
     Leaf(Target),
 }
 
+impl<'c> Role<'c> {
+    /// Whether the field may be absent: its shape is an option of a struct or an enum.
+    pub(crate) fn may_be_absent(&self) -> bool
+        ensures { result ≡ roles.may_be_absent (role_view self.now) }
+    {
+        match self {
+            Role::Block(target, _) | Role::Alternatives(target, _, _) => target.optional,
+            Role::Regular | Role::CatchAll(_) | Role::Leaf(_) => false,
+        }
+    }
+}
+
 /// The target of a flattened field.
 fn target_of(shapes: &Shapes, field: &Field) -> Target
     ensures { result ≡ roles.target_of shapes.now field.now }

@@ -1,11 +1,12 @@
 //! The walk of one choice, which fills one resolution. It goes as deep as a catalogue, so its frames are kept small: what it
 //! calls at each field stays out of them.
-ghost use Rattle.std.specs.Prelude.{◌≡◌, ◌<◌, ◌∷◌, IsSome, length, slice_get, slice_index};
+ghost use Rattle.std.specs.Prelude.{◌≡◌, ◌<◌, ◌∷◌, [], IsSome, if◌then◌else◌, length, slice_get, slice_index};
 ghost use Rattle.facet_solver_shape.specs.Catalogues.{FieldsBelow};
 ghost use Rattle.facet_solver.specs.Outcome.{Walks, effect};
 ghost use Rattle.facet_solver.specs.Build.{build_of};
 ghost use Rattle.facet_solver.specs.Place.{chosen_of};
 ghost use Rattle.facet_solver.specs.Walk as walk;
+ghost use Rattle.facet_solver.specs.Walk.{Walking};
 ghost use Rattle.facet_solver.specs.Counts.{IsReady};
 ghost use Rattle.facet_solver.specs.Reached.{IsChosen, ServesEnum, ServesField, ServesFields, ServesVariant};
 
@@ -28,6 +29,19 @@ pub(crate) fn next_variant<'c, 'n>(
     ensures rest { indices.now ≡ slice_index indices.now 0 ∷ result.1.now }
 {
     (&variants[indices[0]], &indices[1..])
+}
+
+/// Whether a field is present, and the indices that are left: where it may be absent, the next index says so.
+fn presence<'n>(may_be_absent: bool, indices: &'n [usize]) -> (bool, &'n [usize])
+    requires { walk.HasPresence may_be_absent indices.now }
+    ensures { (present : Walking) → walk.walk_optional may_be_absent present indices.now
+        ≡ (if result.0 then present result.1.now else walk.emit [] result.1.now) }
+{
+    if may_be_absent {
+        (indices[0] == 1, &indices[1..])
+    } else {
+        (true, indices)
+    }
 }
 
 /// Walks fields in order, each with the indices that the one before it left, and answers those that the last one left.
@@ -74,13 +88,17 @@ fn walk_field<'c, 'n>(
         Walks (effect resolution.old walked) result resolution.new }
 {
     let role = role_of(walker.build.shapes, field);
+    let (is_present, indices) = presence(role.may_be_absent(), indices);
+    if !is_present {
+        return Ok(indices);
+    }
     match role {
         Role::Block(target, fields) => {
             if let Brings::CatchAlls(_) = walker.brings.of(target.shape) {
-                let inside = place.inside_field(field, target);
+                let inside = place.inside_field(field);
                 return walk_catch_alls(walker, fields, &inside, indices, resolution);
             }
-            let inside = place.inside_field(field, target);
+            let inside = place.inside_field(field);
             walk_fields(walker, fields, &inside, indices, resolution)
         }
         Role::Alternatives(target, shape, variants) => {

@@ -1,9 +1,8 @@
-use Rattle.std.proofs.Common.{◌≡◌, ℕ, List, [], ◌∷◌, All, subst, sym}
+use Rattle.std.proofs.Common.{◌≡◌, ℕ, List, [], ◌∷◌, subst, sym}
 use Rattle.std.specs.FinMap as finite
 use Rattle.std.specs.List.{AllByRecursion, AllZip}
 use Rattle.std.proofs.lemmas.List.Elements.{All-from_recursion, recursion_from_All}
-use Rattle.facet_solver_shape.specs.Fields.{FieldView, IsStored}
-use Rattle.facet_solver_shape.specs.Keys.{Key}
+use Rattle.facet_solver_shape.specs.Fields.{IsStored}
 use Rattle.facet_solver_shape.specs.Resolved.{AreRequiredNames, Resolved}
 use Rattle.facet_solver.specs.Build.{Build}
 use Rattle.facet_solver.specs.ByName.{is_viable_by_name, missing_by_name}

@@ -5,8 +5,8 @@ use crate::build::choices::iter::ChoicesIter;
 use std::alloc::{AllocError, Global};
 use std::marker::Model;
 
-/// Choices in order. A choice is the indices of the variants that are chosen, one for each enum that a walk meets. They
-/// lie one behind another in one vector, so that a choice takes no memory of its own.
+/// Choices in order. A choice is the indices that a walk takes: a variant's for each enum, and 0 or 1 for each field that may
+/// be absent. They lie one behind another in one vector, so that a choice takes no memory of its own.
 #[derive(Drop)]
 pub(crate) struct Choices {
     /// How many indices each choice has.

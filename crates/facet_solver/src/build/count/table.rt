@@ -1,5 +1,5 @@
 //! The number of choices at an index of the catalogue, from those at the indices before it.
-ghost use Rattle.std.specs.Prelude.{◌≡◌, ◌+◌, ◌<◌, ◌≤◌, length, sum_by, true};
+ghost use Rattle.std.specs.Prelude.{◌≡◌, ◌+◌, ◌<◌, ◌≤◌, ℕ, length, sum_by, true};
 ghost use Rattle.facet_solver_shape.specs.Catalogues.{NamesEarlier, FieldsBelow, VariantsBelow, KindBelow};
 ghost use Rattle.facet_solver_shape.specs.Steps.{NoCountFalls};
 ghost use Rattle.facet_solver.specs.Count as count;
@@ -14,6 +14,18 @@ use crate::build::role::{Role, role_of};
 use crate::build::visit::visited;
 use facet_solver_shape::{Field, Shape, ShapeKind, Steps, Variant};
 
+/// What may be absent has one choice more.
+fn count_optional(may_be_absent: bool, present: SaturatingCount) -> SaturatingCount
+    ensures { (n : ℕ) → CountsTo present n
+        → CountsTo result (count.count_optional may_be_absent n) }
+{
+    if may_be_absent {
+        SaturatingCount::Exact(1).plus(present)
+    } else {
+        present
+    }
+}
+
 /// The choices at one field.
 pub(crate) fn count_field(
     build: Build,
@@ -26,7 +38,9 @@ pub(crate) fn count_field(
     ensures { CountsTo result (count.count_field (build_of build.entry) field.now) }
 {
     match role_of(build.shapes, field) {
-        Role::Block(target, _) | Role::Alternatives(target, _, _) => counts[target.shape.index()],
+        Role::Block(target, _) | Role::Alternatives(target, _, _) => {
+            count_optional(target.optional, counts[target.shape.index()])
+        }
         Role::Regular | Role::CatchAll(_) | Role::Leaf(_) => SaturatingCount::Exact(1),
     }
 }

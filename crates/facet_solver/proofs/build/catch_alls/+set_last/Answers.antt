@@ -3,7 +3,7 @@ use Rattle.std.specs.Option.{option_copied}
 use Rattle.facet_solver_shape.specs.Fields.{FieldView}
 use Rattle.facet_solver.specs.Build.{build_of}
 use Rattle.facet_solver.specs.CatchAlls.{emitted_by, last_catch_all, last_with, with_last}
-use Rattle.facet_solver.specs.Place.{Place}
+use Rattle.facet_solver.specs.Place.{Path}
 use Rattle.facet_solver.proofs.CatchAlls.{at-block, at-catch_all, found-alone, found-below, found-has, last-is, last_at, last_at-none, no_other_role, block-alone}
 use Rattle.facet_solver.proofs.Listing.{block-below}
 use Rattle.facet_solver.proofs.Roles.{FieldsBelow-mono, FieldsBelow-limit, limit_of, limit_of-le}
@@ -31,7 +31,7 @@ set_last-requires t c =
     let f = c.in-Some.field.now in
     let is : Some f ≡ last_with table build c.args.category c.args.fields.now = sym (ap option_copied c.in-Some.is) ∙ c.last_with.ensures in
     let inner = c.in-Block.flattened.now in
-    let below = block-below walker.build.shapes.now c.requires.ready.checked f c.in-Block.target inner c.in-Block.ensures in
+    let below = block-below walker.build.shapes.now c.requires.ready.checked f c.in-Block.field-0 inner c.in-Block.ensures in
     let here = found-below table build c.args.category (limit_of c.args.fields.now) c.args.fields.now f (FieldsBelow-limit c.args.fields.now) is in
     let there = found-below table build c.args.category (length walker.build.shapes.now) c.args.fields.now f c.requires.below is in
     let deeper = limit_of-le f.shape inner below in (
@@ -40,7 +40,7 @@ set_last-requires t c =
         c.requires.ready,
         (
           FieldsBelow-mono f.shape (length walker.build.shapes.now) inner (omega (arith, there)) below,
-          block-alone build c.requires.ready.checked table c.requires.ready.brings c.args.category f c.args.place.now c.in-Block.target inner c.in-Block.ensures
+          block-alone build c.requires.ready.checked table c.requires.ready.brings c.args.category f c.args.place.now c.in-Block.field-0 inner c.in-Block.ensures
               (found-alone table build c.args.category c.args.fields.now f is),
         ),
       ),
@@ -70,8 +70,8 @@ returns-in-Block t c =
     let same : last_catch_all category (emitted_by build fs place) ≡ last_catch_all category (emitted_by build inner c.inside_field-inside.result) =
     last-is build c.requires.ready.checked table c.requires.ready.brings category (length walker.build.shapes.now) fs place c.requires.below c.requires.alone
     ∙ ap (last_at build c.requires.ready.checked table c.requires.ready.brings category place) (sym is)
-    ∙ at-block build c.requires.ready.checked table c.requires.ready.brings category f place c.in-Block.target inner c.in-Block.ensures
-    ∙ ap (λ (inside : Place). last_catch_all category (emitted_by build inner inside)) (sym c.inside_field-inside.ensures) in
+    ∙ at-block build c.requires.ready.checked table c.requires.ready.brings category f place c.in-Block.field-0 inner c.in-Block.ensures (found-alone table build category fs f is)
+    ∙ ap (λ (inside : Path). last_catch_all category (emitted_by build inner inside)) (sym c.inside_field-inside.ensures) in
     rw same c.set_last.ensures
 
 pub returns-in_ok-info-in-CatchAll : goal.returns-in_ok-info-in-CatchAll

@@ -6,7 +6,7 @@ use Rattle.facet_solver.specs.Listing.{choices_of_variant, choices_of_fields, ch
 use Rattle.facet_solver.specs.Brings.{at}
 use Rattle.facet_solver.specs.Build.{build_of}
 use Rattle.facet_solver.specs.declared.build.brings.Brings.{Brings}
-use Rattle.facet_solver.specs.declared.build.brings.Brings.TheVariants.{CatchAlls, Emissions, Variants}
+use Rattle.facet_solver.specs.declared.build.brings.Brings.TheVariants.{CatchAlls, Emissions, Choices as BringsChoices}
 use Rattle.facet_solver.specs.declared.build.brings.categories.Categories.{Categories}
 use Rattle.facet_solver.proofs.Brought.{block_of_one}
 use Rattle.facet_solver.proofs.Roles.{content_of-below, FieldsBelow-mono, VariantsBelow-mono, limit_of, limit_of-le, limit_of_variants-le, limit_of-at, limit_of_variants-at, FieldsBelow-at, VariantsBelow-at, limit_of-content, plain_role}
@@ -17,10 +17,10 @@ use Rattle.facet_solver.specs.Roles.{role_view}
 use Rattle.facet_solver.proofs.build.choices.+choices.Goals as goal
 use Rattle.facet_solver.proofs.build.choices.+choices.Goals.{choices_of_variants-then-walked+in_ok-contents, choices_of_variants-else-walked}
 
--- what brings catch-alls or other emissions alone brings no variants
-fewer : (b : Brings) → ((a : Categories) × (b ≡ CatchAlls a)) ⊎ (b ≡ Emissions) → b ≡ Variants → ⊥
-fewer b (inl e) v = let no : CatchAlls e.0 ≡ Variants = sym e.1 ∙ v in cc
-fewer b (inr e) v = let no : Emissions ≡ Variants = sym e ∙ v in cc
+-- what brings catch-alls or other emissions alone brings no choices
+fewer : (b : Brings) → ((a : Categories) × (b ≡ CatchAlls a)) ⊎ (b ≡ Emissions) → b ≡ BringsChoices → ⊥
+fewer b (inl e) v = let no : CatchAlls e.0 ≡ BringsChoices = sym e.1 ∙ v in cc
+fewer b (inr e) v = let no : Emissions ≡ BringsChoices = sym e ∙ v in cc
 
 pub choices_of_field-choices_of_fields-requires : goal.choices_of_field-choices_of_fields-requires
 choices_of_field-choices_of_fields-requires t c =
@@ -33,13 +33,16 @@ pub choices_of_field-choices_of_variants-requires : goal.choices_of_field-choice
 choices_of_field-choices_of_variants-requires t c =
     let f = c.args.field.now in
     let vs = c.in-Alternatives.variants.now in
-    let b = alternatives-below c.args.walker.now.build.shapes.now c.requires.ready.checked f c.in-Alternatives.field-0 c.in-Alternatives.shape.now vs c.in-Alternatives.ensures in
+    let b = alternatives-below c.args.walker.now.build.shapes.now c.requires.ready.checked f c.in-Alternatives.target c.in-Alternatives.shape.now vs c.in-Alternatives.ensures in
     let l = limit_of_variants-le f.shape vs b in
     (omega arith, (c.requires.ready, (VariantsBelow-mono f.shape (length c.args.walker.now.build.shapes.now) vs (omega (arith, c.requires.below)) b)))
 
-pub choices_of_field-returns-in-Variants : goal.choices_of_field-returns-in-Variants
-choices_of_field-returns-in-Variants t c =
-    rw (at-block (build_of c.args.walker.now.build) c.args.field.now c.in-Block.target c.in-Block.fields.now c.in-Block.ensures) c.choices_of_fields.ensures
+pub choices_of_field-returns-in_ok-present-in-Choices : goal.choices_of_field-returns-in_ok-present-in-Choices
+choices_of_field-returns-in_ok-present-in-Choices t c =
+    rw (
+      at-block (build_of c.args.walker.now.build) c.args.field.now c.in-Block.target c.in-Block.fields.now c.in-Block.ensures,
+      ← c.in_ok-present-in-Choices.ensures,
+    ) c.choices_of_optional.ensures
 
 pub choices_of_field-returns-in-CatchAlls : goal.choices_of_field-returns-in-CatchAlls
 choices_of_field-returns-in-CatchAlls t c =
@@ -48,16 +51,17 @@ choices_of_field-returns-in-CatchAlls t c =
     let f = c.args.field.now in
     let target = c.in-Block.target in
     let fs = c.in-Block.fields.now in
-    let none : at table target.shape ≡ Variants → ⊥ = λ v. fewer c.of.result c.in-CatchAlls.is (c.of.ensures ∙ v) in
+    let none : at table target.shape ≡ BringsChoices → ⊥ = λ v. fewer c.of.result c.in-CatchAlls.is (c.of.ensures ∙ v) in
     rw (at-block build f target fs c.in-Block.ensures, block_of_one build c.requires.ready.checked table c.requires.ready.brings f target fs (omega (arith, c.requires.below)) c.in-Block.ensures none)
-    refl
+    c.choices_of_optional-in-CatchAlls.ensures
 
-pub choices_of_field-returns-in_ok-choices_of_variants-in-Alternatives : goal.choices_of_field-returns-in_ok-choices_of_variants-in-Alternatives
-choices_of_field-returns-in_ok-choices_of_variants-in-Alternatives t c =
+pub choices_of_field-returns-in_ok-present-in-Alternatives : goal.choices_of_field-returns-in_ok-present-in-Alternatives
+choices_of_field-returns-in_ok-present-in-Alternatives t c =
     rw (
-      at-alternatives (build_of c.args.walker.now.build) c.args.field.now c.in-Alternatives.field-0 c.in-Alternatives.shape.now c.in-Alternatives.variants.now c.in-Alternatives.ensures,
+      at-alternatives (build_of c.args.walker.now.build) c.args.field.now c.in-Alternatives.target c.in-Alternatives.shape.now c.in-Alternatives.variants.now c.in-Alternatives.ensures,
       ← c.walks_content-walked.ensures,
-    ) c.in_ok-choices_of_variants-in-Alternatives.ensures
+      ← c.in_ok-present-in-Alternatives.ensures,
+    ) c.choices_of_optional-in-Alternatives.ensures
 
 pub choices_of_field-returns-in-Regular : goal.choices_of_field-returns-in-Regular
 choices_of_field-returns-in-Regular t c =
@@ -125,7 +129,7 @@ choices_of_variants-loop-index-preserved t c =
       | choices_of_variants-else-walked w ↦
           variant-alone build v c.args.walked cs w.if-walked.false (ap choices_found w.contents-is)
     ] in
-    rw c.in_ok-append_variant.ensures
+    rw c.in_ok-append_index.ensures
     (among-more build c.args.walked c.loop-index.found c.args.variants.now c.loop-index.index v cs c.loop-index-test.true c.index-variants-index.is e
     ∙ c.loop-index.invariant)
 

@@ -1,8 +1,7 @@
 use Rattle.std.proofs.Common.{ap, ◌∙◌, sym, subst, List, length, Some, IsSome}
 use Rattle.facet_solver_shape.specs.declared.shape.Field.{Field}
 use Rattle.facet_solver_shape.specs.declared.shape.Variant.{Variant}
-use Rattle.facet_solver.specs.Place.{Place}
-use Rattle.facet_solver.specs.Place.{at_root}
+use Rattle.facet_solver.specs.Place.{Path, at_root}
 use Rattle.facet_solver.specs.Walk.{Walked, walk_fields, choose, walk_root_variant}
 use Rattle.facet_solver.specs.Outcome.{Outcome, effect}
 use Rattle.facet_solver.specs.Build.{build_of}
@@ -24,7 +23,7 @@ pub returns-in-Struct : goal.returns-in-Struct
 returns-in-Struct c =
     let e = root-fields (build_of c.args.walker.now.build) c.args.root c.args.indices.now c.shape-shape.result.now c.shape-shape.ensures.found c.in-Struct.kind c.in-Struct.fields c.in-Struct.is
     ∙ ap (λ (fs : List Field). walk_fields (build_of c.args.walker.now.build) fs at_root c.args.indices.now) (sym c.deref.ensures.value)
-    ∙ ap (λ (place : Place). walk_fields (build_of c.args.walker.now.build) c.deref.result.now place c.args.indices.now) (sym c.root-place.ensures) in
+    ∙ ap (λ (place : Path). walk_fields (build_of c.args.walker.now.build) c.deref.result.now place c.args.indices.now) (sym c.root-place.ensures) in
     walks-same c.walk_fields.result c.walk_fields.new.resolution _ _ (ap (effect c.args.resolution.now) e) c.walk_fields.ensures
 
 pub next_variant-requires : goal.next_variant-requires

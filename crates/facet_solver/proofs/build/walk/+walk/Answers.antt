@@ -1,22 +1,22 @@
-use Rattle.std.proofs.Common.{◌≡◌, List, length, ap, sym, ◌∙◌, subst, arith, IsSome, Some, None, slice_get, get_or}
+use Rattle.std.proofs.Common.{◌≡◌, List, [], length, ap, sym, ◌∙◌, subst, arith, IsSome, Some, None, slice_get, get_or}
 use Rattle.std.proofs.lemmas.Bool.{eqb-true}
 use Rattle.std.proofs.lemmas.List.{nil_from_length}
 use Rattle.facet_solver_shape.specs.declared.shape.Field.{Field}
 use Rattle.facet_solver_shape.specs.declared.shape.Variant.{Variant}
 use Rattle.facet_solver_shape.specs.Catalogues.{FieldsBelow}
 use Rattle.facet_solver.specs.Walk.{Walked, walk_fields}
-use Rattle.facet_solver.specs.Place.{chosen_of}
-use Rattle.facet_solver.specs.Place.{Place}
+use Rattle.facet_solver.specs.Place.{chosen_of, Path}
 use Rattle.facet_solver.specs.Content.{newtype_fields}
 use Rattle.facet_solver.specs.Outcome.{effect}
 use Rattle.facet_solver.specs.Build.{build_of}
 use Rattle.facet_solver.specs.Reached.{ServesFields}
-use Rattle.facet_solver.specs.Roles.{alternatives, role_view}
+use Rattle.facet_solver.specs.Roles.{alternatives, block, may_be_absent, role_of, role_view}
 use Rattle.facet_solver.proofs.Serving.{block_served, enum_served, field_served, newtype_served, own_served, role_of-target, variant_served}
 use Rattle.facet_solver.proofs.Roles.{plain_role, FieldsBelow-mono, limit_of, limit_of-le, limit_of-at, FieldsBelow-at}
 use Rattle.facet_solver.proofs.Listing.{block-below, alternatives-below}
-use Rattle.facet_solver.proofs.Walk.{walk-start, turn-walked, turn-left, turn-stops, turns-done, stops-emit, emit-done, walks-exit, walks-same, at-block, at-alternatives, at-plain, has_choice, choose-is, VariantsBelow-get, then-inside, then-alone, then-nothing, inside-some, stops-chosen, inside-newtype, inside-own, newtype-limits}
+use Rattle.facet_solver.proofs.Walk.{by_presence, has_presence, when-absent, when-present, walk-start, turn-walked, turn-left, turn-stops, turns-done, stops-emit, emit-done, walks-exit, walks-same, at-block, at-alternatives, at-plain, has_choice, choose-is, VariantsBelow-get, then-inside, then-alone, then-nothing, inside-some, stops-chosen, inside-newtype, inside-own, newtype-limits}
 use Rattle.facet_solver.proofs.CatchAlls.{struct-alone}
+use Rattle.facet_solver.proofs.Outcome.{take_all-nil}
 use Rattle.facet_solver.proofs.build.walk.+walk.Goals as goal
 
 pub walk_fields-loop-field-init : goal.walk_fields-loop-field-init
@@ -61,21 +61,42 @@ pub walk_fields-returns : goal.walk_fields-returns
 walk_fields-returns t c =
     turns-done (build_of c.args.walker.now.build) c.args.place.now c.args.fields.now c.loop-field.field-index c.loop-field.rest.now c.loop-field.resolution c.args.resolution.now _ c.requires.walked c.loop-field.invariant c.loop-field-test.false
 
+pub walk_field-presence-is_present-requires : goal.walk_field-presence-is_present-requires
+walk_field-presence-is_present-requires t c =
+    let build = build_of c.args.walker.now.build in
+    let f = c.args.field.now in
+    let absent = c.may_be_absent.ensures ∙ ap may_be_absent c.role_of-role.ensures in
+    has_presence c.may_be_absent.result _ c.args.indices.now
+    (subst (λ (w : Walked). IsSome w) (by_presence build f c.args.place.now c.args.indices.now c.may_be_absent.result absent) c.requires.walked)
+
+pub walk_field-returns-then-not-is_present : goal.walk_field-returns-then-not-is_present
+walk_field-returns-then-not-is_present t c =
+    let r = c.args.resolution.now in
+    let rest = c.presence-is_present.result.1.now in
+    let here = when-absent (build_of c.args.walker.now.build) c.args.field.now c.args.place.now c.args.indices.now c.may_be_absent.result (c.may_be_absent.ensures ∙ ap may_be_absent c.role_of-role.ensures)
+    c.presence-is_present.result.0 c.presence-is_present.result.1.now c.presence-is_present.ensures c.if-not-is_present.true in
+    emit-done r r _ [] rest here (take_all-nil r)
+
 pub walk_field-walk_fields-requires : goal.walk_field-walk_fields-requires
 walk_field-walk_fields-requires t c =
+    let build = build_of c.args.walker.now.build in
     let cat = c.args.walker.now.build.shapes.now in
     let f = c.args.field.now in
     let fs = c.in-Block.fields.now in
-    let b = block-below cat c.requires.ready.checked f c.in-Block.target fs c.in-Block.ensures in
-    let l = limit_of-le f.shape fs b in (
+    let is : block c.in-Block.target fs ≡ role_of cat f = sym (ap role_view c.in-Block.is) ∙ c.role_of-role.ensures in
+    let b = block-below cat c.requires.ready.checked f c.in-Block.target fs is in
+    let l = limit_of-le f.shape fs b in
+    let here = when-present (build_of c.args.walker.now.build) c.args.field.now c.args.place.now c.args.indices.now c.may_be_absent.result (c.may_be_absent.ensures ∙ ap may_be_absent c.role_of-role.ensures)
+    c.presence-is_present.result.0 c.presence-is_present.result.1.now c.presence-is_present.ensures c.if-not-is_present.false in
+    let e = here ∙ at-block build f c.args.place.now c.presence-is_present.result.1.now c.in-Block.target fs is in (
       omega arith,
       (
         c.requires.ready,
         (
           FieldsBelow-mono f.shape (length cat) fs (omega (arith, c.requires.below)) b,
           (
-            block_served (build_of c.args.walker.now.build) c.args.walker.now.tables f c.requires.serves c.in-Block.target fs c.in-Block.ensures,
-            rw (c.inside_field-inside-in-Block.ensures, ← at-block (build_of c.args.walker.now.build) f c.args.place.now c.args.indices.now c.in-Block.target fs c.in-Block.ensures) c.requires.walked,
+            block_served build c.args.walker.now.tables f c.requires.serves c.in-Block.target fs is,
+            rw c.inside_field-inside-in-Block.ensures (subst (λ (w : Walked). IsSome w) e c.requires.walked),
           ),
         ),
       ),
@@ -86,54 +107,73 @@ walk_field-walk_catch_alls-requires t c =
     let build = build_of c.args.walker.now.build in
     let f = c.args.field.now in
     let fs = c.in-Block.fields.now in
+    let is : block c.in-Block.target fs ≡ role_of build.catalogue f = sym (ap role_view c.in-Block.is) ∙ c.role_of-role.ensures in
     record {
       ready = c.requires.ready;
-      below = FieldsBelow-mono f.shape (length build.catalogue) fs (omega (arith, c.requires.below)) (block-below build.catalogue c.requires.ready.checked f c.in-Block.target fs c.in-Block.ensures);
-      alone = struct-alone build c.requires.ready.checked c.args.walker.now.brings.by_index.items c.requires.ready.brings f c.in-Block.target fs c.in-CatchAlls.field-0 c.in-Block.ensures (sym c.of.ensures ∙ c.in-CatchAlls.is);
+      below = FieldsBelow-mono f.shape (length build.catalogue) fs (omega (arith, c.requires.below)) (block-below build.catalogue c.requires.ready.checked f c.in-Block.target fs is);
+      alone = struct-alone build c.requires.ready.checked c.args.walker.now.brings.by_index.items c.requires.ready.brings f c.in-Block.target fs c.in-CatchAlls.field-0 is (sym c.of.ensures ∙ c.in-CatchAlls.is);
     }
 
 pub walk_field-returns-in-CatchAlls : goal.walk_field-returns-in-CatchAlls
 walk_field-returns-in-CatchAlls t c =
+    let build = build_of c.args.walker.now.build in
+    let f = c.args.field.now in
     let fs = c.in-Block.fields.now in
-    rw (
-      at-block (build_of c.args.walker.now.build) c.args.field.now c.args.place.now c.args.indices.now c.in-Block.target fs c.in-Block.ensures,
-      ← c.inside_field-inside.ensures,
-    ) c.walk_catch_alls.ensures
+    let is : block c.in-Block.target fs ≡ role_of build.catalogue f = sym (ap role_view c.in-Block.is) ∙ c.role_of-role.ensures in
+    let here = when-present (build_of c.args.walker.now.build) c.args.field.now c.args.place.now c.args.indices.now c.may_be_absent.result (c.may_be_absent.ensures ∙ ap may_be_absent c.role_of-role.ensures)
+    c.presence-is_present.result.0 c.presence-is_present.result.1.now c.presence-is_present.ensures c.if-not-is_present.false in
+    let e = here ∙ at-block build f c.args.place.now c.presence-is_present.result.1.now c.in-Block.target fs is in
+    rw (e, ← c.inside_field-inside.ensures) c.walk_catch_alls.ensures
 
 pub walk_field-returns-in_default : goal.walk_field-returns-in_default
 walk_field-returns-in_default t c =
+    let build = build_of c.args.walker.now.build in
+    let f = c.args.field.now in
     let fs = c.in-Block.fields.now in
-    rw (
-      at-block (build_of c.args.walker.now.build) c.args.field.now c.args.place.now c.args.indices.now c.in-Block.target fs c.in-Block.ensures,
-      ← c.inside_field-inside-in-Block.ensures,
-    ) c.walk_fields.ensures
+    let is : block c.in-Block.target fs ≡ role_of build.catalogue f = sym (ap role_view c.in-Block.is) ∙ c.role_of-role.ensures in
+    let here = when-present (build_of c.args.walker.now.build) c.args.field.now c.args.place.now c.args.indices.now c.may_be_absent.result (c.may_be_absent.ensures ∙ ap may_be_absent c.role_of-role.ensures)
+    c.presence-is_present.result.0 c.presence-is_present.result.1.now c.presence-is_present.ensures c.if-not-is_present.false in
+    let e = here ∙ at-block build f c.args.place.now c.presence-is_present.result.1.now c.in-Block.target fs is in
+    rw (e, ← c.inside_field-inside-in-Block.ensures) c.walk_fields.ensures
 
 pub walk_field-next_variant-requires : goal.walk_field-next_variant-requires
 walk_field-next_variant-requires t c =
-    has_choice c.in-Alternatives.variants.now c.args.indices.now _
-    (rw (at-alternatives (build_of c.args.walker.now.build) c.args.field.now c.args.place.now c.args.indices.now c.in-Alternatives.target c.in-Alternatives.shape.now c.in-Alternatives.variants.now c.in-Alternatives.ensures) at c.requires.walked)
+    let build = build_of c.args.walker.now.build in
+    let f = c.args.field.now in
+    let s = c.in-Alternatives.shape.now in
+    let vs = c.in-Alternatives.variants.now in
+    let is : alternatives c.in-Alternatives.target s vs ≡ role_of build.catalogue f = sym (ap role_view c.in-Alternatives.is) ∙ c.role_of-role.ensures in
+    let here = when-present (build_of c.args.walker.now.build) c.args.field.now c.args.place.now c.args.indices.now c.may_be_absent.result (c.may_be_absent.ensures ∙ ap may_be_absent c.role_of-role.ensures)
+    c.presence-is_present.result.0 c.presence-is_present.result.1.now c.presence-is_present.ensures c.if-not-is_present.false in
+    let e = here ∙ at-alternatives build f c.args.place.now c.presence-is_present.result.1.now c.in-Alternatives.target s vs is in
+    has_choice vs c.presence-is_present.result.1.now _ (subst (λ (w : Walked). IsSome w) e c.requires.walked)
 
 pub walk_field-walk_variant-requires : goal.walk_field-walk_variant-requires
 walk_field-walk_variant-requires t c =
     let build = build_of c.args.walker.now.build in
     let cat = c.args.walker.now.build.shapes.now in
     let f = c.args.field.now in
+    let target = c.in-Alternatives.target in
     let s = c.in-Alternatives.shape.now in
     let vs = c.in-Alternatives.variants.now in
+    let ns = c.presence-is_present.result.1.now in
     let v = c.next_variant.result.0.now in
-    let b = VariantsBelow-get f.shape vs _ v c.next_variant.ensures.variant (alternatives-below cat c.requires.ready.checked f c.in-Alternatives.target s vs c.in-Alternatives.ensures) in
+    let is : alternatives target s vs ≡ role_of cat f = sym (ap role_view c.in-Alternatives.is) ∙ c.role_of-role.ensures in
+    let b = VariantsBelow-get f.shape vs _ v c.next_variant.ensures.variant (alternatives-below cat c.requires.ready.checked f target s vs is) in
     let l = limit_of-le f.shape v.fields.items b in
-    let e = at-alternatives build f c.args.place.now c.args.indices.now c.in-Alternatives.target s vs c.in-Alternatives.ensures ∙ choose-is vs c.args.indices.now _ v c.next_variant.result.1.now c.next_variant.ensures.variant c.next_variant.ensures.rest in
-    let role = role_of-target cat f (alternatives c.in-Alternatives.target s vs) c.in-Alternatives.ensures in (
+    let here = when-present (build_of c.args.walker.now.build) c.args.field.now c.args.place.now c.args.indices.now c.may_be_absent.result (c.may_be_absent.ensures ∙ ap may_be_absent c.role_of-role.ensures)
+    c.presence-is_present.result.0 c.presence-is_present.result.1.now c.presence-is_present.ensures c.if-not-is_present.false in
+    let e = here ∙ at-alternatives build f c.args.place.now ns target s vs is ∙ choose-is vs ns _ v c.next_variant.result.1.now c.next_variant.ensures.variant c.next_variant.ensures.rest in
+    let role = role_of-target cat f (alternatives target s vs) is in (
       omega arith,
       (
         c.requires.ready,
         (
           FieldsBelow-mono f.shape (length cat) v.fields.items (omega (arith, c.requires.below)) b,
           (
-            record { variants = role.1.0; shape = role.0; kind = role.1.1.0; variant = ap (λ (ws : List Variant). slice_get ws (get_or c.args.indices.now 0 0)) role.1.1.1 ∙ c.next_variant.ensures.variant },
+            record { variants = role.1.0; shape = role.0; kind = role.1.1.0; variant = ap (λ (ws : List Variant). slice_get ws (get_or ns 0 0)) role.1.1.1 ∙ c.next_variant.ensures.variant },
             (
-              enum_served build c.args.walker.now.tables f c.requires.serves c.in-Alternatives.target s vs c.in-Alternatives.ensures,
+              enum_served build c.args.walker.now.tables f c.requires.serves target s vs is,
               subst (λ (w : Walked). IsSome w) e c.requires.walked,
             ),
           ),
@@ -147,23 +187,37 @@ walk_field-returns-in-Alternatives t c =
     let f = c.args.field.now in
     let s = c.in-Alternatives.shape.now in
     let vs = c.in-Alternatives.variants.now in
+    let ns = c.presence-is_present.result.1.now in
     let v = c.next_variant.result.0.now in
-    let e = at-alternatives build f c.args.place.now c.args.indices.now c.in-Alternatives.target s vs c.in-Alternatives.ensures ∙ choose-is vs c.args.indices.now _ v c.next_variant.result.1.now c.next_variant.ensures.variant c.next_variant.ensures.rest in
+    let is : alternatives c.in-Alternatives.target s vs ≡ role_of build.catalogue f = sym (ap role_view c.in-Alternatives.is) ∙ c.role_of-role.ensures in
+    let here = when-present (build_of c.args.walker.now.build) c.args.field.now c.args.place.now c.args.indices.now c.may_be_absent.result (c.may_be_absent.ensures ∙ ap may_be_absent c.role_of-role.ensures)
+    c.presence-is_present.result.0 c.presence-is_present.result.1.now c.presence-is_present.ensures c.if-not-is_present.false in
+    let e = here ∙ at-alternatives build f c.args.place.now ns c.in-Alternatives.target s vs is ∙ choose-is vs ns _ v c.next_variant.result.1.now c.next_variant.ensures.variant c.next_variant.ensures.rest in
     walks-same c.walk_variant.result c.walk_variant.new.resolution _ _ (ap (effect c.args.resolution.now) e) c.walk_variant.ensures
 
 pub walk_field-returns-in_err-emit_plain-in-Regular : goal.walk_field-returns-in_err-emit_plain-in-Regular
 walk_field-returns-in_err-emit_plain-in-Regular t c =
+    let build = build_of c.args.walker.now.build in
+    let f = c.args.field.now in
     let r = c.args.resolution.now in
-    let e = at-plain (build_of c.args.walker.now.build) c.args.field.now c.args.place.now c.args.indices.now (role_view c.role_of-role.result) c.role_of-role.ensures (plain_role c.role_of-role.result c.in-Regular.is) in
+    let ns = c.presence-is_present.result.1.now in
+    let here = when-present (build_of c.args.walker.now.build) c.args.field.now c.args.place.now c.args.indices.now c.may_be_absent.result (c.may_be_absent.ensures ∙ ap may_be_absent c.role_of-role.ensures)
+    c.presence-is_present.result.0 c.presence-is_present.result.1.now c.presence-is_present.ensures c.if-not-is_present.false in
+    let e = here ∙ at-plain build f c.args.place.now ns (role_view c.role_of-role.result) c.role_of-role.ensures (plain_role c.role_of-role.result c.in-Regular.is) in
     walks-same _ c.emit_plain.new.resolution _ _ (ap (effect r) e)
     (walks-exit c.from_residual.result c.emit_plain.new.resolution _ _ c.from_residual.ensures.1
-    (stops-emit r _ c.args.indices.now _ c.in_err-emit_plain-in-Regular.ensures))
+    (stops-emit r _ ns _ c.in_err-emit_plain-in-Regular.ensures))
 
 pub walk_field-returns-in_ok-emit_plain-in-Regular : goal.walk_field-returns-in_ok-emit_plain-in-Regular
 walk_field-returns-in_ok-emit_plain-in-Regular t c =
+    let build = build_of c.args.walker.now.build in
+    let f = c.args.field.now in
     let r = c.args.resolution.now in
-    let e = at-plain (build_of c.args.walker.now.build) c.args.field.now c.args.place.now c.args.indices.now (role_view c.role_of-role.result) c.role_of-role.ensures (plain_role c.role_of-role.result c.in-Regular.is) in
-    emit-done r c.emit_plain.new.resolution _ _ c.args.indices.now e c.in_ok-emit_plain-in-Regular.ensures
+    let ns = c.presence-is_present.result.1.now in
+    let here = when-present (build_of c.args.walker.now.build) c.args.field.now c.args.place.now c.args.indices.now c.may_be_absent.result (c.may_be_absent.ensures ∙ ap may_be_absent c.role_of-role.ensures)
+    c.presence-is_present.result.0 c.presence-is_present.result.1.now c.presence-is_present.ensures c.if-not-is_present.false in
+    let e = here ∙ at-plain build f c.args.place.now ns (role_view c.role_of-role.result) c.role_of-role.ensures (plain_role c.role_of-role.result c.in-Regular.is) in
+    emit-done r c.emit_plain.new.resolution _ _ ns e c.in_ok-emit_plain-in-Regular.ensures
 
 pub walk_variant-returns-in_err-emit_variant : goal.walk_variant-returns-in_err-emit_variant
 walk_variant-returns-in_err-emit_variant t c =
@@ -222,7 +276,7 @@ walk_content-walk_fields-requires t c =
           (
             newtype_served build c.args.walker.now.tables v c.requires.serves fs e,
             subst (λ (w : Walked). IsSome w)
-                (inside-newtype build v c.args.place.now c.args.indices.now fs e ∙ ap (λ (place : Place). walk_fields build fs place c.args.indices.now) (sym c.inside_newtype-inside.ensures))
+                (inside-newtype build v c.args.place.now c.args.indices.now fs e ∙ ap (λ (place : Path). walk_fields build fs place c.args.indices.now) (sym c.inside_newtype-inside.ensures))
                 c.requires.walked,
           ),
         ),
@@ -237,7 +291,7 @@ walk_content-returns-in-Some t c =
     let fs = c.in-Some.fields.now in
     let e : Some fs ≡ newtype_fields cat v.fields.items = c.in-Some.ensures ∙ ap (newtype_fields cat) c.deref.ensures.value in
     walks-same c.walk_fields.result c.walk_fields.new.resolution _ _
-    (ap (effect c.args.resolution.now) (inside-newtype build v c.args.place.now c.args.indices.now fs e ∙ ap (λ (place : Place). walk_fields build fs place c.args.indices.now) (sym c.inside_newtype-inside.ensures)))
+    (ap (effect c.args.resolution.now) (inside-newtype build v c.args.place.now c.args.indices.now fs e ∙ ap (λ (place : Path). walk_fields build fs place c.args.indices.now) (sym c.inside_newtype-inside.ensures)))
     c.walk_fields.ensures
 
 pub walk_content-walk_fields-requires-in-None : goal.walk_content-walk_fields-requires-in-None

@@ -1,7 +1,10 @@
-use Rattle.std.proofs.Common.{◌<◌, length, arith}
+use Rattle.std.proofs.Common.{◌<◌, length, arith, Bool, subst, sym}
 use Rattle.facet_solver.specs.Build.{build_of}
-use Rattle.facet_solver.proofs.Roles.{target_in_role-le, target_in_hand}
-use Rattle.facet_solver.proofs.Count.{field_counted}
+use Rattle.facet_solver.specs.Count.{count_fields, count_optional, count_present}
+use Rattle.facet_solver.specs.Counts.{CountsTo}
+use Rattle.facet_solver.specs.Roles.{role_of}
+use Rattle.facet_solver.proofs.Roles.{target_in_role-le, target_in_hand, optional_in_hand}
+use Rattle.facet_solver.proofs.Count.{present_counted}
 use Rattle.facet_solver.proofs.build.count.table.count_field.Goals as goal
 
 -- the target stands no later than the field's shape
@@ -22,7 +25,11 @@ offset_bounds-counts-index c =
 
 pub returns-in-Block : goal.returns-in-Block
 returns-in-Block c =
+    let build = build_of c.args.build in
     let f = c.args.field.now in
-    rw c.index.ensures
-    (field_counted (build_of c.args.build) c.args.counts.now f c.in-Block.target _ c.requires.checked c.requires.counted c.requires.below
-    (target_in_hand c.args.build.shapes.now f c.role_of.result c.in-Block.target c.role_of.ensures c.in-Block.is))
+    let target = c.in-Block.target in
+    let present = present_counted build c.args.counts.now f target _ c.requires.checked c.requires.counted c.requires.below
+    (target_in_hand build.catalogue f c.role_of.result target c.role_of.ensures c.in-Block.is) in
+    subst (λ (b : Bool). CountsTo c.count_optional.result (count_optional b (count_present (count_fields build) build (role_of build.catalogue f))))
+    (sym (optional_in_hand build.catalogue f c.role_of.result target c.role_of.ensures c.in-Block.is))
+    (c.count_optional.ensures _ (rw c.index.ensures present))

@@ -6,7 +6,7 @@ use Rattle.std.specs.Borrow.{Bor}
 use Rattle.facet_solver.specs.declared.build.place.Place as code
 use Rattle.facet_solver.specs.declared.build.place.Way.{Way}
 use Rattle.facet_solver.specs.declared.build.place.Way.TheVariants.{Root, Inside}
-use Rattle.facet_solver.specs.Place.{Path, Place}
+use Rattle.facet_solver.specs.Place.{Path}
 use Rattle.facet_solver.specs.PlaceView.{path_of}
 use Rattle.facet_solver.proofs.build.place.Place.path_before.Goals as goal
 
@@ -20,5 +20,5 @@ returns c =
     let segments = c.loop-place.segments.items in
     c.from.ensures
     ∙ ap (λ (ss : List PathSegment). map step_of ss) c.reverse.ensures.items
-    ∙ ap (λ (p : Path). p ++ map step_of (reverse segments)) (sym (outermost c.place.inside.way c.in_default.not-Inside) ∙ ap (λ (p : Place). p.path) c.place.view_is)
+    ∙ ap (λ (p : Path). p ++ map step_of (reverse segments)) (sym (outermost c.place.inside.way c.in_default.not-Inside) ∙ c.place.view_is)
     ∙ sym c.loop-place.invariant
