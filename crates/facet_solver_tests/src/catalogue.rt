@@ -2,6 +2,7 @@
 
 use crate::answer::{Answer, BAR};
 use crate::types::place_of;
+use crate::uses::{of_element, of_keys};
 use facet_solver::{
     EnumRepr, Field, Format, Schema, SchemaError, Shape, ShapeId, ShapeKind, Shapes, Steps,
     Variant, VariantFormat, VariantsByFormat, specificity_score,
@@ -25,6 +26,8 @@ impl<'c> Catalogue<'c> {
             "score" => self.score(answer),
             "variant" => self.variant(answer),
             "variants" => self.variants(answer),
+            "keys_to_choice" => of_keys(*self, answer),
+            "element_to_choice" => of_element(*self, answer),
             BAR => answer.add_error(),
             _ => answer.unread(),
         }

@@ -7,6 +7,7 @@
 
 mod answer;
 mod by_hand;
+mod callers;
 mod catalogue;
 mod error_by_hand;
 mod errors;
@@ -21,6 +22,7 @@ mod runs;
 mod solving;
 mod transcript;
 mod types;
+mod uses;
 mod words;
 
 use answer::{Answer, Line, Outcome};

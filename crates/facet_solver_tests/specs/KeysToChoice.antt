@@ -1,0 +1,54 @@
+-- What the keys of one choice come to.
+use Rattle.std.specs.Prelude.{◌≡◌, ℕ, List, Result, Ok, Err, Some, Contains, ⊤, map, slice_get, string_bytes}
+use Rattle.facet_solver.specs.Build.{Build}
+use Rattle.facet_solver.specs.Choice.{IsRefusal, ListsChoices}
+use Rattle.facet_solver.specs.Keys.{Key, key_of}
+use Rattle.facet_solver.specs.Names.{Name}
+use Rattle.facet_solver.specs.Resolved.{Resolved, description}
+use Rattle.facet_solver.specs.Schema.{SchemaView, index_of}
+use Rattle.facet_solver.specs.Told.{TellsChoice}
+use Rattle.facet_solver.specs.declared.FieldKey.{FieldKey}
+use Rattle.facet_solver.specs.declared.ResolutionHandle.{ResolutionHandle}
+use Rattle.facet_solver.specs.declared.SolverError.{SolverError}
+use Rattle.facet_solver.specs.declared.SolverError.TheVariants.{Ambiguous, OutOfMemory}
+use Rattle.facet_solver_tests.specs.declared.callers.keys_to_choice.Choice.{Choice}
+use Rattle.facet_solver_tests.specs.declared.callers.keys_to_choice.NoChoice.{NoChoice}
+use Rattle.facet_solver_tests.specs.declared.callers.keys_to_choice.NoChoice.TheVariants.{Schema, Solver}
+
+-- what keys say, wherever their names lie
+abbrev pub keys_of : List FieldKey → List Key
+keys_of keys = map key_of keys
+
+-- the error of a solver that was told one choice lists its description, or says that memory was
+-- refused; it never says that nothing matches
+abbrev pub Lists : Name → SolverError → Type 0
+Lists text (Ambiguous candidates fields) = Contains (map string_bytes candidates.items) text
+Lists text OutOfMemory = ⊤
+Lists text no_match = ⊥
+
+-- a handle has an index, or else the error lists a description
+abbrev pub HasOrLists : ℕ → Name → Result ResolutionHandle SolverError → Type 0
+HasOrLists index text (Ok handle) = index_of handle ≡ index
+HasOrLists index text (Err error) = Lists text error
+
+-- where keys tell one choice of a schema, the answer has its index, or lists its description
+abbrev pub FindsInSchema : SchemaView → List Key → Result ResolutionHandle SolverError → Type 0
+FindsInSchema schema keys answer =
+    (choices : List (List ℕ)) → ListsChoices schema.build schema.root choices
+    → (index : ℕ) (choice : List ℕ) → slice_get choices index ≡ Some choice
+    → (r : Resolved) → TellsChoice schema.build schema.root choice keys r
+    → HasOrLists index (description r.picks) answer
+
+-- a choice has an index, or else the error lists a description; a schema that is refused says why
+abbrev pub GivesOrLists : Build → ℕ → (ℕ × Name) → Result Choice NoChoice → Type 0
+GivesOrLists build root told (Ok choice) = choice.index ≡ told.0
+GivesOrLists build root told (Err (Schema error)) = IsRefusal build root error
+GivesOrLists build root told (Err (Solver error)) = Lists told.1 error
+
+-- where keys tell one choice of a root, the answer has its index, or lists its description
+abbrev pub FindsChoice : Build → ℕ → List Key → Result Choice NoChoice → Type 0
+FindsChoice build root keys answer =
+    (choices : List (List ℕ)) → ListsChoices build root choices
+    → (index : ℕ) (choice : List ℕ) → slice_get choices index ≡ Some choice
+    → (r : Resolved) → TellsChoice build root choice keys r
+    → GivesOrLists build root (index, description r.picks) answer

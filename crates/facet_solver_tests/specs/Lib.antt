@@ -1,0 +1,2 @@
+pub mod KeysToChoice
+pub mod ElementToChoice

@@ -1,0 +1,100 @@
+//! From keys to a choice: the schema of a type is built, a solver is told the keys of a document, and its end is the answer.
+ghost use Rattle.std.specs.Prelude.{◌≡◌, ◌<◌, IfErr, Some, length};
+ghost use Rattle.facet_solver.specs.Representation.{flattened};
+ghost use Rattle.facet_solver.specs.Schema.{flat_build};
+ghost use Rattle.facet_solver_tests.specs.KeysToChoice.{FindsChoice, FindsInSchema, keys_of};
+
+use facet_solver::laws::told_choices_are_found;
+use facet_solver::{
+    FieldKey, ResolutionHandle, Schema, SchemaError, ShapeId, Shapes, Solver, SolverError,
+};
+use std::alloc::{AllocError, Global};
+
+/// The choice of variants that a document means.
+#[derive(Drop)]
+pub struct Choice {
+    /// The index of its resolution.
+    pub index: usize,
+    /// Its variants, as `MessagePayload::Text`.
+    pub description: String,
+}
+
+/// Why keys come to no choice.
+#[derive(Drop)]
+pub enum NoChoice<'c> {
+    /// The type has no schema: two fields of one choice have one key.
+    Schema(SchemaError<'c>),
+    /// The keys fit no choice, or several.
+    Solver(SolverError<'c>),
+}
+
+impl<'c> From<SchemaError<'c>> for NoChoice<'c> {
+    ghost use Rattle.facet_solver_tests.specs.declared.callers.keys_to_choice.NoChoice.TheVariants.{Schema};
+
+    ghost from_gives = { λ error e. e ≡ Schema error };
+
+    fn from(error: SchemaError<'c>) -> NoChoice<'c> {
+        NoChoice::Schema(error)
+    }
+}
+
+impl<'c> From<SolverError<'c>> for NoChoice<'c> {
+    ghost use Rattle.facet_solver_tests.specs.declared.callers.keys_to_choice.NoChoice.TheVariants.{Solver};
+
+    ghost from_gives = { λ error e. e ≡ Solver error };
+
+    fn from(error: SolverError<'c>) -> NoChoice<'c> {
+        NoChoice::Solver(error)
+    }
+}
+
+impl<'c> From<AllocError> for NoChoice<'c> {
+    ghost use Rattle.facet_solver.specs.declared.SolverError.TheVariants.{OutOfMemory};
+    ghost use Rattle.facet_solver_tests.specs.declared.callers.keys_to_choice.NoChoice.TheVariants.{Solver};
+
+    ghost from_gives = { λ _ e. e ≡ Solver OutOfMemory };
+
+    fn from(_refused: AllocError) -> NoChoice<'c> {
+        NoChoice::Solver(SolverError::OutOfMemory)
+    }
+}
+
+/// The choice that the keys of a document mean, in a type whose enums are flattened.
+///
+/// Where they are the keys of one choice, in whatever order, repeated, or with unknown ones among them, the answer has the
+/// index of that choice, or the error is `Ambiguous` and lists its description, or memory was refused.
+pub fn keys_to_choice<'c>(
+    alloc: Global,
+    shapes: &'c Shapes,
+    root: ShapeId,
+    keys: &[FieldKey<'_>],
+) -> Result<Choice, NoChoice<'c>>
+    requires { root < length shapes.now }
+    ensures { FindsChoice (flat_build shapes.now (Some flattened)) root (keys_of keys.now) result }
+{
+    let schema = Schema::build(alloc, shapes, root)?;
+    let handle = choice_in_schema(alloc, &schema, keys)?;
+    let description = handle.resolution().describe(alloc)?;
+    Ok(Choice {
+        index: handle.index(),
+        description,
+    })
+}
+
+/// The resolution of a schema that the keys of a document mean.
+pub fn choice_in_schema<'s, 'c>(
+    alloc: Global,
+    schema: &'s Schema<'c>,
+    keys: &[FieldKey<'_>],
+) -> Result<ResolutionHandle<'s, 'c>, SolverError<'c>>
+    ensures { FindsInSchema schema.now (keys_of keys.now) result }
+{
+    // What is known of told keys, and of the schema: the two clauses that the contract follows from, beside that of `finish`.
+    told_choices_are_found();
+    let _ = schema.resolutions();
+    let mut solver = Solver::new(alloc, schema)?;
+    for key in keys {
+        solver.see_key(alloc, *key)?;
+    }
+    solver.finish(alloc)
+}

@@ -1,0 +1,70 @@
+//! Calls that make the uses of the library, each in the schema of a type that is named next.
+
+use crate::answer::Answer;
+use crate::callers::element_to_choice::{Part, element_to_choice};
+use crate::callers::keys_to_choice::{Choice, NoChoice, keys_to_choice};
+use crate::catalogue::Catalogue;
+use crate::errors::add_verdict;
+use crate::resolution::add_refusal;
+use facet_solver::{FieldCategory, FieldKey};
+
+/// Tells what the keys come to that are left.
+pub fn of_keys(catalogue: Catalogue<'_>, answer: &mut Answer<'_>) {
+    let root = catalogue.id(answer);
+    let keys = keys(answer);
+    if catalogue.shapes.has(root) && answer.holds() {
+        let found = keys_to_choice(answer.alloc, catalogue.shapes, root, &keys);
+        add_found(&found, answer);
+    }
+}
+
+/// Tells what the parts of an element come to that are left, each as a key.
+pub fn of_element(catalogue: Catalogue<'_>, answer: &mut Answer<'_>) {
+    let root = catalogue.id(answer);
+    let parts = parts(answer);
+    if catalogue.shapes.has(root) && answer.holds() {
+        let found = element_to_choice(answer.alloc, catalogue.shapes, root, &parts);
+        add_found(&found, answer);
+    }
+}
+
+fn keys<'t>(answer: &mut Answer<'t>) -> Vec<FieldKey<'t>> {
+    let mut keys = Vec::new(answer.alloc);
+    for _ in 0..usize::MAX {
+        let word = answer.next_word();
+        if word.is_empty() {
+            break;
+        }
+        let key = answer.key_of(word);
+        answer.push(&mut keys, key);
+    }
+    keys
+}
+
+fn parts<'t>(answer: &mut Answer<'t>) -> Vec<Part<'t>> {
+    let mut parts = Vec::new(answer.alloc);
+    for key in &keys(answer) {
+        match key {
+            FieldKey::Dom(FieldCategory::Attribute, name) => {
+                answer.push(&mut parts, Part::Attribute(name));
+            }
+            FieldKey::Dom(FieldCategory::Element, name) => {
+                answer.push(&mut parts, Part::Element(name));
+            }
+            FieldKey::Dom(FieldCategory::Text, _) => answer.push(&mut parts, Part::Text),
+            _ => answer.unread(),
+        }
+    }
+    parts
+}
+
+fn add_found(found: &Result<Choice, NoChoice<'_>>, answer: &mut Answer<'_>) {
+    match found {
+        Ok(choice) => {
+            answer.add_value(&choice.index);
+            answer.add(choice.description.as_str());
+        }
+        Err(NoChoice::Schema(error)) => add_refusal(error, answer),
+        Err(NoChoice::Solver(error)) => add_verdict(error, answer),
+    }
+}
