@@ -1,2 +1,3 @@
 pub mod KeysToChoice
+pub mod LoadConfig
 pub mod ElementToChoice

@@ -2,3 +2,4 @@
 
 pub mod element_to_choice;
 pub mod keys_to_choice;
+pub mod load_config;

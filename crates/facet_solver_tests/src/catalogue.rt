@@ -2,7 +2,7 @@
 
 use crate::answer::{Answer, BAR};
 use crate::types::place_of;
-use crate::uses::{of_element, of_keys};
+use crate::uses::{of_config, of_element, of_keys};
 use facet_solver::{
     EnumRepr, Field, Format, Schema, SchemaError, Shape, ShapeId, ShapeKind, Shapes, Steps,
     Variant, VariantFormat, VariantsByFormat, specificity_score,
@@ -28,6 +28,7 @@ impl<'c> Catalogue<'c> {
             "variants" => self.variants(answer),
             "keys_to_choice" => of_keys(*self, answer),
             "element_to_choice" => of_element(*self, answer),
+            "load_config" => of_config(*self, answer),
             BAR => answer.add_error(),
             _ => answer.unread(),
         }

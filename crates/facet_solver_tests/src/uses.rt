@@ -3,10 +3,11 @@
 use crate::answer::Answer;
 use crate::callers::element_to_choice::{Part, element_to_choice};
 use crate::callers::keys_to_choice::{Choice, NoChoice, keys_to_choice};
+use crate::callers::load_config::{Refused, load_config};
 use crate::catalogue::Catalogue;
 use crate::errors::add_verdict;
-use crate::resolution::add_refusal;
-use facet_solver::{FieldCategory, FieldKey};
+use crate::resolution::{add_key, add_refusal};
+use facet_solver::{FieldCategory, FieldKey, Schema};
 
 /// Tells what the keys come to that are left.
 pub fn of_keys(catalogue: Catalogue<'_>, answer: &mut Answer<'_>) {
@@ -25,6 +26,37 @@ pub fn of_element(catalogue: Catalogue<'_>, answer: &mut Answer<'_>) {
     if catalogue.shapes.has(root) && answer.holds() {
         let found = element_to_choice(answer.alloc, catalogue.shapes, root, &parts);
         add_found(&found, answer);
+    }
+}
+
+/// Tells what a configuration comes to: a tag, the text under it, and the keys that are left.
+pub fn of_config(catalogue: Catalogue<'_>, answer: &mut Answer<'_>) {
+    let root = catalogue.id(answer);
+    if catalogue.shapes.has(root) {
+        match Schema::build_auto(answer.alloc, catalogue.shapes, root) {
+            Ok(schema) => load(&schema, answer),
+            Err(error) => add_refusal(&error, answer),
+        }
+    }
+}
+
+fn load(schema: &Schema<'_>, answer: &mut Answer<'_>) {
+    let tag = answer.word();
+    let variant = answer.word();
+    let keys = keys(answer);
+    if answer.holds() {
+        match load_config(answer.alloc, schema, tag, variant, &keys) {
+            Ok(handle) => {
+                answer.add_value(&handle.index());
+                answer.add_description(handle.resolution());
+            }
+            Err(Refused::UnknownVariant) => answer.add("unknown variant"),
+            Err(Refused::UnknownKey(key)) => {
+                answer.add("unknown key");
+                add_key(key, answer);
+            }
+            Err(Refused::Solver(error)) => add_verdict(&error, answer),
+        }
     }
 }
 
