@@ -1,5 +1,5 @@
 -- Keys that are seen one after another, and what the end of a solver says of a choice.
-use Rattle.std.proofs.Common.{◌≡◌, ℕ, zero, suc, arith, subst, ◌+◌, ◌<◌, List, [], ◌∷◌, ap, sym, ◌∙◌, get_or, length, map, take}
+use Rattle.std.proofs.Common.{◌≡◌, ℕ, zero, suc, arith, refl, subst, ◌+◌, ◌<◌, List, [], ◌∷◌, ap, sym, ◌∙◌, get_or, length, map, take}
 use Rattle.std.specs.Prelude.{Result, Ok, Err, Contains, Some, slice_get, string_bytes}
 use Rattle.std.proofs.lemmas.List.{map-append, take_more}
 use Rattle.std.proofs.lemmas.List.Sums.{fold_push}
@@ -48,3 +48,8 @@ of_root build root schema keys Q built says choices listed index choice at r tol
   where
     moved : (P : Build → ℕ → Type 0) → P build root → P schema.build schema.root
     moved P h = subst (λ (n : ℕ). P schema.build n) (sym built.has_root) (subst (λ (b : Build). P b root) (sym built.made_by) h)
+
+-- keys change no schema
+pub same_schema : (keys : List Key) (s : State) → (see_keys keys s).schema ≡ s.schema
+same_schema [] s = refl
+same_schema (key ∷ keys) s = same_schema keys (see_key key s)

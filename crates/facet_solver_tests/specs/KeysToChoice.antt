@@ -1,12 +1,14 @@
 -- What the keys of one choice come to.
-use Rattle.std.specs.Prelude.{◌≡◌, ℕ, List, Result, Ok, Err, Some, Contains, ⊤, map, slice_get, string_bytes}
+use Rattle.std.specs.Prelude.{◌≡◌, ℕ, List, [], ◌∷◌, Result, Ok, Err, Some, Contains, ⊤, map, slice_get, string_bytes}
 use Rattle.facet_solver.specs.Build.{Build}
 use Rattle.facet_solver.specs.Choice.{IsRefusal, ListsChoices}
 use Rattle.facet_solver.specs.Keys.{Key, key_of}
 use Rattle.facet_solver.specs.Names.{Name}
 use Rattle.facet_solver.specs.Resolved.{Resolved, description}
-use Rattle.facet_solver.specs.Schema.{SchemaView, index_of}
-use Rattle.facet_solver.specs.Told.{TellsChoice}
+use Rattle.facet_solver.specs.Schema.{IsBuilt, IsHandleOf, SchemaView, index_of}
+use Rattle.facet_solver.specs.State.{State, new_solver}
+use Rattle.facet_solver.specs.Told.{TellsChoice, see_keys}
+use Rattle.facet_solver.specs.Verdict.{IsReportOn, viable}
 use Rattle.facet_solver.specs.declared.FieldKey.{FieldKey}
 use Rattle.facet_solver.specs.declared.ResolutionHandle.{ResolutionHandle}
 use Rattle.facet_solver.specs.declared.SolverError.{SolverError}
@@ -52,3 +54,32 @@ FindsChoice build root keys answer =
     → (index : ℕ) (choice : List ℕ) → slice_get choices index ≡ Some choice
     → (r : Resolved) → TellsChoice build root choice keys r
     → GivesOrLists build root (index, description r.picks) answer
+
+-- a handle is that of the only viable resolution; an error is the report on the state, or says
+-- that memory was refused
+abbrev pub IsVerdict : State → Result ResolutionHandle SolverError → Type 0
+IsVerdict s (Ok handle) = (viable s ≡ index_of handle ∷ []) × IsHandleOf s.schema handle
+IsVerdict s (Err error) = IsReportOn s error
+
+-- a choice is that of the only viable resolution of a schema of the root, with its description
+pub record IsChoiceOf (build : Build) (root : ℕ) (keys : List Key) (choice : Choice)
+    : Type 0 where
+  pub schema : SchemaView
+  pub built : IsBuilt build root schema
+  pub alone : viable (see_keys keys (new_solver schema)) ≡ choice.index ∷ []
+  pub resolution : Resolved
+  pub there : slice_get schema.resolutions choice.index ≡ Some resolution
+  pub described : string_bytes choice.description ≡ description resolution.picks
+
+-- an error of a solver is its report on such a schema, or says that memory was refused
+pub record IsErrorOf (build : Build) (root : ℕ) (keys : List Key) (error : SolverError)
+    : Type 0 where
+  pub schema : SchemaView
+  pub built : IsBuilt build root schema
+  pub report : IsReportOn (see_keys keys (new_solver schema)) error
+
+-- what keys come to in a schema of a root, whether they tell one choice or not
+abbrev pub IsAnswer : Build → ℕ → List Key → Result Choice NoChoice → Type 0
+IsAnswer build root keys (Ok choice) = IsChoiceOf build root keys choice
+IsAnswer build root keys (Err (Schema error)) = IsRefusal build root error
+IsAnswer build root keys (Err (Solver error)) = IsErrorOf build root keys error

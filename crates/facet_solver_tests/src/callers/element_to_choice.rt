@@ -1,10 +1,11 @@
 //! From an element of a document to a choice: a solver is told its attributes, child elements and texts, in their order.
 ghost use Rattle.std.specs.Prelude.{◌≡◌, ◌<◌, None, OnOk, length};
 ghost use Rattle.facet_solver.specs.Build.{build_with};
-ghost use Rattle.facet_solver.specs.State.{see_key};
+ghost use Rattle.facet_solver.specs.State.{new_solver, see_key};
+ghost use Rattle.facet_solver.specs.Told.{see_keys};
 ghost use Rattle.facet_solver.specs.declared.Format.TheVariants as Format;
 ghost use Rattle.facet_solver_tests.specs.ElementToChoice.{key_of_part, keys_of_parts};
-ghost use Rattle.facet_solver_tests.specs.KeysToChoice.{FindsChoice, FindsInSchema};
+ghost use Rattle.facet_solver_tests.specs.KeysToChoice.{FindsChoice, FindsInSchema, IsAnswer, IsVerdict};
 
 use crate::callers::keys_to_choice::{Choice, NoChoice};
 use facet_solver::laws::told_choices_are_found;
@@ -33,7 +34,9 @@ pub fn element_to_choice<'c>(
     parts: &[Part<'_>],
 ) -> Result<Choice, NoChoice<'c>>
     requires { root < length shapes.now }
-    ensures { FindsChoice
+    ensures found { FindsChoice
+        (build_with shapes.now None Format.Dom) root (keys_of_parts parts.now) result }
+    ensures answer { IsAnswer
         (build_with shapes.now None Format.Dom) root (keys_of_parts parts.now) result }
 {
     let schema = Schema::build_dom(alloc, shapes, root)?;
@@ -51,7 +54,9 @@ pub fn element_in_schema<'s, 'c>(
     schema: &'s Schema<'c>,
     parts: &[Part<'_>],
 ) -> Result<ResolutionHandle<'s, 'c>, SolverError<'c>>
-    ensures { FindsInSchema schema.now (keys_of_parts parts.now) result }
+    ensures found { FindsInSchema schema.now (keys_of_parts parts.now) result }
+    ensures verdict { IsVerdict
+        (see_keys (keys_of_parts parts.now) (new_solver schema.now)) result }
 {
     // The clauses that the contract follows from, beside that of `finish`.
     told_choices_are_found();

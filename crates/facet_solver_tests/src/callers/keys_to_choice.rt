@@ -2,7 +2,9 @@
 ghost use Rattle.std.specs.Prelude.{◌≡◌, ◌<◌, IfErr, Some, length};
 ghost use Rattle.facet_solver.specs.Representation.{flattened};
 ghost use Rattle.facet_solver.specs.Schema.{flat_build};
-ghost use Rattle.facet_solver_tests.specs.KeysToChoice.{FindsChoice, FindsInSchema, keys_of};
+ghost use Rattle.facet_solver.specs.State.{new_solver};
+ghost use Rattle.facet_solver.specs.Told.{see_keys};
+ghost use Rattle.facet_solver_tests.specs.KeysToChoice.{FindsChoice, FindsInSchema, IsAnswer, IsVerdict, keys_of};
 
 use facet_solver::laws::told_choices_are_found;
 use facet_solver::{
@@ -70,7 +72,10 @@ pub fn keys_to_choice<'c>(
     keys: &[FieldKey<'_>],
 ) -> Result<Choice, NoChoice<'c>>
     requires { root < length shapes.now }
-    ensures { FindsChoice (flat_build shapes.now (Some flattened)) root (keys_of keys.now) result }
+    ensures found { FindsChoice
+        (flat_build shapes.now (Some flattened)) root (keys_of keys.now) result }
+    ensures answer { IsAnswer
+        (flat_build shapes.now (Some flattened)) root (keys_of keys.now) result }
 {
     let schema = Schema::build(alloc, shapes, root)?;
     let handle = choice_in_schema(alloc, &schema, keys)?;
@@ -87,7 +92,8 @@ pub fn choice_in_schema<'s, 'c>(
     schema: &'s Schema<'c>,
     keys: &[FieldKey<'_>],
 ) -> Result<ResolutionHandle<'s, 'c>, SolverError<'c>>
-    ensures { FindsInSchema schema.now (keys_of keys.now) result }
+    ensures found { FindsInSchema schema.now (keys_of keys.now) result }
+    ensures verdict { IsVerdict (see_keys (keys_of keys.now) (new_solver schema.now)) result }
 {
     // What is known of told keys, and of the schema: the two clauses that the contract follows from, beside that of `finish`.
     told_choices_are_found();

@@ -14,8 +14,8 @@ loop-part-preserved c =
     let nothing : Part = Attribute record { ref_ptr = (0, 0); now = [] } in
     see_keys_more key_of_part c.args.parts.now c.loop-part.part-index nothing (new_solver c.args.schema.now) c.loop-part.solver c.see_part.new.solver c.loop-part-test.true c.loop-part.invariant c.in_ok-see_part.ensures
 
-pub returns : goal.returns
-returns c choices listed index choice at r told =
+pub returns-clause-found : goal.returns-clause-found
+returns-clause-found c choices listed index choice at r told =
     let parts = c.args.parts.now in
     let schema = c.args.schema.now in
     let all = keys_of_parts parts in

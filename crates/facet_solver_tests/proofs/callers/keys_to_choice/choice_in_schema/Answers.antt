@@ -15,8 +15,8 @@ loop-key-preserved c =
     let nothing : FieldKey = Flat record { ref_ptr = (0, 0); now = [] } in
     see_keys_more key_of c.args.keys.now c.loop-key.key-index nothing (new_solver c.args.schema.now) c.loop-key.solver c.see_key.new.self c.loop-key-test.true c.loop-key.invariant c.in_ok-see_key.ensures.ok
 
-pub returns : goal.returns
-returns c choices listed index choice at r told =
+pub returns-clause-found : goal.returns-clause-found
+returns-clause-found c choices listed index choice at r told =
     let keys = c.args.keys.now in
     let schema = c.args.schema.now in
     let all = keys_of keys in
