@@ -37,6 +37,7 @@ pub mod ErrorTexts
 pub mod KeyPath
 pub mod Probed
 pub mod Told
+pub mod Pairs
 pub mod Run
 pub mod FirstOfEach
 pub mod NameEntries

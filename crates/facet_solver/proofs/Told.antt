@@ -45,7 +45,7 @@ one_passes test (r ∷ rs) h =
     (or_cases (test r) (list_any test rs) h)
 
 -- and what stands at an index is one of them
-at_index : (test : Resolved → Bool) (rs : List Resolved) (i : ℕ) (r : Resolved) → slice_get rs i ≡ Some r → test r ≡ true → list_any test rs ≡ true
+pub at_index : (test : Resolved → Bool) (rs : List Resolved) (i : ℕ) (r : Resolved) → slice_get rs i ≡ Some r → test r ≡ true → list_any test rs ≡ true
 at_index test [] i r at h = absurd (none-some r at)
 at_index test (x ∷ rs) zero r at h = or_left (test x) (list_any test rs) (ap test (same_Some x r at) ∙ h)
 at_index test (x ∷ rs) (suc i) r at h = or_right (test x) (list_any test rs) (at_index test rs i r at h)
@@ -321,7 +321,7 @@ ends_with s index r (place, low, same) here =
     }
 
 -- keys leave the schema
-same_schema : (keys : List Key) (s : State) → (see_keys keys s).schema ≡ s.schema
+pub same_schema : (keys : List Key) (s : State) → (see_keys keys s).schema ≡ s.schema
 same_schema [] s = refl
 same_schema (key ∷ keys) s = same_schema keys (see_key key s)
 

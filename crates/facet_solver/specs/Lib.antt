@@ -37,6 +37,7 @@ pub mod ByName
 pub mod SeenNames
 pub mod Verdict
 pub mod Told
+pub mod Pairs
 pub mod Found
 pub mod Run
 pub mod Counts

@@ -1,6 +1,7 @@
 //! Laws of choices, walks, counts, told keys, calls and reports: each is the contract of a function that does nothing.
-ghost use Rattle.std.specs.Prelude.{◌≡◌, ◌≢◌, ◌↔◌, ◌++◌, [], ℕ, All, Bool, Contains, List, Option, Some, length, map, slice_get, true};
+ghost use Rattle.std.specs.Prelude.{◌≡◌, ◌≢◌, ◌↔◌, ◌++◌, ◌∷◌, [], ℕ, All, Bool, Contains, List, Option, Some, length, map, slice_get, true};
 ghost use Rattle.std.specs.Cmp.Lexicographic.{slice_cmp};
+ghost use Rattle.std.specs.List.{list_any};
 ghost use Rattle.std.specs.List.Sorted.{IsStrictlySortedBy};
 ghost use Rattle.std.specs.Ordering.{nat_cmp};
 ghost use Rattle.facet_solver_shape.specs.Catalogues.{IsChecked};
@@ -22,15 +23,16 @@ ghost use Rattle.facet_solver.specs.Nested.{FollowsKinds, EndsByLength, HasNoGap
 ghost use Rattle.facet_solver.specs.Build.{Build, Catalogue};
 ghost use Rattle.facet_solver.specs.Content.{effective, go_on, next_inside};
 ghost use Rattle.facet_solver.specs.Walk.{walk_fields, walk_fields_step};
-ghost use Rattle.facet_solver_shape.specs.Fields.{key_of_field};
+ghost use Rattle.facet_solver_shape.specs.Fields.{key_of_field, matches};
 ghost use Rattle.facet_solver_shape.specs.Keys.{Key, key_cmp};
 ghost use Rattle.facet_solver.specs.KeyResult.{key_result, unknown};
 ghost use Rattle.facet_solver.specs.Probing as probing;
 ghost use Rattle.facet_solver.specs.Schema.{IsOwnBuild, SchemaView};
+ghost use Rattle.facet_solver.specs.Pairs.{CanBothBeViable, HasKeysRequiredBy, LeavesBothViable};
 ghost use Rattle.facet_solver.specs.Run.{CallView, after_call, after_calls};
 ghost use Rattle.facet_solver.specs.ShapeAtPath.{satisfy_at_path};
 ghost use Rattle.facet_solver.specs.State.{State, has_key, mark_seen, new_solver, passing, satisfy, satisfy_shapes, see_key};
-ghost use Rattle.facet_solver.specs.Told.{accepted_keys, indices_with, known_keys, see_keys};
+ghost use Rattle.facet_solver.specs.Told.{accepted_keys, has_keys, indices_with, known_keys, see_keys};
 ghost use Rattle.facet_solver.specs.Told.{EndsWithOrNames, HasAllKnown, HaveSameKeys, LeavesSome, TellsChoice};
 ghost use Rattle.facet_solver.specs.Verdict.{disambiguating, is_viable, unknown_names, viable};
 
@@ -193,6 +195,37 @@ pub fn no_shapes_leave_no_candidate()
     ensures fields { (s : State) → satisfy [] s ≡ record s { candidates = [] } }
     ensures at_path { (path : List Name) (s : State)
         → satisfy_at_path path [] s ≡ record s { candidates = [] } }
+{}
+
+/// A resolution has exactly the keys that mean one of its fields.
+pub fn keys_mean_fields()
+    ensures { (key : Key) (r : Resolved)
+        → has_key key r ≡ list_any (matches key) (finite.values r.fields) }
+{}
+
+/// Two resolutions are both viable after the same keys, told to a new solver, exactly where each has, for every field
+/// that the other one requires, a key that means it. Keys that both have do so, where they meet what both require.
+pub fn shared_keys_leave_both_viable()
+    ensures exactly { (schema : SchemaView) (first second : ℕ) (r s : Resolved)
+        → slice_get schema.resolutions first ≡ Some r
+        → slice_get schema.resolutions second ≡ Some s
+        → CanBothBeViable schema first second
+        ↔ (HasKeysRequiredBy r s × HasKeysRequiredBy s r) }
+    ensures by_keys { (schema : SchemaView) (keys : List Key) (first second : ℕ) (r s : Resolved)
+        → slice_get schema.resolutions first ≡ Some r
+        → slice_get schema.resolutions second ≡ Some s
+        → has_keys keys r ≡ true → has_keys keys s ≡ true
+        → is_viable keys r ≡ true → is_viable keys s ≡ true
+        → LeavesBothViable schema keys first second }
+{}
+
+/// One more key is one more call, one more call is made after the others, and no key changes the schema.
+pub fn calls_are_made_one_by_one()
+    ensures keys { (keys : List Key) (key : Key) (s : State)
+        → see_keys (keys ++ (key ∷ [])) s ≡ see_key key (see_keys keys s) }
+    ensures calls { (calls : List CallView) (call : CallView) (s : State)
+        → after_calls (calls ++ (call ∷ [])) s ≡ after_call call (after_calls calls s) }
+    ensures schema { (keys : List Key) (s : State) → (see_keys keys s).schema ≡ s.schema }
 {}
 
 /// A key that no candidate has is seen and changes nothing else, and the answer to it is `Unknown`.

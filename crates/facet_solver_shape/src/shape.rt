@@ -1,8 +1,9 @@
 //! The catalogue of shapes: what the types of a program look like.
-ghost use Rattle.std.specs.Prelude.{◌≡◌, option_map};
+ghost use Rattle.std.specs.Prelude.{◌≡◌, None, false, option_map};
 ghost use Rattle.facet_solver_shape.specs.Names.{effective_name, optional_name};
 ghost use Rattle.facet_solver_shape.specs.Pointers.{pointee_of_kind};
 ghost use Rattle.facet_solver_shape.specs.Scalars.{scalar_of_kind};
+ghost use Rattle.facet_solver_shape.specs.declared.shape.DomMark.TheVariants.{None as NoMark};
 
 mod catalogue;
 mod check;
@@ -176,7 +177,40 @@ pub enum ScalarType {
     Other,
 }
 
+impl Variant {
+    /// A variant of these fields. It takes no memory.
+    pub fn new(name: String, kind: StructKind, fields: Vec<Field>) -> Self
+        ensures { result ≡ record { name = name; kind = kind; fields = fields } }
+    {
+        Variant { name, kind, fields }
+    }
+}
+
 impl Field {
+    /// A field of this name and shape alone: with no other name in a document, not flattened, with no default, no
+    /// metadata and no mark. It takes no memory.
+    pub fn new(name: String, shape: ShapeId) -> Self
+        ensures { result ≡ record {
+          name = name;
+          rename = None;
+          shape = shape;
+          flattened = false;
+          has_default = false;
+          metadata = false;
+          dom = NoMark;
+        } }
+    {
+        Field {
+            name,
+            rename: None,
+            shape,
+            flattened: false,
+            has_default: false,
+            metadata: false,
+            dom: DomMark::None,
+        }
+    }
+
     /// The name that the field goes by in a document: its new name, or else the declared one.
     pub fn effective_name(&self) -> &str
         ensures { result.now ≡ effective_name self.now }
@@ -189,6 +223,32 @@ impl Field {
 }
 
 impl Shape {
+    /// A shape of this kind alone: with no inner shape and no proxy, no tag and no content, neither untagged nor a
+    /// metadata container. It takes no memory.
+    pub fn new(type_identifier: String, kind: ShapeKind) -> Self
+        ensures { result ≡ record {
+          type_identifier = type_identifier;
+          kind = kind;
+          inner = None;
+          proxy = None;
+          tag = None;
+          content = None;
+          untagged = false;
+          metadata_container = false;
+        } }
+    {
+        Shape {
+            type_identifier,
+            kind,
+            inner: None,
+            proxy: None,
+            tag: None,
+            content: None,
+            untagged: false,
+            metadata_container: false,
+        }
+    }
+
     /// The field that holds the name of an enum's variant, if there is one.
     pub fn get_tag_attr(&self) -> Option<&str>
         ensures { option_map (λ t. t.now) result ≡ optional_name self.now.tag }

@@ -1,1 +1,7 @@
 pub mod KeysToChoice
+pub mod AmbiguousPairs
+pub mod Untagged
+pub mod ChoiceToValues
+pub mod Stream
+pub mod Documents
+pub mod WholeDocuments

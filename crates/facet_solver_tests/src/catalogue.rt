@@ -2,7 +2,7 @@
 
 use crate::answer::{Answer, BAR};
 use crate::types::place_of;
-use crate::uses::{of_config, of_element, of_keys};
+use crate::uses::{of_config, of_element, of_events, of_keys, of_type, of_value};
 use facet_solver::{
     EnumRepr, Field, Format, Schema, SchemaError, Shape, ShapeId, ShapeKind, Shapes, Steps,
     Variant, VariantFormat, VariantsByFormat, specificity_score,
@@ -26,9 +26,12 @@ impl<'c> Catalogue<'c> {
             "score" => self.score(answer),
             "variant" => self.variant(answer),
             "variants" => self.variants(answer),
+            "ambiguity_table" => of_type(*self, answer),
             "keys_to_choice" => of_keys(*self, answer),
             "element_to_choice" => of_element(*self, answer),
             "load_config" => of_config(*self, answer),
+            "stream" => of_events(*self, answer),
+            "variants_for" => of_value(*self, answer),
             BAR => answer.add_error(),
             _ => answer.unread(),
         }
@@ -40,7 +43,8 @@ impl<'c> Catalogue<'c> {
         self.id_of(name, answer)
     }
 
-    fn id_of(&self, name: &str, answer: &mut Answer<'_>) -> ShapeId {
+    /// The place of the type of a name.
+    pub fn id_of(&self, name: &str, answer: &mut Answer<'_>) -> ShapeId {
         let id = place_of(self.names, name).unwrap_or(ShapeId::new(usize::MAX));
         if !self.shapes.has(id) {
             answer.unread();
@@ -253,7 +257,8 @@ fn variant_of<'c>(shape: Option<&'c Shape>, name: &str) -> Option<&'c Variant> {
     None
 }
 
-fn add_names(variants: &[&Variant], answer: &mut Answer<'_>) {
+/// Tells the names of variants.
+pub fn add_names(variants: &[&Variant], answer: &mut Answer<'_>) {
     for variant in variants {
         answer.add(variant.name.as_str());
     }

@@ -171,16 +171,7 @@ fn names_tell(shapes: &Shapes, answer: &mut Answer<'static>) {
 }
 
 fn a_type_without_a_name_has_the_score_of_any_other(answer: &mut Answer<'static>) {
-    let unnamed = Shape {
-        type_identifier: String::new(answer.alloc),
-        kind: ShapeKind::Other,
-        inner: None,
-        proxy: None,
-        tag: None,
-        content: None,
-        untagged: false,
-        metadata_container: false,
-    };
+    let unnamed = Shape::new(String::new(answer.alloc), ShapeKind::Other);
     answer.add_value(&specificity_score(&unnamed));
     answer.claim("1000");
 }

@@ -2,6 +2,7 @@
 
 use crate::answer::Answer;
 use crate::catalogue::Catalogue;
+use crate::uses::of_choice;
 use facet_solver::{FieldCategory, FieldInfo, FieldKey, Format, Resolution, Schema, SchemaError};
 
 /// Answers a call that is no call of a solver.
@@ -49,6 +50,7 @@ pub fn of_resolution(
         }
         "picks" => add_picks(resolution, answer),
         "matched_by" => add_matched_by(resolution, answer),
+        "choice_to_values" => of_choice(resolution, answer),
         _ => add_field(catalogue, resolution, call, answer),
     }
 }

@@ -1,13 +1,34 @@
-//! Calls that make the uses of the library, each in the schema of a type that is named next.
+//! Calls that make the uses of the library.
+
+mod choice_to_values;
+mod stream;
+mod untagged;
 
 use crate::answer::Answer;
+use crate::callers::ambiguity_table::{NoTable, ambiguity_table};
 use crate::callers::element_to_choice::{Part, element_to_choice};
 use crate::callers::keys_to_choice::{Choice, NoChoice, keys_to_choice};
 use crate::callers::load_config::{Refused, load_config};
 use crate::catalogue::Catalogue;
 use crate::errors::add_verdict;
 use crate::resolution::{add_key, add_refusal};
+pub use choice_to_values::of_choice;
 use facet_solver::{FieldCategory, FieldKey, Schema};
+pub use stream::of_events;
+pub use untagged::of_value;
+
+/// Keeps the table of a type, where it has at most as many choices as the number that is left.
+pub fn of_type(catalogue: Catalogue<'_>, answer: &mut Answer<'_>) {
+    let root = catalogue.id(answer);
+    let most = answer.number() as u64;
+    if catalogue.shapes.has(root) && answer.holds() {
+        match ambiguity_table(answer.alloc, catalogue.shapes, root, most) {
+            Ok(table) => answer.keep_error(&table),
+            Err(NoTable::TooMany(count)) => answer.add_debug(&count),
+            Err(NoTable::Schema(error)) => add_refusal(&error, answer),
+        }
+    }
+}
 
 /// Tells what the keys come to that are left.
 pub fn of_keys(catalogue: Catalogue<'_>, answer: &mut Answer<'_>) {
@@ -60,6 +81,7 @@ fn load(schema: &Schema<'_>, answer: &mut Answer<'_>) {
     }
 }
 
+// The keys that are left.
 fn keys<'t>(answer: &mut Answer<'t>) -> Vec<FieldKey<'t>> {
     let mut keys = Vec::new(answer.alloc);
     for _ in 0..usize::MAX {
