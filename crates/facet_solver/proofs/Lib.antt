@@ -4,6 +4,7 @@ pub mod Count
 pub mod Content
 pub mod Roles
 pub mod WalkSteps
+pub mod Work
 pub mod IndexSet
 pub mod Words
 pub mod Verdict
@@ -23,6 +24,7 @@ pub mod Reached
 pub mod Serving
 pub mod Brought
 pub mod CatchAlls
+pub mod WalkFrames
 pub mod Emissions
 pub mod Counted
 pub mod SharedBits

@@ -84,6 +84,26 @@ effect-and_then-stopped r d (Some w) ns go h k =
     let p : (take_all r w.0, w.1) ≡ (duplicate d, ns) = cc in
     effect-stopped r d w.0 (go w.1) (ap (λ (p : Outcome × List ℕ). p.0) p) (put_before-some w.0 (go w.1) k)
 
+-- walks of one effect have one effect before what follows
+behind : Outcome → Walked → Option (Outcome × List ℕ)
+behind o None = None
+behind o (Some w) = Some (next o (λ s. take_all s w.0), w.1)
+
+effect-behind : (r : Resolved) (es : List Emission) (w : Walked) → effect r (put_before es w) ≡ behind (take_all r es) w
+unfolding behind
+effect-behind r es None = refl
+effect-behind r es (Some w) = ap (λ (o : Outcome). Some (o, w.1)) (take_all-append r es w.0)
+
+pub effect-then : (r s : Resolved) (w x : Walked) (go : List ℕ → Walked) → effect r w ≡ effect s x → effect r (and_then w go) ≡ effect s (and_then x go)
+effect-then r s None None go h = refl
+effect-then r s None (Some x) go h = absurd (cc)
+effect-then r s (Some w) None go h = absurd (cc)
+effect-then r s (Some w) (Some x) go h =
+    let p : (take_all r w.0, w.1) ≡ (take_all s x.0, x.1) = cc in
+    effect-behind r w.0 (go w.1)
+    ∙ ap (λ (p : Outcome × List ℕ). behind p.0 (go p.1)) p
+    ∙ sym (effect-behind s x.0 (go x.1))
+
 -- what calls that take in emissions give
 module _ {T : Type 0} (result : Result T schema.SchemaError) (new : Resolved) where
   pub gives-next : (r s : Resolved) (e : Emission) (es : List Emission) → take_in r e ≡ resolved s → Gives (take_all s es) result new → Gives (take_all r (e ∷ es)) result new

@@ -18,7 +18,7 @@ use Rattle.facet_solver.specs.declared.build.nested.tables.NestedTables.{NestedT
 use Rattle.facet_solver.specs.declared.build.place.Chosen.{Chosen}
 use Rattle.facet_solver.specs.declared.build.role.Target.{Target}
 use Rattle.facet_solver.specs.Build.{Build, Catalogue, kind_at, kind_of, repr_for}
-use Rattle.facet_solver.specs.Content.{newtype_fields, struct_fields}
+use Rattle.facet_solver.specs.Content.{content_of, content_or, newtype_fields, struct_fields}
 use Rattle.facet_solver.specs.Nested.{Entered, KeyPaths, content_paths, every_kind, named, nested_paths, no_paths, structs_alone, under_shape, under_variant, with_key_paths}
 use Rattle.facet_solver.specs.NestedTable.{AreEntries, EntryLeadsTo, IsFilled, IsMarked, LeadEarlier, StandFor, entry_at, is_filled, paths_by_name, variant_at, variants_of}
 use Rattle.facet_solver.specs.Reached.{ContentReachedBy, FieldReached, IsChosen, KindReached, Reach, RoleReached, ServesEnum, ServesField, ServesFields, ServesVariant, ShapeReached, VariantReached}
@@ -186,3 +186,10 @@ module _ (build : Build) (tables : NestedTables) where
 
     pub own_served : None ≡ newtype_fields build.catalogue v.fields.items → ServesFields build tables v.fields.items
     own_served e = record { marks = serves.marks; follows = serves.follows; reached = content_reached None (sym e) }
+
+    pub content_served : ServesFields build tables (content_of build.catalogue v).fields
+    content_served = go (newtype_fields build.catalogue v.fields.items) refl
+      where
+        go : (o : Option (List Field)) → newtype_fields build.catalogue v.fields.items ≡ o → ServesFields build tables (content_or v o).fields
+        go None e = own_served (sym e)
+        go (Some fs) e = newtype_served fs (sym e)

@@ -12,7 +12,7 @@ use Rattle.facet_solver_shape.specs.Resolved.{Resolved}
 use Rattle.facet_solver.specs.Outcome.{ErrorOf, StopsBy, Walks, duplicate_view, Outcome, resolved, take_all, effect, take_in}
 use Rattle.facet_solver.specs.Roles.{IsPlain, Role, regular, block, alternatives, catch_all, leaf, role_of, may_be_absent}
 use Rattle.facet_solver.specs.Representation.{is_walked}
-use Rattle.facet_solver.specs.Content.{newtype_fields, content_or}
+use Rattle.facet_solver.specs.Content.{content_of, newtype_fields, content_or}
 use Rattle.facet_solver.specs.Emissions.{Emission, emit_variant, emit_plain, pick_of}
 use Rattle.facet_solver.specs.Place.{Path, Chosen, choosing, field_path, variant_path, at_root, at_root_variant}
 use Rattle.facet_solver.specs.Walk.{Walked, put_before, and_then, emit, choose, at_chosen, walk_fields, walk_field, walk_present_field, walk_present, walk_optional, walk_variant, walk_content, walk_content_step, walk_fields_step, HasChoice, HasPresence, Walk, Walking, walk_root, walk_root_shape, walk_root_kind, walk_root_variant}
@@ -31,10 +31,6 @@ use Rattle.facet_solver_shape.specs.declared.shape.ShapeKind.{ShapeKind}
 use Rattle.facet_solver_shape.specs.declared.shape.ShapeKind.TheVariants.{Struct, Enum}
 
 -- ---- the walk part by part, and what each part makes of a resolution
--- the walk of the fields that are left
-unfoldable pub walk_left : Build → Walk
-walk_left build fs place ns = walk_fields_step (walk_fields build) build fs place ns
-
 -- what was walked has an effect, and the other way round
 pub effect-some : (r : Resolved) (w : Walked) → IsSome w → IsSome (effect r w)
 effect-some r None h = absurd (cc)
@@ -48,29 +44,6 @@ some-effect r (Some w) h = refl
 pub first-some : (w : Walked) (go : List ℕ → Walked) → IsSome (and_then w go) → IsSome w
 first-some None go h = absurd (cc)
 first-some (Some w) go h = refl
-
-module _ (build : Build) (place : Path) where
-  left-nil : (ns : List ℕ) → walk_left build [] place ns ≡ Some ([], ns)
-  unfolding walk_left walk_fields_step
-  left-nil ns = refl
-
-  left-cons : (f : Field) (fs : List Field) (ns : List ℕ) → walk_left build (f ∷ fs) place ns ≡ and_then (walk_field build f place ns) (λ rest. walk_left build fs place rest)
-  unfolding walk_left walk_fields_step walk_field
-  left-cons f fs ns = refl
-
-  pub walk-start : (fs : List Field) (ns : List ℕ) → NamesEarlier build.catalogue → FieldsBelow (length build.catalogue) fs → walk_left build fs place ns ≡ walk_fields build fs place ns
-  unfolding walk_left
-  walk-start fs ns checked b = sym (walk_step build checked fs place ns b)
-
-  -- the next field and the rest
-  pub walk-more : (fs : List Field) (i : ℕ) (f : Field) (ns : List ℕ) → i < length fs → f ≡ get_or fs i f → walk_left build (drop i fs) place ns ≡ and_then (walk_field build f place ns) (λ rest. walk_left build (drop (i + 1) fs) place rest)
-  walk-more fs i f ns h is =
-      ap (λ (gs : List Field). walk_left build gs place ns) (drop_more fs i f h)
-      ∙ ap (λ (g : Field). walk_left build (g ∷ drop (i + 1) fs) place ns) (sym is)
-      ∙ left-cons f (drop (i + 1) fs) ns
-
-  pub walk-end : (fs : List Field) (i : ℕ) (ns : List ℕ) → length fs ≤ i → walk_left build (drop i fs) place ns ≡ Some ([], ns)
-  walk-end fs i ns h = ap (λ (gs : List Field). walk_left build gs place ns) (drop_of_length-le fs h) ∙ left-nil ns
 
 -- errors that stop a part stop the whole
 pub stops-emit : (r : Resolved) (es : List Emission) (ns : List ℕ) (err : schema.SchemaError) → ErrorOf (take_all r es) err → StopsBy (effect r (Some (es, ns))) err
@@ -194,62 +167,26 @@ module _ (build : Build) (v : Variant) (place : Path) (ns : List ℕ) where
   by_content : Option (List Field) → Walked
   by_content o = walk_fields build (content_or v o).fields (place ++ (content_or v o).path) ns
 
-  pub inside-newtype : (fs : List Field) → Some fs ≡ newtype_fields build.catalogue v.fields.items
-      → walk_content build v place ns ≡ walk_fields build fs (place ++ by_field (codes "0") ∷ []) ns
-  unfolding walk_content by_content
-  inside-newtype fs e = ap by_content (sym e)
-
-  pub inside-own : None ≡ newtype_fields build.catalogue v.fields.items → walk_content build v place ns ≡ walk_fields build v.fields.items place ns
-  unfolding walk_content by_content
-  inside-own e =
-      ap by_content (sym e)
-      ∙ ap (λ (path : Path). walk_fields build v.fields.items path ns) (append-nil place)
-
-  newtype-below : (limit : ℕ) → NamesEarlier build.catalogue → (fs : List Field) → Some fs ≡ newtype_fields build.catalogue v.fields.items → FieldsBelow limit v.fields.items → FieldsBelow limit fs
-  newtype-below limit checked fs e b =
-      subst (λ (x : Option (List Field)). FieldsBelow limit (content_or v x).fields) (sym e) (content_of-below build.catalogue checked limit v b)
-
-  pub newtype-limits : NamesEarlier build.catalogue → (fs : List Field) → Some fs ≡ newtype_fields build.catalogue v.fields.items → FieldsBelow (length build.catalogue) v.fields.items → (limit_of fs ≤ limit_of v.fields.items) × FieldsBelow (length build.catalogue) fs
-  newtype-limits checked fs e b = (
-    subst (λ (x : Option (List Field)). limit_of (content_or v x).fields ≤ limit_of v.fields.items) (sym e) (limit_of-content build.catalogue checked v),
-    newtype-below (length build.catalogue) checked fs e b,
-  )
+  content-is : walk_content build v place ns ≡ walk_fields build (content_of build.catalogue v).fields (place ++ (content_of build.catalogue v).path) ns
+  unfolding walk_content
+  content-is = refl
 
   -- that of a variant with no fields is nothing
   pub content-nothing : NamesEarlier build.catalogue → v.fields.items ≡ [] → walk_content build v place ns ≡ Some ([], ns)
-  unfolding walk_fields_step
+  unfolding walk_fields_step by_content
   content-nothing checked empty =
-      inside-own (sym (ap (newtype_fields build.catalogue) empty))
+      content-is
+      ∙ ap by_content (ap (newtype_fields build.catalogue) empty)
+      ∙ ap (λ (path : Path). walk_fields build v.fields.items path ns) (append-nil place)
       ∙ ap (λ (fs : List Field). walk_fields build fs place ns) empty
       ∙ walk-is_step build checked [] place ns
 
--- one turn of the loop over fields: what is left has the effect of the whole
-module _ (build : Build) (place : Path) (fs : List Field) (i : ℕ) (ns : List ℕ) (r r0 : Resolved) (whole : Walked) (walked : IsSome whole)
-    (left : effect r (walk_left build (drop i fs) place ns) ≡ effect r0 whole) where
-  module _ (f : Field) (here : i < length fs) (is : f ≡ get_or fs i f) where
-    parts : walk_left build (drop i fs) place ns ≡ and_then (walk_field build f place ns) (λ rest. walk_left build (drop (i + 1) fs) place rest)
-    parts = walk-more build place fs i f ns here is
-
-    both-some : IsSome (and_then (walk_field build f place ns) (λ rest. walk_left build (drop (i + 1) fs) place rest))
-    both-some =
-        some-effect r _ (subst (λ (e : Option (Outcome × List ℕ)). IsSome e) (sym left ∙ ap (effect r) parts) (effect-some r0 whole walked))
-
-    pub turn-walked : IsSome (walk_field build f place ns)
-    turn-walked = first-some _ _ both-some
-
-    pub turn-left : (s : Resolved) (rest : List ℕ) → effect r (walk_field build f place ns) ≡ Some (resolved s, rest) → effect s (walk_left build (drop (i + 1) fs) place rest) ≡ effect r0 whole
-    turn-left s rest e =
-        sym (effect-and_then r s (walk_field build f place ns) rest (λ rest. walk_left build (drop (i + 1) fs) place rest) e)
-        ∙ ap (effect r) (sym parts) ∙ left
-
-    pub turn-stops : (err : schema.SchemaError) → StopsBy (effect r (walk_field build f place ns)) err → StopsBy (effect r0 whole) err
-    turn-stops err h =
-        subst (λ (e : Option (Outcome × List ℕ)). StopsBy e err) (ap (effect r) (sym parts) ∙ left)
-        (stops-and_then r (walk_field build f place ns) (λ rest. walk_left build (drop (i + 1) fs) place rest) err both-some h)
-
-  pub turns-done : length fs ≤ i → effect r0 whole ≡ Some (resolved r, ns)
-  turns-done h =
-      sym left ∙ ap (effect r) (walk-end build place fs i ns h) ∙ ap (λ (o : Outcome). Some (o, ns)) (take_all-nil r)
+  -- it is that of its fields, where they stand
+  pub content-at : (fs : List Field) (inside : Path) → fs ≡ (content_of build.catalogue v).fields → inside ≡ place ++ (content_of build.catalogue v).path → walk_content build v place ns ≡ walk_fields build fs inside ns
+  content-at fs inside e h =
+      content-is
+      ∙ ap (λ (gs : List Field). walk_fields build gs (place ++ (content_of build.catalogue v).path) ns) (sym e)
+      ∙ ap (λ (p : Path). walk_fields build fs p ns) (sym h)
 
 -- a chosen variant, as the code goes through it
 module _ (build : Build) (chosen : Chosen) (place : Path) (ns : List ℕ) where
@@ -321,8 +258,10 @@ module _ (build : Build) (s : Shape) (v : Variant) (ns : List ℕ) (inside : Pat
   pub picked-some : IsSome (walk_root_variant build s v ns) → IsSome (walk_content build v inside ns)
   picked-some some = put_before-some (pick_of s v [] ∷ []) _ (subst (λ (w : Walked). IsSome w) root_parts some)
 
+module _ (build : Build) (s : Shape) (v : Variant) (ns : List ℕ) where
   pub picked-stops : (r : Resolved) (p : Path) (err : schema.SchemaError) → p ≡ [] → IsSome (walk_root_variant build s v ns) → ErrorOf (take_in r (pick_of s v p)) err → StopsBy (effect r (walk_root_variant build s v ns)) err
   picked-stops r p err e some h =
-      subst (λ (w : Walked). StopsBy (effect r w) err) (sym root_parts)
-      (stops-put_before r (pick_of s v [] ∷ []) _ err (subst (λ (w : Walked). IsSome w) root_parts some)
+      let parts = root_parts build s v ns (at_root_variant v) refl in
+      subst (λ (w : Walked). StopsBy (effect r w) err) (sym parts)
+      (stops-put_before r (pick_of s v [] ∷ []) _ err (subst (λ (w : Walked). IsSome w) parts some)
       (subst (λ (o : Outcome). ErrorOf o err) (ap (λ (q : Path). take_in r (pick_of s v q)) e ∙ sym (take_all-one r (pick_of s v []))) h))

@@ -7,10 +7,9 @@ pub mod FieldCount
 pub mod NestedTable
 pub mod Roles
 pub mod Place
-pub mod PlaceView
-pub mod PlaceDepth
 pub mod Emissions
 pub mod Walk
+pub mod WalkFrames
 pub mod CatchAlls
 pub mod Choice
 pub mod Count

@@ -8,69 +8,72 @@ ghost use Rattle.facet_solver.specs.Build.{build_of};
 ghost use Rattle.facet_solver.specs.CatchAlls as last;
 ghost use Rattle.facet_solver.specs.CatchAlls.{emitted_by, last_catch_all, with_last};
 ghost use Rattle.facet_solver.specs.Counts.{IsReady};
-ghost use Rattle.facet_solver.specs.Outcome.{Walks, effect};
-ghost use Rattle.facet_solver.specs.Walk.{walk_fields};
+ghost use Rattle.facet_solver.specs.Outcome.{resolved, take_all};
 
 use crate::build::field::catch_all_field;
 use crate::build::place::Place;
 use crate::build::role::{Role, role_of};
 use crate::build::walker::Walker;
-use facet_solver_shape::{Field, FieldCategory, Resolution, SchemaError};
+use facet_solver_shape::{Field, FieldCategory, Resolution};
 use std::alloc::AllocError;
 
-/// Walks fields that emit catch-alls alone, and answers the indices as they came: the fields take none.
-#[inline(never)]
-pub(crate) fn walk_catch_alls<'c, 'n>(
+/// Takes in what fields emit that emit catch-alls alone.
+pub(crate) fn set_catch_alls<'c>(
     walker: &Walker<'c>,
     fields: &'c [Field],
-    place: &Place<'_, 'c>,
-    indices: &'n [usize],
-    resolution: &mut Resolution<'c>,
-) -> Result<&'n [usize], SchemaError<'c>>
-    requires ready { IsReady walker.now }
-    requires below { FieldsBelow (length walker.now.build.shapes.now) fields.now }
-    requires alone { AreCatchAlls
-        (fields_bring walker.now.brings.by_index.items (build_of walker.now.build) fields.now) }
-    ensures { let walked =
-        walk_fields (build_of walker.now.build) fields.now place.now indices.now in
-        Walks (effect resolution.old walked) result resolution.new }
-{
-    set_last(walker, fields, FieldCategory::Flat, place, resolution)?;
-    set_last(walker, fields, FieldCategory::Attribute, place, resolution)?;
-    set_last(walker, fields, FieldCategory::Element, place, resolution)?;
-    Ok(indices)
-}
-
-/// Sets the last catch-all of a category, if there is one.
-fn set_last<'c>(
-    walker: &Walker<'c>,
-    fields: &'c [Field],
-    category: FieldCategory,
-    place: &Place<'_, 'c>,
+    place: &mut Place<'c>,
     resolution: &mut Resolution<'c>,
 ) -> Result<(), AllocError>
     requires ready { IsReady walker.now }
     requires below { FieldsBelow (length walker.now.build.shapes.now) fields.now }
     requires alone { AreCatchAlls
         (fields_bring walker.now.brings.by_index.items (build_of walker.now.build) fields.now) }
-    ensures { let emitted = emitted_by (build_of walker.now.build) fields.now place.now in
+    ensures taken { let emitted = emitted_by (build_of walker.now.build) fields.now place.old in
+        OnOk result (take_all resolution.old emitted ≡ resolved resolution.new) }
+    ensures place { OnOk result (place.new ≡ place.old) }
+{
+    set_last(walker, fields, FieldCategory::Flat, place, resolution)?;
+    set_last(walker, fields, FieldCategory::Attribute, place, resolution)?;
+    set_last(walker, fields, FieldCategory::Element, place, resolution)?;
+    Ok(())
+}
+
+/// Sets the last catch-all of a category, if there is one. It is sought from struct to struct in a loop, since they lie as
+/// deep as a catalogue.
+fn set_last<'c>(
+    walker: &Walker<'c>,
+    fields: &'c [Field],
+    category: FieldCategory,
+    place: &mut Place<'c>,
+    resolution: &mut Resolution<'c>,
+) -> Result<(), AllocError>
+    requires ready { IsReady walker.now }
+    requires below { FieldsBelow (length walker.now.build.shapes.now) fields.now }
+    requires alone { AreCatchAlls
+        (fields_bring walker.now.brings.by_index.items (build_of walker.now.build) fields.now) }
+    ensures set { let emitted = emitted_by (build_of walker.now.build) fields.now place.old in
         OnOk result
         (resolution.new ≡ with_last category (last_catch_all category emitted) resolution.old) }
+    ensures place { OnOk result (place.new ≡ place.old) }
 {
-    let Some(field) = last_with(walker, fields, category) else {
-        return Ok(());
-    };
-    match role_of(walker.build.shapes, field) {
-        Role::Block(_, flattened) => {
-            let inside = place.inside_field(field);
-            set_last(walker, flattened, category, &inside, resolution)
+    let depth = place.depth();
+    let mut fields = fields;
+    while let Some(field) = last_with(walker, fields, category) {
+        match role_of(walker.build.shapes, field) {
+            Role::Block(_, flattened) => {
+                place.enter_field(field)?;
+                fields = flattened;
+            }
+            Role::CatchAll(target) => {
+                let info = catch_all_field(walker.build, field, target, place)?;
+                place.cut(depth);
+                return resolution.set_catch_all_map(category, info);
+            }
+            Role::Regular | Role::Alternatives(_, _, _) | Role::Leaf(_) => unreachable!(),
         }
-        Role::CatchAll(target) => {
-            let info = catch_all_field(walker.build, field, target, place)?;
-            resolution.set_catch_all_map(category, info)
-        }
-        Role::Regular | Role::Alternatives(_, _, _) | Role::Leaf(_) => unreachable!(),
     }
+    place.cut(depth);
+    Ok(())
 }
 
 /// The last of fields that bring a catch-all of a category.

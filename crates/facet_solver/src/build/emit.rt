@@ -38,7 +38,7 @@ fn add_with_path<'c>(
 fn emit_regular<'c>(
     walker: &Walker<'c>,
     field: &'c Field,
-    place: &Place<'_, 'c>,
+    place: &Place<'c>,
     resolution: &mut Resolution<'c>,
 ) -> Result<(), SchemaError<'c>>
     requires ready { IsReady walker.now }
@@ -62,7 +62,7 @@ fn emit_catch_all<'c>(
     walker: &Walker<'c>,
     field: &'c Field,
     target: Target,
-    place: &Place<'_, 'c>,
+    place: &Place<'c>,
     resolution: &mut Resolution<'c>,
 ) -> Result<(), SchemaError<'c>>
     ensures { let emitted =
@@ -80,7 +80,7 @@ fn emit_leaf<'c>(
     walker: &Walker<'c>,
     field: &'c Field,
     target: Target,
-    place: &Place<'_, 'c>,
+    place: &Place<'c>,
     resolution: &mut Resolution<'c>,
 ) -> Result<(), SchemaError<'c>>
     ensures { let emitted =
@@ -92,13 +92,12 @@ fn emit_leaf<'c>(
 }
 
 /// What a field emits that takes no index and has nothing below it.
-#[inline(never)]
 #[tactic(auto, unfolding(crate::specs::Emissions::emit_plain))]
 pub(crate) fn emit_plain<'c>(
     walker: &Walker<'c>,
     role: &Role<'c>,
     field: &'c Field,
-    place: &Place<'_, 'c>,
+    place: &Place<'c>,
     resolution: &mut Resolution<'c>,
 ) -> Result<(), SchemaError<'c>>
     requires ready { IsReady walker.now }
@@ -136,7 +135,7 @@ fn add_selector<'c>(
     walker: &Walker<'c>,
     name: &'c str,
     chosen: &Chosen<'c>,
-    place: &Place<'_, 'c>,
+    place: &Place<'c>,
     resolution: &mut Resolution<'c>,
 ) -> Result<(), SchemaError<'c>>
     ensures { let field =
@@ -153,7 +152,7 @@ fn add_selector<'c>(
 fn add_external_selector<'c>(
     walker: &Walker<'c>,
     chosen: &Chosen<'c>,
-    place: &Place<'_, 'c>,
+    place: &Place<'c>,
     resolution: &mut Resolution<'c>,
 ) -> Result<(), SchemaError<'c>>
     requires ready { IsReady walker.now }
@@ -178,7 +177,7 @@ fn add_external_selector<'c>(
 fn emit_selector<'c>(
     walker: &Walker<'c>,
     chosen: &Chosen<'c>,
-    place: &Place<'_, 'c>,
+    place: &Place<'c>,
     resolution: &mut Resolution<'c>,
 ) -> Result<(), SchemaError<'c>>
     requires ready { IsReady walker.now }
@@ -205,11 +204,10 @@ fn emit_selector<'c>(
 }
 
 /// What a flattened enum emits at a chosen variant, before the variant's content: the pick and the selector.
-#[inline(never)]
 pub(crate) fn emit_variant<'c>(
     walker: &Walker<'c>,
     chosen: &Chosen<'c>,
-    place: &Place<'_, 'c>,
+    place: &Place<'c>,
     resolution: &mut Resolution<'c>,
 ) -> Result<(), SchemaError<'c>>
     requires ready { IsReady walker.now }

@@ -15,7 +15,7 @@ use std::alloc::AllocError;
 pub(crate) fn regular_field<'c>(
     build: Build<'c>,
     field: &'c Field,
-    place: &Place<'_, 'c>,
+    place: &Place<'c>,
 ) -> Result<FieldInfo<'c>, AllocError>
     ensures { IfOk result (λ info. info
         ≡ emissions.regular_field (build_of build.entry) field.now place.now) }
@@ -36,7 +36,7 @@ pub(crate) fn catch_all_field<'c>(
     build: Build<'c>,
     field: &'c Field,
     target: Target,
-    place: &Place<'_, 'c>,
+    place: &Place<'c>,
 ) -> Result<FieldInfo<'c>, AllocError>
     ensures { IfOk result (λ info. info
         ≡ emissions.catch_all_field (build_of build.entry) field.now target place.now) }
@@ -57,7 +57,7 @@ pub(crate) fn leaf_field<'c>(
     build: Build<'c>,
     field: &'c Field,
     target: Target,
-    place: &Place<'_, 'c>,
+    place: &Place<'c>,
 ) -> Result<FieldInfo<'c>, AllocError>
     ensures { IfOk result (λ info. info
         ≡ emissions.leaf_field (build_of build.entry) field.now target place.now) }
@@ -78,7 +78,7 @@ pub(crate) fn selector_field<'c>(
     build: Build<'c>,
     name: &'c str,
     chosen: &Chosen<'c>,
-    place: &Place<'_, 'c>,
+    place: &Place<'c>,
 ) -> Result<FieldInfo<'c>, AllocError>
     ensures { let chosen = chosen_of chosen.now in
         IfOk result (λ info. info

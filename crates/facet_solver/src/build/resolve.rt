@@ -18,7 +18,7 @@ use crate::build::count::Counts;
 use crate::build::emit::add_pick;
 use crate::build::nested::tables::NestedTables;
 use crate::build::place::Place;
-use crate::build::walk::{next_variant, walk_content, walk_fields};
+use crate::build::walk::{enter_content, next_variant, walk_fields};
 use crate::build::walker::Walker;
 use facet_solver_shape::{
     FieldPath, Resolution, SchemaError, Shape, ShapeId, ShapeKind, Steps, Variant,
@@ -96,8 +96,8 @@ fn walk_root<'c, 'n>(
     let shape = walker.build.shape(root);
     match &shape.kind {
         ShapeKind::Struct { fields, .. } => {
-            let place = Place::root();
-            walk_fields(walker, fields, &place, indices, resolution)
+            let mut place = Place::root(walker.build.alloc);
+            walk_fields(walker, fields, &mut place, indices, resolution)
         }
         ShapeKind::Enum { variants } => {
             let (variant, rest) = next_variant(variants, indices);
@@ -125,13 +125,14 @@ fn walk_root_variant<'c, 'n>(
         walk.walk_root_variant (build_of walker.now.build) shape.now variant.now indices.now in
         Walks (effect resolution.old walked) result resolution.new }
 {
-    let place = Place::root();
-    let inside = place.inside_root(variant);
+    let mut place = Place::root(walker.build.alloc);
     add_pick(
         FieldPath::empty(walker.build.alloc),
         shape,
         variant,
         resolution,
     )?;
-    walk_content(walker, variant, &inside, indices, resolution)
+    place.enter_root_variant(variant)?;
+    let fields = enter_content(walker, variant, &mut place)?;
+    walk_fields(walker, fields, &mut place, indices, resolution)
 }

@@ -1,23 +1,42 @@
-//! The walk of one choice, which fills one resolution. It goes as deep as a catalogue, so its frames are kept small: what it
-//! calls at each field stays out of them.
-ghost use Rattle.std.specs.Prelude.{◌≡◌, ◌<◌, ◌∷◌, [], IsSome, if◌then◌else◌, length, slice_get, slice_index};
+//! The walk of one choice, which fills one resolution. It goes as deep as a catalogue, so it is a loop over a stack of its
+//! own.
+ghost use Rattle.std.specs.Prelude.{◌≡◌, ◌<◌, ◌∷◌, ◌++◌, [], IfOk, IsSome, OnOk, if◌then◌else◌, length, slice_get, slice_index};
 ghost use Rattle.facet_solver_shape.specs.Catalogues.{FieldsBelow};
+ghost use Rattle.facet_solver.specs.Content.{content_of};
 ghost use Rattle.facet_solver.specs.Outcome.{Walks, effect};
 ghost use Rattle.facet_solver.specs.Build.{build_of};
 ghost use Rattle.facet_solver.specs.Place.{chosen_of};
 ghost use Rattle.facet_solver.specs.Walk as walk;
 ghost use Rattle.facet_solver.specs.Walk.{Walking};
+ghost use Rattle.facet_solver.specs.WalkFrames.{IsReached, IsInside, Leads, LeadsBelow};
 ghost use Rattle.facet_solver.specs.Counts.{IsReady};
 ghost use Rattle.facet_solver.specs.Reached.{IsChosen, ServesEnum, ServesField, ServesFields, ServesVariant};
 
 use crate::build::brings::Brings;
-use crate::build::catch_alls::walk_catch_alls;
+use crate::build::catch_alls::set_catch_alls;
 use crate::build::content::newtype_fields;
 use crate::build::emit::{emit_plain, emit_variant};
 use crate::build::place::{Chosen, Place};
 use crate::build::role::{Role, role_of};
 use crate::build::walker::Walker;
 use facet_solver_shape::{Field, Resolution, SchemaError, Variant};
+use std::alloc::AllocError;
+
+/// Fields that are still to be walked, and how many segments the path to them has.
+#[derive(Clone, Copy)]
+pub(crate) struct Frame<'c> {
+    pub(crate) fields: &'c [Field],
+    pub(crate) depth: usize,
+}
+
+/// What the walk of one field leaves to walk.
+#[derive(Clone, Copy)]
+pub(crate) struct Further<'c, 'n> {
+    /// The fields inside it, if there are any to walk, which stand where the place has come to.
+    pub(crate) inside: Option<&'c [Field]>,
+    /// The indices that are left.
+    pub(crate) indices: &'n [usize],
+}
 
 /// The variant that the next index names, and the indices behind it.
 pub(crate) fn next_variant<'c, 'n>(
@@ -44,12 +63,12 @@ fn presence<'n>(may_be_absent: bool, indices: &'n [usize]) -> (bool, &'n [usize]
     }
 }
 
-/// Walks fields in order, each with the indices that the one before it left, and answers those that the last one left.
-#[cycle(walk)]
+/// Walks fields in order, each with the indices that the one before it left, and what is inside a field before the next one;
+/// answers the indices that the last one left.
 pub(crate) fn walk_fields<'c, 'n>(
     walker: &Walker<'c>,
     fields: &'c [Field],
-    place: &Place<'_, 'c>,
+    place: &mut Place<'c>,
     indices: &'n [usize],
     resolution: &mut Resolution<'c>,
 ) -> Result<&'n [usize], SchemaError<'c>>
@@ -57,49 +76,79 @@ pub(crate) fn walk_fields<'c, 'n>(
     requires below { FieldsBelow (length walker.now.build.shapes.now) fields.now }
     requires serves { ServesFields (build_of walker.now.build) walker.now.tables fields.now }
     requires walked { IsSome
-        (walk.walk_fields (build_of walker.now.build) fields.now place.now indices.now) }
+        (walk.walk_fields (build_of walker.now.build) fields.now place.old indices.now) }
     ensures { let walked =
-        walk.walk_fields (build_of walker.now.build) fields.now place.now indices.now in
+        walk.walk_fields (build_of walker.now.build) fields.now place.old indices.now in
         Walks (effect resolution.old walked) result resolution.new }
 {
     let mut rest = indices;
-    for field in fields {
-        rest = walk_field(walker, field, place, rest, resolution)?;
+    let mut frames = Vec::new(walker.build.alloc);
+    frames.push(Frame {
+        fields,
+        depth: place.depth(),
+    })?;
+    while let Some(frame) = frames.pop() {
+        place.cut(frame.depth);
+        let Some((field, behind)) = frame.fields.split_first() else {
+            continue;
+        };
+        frames.push(Frame {
+            fields: behind,
+            depth: frame.depth,
+        })?;
+        let further = walk_field(walker, field, place, rest, resolution)?;
+        rest = further.indices;
+        if let Some(fields) = further.inside {
+            frames.push(Frame {
+                fields,
+                depth: place.depth(),
+            })?;
+        }
     }
     Ok(rest)
 }
 
-/// Walks one field.
-#[cycle(walk)]
+/// Walks one field, but for the fields inside it.
 fn walk_field<'c, 'n>(
     walker: &Walker<'c>,
     field: &'c Field,
-    place: &Place<'_, 'c>,
+    place: &mut Place<'c>,
     indices: &'n [usize],
     resolution: &mut Resolution<'c>,
-) -> Result<&'n [usize], SchemaError<'c>>
+) -> Result<Further<'c, 'n>, SchemaError<'c>>
     requires ready { IsReady walker.now }
     requires below { field.now.shape < length walker.now.build.shapes.now }
     requires serves { ServesField (build_of walker.now.build) walker.now.tables field.now }
     requires walked { IsSome
-        (walk.walk_field (build_of walker.now.build) field.now place.now indices.now) }
-    ensures { let walked =
-        walk.walk_field (build_of walker.now.build) field.now place.now indices.now in
-        Walks (effect resolution.old walked) result resolution.new }
+        (walk.walk_field (build_of walker.now.build) field.now place.old indices.now) }
+    ensures leads { let walked =
+        walk.walk_field (build_of walker.now.build) field.now place.old indices.now in
+        Leads (build_of walker.now.build) (effect resolution.old walked) result
+        place.new resolution.new }
+    ensures place { OnOk result (IsInside place.old place.new) }
+    ensures inside { LeadsBelow (build_of walker.now.build) walker.now.tables
+        field.now.shape result }
 {
     let role = role_of(walker.build.shapes, field);
     let (is_present, indices) = presence(role.may_be_absent(), indices);
+    let plain = Further {
+        inside: None,
+        indices,
+    };
     if !is_present {
-        return Ok(indices);
+        return Ok(plain);
     }
     match role {
         Role::Block(target, fields) => {
+            place.enter_field(field)?;
             if let Brings::CatchAlls(_) = walker.brings.of(target.shape) {
-                let inside = place.inside_field(field);
-                return walk_catch_alls(walker, fields, &inside, indices, resolution);
+                set_catch_alls(walker, fields, place, resolution)?;
+                return Ok(plain);
             }
-            let inside = place.inside_field(field);
-            walk_fields(walker, fields, &inside, indices, resolution)
+            Ok(Further {
+                inside: Some(fields),
+                indices,
+            })
         }
         Role::Alternatives(target, shape, variants) => {
             let (variant, rest) = next_variant(variants, indices);
@@ -114,71 +163,68 @@ fn walk_field<'c, 'n>(
         }
         Role::Regular | Role::CatchAll(_) | Role::Leaf(_) => {
             emit_plain(walker, &role, field, place, resolution)?;
-            Ok(indices)
+            Ok(plain)
         }
     }
 }
 
-/// Walks a flattened enum at a chosen variant: the pick, the selector, and the content where it stands at this level.
-#[cycle(walk)]
-#[inline(never)]
+/// Walks a flattened enum at a chosen variant, but for the fields inside it, which are those of the content where that stands
+/// at this level: the pick and the selector.
 fn walk_variant<'c, 'n>(
     walker: &Walker<'c>,
     chosen: &Chosen<'c>,
-    place: &Place<'_, 'c>,
+    place: &mut Place<'c>,
     indices: &'n [usize],
     resolution: &mut Resolution<'c>,
-) -> Result<&'n [usize], SchemaError<'c>>
+) -> Result<Further<'c, 'n>, SchemaError<'c>>
     requires ready { IsReady walker.now }
-    requires below { FieldsBelow
-        (length walker.now.build.shapes.now) chosen.now.variant.now.fields.items }
     requires chosen { IsChosen walker.now.build.shapes.now chosen.now }
     requires serves { ServesEnum
         (build_of walker.now.build) walker.now.tables chosen.now.target.shape }
     requires walked { IsSome
         (walk.walk_variant (build_of walker.now.build)
-        (chosen_of chosen.now) place.now indices.now) }
-    ensures { let walked =
+        (chosen_of chosen.now) place.old indices.now) }
+    ensures leads { let walked =
         walk.walk_variant (build_of walker.now.build)
-        (chosen_of chosen.now) place.now indices.now in
-        Walks (effect resolution.old walked) result resolution.new }
+        (chosen_of chosen.now) place.old indices.now in
+        Leads (build_of walker.now.build) (effect resolution.old walked) result
+        place.new resolution.new }
+    ensures place { OnOk result (IsInside place.old place.new) }
+    ensures inside { LeadsBelow (build_of walker.now.build) walker.now.tables
+        chosen.now.target.shape result }
 {
     emit_variant(walker, chosen, place, resolution)?;
-    if chosen.variant.fields.is_empty() {
-        return Ok(indices);
+    if chosen.variant.fields.is_empty() || !walker.build.walks_content(chosen.shape) {
+        return Ok(Further {
+            inside: None,
+            indices,
+        });
     }
-    if walker.build.walks_content(chosen.shape) {
-        let inside = place.inside_variant(chosen);
-        walk_content(walker, chosen.variant, &inside, indices, resolution)
-    } else {
-        Ok(indices)
-    }
+    place.enter_variant(chosen)?;
+    let fields = enter_content(walker, chosen.variant, place)?;
+    Ok(Further {
+        inside: Some(fields),
+        indices,
+    })
 }
 
-/// Walks the content of a variant.
-#[cycle(walk)]
-pub(crate) fn walk_content<'c, 'n>(
+/// Goes where the fields of a variant's content stand, and answers them.
+pub(crate) fn enter_content<'c>(
     walker: &Walker<'c>,
     variant: &'c Variant,
-    place: &Place<'_, 'c>,
-    indices: &'n [usize],
-    resolution: &mut Resolution<'c>,
-) -> Result<&'n [usize], SchemaError<'c>>
-    requires ready { IsReady walker.now }
-    requires below { FieldsBelow (length walker.now.build.shapes.now) variant.now.fields.items }
-    requires serves { ServesVariant
-        (build_of walker.now.build) walker.now.tables variant.now }
-    requires walked { IsSome
-        (walk.walk_content (build_of walker.now.build) variant.now place.now indices.now) }
-    ensures { let walked =
-        walk.walk_content (build_of walker.now.build) variant.now place.now indices.now in
-        Walks (effect resolution.old walked) result resolution.new }
+    place: &mut Place<'c>,
+) -> Result<&'c [Field], AllocError>
+    requires { IsReady walker.now }
+    ensures fields { IfOk result (λ fields. fields.now
+        ≡ (content_of walker.now.build.shapes.now variant.now).fields) }
+    ensures place { OnOk result (place.new
+        ≡ place.old ++ (content_of walker.now.build.shapes.now variant.now).path) }
 {
     match newtype_fields(walker.build.shapes, &variant.fields) {
         Some(fields) => {
-            let inside = place.inside_newtype();
-            walk_fields(walker, fields, &inside, indices, resolution)
+            place.enter_newtype()?;
+            Ok(fields)
         }
-        None => walk_fields(walker, &variant.fields, place, indices, resolution),
+        None => Ok(&variant.fields),
     }
 }
