@@ -19,6 +19,7 @@ pub mod Brings
 pub mod NestedSets
 pub mod Nested
 pub mod NestedTable
+pub mod NestedLevels
 pub mod Marks
 pub mod Reached
 pub mod Serving

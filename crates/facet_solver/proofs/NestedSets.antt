@@ -1,5 +1,5 @@
 -- Sets of key paths: what is in them, and what a resolution with more of them is.
-use Rattle.std.proofs.Common.{◌≡◌, ◌⊎◌, inl, inr, ◌||◌, List, [], ◌∷◌, ◌++◌, map, refl, ap, sym, ◌∙◌, subst, append_assoc, Bool, true, false}
+use Rattle.std.proofs.Common.{◌≡◌, ◌⊎◌, inl, inr, ◌||◌, ◌+◌, cond, List, [], ◌∷◌, ◌++◌, map, refl, ap, sym, ◌∙◌, subst, append_assoc, Bool, true, false}
 use Rattle.std.specs.List.{list_any}
 use Rattle.std.specs.Ordering.{nat_cmp, eq_by_cmp}
 use Rattle.std.specs.Cmp.Lexicographic.{slice_cmp}
@@ -179,8 +179,63 @@ behind_prefix-union prefix ps qs = same_paths _ _
       | inr b ↦ (let r = Has-behind_from prefix qs q b in subst (Has (behind_prefix prefix (set.union ps qs))) r.2 (Has-behind prefix (set.union ps qs) r.0 (Has-right ps qs r.0 r.1)))
     ])
 
+behind_prefix-insert : (prefix : KeyPath) (ps : KeyPaths) (p : KeyPath) → behind_prefix prefix (set.insert ps p) ≡ set.insert (behind_prefix prefix ps) (prefix ++ p)
+behind_prefix-insert prefix ps p =
+    let behind = behind_prefix prefix ps in
+    let with_path = set.insert behind (prefix ++ p) in
+    same_paths _ _
+    (λ q h.
+    let r = Has-behind_from prefix (set.insert ps p) q h in
+    subst (Has with_path) r.2
+    (elim (Has-insert ps p r.0 r.1) [
+      | inl same ↦ subst (λ (x : KeyPath). Has with_path (prefix ++ x)) (sym same) (Has-itself behind (prefix ++ p))
+      | inr a ↦ Has-other behind (prefix ++ p) (prefix ++ r.0) (Has-behind prefix ps r.0 a)
+    ]))
+    (λ q h. elim (Has-insert behind (prefix ++ p) q h) [
+      | inl same ↦ subst (Has (behind_prefix prefix (set.insert ps p))) (sym same) (Has-behind prefix (set.insert ps p) p (Has-itself ps p))
+      | inr a ↦ (let r = Has-behind_from prefix ps q a in subst (Has (behind_prefix prefix (set.insert ps p))) r.2 (Has-behind prefix (set.insert ps p) r.0 (Has-other ps p r.0 r.1)))
+    ])
+
+-- two paths are added in either order
+Has-swapped : (ps : KeyPaths) (p q r : KeyPath) → Has (set.insert (set.insert ps p) q) r → Has (set.insert (set.insert ps q) p) r
+Has-swapped ps p q r h = elim (Has-insert (set.insert ps p) q r h) [
+  | inl same ↦ Has-other (set.insert ps q) p r (subst (Has (set.insert ps q)) (sym same) (Has-itself ps q))
+  | inr d ↦ (elim (Has-insert ps p r d) [
+    | inl same ↦ subst (Has (set.insert (set.insert ps q) p)) (sym same) (Has-itself (set.insert ps q) p)
+    | inr a ↦ Has-other (set.insert ps q) p r (Has-other ps q r a)
+  ])
+]
+
+insert_swap : (ps : KeyPaths) (p q : KeyPath) → set.insert (set.insert ps p) q ≡ set.insert (set.insert ps q) p
+insert_swap ps p q = same_paths _ _ (Has-swapped ps p q) (Has-swapped ps q p)
+
+-- a name with one more path behind it
+pub named-insert : (name : Name) (ps : KeyPaths) (p : KeyPath) → named name (set.insert ps p) ≡ set.insert (named name ps) (name ∷ p)
+named-insert name ps p =
+    ap (λ (qs : KeyPaths). set.insert qs (name ∷ [])) (behind_prefix-insert (name ∷ []) ps p)
+    ∙ insert_swap (behind_prefix (name ∷ []) ps) (name ∷ p) (name ∷ [])
+
+-- a path that is added to one of two sets is added to both together
+pub insert-union : (ps qs : KeyPaths) (p : KeyPath) → set.union (set.insert ps p) qs ≡ set.insert (set.union ps qs) p
+insert-union ps qs p = union_comm (set.insert ps p) qs ∙ union-insert_last qs ps p ∙ ap (λ (s : KeyPaths). set.insert s p) (union_comm qs ps)
+
+-- a name alone, and other paths
+pub name-union : (name : Name) (ps : KeyPaths) → set.union (named name no_paths) ps ≡ set.insert ps (name ∷ [])
+name-union name ps =
+    ap (λ (s : KeyPaths). set.union (set.insert s (name ∷ [])) ps) (behind_prefix-none (name ∷ []))
+    ∙ sym (union-insert no_paths ps (name ∷ []))
+    ∙ none-union (set.insert ps (name ∷ []))
+
+-- a path that a set does not have makes it longer by one
+pub len-more : (ps : KeyPaths) (p : KeyPath) → (Has ps p → ⊥) → set.len (set.insert ps p) ≡ set.len ps + 1
+len-more ps p absent = go (set.contains ps p) refl (set.len-insert path_cmp_total ps p)
+  where
+    go : (b : Bool) → set.contains ps p ≡ b → set.len (set.insert ps p) ≡ cond b (set.len ps) (set.len ps + 1) → set.len (set.insert ps p) ≡ set.len ps + 1
+    go true has e = absurd (absent has)
+    go false lacks e = e
+
 -- a name, and what is behind it
-Has-named_from : (name : Name) (ps : KeyPaths) (q : KeyPath) → Has (named name ps) q → (q ≡ name ∷ []) ⊎ ((r : KeyPath) × Has ps r × (name ∷ r ≡ q))
+pub Has-named_from : (name : Name) (ps : KeyPaths) (q : KeyPath) → Has (named name ps) q → (q ≡ name ∷ []) ⊎ ((r : KeyPath) × Has ps r × (name ∷ r ≡ q))
 Has-named_from name ps q h = elim (Has-insert (behind_prefix (name ∷ []) ps) (name ∷ []) q h) [
   | inl same ↦ inl same
   | inr deeper ↦ inr (Has-behind_from (name ∷ []) ps q deeper)
@@ -256,6 +311,9 @@ module _ (r : Resolved) where
 
     pub behind-union : (ps qs : KeyPaths) → with_paths_behind r prefix (set.union ps qs) ≡ with_paths_behind (with_paths_behind r prefix ps) prefix qs
     behind-union ps qs = ap (with_key_paths r) (behind_prefix-union prefix ps qs) ∙ with_key_paths-union (behind_prefix prefix ps) (behind_prefix prefix qs)
+
+    pub behind-insert : (ps : KeyPaths) (p : KeyPath) → with_paths_behind r prefix (set.insert ps p) ≡ with_paths_behind (with_key_path r (prefix ++ p)) prefix ps
+    behind-insert ps p = ap (with_key_paths r) (behind_prefix-insert prefix ps p) ∙ with_key_paths-insert (behind_prefix prefix ps) (prefix ++ p)
 
     -- a name after what is behind it
     pub behind-named_last : (name : Name) (ps : KeyPaths) → with_paths_behind r prefix (named name ps) ≡ with_key_path (with_paths_behind r (prefix ++ name ∷ []) ps) (prefix ++ name ∷ [])

@@ -5,6 +5,7 @@ pub mod Content
 pub mod Nested
 pub mod FieldCount
 pub mod NestedTable
+pub mod NestedLevels
 pub mod Roles
 pub mod Place
 pub mod Emissions

@@ -6,6 +6,7 @@ ghost use Rattle.facet_solver.specs.Nested.{entered_view, has_fields};
 
 pub(crate) mod by_name;
 pub(crate) mod marks;
+pub(crate) mod names_left;
 pub(crate) mod paths;
 pub(crate) mod reached;
 pub(crate) mod table;

@@ -1,14 +1,17 @@
 //! The key paths that fields by name stand for, from the entries of a table.
-ghost use Rattle.std.specs.Prelude.{◌≡◌, ◌∷◌, [], map, ◌&&◌, ◌≤◌, ℕ, IfOk, OnOk, nat_lt, true};
+ghost use Rattle.std.specs.Prelude.{◌≡◌, ◌∷◌, [], map, ◌&&◌, ◌<◌, ◌≤◌, ℕ, IfNone, IfOk, IfSome, OnOk, length, nat_lt, true};
 ghost use Rattle.std.specs.List.{AllByRecursion};
 ghost use Rattle.facet_solver_shape.specs.Names.{names_of};
 ghost use Rattle.facet_solver.specs.Nested.{Under, named, paths_of_each, with_key_paths, with_paths_behind};
+ghost use Rattle.facet_solver.specs.NestedLevels.{AreRising, NamesLead, names_left, paths_of_names};
 ghost use Rattle.facet_solver.specs.NestedTable.{is_filled, LeadEarlier, LeadTo, StandFor, paths_by_name};
 
 use crate::build::nested::by_name::FieldsByName;
+use crate::build::nested::names_left::{Level, NamesLeft};
 use crate::build::nested::table::NestedTable;
 use facet_solver_shape::{KeyPath, Resolution, ShapeId};
 use std::alloc::{AllocError, Global};
+use std::mem;
 
 impl<'c> NestedTable<'c> {
     /// Adds the key path of a name, and behind it those that fields stand for. After an error some of them may have been added.
@@ -32,9 +35,8 @@ impl<'c> NestedTable<'c> {
     }
 
     /// Adds the key paths that fields stand for, each behind a prefix, which stays: the last in their order first, since a set
-    /// finds the place of a path soonest that comes before all it has. After an error some of them may have been added, and
-    /// the prefix may be longer.
-    #[cycle(paths)]
+    /// finds the place of a path soonest that comes before all it has. It goes from name to name in a loop, since structs nest
+    /// as deep as a catalogue. After an error some of the paths may have been added, and the prefix may be longer.
     pub(crate) fn add_paths(
         &self,
         alloc: Global,
@@ -49,39 +51,53 @@ impl<'c> NestedTable<'c> {
             → resolution.new ≡ with_paths_behind resolution.old (names_of prefix.old.items)
             (paths_by_name under fields.now)) }
     {
-        for (name, shapes) in fields.by_name.iter().rev() {
-            prefix.push(*name)?;
-            self.add_paths_under(alloc, prefix, shapes, resolution)?;
+        let mut names = NamesLeft::of_entry(fields);
+        let mut outer = Vec::new(alloc);
+        loop {
+            if let Some((name, shapes)) = names.take_last() {
+                prefix.push(name)?;
+                if let Some(under) = self.names_under(alloc, &shapes)? {
+                    let beside = mem::replace(&mut names, under);
+                    outer.push(Level { name, beside })?;
+                    continue;
+                }
+            } else if let Some(level) = outer.pop() {
+                names = level.beside;
+            } else {
+                return Ok(());
+            }
             resolution.add_key_path(Vec::from_slice(alloc, prefix)?)?;
             prefix.pop();
         }
-        Ok(())
     }
 
-    /// Adds the key paths under shapes. Those of several shapes are taken together first, so that each key path is made
-    /// once.
-    #[cycle(paths)]
-    fn add_paths_under(
+    /// The names under shapes, if there are shapes. Those of several shapes are taken together first, so that each key path
+    /// is made once.
+    fn names_under(
         &self,
         alloc: Global,
-        prefix: &mut KeyPath<'c>,
         shapes: &[ShapeId],
-        resolution: &mut Resolution<'c>,
-    ) -> Result<(), AllocError>
+    ) -> Result<Option<NamesLeft<'_, 'c>>, AllocError>
         requires earlier { LeadEarlier self.now.by_index.items }
         requires filled { AllByRecursion (λ id. is_filled self.now.by_index.items id ≡ true)
             shapes.now }
-        ensures prefix { OnOk result (prefix.new.items ≡ prefix.old.items) }
-        ensures paths { OnOk result ((under : Under) → StandFor under self.now.by_index.items
-            → resolution.new ≡ with_paths_behind resolution.old (names_of prefix.old.items)
-            (paths_of_each under shapes.now)) }
+        ensures none { IfOk result (λ names. IfNone names (shapes.now ≡ [])) }
+        ensures paths { IfOk result (λ names. IfSome names (λ names.
+            (under : Under) → StandFor under self.now.by_index.items
+            → paths_of_names under (names_left names) ≡ paths_of_each under shapes.now)) }
+        ensures lead { IfOk result (λ names. IfSome names (λ names.
+            (limit : ℕ) → AllByRecursion (λ id. id ≤ limit) shapes.now
+            → NamesLead (λ t. nat_lt t limit && is_filled self.now.by_index.items t)
+            (names_left names))) }
+        ensures some { IfOk result (λ names. IfSome names (λ names. 0 < length shapes.now)) }
+        ensures rise { IfOk result (λ names. IfSome names (λ names. AreRising (names_left names))) }
     {
         match shapes {
-            [] => Ok(()),
-            [only] => self.add_paths(alloc, prefix, &self.entry(*only).under, resolution),
+            [] => Ok(None),
+            [only] => Ok(Some(NamesLeft::of_entry(&self.entry(*only).under))),
             _ => {
                 let together = self.fields_under(alloc, shapes)?;
-                self.add_paths(alloc, prefix, &together, resolution)
+                Ok(Some(NamesLeft::together(together)))
             }
         }
     }
