@@ -33,7 +33,7 @@ use Rattle.facet_solver.proofs.Roles.{FieldsBelow-mono, content_of-below}
 use Rattle.facet_solver.proofs.Serving.{block_served, content_served, field_served, role_of-target, variant_served}
 use Rattle.facet_solver.proofs.Walk.{VariantsBelow-get, effect-some, first-some, some-effect, stops-and_then}
 use Rattle.facet_solver.proofs.WalkSteps.{walk-is_step}
-use Rattle.facet_solver.proofs.Work.{content-counted, struct-counted, variant-counted, work_of_fields, work-first, work-inside}
+use Rattle.facet_solver.proofs.Weights.{content-counted, struct-counted, variant-counted, weight_of_fields, weight-first, weight-inside}
 
 -- ---- one part after another
 put_before-nil : (w : Walked) → put_before [] w ≡ w
@@ -236,7 +236,7 @@ module _ (build : Build) (checked : NamesEarlier build.catalogue) (tables : Nest
 unfoldable pub work_of_frames : Build → List Frame → ℕ
 work_of_frames build [] = 0
 work_of_frames build (frame ∷ frames) =
-    (work_of_fields build.catalogue frame.fields.now + 1) + work_of_frames build frames
+    (weight_of_fields build.catalogue frame.fields.now + 1) + work_of_frames build frames
 
 module _ (build : Build) (frame : Frame) (outer : List Frame) where
   pub work-over : work_of_frames build outer < work_of_frames build (frame ∷ outer)
@@ -244,17 +244,17 @@ module _ (build : Build) (frame : Frame) (outer : List Frame) where
   work-over = omega arith
 
   module _ (f : Field) (behind : Bor (List Field)) (is : frame.fields.now ≡ f ∷ behind.now) where
-    same-work : work_of_fields build.catalogue frame.fields.now ≡ work_of_fields build.catalogue (f ∷ behind.now)
-    same-work = ap (work_of_fields build.catalogue) is
+    same-work : weight_of_fields build.catalogue frame.fields.now ≡ weight_of_fields build.catalogue (f ∷ behind.now)
+    same-work = ap (weight_of_fields build.catalogue) is
 
     pub work-none : work_of_frames build (record { fields = behind; depth = frame.depth } ∷ outer) < work_of_frames build (frame ∷ outer)
     unfolding work_of_frames
-    work-none = let less = work-first build.catalogue f behind.now in omega (arith, less, same-work)
+    work-none = let less = weight-first build.catalogue f behind.now in omega (arith, less, same-work)
 
     pub work-some : (tables : NestedTables) (inner : Frame) → IsReached build tables f.shape inner.fields.now → work_of_frames build (inner ∷ record { fields = behind; depth = frame.depth } ∷ outer) < work_of_frames build (frame ∷ outer)
     unfolding work_of_frames
     work-some tables inner reached =
-        let less = work-inside build.catalogue f behind.now inner.fields.now reached.below reached.counted in
+        let less = weight-inside build.catalogue f behind.now inner.fields.now reached.below reached.counted in
         omega (arith, less, same-work)
 
 -- ---- what is left to walk may name more

@@ -20,41 +20,41 @@ use Rattle.facet_solver.proofs.NestedTable.{fields_with_earlier}
 
 -- ---- weights
 -- what fields weigh by a base: each a power by the shape that it names
-unfoldable pub work_by : ℕ → List Field → ℕ
-work_by base [] = 0
-work_by base (f ∷ fs) = base ^ suc f.shape + work_by base fs
+unfoldable pub weight_by : ℕ → List Field → ℕ
+weight_by base [] = 0
+weight_by base (f ∷ fs) = base ^ suc f.shape + weight_by base fs
 
 -- what fields weigh in a catalogue: the base is more than any of its lists of fields has
-abbrev pub work_of_fields : Catalogue → List Field → ℕ
-work_of_fields cat fs = work_by (field_count cat + 2) fs
+abbrev pub weight_of_fields : Catalogue → List Field → ℕ
+weight_of_fields cat fs = weight_by (field_count cat + 2) fs
 
-work_by-le : (base limit : ℕ) (fs : List Field) → 0 < base → FieldsBelow limit fs → work_by base fs ≤ length fs * base ^ limit
-unfolding work_by
-work_by-le base limit [] pos b = omega arith
-work_by-le base limit (f ∷ fs) pos b =
+weight_by-le : (base limit : ℕ) (fs : List Field) → 0 < base → FieldsBelow limit fs → weight_by base fs ≤ length fs * base ^ limit
+unfolding weight_by
+weight_by-le base limit [] pos b = omega arith
+weight_by-le base limit (f ∷ fs) pos b =
     let first : base ^ suc f.shape ≤ base ^ limit = pow-le-pow_right pos b.0 in
-    let rest = work_by-le base limit fs pos b.1 in
+    let rest = weight_by-le base limit fs pos b.1 in
     omega (arith, first, rest)
 
-work_by-lt : (base limit : ℕ) (fs : List Field) → FieldsBelow limit fs → length fs + 2 ≤ base → work_by base fs + 1 < base ^ suc limit
-work_by-lt base limit fs b few =
+weight_by-lt : (base limit : ℕ) (fs : List Field) → FieldsBelow limit fs → length fs + 2 ≤ base → weight_by base fs + 1 < base ^ suc limit
+weight_by-lt base limit fs b few =
     let some : 1 ≤ base ^ limit = one-le-pow limit base (omega (arith, few)) in
-    let most = work_by-le base limit fs (omega (arith, few)) b in
+    let most = weight_by-le base limit fs (omega (arith, few)) b in
     let product : base ^ limit * (length fs + 2) ≤ base ^ limit * base = mul-le-mul_left (base ^ limit) few in
     let power = pow-suc base limit in
     omega (arith, some, most, product, power)
 
 -- a field weighs more than fields of the catalogue that name only shapes before its own
-pub work-inside : (cat : Catalogue) (f : Field) (fs gs : List Field) → FieldsBelow f.shape gs → length gs ≤ field_count cat → (work_of_fields cat gs + 1) + work_of_fields cat fs < work_of_fields cat (f ∷ fs)
-unfolding work_by
-work-inside cat f fs gs b counted =
-    let less = work_by-lt (field_count cat + 2) f.shape gs b (omega (arith, counted)) in
+pub weight-inside : (cat : Catalogue) (f : Field) (fs gs : List Field) → FieldsBelow f.shape gs → length gs ≤ field_count cat → (weight_of_fields cat gs + 1) + weight_of_fields cat fs < weight_of_fields cat (f ∷ fs)
+unfolding weight_by
+weight-inside cat f fs gs b counted =
+    let less = weight_by-lt (field_count cat + 2) f.shape gs b (omega (arith, counted)) in
     omega (arith, less)
 
 -- and more than nothing
-pub work-first : (cat : Catalogue) (f : Field) (fs : List Field) → work_of_fields cat fs < work_of_fields cat (f ∷ fs)
-unfolding work_by
-work-first cat f fs =
+pub weight-first : (cat : Catalogue) (f : Field) (fs : List Field) → weight_of_fields cat fs < weight_of_fields cat (f ∷ fs)
+unfolding weight_by
+weight-first cat f fs =
     let some : 1 ≤ (field_count cat + 2) ^ suc f.shape = one-le-pow (suc f.shape) (field_count cat + 2) (omega arith) in
     omega (arith, some)
 
