@@ -1,8 +1,7 @@
 -- Keys that are seen one after another, and what the end of a solver says of a choice.
-use Rattle.std.proofs.Common.{◌≡◌, ℕ, zero, suc, arith, refl, subst, ◌+◌, ◌<◌, List, [], ◌∷◌, ap, sym, ◌∙◌, get_or, length, map, take}
+use Rattle.std.proofs.Common.{◌≡◌, ℕ, zero, suc, arith, subst, ◌+◌, ◌<◌, List, [], ◌∷◌, ◌++◌, ap, sym, ◌∙◌, get_or, length, map, take}
 use Rattle.std.specs.Prelude.{Result, Ok, Err, Contains, Some, slice_get, string_bytes}
 use Rattle.std.proofs.lemmas.List.{map-append, take_more}
-use Rattle.std.proofs.lemmas.List.Sums.{fold_push}
 use Rattle.facet_solver.specs.Build.{Build}
 use Rattle.facet_solver.specs.Choice.{ListsChoices}
 use Rattle.facet_solver.specs.Found.{GivesOrNames}
@@ -18,13 +17,13 @@ use Rattle.facet_solver.specs.declared.SolverError.TheVariants.{Ambiguous, OutOf
 use Rattle.facet_solver_tests.specs.KeysToChoice.{HasOrLists}
 
 -- one more key, whatever it is the key of
-pub see_keys_more : {X : Type 0} (key : X → Key) (xs : List X) (i : ℕ) (d : X) (s before after : State) → i < length xs → before ≡ see_keys (map key (take i xs)) s → after ≡ see_key (key (get_or xs i d)) before → after ≡ see_keys (map key (take (i + 1) xs)) s
-see_keys_more {X} key xs i d s before after low so_far more =
+pub see_keys_more : {X : Type 0} (one_by_one : (keys : List Key) (key : Key) (s : State) → see_keys (keys ++ key ∷ []) s ≡ see_key key (see_keys keys s)) (key : X → Key) (xs : List X) (i : ℕ) (d : X) (s before after : State) → i < length xs → before ≡ see_keys (map key (take i xs)) s → after ≡ see_key (key (get_or xs i d)) before → after ≡ see_keys (map key (take (i + 1) xs)) s
+see_keys_more {X} one_by_one key xs i d s before after low so_far more =
     more
     ∙ ap (see_key (key (get_or xs i d))) so_far
     ∙ sym (ap (λ (ys : List X). see_keys (map key ys) s) (take_more xs i d low)
     ∙ ap (λ ks. see_keys ks s) (map-append key (take i xs) (get_or xs i d ∷ []))
-    ∙ fold_push (λ now key. see_key key now) s (map key (take i xs)) (key (get_or xs i d)))
+    ∙ one_by_one (map key (take i xs)) (key (get_or xs i d)) s)
 
 -- what stands at a place of a list is in it
 at_place : {X : Type 0} (xs : List X) (i : ℕ) (x : X) → slice_get xs i ≡ Some x → Contains xs x
@@ -48,8 +47,3 @@ of_root build root schema keys Q built says choices listed index choice at r tol
   where
     moved : (P : Build → ℕ → Type 0) → P build root → P schema.build schema.root
     moved P h = subst (λ (n : ℕ). P schema.build n) (sym built.has_root) (subst (λ (b : Build). P b root) (sym built.made_by) h)
-
--- keys change no schema
-pub same_schema : (keys : List Key) (s : State) → (see_keys keys s).schema ≡ s.schema
-same_schema [] s = refl
-same_schema (key ∷ keys) s = same_schema keys (see_key key s)

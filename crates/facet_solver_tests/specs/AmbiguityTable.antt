@@ -1,5 +1,5 @@
--- When a checker of types has no table to show.
-use Rattle.std.specs.Prelude.{◌≡◌, ◌<◌, ℕ, Option, Some, None, Result, Ok, Err, ⊤}
+-- When a checker of types shows a table, and when it has none.
+use Rattle.std.specs.Prelude.{◌≡◌, ◌<◌, ◌≤◌, ℕ, Option, Some, None, Result, Ok, Err, ⊤}
 use Rattle.std.specs.declared.alloc.Global.{Global}
 use Rattle.std.specs.declared.string.String.{String}
 use Rattle.facet_solver.specs.Build.{Build}
@@ -13,9 +13,16 @@ abbrev pub IsAbove : ℕ → Option ℕ → Type 0
 IsAbove most None = ⊤
 IsAbove most (Some count) = most < count
 
--- there are more choices than asked for, and as many as said; or the schema is refused
-abbrev pub IsNoTable : Build → ℕ → ℕ → Result (String Global) NoTable → Type 0
-IsNoTable build root most (Ok table) = ⊤
-IsNoTable build root most (Err (TooMany count)) =
+-- the choices are counted, and there are at most as many as asked for
+pub record IsWithin (build : Build) (root most : ℕ) : Type 0 where
+  pub count : ℕ
+  pub counted : IsCountOf build.catalogue root build.representation (Some count)
+  pub within : count ≤ most
+
+-- a table is that of at most as many choices as asked for; or there are more, and as many as said;
+-- or the schema is refused
+abbrev pub GivesTable : Build → ℕ → ℕ → Result (String Global) NoTable → Type 0
+GivesTable build root most (Ok table) = IsWithin build root most
+GivesTable build root most (Err (TooMany count)) =
     IsCountOf build.catalogue root build.representation count × IsAbove most count
-IsNoTable build root most (Err (Schema error)) = IsRefusal build root error
+GivesTable build root most (Err (Schema error)) = IsRefusal build root error

@@ -1,7 +1,8 @@
-//! The table of a checker of types: which choices of a type a document may leave both, for a person who reads it.
+//! The table of a checker of types: which choices of a type a document may leave both, for a person
+//! who reads it.
 ghost use Rattle.std.specs.Prelude.{◌≡◌, ◌<◌, None, length};
 ghost use Rattle.facet_solver.specs.Schema.{flat_build};
-ghost use Rattle.facet_solver_tests.specs.AmbiguityTable.{IsNoTable};
+ghost use Rattle.facet_solver_tests.specs.AmbiguityTable.{GivesTable};
 
 use crate::callers::ambiguous_pairs::{AmbiguousPair, ambiguous_pairs};
 use facet_solver::{FieldKey, Resolution, Schema, SchemaError, ShapeId, Shapes};
@@ -42,9 +43,11 @@ impl<'c> From<AllocError> for NoTable<'c> {
     }
 }
 
-/// The table of a type's ambiguous pairs: a row for each, with the keys that fit both and the names that tell them apart.
+/// The table of a type's ambiguous pairs: a row for each, with the keys that fit both and the names
+/// that tell them apart.
 ///
-/// The choices are counted first. Where there are more than `most`, no schema is built, and the error says how many.
+/// The choices are counted first. Where there are more than `most`, no schema is built, and the
+/// error says how many.
 pub fn ambiguity_table<'c>(
     alloc: Global,
     shapes: &'c Shapes,
@@ -52,7 +55,7 @@ pub fn ambiguity_table<'c>(
     most: u64,
 ) -> Result<String, NoTable<'c>>
     requires { root < length shapes.now }
-    ensures { IsNoTable (flat_build shapes.now None) root most result }
+    ensures { GivesTable (flat_build shapes.now None) root most result }
 {
     match Schema::resolution_count(alloc, shapes, root, None)? {
         Some(count) if count <= most => {}

@@ -1,4 +1,5 @@
-//! From an element of a document to a choice: a solver is told its attributes, child elements and texts, in their order.
+//! From an element of a document to a choice: a solver is told its attributes, child elements and
+//! texts, in their order.
 ghost use Rattle.std.specs.Prelude.{◌≡◌, ◌<◌, None, OnOk, length};
 ghost use Rattle.facet_solver.specs.Build.{build_with};
 ghost use Rattle.facet_solver.specs.State.{new_solver, see_key};
@@ -8,7 +9,7 @@ ghost use Rattle.facet_solver_tests.specs.ElementToChoice.{key_of_part, keys_of_
 ghost use Rattle.facet_solver_tests.specs.KeysToChoice.{FindsChoice, FindsInSchema, IsAnswer, IsVerdict};
 
 use crate::callers::keys_to_choice::{Choice, NoChoice};
-use facet_solver::laws::told_choices_are_found;
+use facet_solver::laws::{calls_are_made_one_by_one, told_choices_are_found};
 use facet_solver::{ResolutionHandle, Schema, ShapeId, Shapes, Solver, SolverError};
 use std::alloc::{AllocError, Global};
 
@@ -25,8 +26,9 @@ pub enum Part<'d> {
 
 /// The choice that the parts of an element mean.
 ///
-/// Where they are the keys of one choice the answer has its index, or the error is `Ambiguous` and lists its description, or
-/// memory was refused. An attribute never stands for an element of its name.
+/// Where they are the keys of one choice the answer has its index, or the error is `Ambiguous` and
+/// lists its description, or memory was refused. An attribute never stands for an element of its
+/// name.
 pub fn element_to_choice<'c>(
     alloc: Global,
     shapes: &'c Shapes,
@@ -39,6 +41,8 @@ pub fn element_to_choice<'c>(
     ensures answer { IsAnswer
         (build_with shapes.now None Format.Dom) root (keys_of_parts parts.now) result }
 {
+    // Keys change no schema.
+    calls_are_made_one_by_one();
     let schema = Schema::build_dom(alloc, shapes, root)?;
     let handle = element_in_schema(alloc, &schema, parts)?;
     let description = handle.resolution().describe(alloc)?;
@@ -60,6 +64,7 @@ pub fn element_in_schema<'s, 'c>(
 {
     // The clauses that the contract follows from, beside that of `finish`.
     told_choices_are_found();
+    calls_are_made_one_by_one();
     let _ = schema.resolutions();
     let mut solver = Solver::new(alloc, schema)?;
     for part in parts {

@@ -1,4 +1,5 @@
-//! From keys to a choice: the schema of a type is built, a solver is told the keys of a document, and its end is the answer.
+//! From keys to a choice: the schema of a type is built, a solver is told the keys of a document, and
+//! its end is the answer.
 ghost use Rattle.std.specs.Prelude.{◌≡◌, ◌<◌, IfErr, Some, length};
 ghost use Rattle.facet_solver.specs.Representation.{flattened};
 ghost use Rattle.facet_solver.specs.Schema.{flat_build};
@@ -6,7 +7,7 @@ ghost use Rattle.facet_solver.specs.State.{new_solver};
 ghost use Rattle.facet_solver.specs.Told.{see_keys};
 ghost use Rattle.facet_solver_tests.specs.KeysToChoice.{FindsChoice, FindsInSchema, IsAnswer, IsVerdict, keys_of};
 
-use facet_solver::laws::told_choices_are_found;
+use facet_solver::laws::{calls_are_made_one_by_one, told_choices_are_found};
 use facet_solver::{
     FieldKey, ResolutionHandle, Schema, SchemaError, ShapeId, Shapes, Solver, SolverError,
 };
@@ -63,8 +64,9 @@ impl<'c> From<AllocError> for NoChoice<'c> {
 
 /// The choice that the keys of a document mean, in a type whose enums are flattened.
 ///
-/// Where they are the keys of one choice, in whatever order, repeated, or with unknown ones among them, the answer has the
-/// index of that choice, or the error is `Ambiguous` and lists its description, or memory was refused.
+/// Where they are the keys of one choice, in whatever order, repeated, or with unknown ones among
+/// them, the answer has the index of that choice, or the error is `Ambiguous` and lists its
+/// description, or memory was refused.
 pub fn keys_to_choice<'c>(
     alloc: Global,
     shapes: &'c Shapes,
@@ -77,6 +79,8 @@ pub fn keys_to_choice<'c>(
     ensures answer { IsAnswer
         (flat_build shapes.now (Some flattened)) root (keys_of keys.now) result }
 {
+    // Keys change no schema.
+    calls_are_made_one_by_one();
     let schema = Schema::build(alloc, shapes, root)?;
     let handle = choice_in_schema(alloc, &schema, keys)?;
     let description = handle.resolution().describe(alloc)?;
@@ -95,8 +99,10 @@ pub fn choice_in_schema<'s, 'c>(
     ensures found { FindsInSchema schema.now (keys_of keys.now) result }
     ensures verdict { IsVerdict (see_keys (keys_of keys.now) (new_solver schema.now)) result }
 {
-    // What is known of told keys, and of the schema: the two clauses that the contract follows from, beside that of `finish`.
+    // What is known of told keys, of calls, and of the schema: the clauses that the contract follows
+    // from, beside that of `finish`.
     told_choices_are_found();
+    calls_are_made_one_by_one();
     let _ = schema.resolutions();
     let mut solver = Solver::new(alloc, schema)?;
     for key in keys {

@@ -12,7 +12,7 @@ use Rattle.facet_solver_tests.proofs.callers.element_to_choice.element_in_schema
 pub loop-part-preserved : goal.loop-part-preserved
 loop-part-preserved c =
     let nothing : Part = Attribute record { ref_ptr = (0, 0); now = [] } in
-    see_keys_more key_of_part c.args.parts.now c.loop-part.part-index nothing (new_solver c.args.schema.now) c.loop-part.solver c.see_part.new.solver c.loop-part-test.true c.loop-part.invariant c.in_ok-see_part.ensures
+    see_keys_more c.calls_are_made_one_by_one.ensures.keys key_of_part c.args.parts.now c.loop-part.part-index nothing (new_solver c.args.schema.now) c.loop-part.solver c.see_part.new.solver c.loop-part-test.true c.loop-part.invariant c.in_ok-see_part.ensures
 
 pub returns-clause-found : goal.returns-clause-found
 returns-clause-found c choices listed index choice at r told =

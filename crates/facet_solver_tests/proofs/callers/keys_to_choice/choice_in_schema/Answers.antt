@@ -13,7 +13,7 @@ use Rattle.facet_solver_tests.proofs.callers.keys_to_choice.choice_in_schema.Goa
 pub loop-key-preserved : goal.loop-key-preserved
 loop-key-preserved c =
     let nothing : FieldKey = Flat record { ref_ptr = (0, 0); now = [] } in
-    see_keys_more key_of c.args.keys.now c.loop-key.key-index nothing (new_solver c.args.schema.now) c.loop-key.solver c.see_key.new.self c.loop-key-test.true c.loop-key.invariant c.in_ok-see_key.ensures.ok
+    see_keys_more c.calls_are_made_one_by_one.ensures.keys key_of c.args.keys.now c.loop-key.key-index nothing (new_solver c.args.schema.now) c.loop-key.solver c.see_key.new.self c.loop-key-test.true c.loop-key.invariant c.in_ok-see_key.ensures.ok
 
 pub returns-clause-found : goal.returns-clause-found
 returns-clause-found c choices listed index choice at r told =

@@ -6,7 +6,7 @@ use Rattle.facet_solver.specs.Resolved.{Resolved, description}
 use Rattle.facet_solver.specs.State.{new_solver}
 use Rattle.facet_solver.specs.Schema.{IsHandleOf, SchemaView, flat_build, index_of, resolution_of}
 use Rattle.facet_solver_tests.specs.KeysToChoice.{Lists, keys_of}
-use Rattle.facet_solver_tests.proofs.KeysToChoice.{of_root, same_schema}
+use Rattle.facet_solver_tests.proofs.KeysToChoice.{of_root}
 use Rattle.facet_solver_tests.proofs.callers.keys_to_choice.keys_to_choice.Goals as goal
 
 pub returns-in_err-handle-clause-found : goal.returns-in_err-handle-clause-found
@@ -32,6 +32,6 @@ returns-clause-answer c =
       built = c.in_ok-schema.ensures.built;
       alone = c.in_ok-handle.ensures.verdict.0 ∙ ap (λ (n : ℕ). n ∷ []) (sym c.index.ensures);
       resolution = resolution_of handle;
-      there = ap (slice_get schema.resolutions) c.index.ensures ∙ subst (λ (s : SchemaView). IsHandleOf s handle) (same_schema keys (new_solver schema)) c.in_ok-handle.ensures.verdict.1;
+      there = ap (slice_get schema.resolutions) c.index.ensures ∙ subst (λ (s : SchemaView). IsHandleOf s handle) (c.calls_are_made_one_by_one.ensures.schema keys (new_solver schema)) c.in_ok-handle.ensures.verdict.1;
       described = c.in_ok-description.ensures ∙ ap (λ (r : Resolved). description r.picks) c.resolution.ensures;
     }
