@@ -20,6 +20,8 @@ use Rattle.facet_solver.specs.Work.{work_of_field, work_of_fields, work_of_role,
 use Rattle.facet_solver.specs.Count.{count_content, count_field, count_fields, count_of_root, count_optional, count_present, count_role, count_variant, count_variants}
 use Rattle.facet_solver.specs.Listing.{Choices, choices_of_field, choices_of_fields, choices_of_fields_step, choices_of_optional, choices_of_present, choices_of_role, choices_of_root, choices_of_variant, choices_of_variants, indexed, no_choice, product}
 use Rattle.facet_solver.specs.ChoiceParts.{Adds, IsPart, IsRank, StandFor, choice_at, indices_of, presence, present_rank, work_of_part}
+use Rattle.facet_solver.specs.Counts.{CountsTo}
+use Rattle.facet_solver.specs.declared.build.count.saturating.SaturatingCount.{SaturatingCount}
 use Rattle.facet_solver.proofs.Count.{below_count, length-map', length-product, present_count, role_count, root_count}
 use Rattle.facet_solver.proofs.Listing.{indexed-more, product-one_left, product-one_right, product_assoc}
 use Rattle.facet_solver.proofs.WalkSteps.{choices_of_fields-step}
@@ -105,6 +107,10 @@ module _ (build : Build) (checked : NamesEarlier build.catalogue) where
       ∙ ap (λ (n : ℕ). n * length (choices_of_field build f)) (below_count build fs)
       ∙ ap (λ (n : ℕ). count_fields build fs * n) (field_count f)
 
+  -- equal choices are as many
+  pub as_many : (fs gs : List Field) → choices_of_fields build fs ≡ choices_of_fields build gs → count_fields build fs ≡ count_fields build gs
+  as_many fs gs e = sym (below_count build fs) ∙ ap length e ∙ below_count build gs
+
   -- what a rank at fields says of the last one, and of those before it
   pub record AreRanks (fs : List Field) (f : Field) (k n : ℕ) : Type 0 where
     pub some : 0 < n
@@ -112,10 +118,10 @@ module _ (build : Build) (checked : NamesEarlier build.catalogue) where
     pub last : IsRank (k % n) (count_field build f)
     pub choice : choice_at (choices_of_fields build (fs ++ f ∷ [])) k ≡ choice_at (choices_of_fields build fs) (k / n) ++ choice_at (choices_of_field build f) (k % n)
 
-  pub few_at_last : (fs : List Field) (f : Field) (k : ℕ) → FieldsBelow (length build.catalogue) (fs ++ f ∷ []) → IsRank k (count_fields build (fs ++ f ∷ [])) → count_field build f < 2 ^ 64
+  few_at_last : (fs : List Field) (f : Field) (k : ℕ) → FieldsBelow (length build.catalogue) (fs ++ f ∷ []) → IsRank k (count_fields build (fs ++ f ∷ [])) → count_field build f < 2 ^ 64
   few_at_last fs f k b h = (factors (count_fields build fs) (count_field build f) k (subst (IsRank k) (count-last fs f b) h)).second
 
-  pub ranks : (fs : List Field) (f : Field) (k n : ℕ) → n ≡ count_field build f → FieldsBelow (length build.catalogue) (fs ++ f ∷ []) → IsRank k (count_fields build (fs ++ f ∷ [])) → AreRanks fs f k n
+  ranks : (fs : List Field) (f : Field) (k n : ℕ) → n ≡ count_field build f → FieldsBelow (length build.catalogue) (fs ++ f ∷ []) → IsRank k (count_fields build (fs ++ f ∷ [])) → AreRanks fs f k n
   ranks fs f k n e b h =
       let of_both = subst (IsRank k) (count-last fs f b ∙ ap (λ (m : ℕ). count_fields build fs * m) (sym e)) h in
       let parts = factors (count_fields build fs) n k of_both in
@@ -129,16 +135,21 @@ module _ (build : Build) (checked : NamesEarlier build.catalogue) where
             (subst (λ (m : ℕ). k < m * n) (sym (below_count build fs)) of_both.0);
       }
 
+  -- the same of fields that have the choices of others, by a count that is exact below 2^64
+  pub last_ranks : (all kept fs : List Field) (f : Field) (k n : ℕ) (t : SaturatingCount) → choices_of_fields build kept ≡ choices_of_fields build all → IsRank k (count_fields build all) → kept ≡ fs ++ f ∷ [] → FieldsBelow (length build.catalogue) kept
+      → CountsTo t (count_field build f) → ((m : ℕ) → CountsTo t m → m < 2 ^ 64 → n ≡ m) → AreRanks fs f k n
+  last_ranks all kept fs f k n t same rank e b counts exact =
+      let below = subst (FieldsBelow (length build.catalogue)) e b in
+      let long = sym (as_many kept all same) ∙ ap (count_fields build) e in
+      let whole = subst (IsRank k) long rank in
+      ranks fs f k n (exact _ counts (few_at_last fs f k below whole)) below whole
+
   -- a last field with nothing to choose changes nothing
   pub without_last : (fs : List Field) (f : Field) → FieldsBelow (length build.catalogue) (fs ++ f ∷ []) → choices_of_field build f ≡ no_choice → choices_of_fields build (fs ++ f ∷ []) ≡ choices_of_fields build fs
   without_last fs f b none =
       choices_of_fields-last fs f b
       ∙ ap (λ (cs : Choices). product (choices_of_fields build fs) cs) none
       ∙ product-one_right (choices_of_fields build fs)
-
-  -- equal choices are as many
-  pub as_many : (fs gs : List Field) → choices_of_fields build fs ≡ choices_of_fields build gs → count_fields build fs ≡ count_fields build gs
-  as_many fs gs e = sym (below_count build fs) ∙ ap length e ∙ below_count build gs
 
   -- no fields have one choice, of no index
   nothing : no_choice ≡ choices_of_fields build []
@@ -206,11 +217,15 @@ module _ (build : Build) where
   pub content_count : (v : Variant) → length (choices_of_variant (choices_of_fields build) build.catalogue true v) ≡ count_content build v
   content_count v = below_count build _
 
-  pub few_at_variant : (vs : List Variant) (i : ℕ) (v : Variant) (k : ℕ) → i < length vs → v ≡ get_or vs i v → IsRank k (count_variants build true vs) → count_content build v < 2 ^ 64
+  few_at_variant : (vs : List Variant) (i : ℕ) (v : Variant) (k : ℕ) → i < length vs → v ≡ get_or vs i v → IsRank k (count_variants build true vs) → count_content build v < 2 ^ 64
   few_at_variant vs i v k within is h =
       let one = get_or-le-sum_by (count_variant (count_fields build) build.catalogue true) vs i v within in
       let same = ap (λ (u : Variant). count_content build u) is in
       omega (arith, one, same, h.1)
+
+  -- so a count that is exact below 2^64 is that of its content
+  pub exact_at_variant : (vs : List Variant) (i : ℕ) (v : Variant) (k n : ℕ) (t : SaturatingCount) → i < length vs → v ≡ get_or vs i v → IsRank k (count_variants build true vs) → CountsTo t (count_content build v) → ((m : ℕ) → CountsTo t m → m < 2 ^ 64 → n ≡ m) → (n ≡ count_content build v) × (count_content build v < 2 ^ 64)
+  exact_at_variant vs i v k n t within is h counts exact = let few = few_at_variant vs i v k within is h in (exact _ counts few, few)
 
 -- ---- parts, one after another
 module _ (build : Build) where

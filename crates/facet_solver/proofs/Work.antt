@@ -1,5 +1,5 @@
 -- The work below fields does not depend on the levels that are left, and grows field by field.
-use Rattle.std.proofs.Common.{◌≡◌, ◌+◌, ◌<◌, ℕ, suc, List, [], ◌∷◌, ◌++◌, ap, arith, length, refl, sym, ◌∙◌}
+use Rattle.std.proofs.Common.{◌≡◌, ◌+◌, ◌<◌, ℕ, suc, List, [], ◌∷◌, ◌++◌, ap, arith, length, refl, subst, sym, ◌∙◌}
 use Rattle.facet_solver_shape.specs.declared.shape.Field.{Field}
 use Rattle.facet_solver_shape.specs.declared.shape.Variant.{Variant}
 use Rattle.facet_solver_shape.specs.Catalogues.{FieldsBelow, NamesEarlier}
@@ -14,6 +14,9 @@ use Rattle.facet_solver.proofs.Count.{sum_by-same}
 pub FieldsBelow-last : (limit : ℕ) (fs : List Field) (f : Field) → FieldsBelow limit (fs ++ f ∷ []) → FieldsBelow limit fs × (f.shape < limit)
 FieldsBelow-last limit [] f b = (tt, b.0)
 FieldsBelow-last limit (g ∷ fs) f b = let last = FieldsBelow-last limit fs f b.1 in ((b.0, last.0), last.1)
+
+pub last_below : (limit : ℕ) (all fs : List Field) (f : Field) → all ≡ fs ++ f ∷ [] → FieldsBelow limit all → FieldsBelow limit fs × (f.shape < limit)
+last_below limit all fs f e b = FieldsBelow-last limit fs f (subst (FieldsBelow limit) e b)
 
 module _ (build : Build) (checked : NamesEarlier build.catalogue) where
   work_of_variant-same : (g h : Work) (limit : ℕ) (v : Variant) → FieldsBelow limit v.fields.items → ((gs : List Field) → FieldsBelow limit gs → g gs ≡ h gs) → work_of_variant g build.catalogue v ≡ work_of_variant h build.catalogue v
