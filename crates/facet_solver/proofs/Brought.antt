@@ -13,7 +13,7 @@ use Rattle.facet_solver.specs.declared.build.role.Target.{Target}
 use Rattle.facet_solver.specs.Brings.{AreBrought, AreCatchAlls, at, both, field_brings, fields_bring, has, has_last, kind_brings, role_brings, union}
 use Rattle.facet_solver.specs.Build.{Build, kind_at}
 use Rattle.facet_solver.specs.Content.{struct_fields}
-use Rattle.facet_solver.specs.Listing.{Choices, choices_of_fields, choices_of_fields_step, choices_of_optional, choices_of_role, no_choice, product}
+use Rattle.facet_solver.specs.Listing.{Choices, choices_of_field, choices_of_fields, choices_of_fields_step, choices_of_optional, choices_of_role, no_choice, product}
 use Rattle.facet_solver.specs.Roles.{Role, alternatives, block, catch_all, leaf, regular, role_of}
 use Rattle.facet_solver.proofs.Roles.{FieldsBelow-mono, RoleBelow, role_of-below}
 use Rattle.facet_solver.proofs.Serving.{role_of-target}
@@ -104,7 +104,7 @@ module _ (build : Build) (checked : NamesEarlier build.catalogue) (table : List 
       choices_of_fields-step build checked fs (FieldsBelow-mono (suc n) (length build.catalogue) fs le b)
       ∙ one_fields n (one_choice n (omega (arith, le))) fs b h
 
-  -- a block that brings no choices
-  pub block_of_one : (f : Field) (target : Target) (fs : List Field) → f.shape ≤ length build.catalogue → block target fs ≡ role_of build.catalogue f → (at table target.shape ≡ BringsChoices → ⊥) → choices_of_fields build fs ≡ no_choice
-  block_of_one f target fs le e h =
-      one_choice f.shape le fs (subst (RoleBelow f.shape) (sym e) (role_of-below build.catalogue checked f)) (λ v. h (sym (block_brings f target fs e h) ∙ v))
+  -- a field that brings no choices has none
+  pub field_of_one : (f : Field) → f.shape < length build.catalogue → (field_brings table build f ≡ BringsChoices → ⊥) → choices_of_field build f ≡ no_choice
+  unfolding choices_of_field
+  field_of_one f lt h = one_role (length build.catalogue) f (omega (arith, lt)) (one_choice (length build.catalogue) (omega arith)) (role_of build.catalogue f) refl h

@@ -267,16 +267,6 @@ choices_listed build root =
       in_order = sorted_from_rising _ (rise_root build root);
     }
 
--- ---- where the count is 0 there is no choice
-empty : (cs : Choices) → length cs ≡ 0 → cs ≡ []
-empty [] e = refl
-empty (c ∷ cs) e = absurd (omega arith)
-
-module _ (build : Build) where
-  -- below fields, and so below the content of a variant
-  pub none_below : (fs : List Field) → count_fields build fs ≡ 0 → choices_of_fields build fs ≡ []
-  none_below fs e = empty (choices_of_fields build fs) (below_count build fs ∙ e)
-
 -- ---- what an enumeration says further: no choice clashes, none begins another, and the list is the only one
 module _ (build : Build) (root : ℕ) where
   resolution_at : (cs : List (List ℕ)) (rs : List Resolved) (c : List ℕ) → AllZip (IsResolution build root) cs rs → In c cs → (r : Resolved) × IsResolution build root c r

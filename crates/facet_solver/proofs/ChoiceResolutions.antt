@@ -1,24 +1,23 @@
 -- What choices resolve to: one resolution for each, whose flat fields go by their names.
 use Rattle.facet_solver.specs.Build.{Build}
-use Rattle.std.proofs.Common.{◌≡◌, ℕ, suc, List, [], ◌∷◌, ◌++◌, Some, sym, refl, ap, ◌∙◌, subst, length, arith, IsSome, append_assoc, append-nil}
-use Rattle.std.specs.Prelude.{Contains}
-use Rattle.std.proofs.lemmas.List.Elements.{Contains-append_right}
+use Rattle.std.proofs.Common.{◌≡◌, ◌+◌, ◌≤◌, ℕ, suc, List, [], ◌∷◌, ◌++◌, Some, sym, refl, ap, ◌∙◌, subst, length, arith, IsSome, slice_get, take}
+use Rattle.std.proofs.lemmas.List as lists
+use Rattle.std.proofs.lemmas.List.{take_more}
+use Rattle.std.proofs.lemmas.Option.{get_or_from_slice_get, slice_get_within}
 use Rattle.facet_solver_shape.specs.declared.resolution.error.SchemaError as schema
 use Rattle.facet_solver_shape.specs.declared.resolution.error.SchemaError.TheVariants.{DuplicateField, OutOfMemory}
 use Rattle.facet_solver.specs.Walk.{walk_root}
 use Rattle.facet_solver_shape.specs.Resolved.{Resolved, nothing}
 use Rattle.facet_solver.specs.Outcome.{Duplicate, Outcome, resolved, duplicate, take_all, effect, StopsBy, duplicate_view}
-use Rattle.facet_solver.specs.Choice.{IsChoice, ListsChoices, IsResolution, IsClash, IsRefusal}
+use Rattle.facet_solver.specs.Choice.{IsChoice, IsResolution, IsClash, IsRefusal}
+use Rattle.facet_solver.specs.Count.{count_of_root}
+use Rattle.facet_solver.specs.Listing.{choices_of_root}
+use Rattle.facet_solver.proofs.Choice.{choices_listed}
+use Rattle.facet_solver.proofs.Count.{root_count}
 use Rattle.facet_solver.proofs.Outcome.{built, clashing}
 use Rattle.std.specs.List.{AllZip}
 
 -- ---- one resolution for each choice, one by one
--- of these choices, each before those that are left has its resolution
-pub record AreResolvedBefore (build : Build) (root : ℕ) (choices left : List (List ℕ)) (resolutions : List Resolved) : Type 0 where
-  pub done : List (List ℕ)
-  pub parts : done ++ left ≡ choices
-  pub each : AllZip (IsResolution build root) done resolutions
-
 module _ (build : Build) (root : ℕ) where
   -- a choice was walked
   pub choice-walked : (c : List ℕ) → IsChoice build root c → IsSome (walk_root build root c)
@@ -50,31 +49,27 @@ module _ (build : Build) (root : ℕ) where
   resolves-push (b ∷ cs) [] c r h i = absurd h
   resolves-push (b ∷ cs) (s ∷ rs) c r h i = (h.0, resolves-push cs rs c r h.1 i)
 
-  -- before anything is resolved
-  pub resolved-start : (cs : List (List ℕ)) → AreResolvedBefore build root cs cs []
-  resolved-start cs = record { done = []; parts = refl; each = tt }
+  -- what is listed at a rank is a choice
+  pub choice_of_rank : (n : ℕ) (c : List ℕ) → slice_get (choices_of_root build root) n ≡ Some c → IsChoice build root c
+  choice_of_rank n c e =
+      let cs = choices_of_root build root in
+      (choices_listed build root).each_is c (n, slice_get_within cs n c e, get_or_from_slice_get cs n c c e)
 
-  -- one more choice
-  pub resolved-more : (cs left rest : List (List ℕ)) (c : List ℕ) (rs : List Resolved) (r : Resolved) → left ≡ c ∷ rest → AreResolvedBefore build root cs left rs → IsResolution build root c r → AreResolvedBefore build root cs rest (rs ++ r ∷ [])
-  resolved-more cs left rest c rs r first h this = record {
-    done = h.done ++ c ∷ [];
-    parts = append_assoc h.done (c ∷ []) rest ∙ ap (λ (ds : List (List ℕ)). h.done ++ ds) (sym first) ∙ h.parts;
-    each = resolves-push h.done rs c r h.each this;
-  }
+  -- one more rank
+  pub resolved-more : (n : ℕ) (c : List ℕ) (rs : List Resolved) (r : Resolved) → slice_get (choices_of_root build root) n ≡ Some c
+      → AllZip (IsResolution build root) (take n (choices_of_root build root)) rs → IsResolution build root c r
+      → AllZip (IsResolution build root) (take (n + 1) (choices_of_root build root)) (rs ++ r ∷ [])
+  resolved-more n c rs r e h this =
+      let cs = choices_of_root build root in
+      let more = take_more cs n c (slice_get_within cs n c e) ∙ ap (λ (d : List ℕ). take n cs ++ d ∷ []) (get_or_from_slice_get cs n c c e) in
+      subst (λ (ds : List (List ℕ)). AllZip (IsResolution build root) ds (rs ++ r ∷ [])) (sym more) (resolves-push (take n cs) rs c r h this)
 
-  -- none is left
-  pub resolved-end : (cs left : List (List ℕ)) (rs : List Resolved) → left ≡ [] → AreResolvedBefore build root cs left rs → AllZip (IsResolution build root) cs rs
-  resolved-end cs left rs none h =
-      subst (λ (ds : List (List ℕ)). AllZip (IsResolution build root) ds rs)
-      (sym (append-nil h.done) ∙ ap (λ (ds : List (List ℕ)). h.done ++ ds) (sym none) ∙ h.parts)
-      h.each
-
-  -- the first that is left is a choice
-  pub first_left-choice : (cs left rest : List (List ℕ)) (c : List ℕ) (rs : List Resolved) → left ≡ c ∷ rest → AreResolvedBefore build root cs left rs → ListsChoices build root cs → IsChoice build root c
-  first_left-choice cs left rest c rs first h listed =
-      listed.each_is c
-      (subst (λ (ds : List (List ℕ)). Contains ds c) (ap (λ (ds : List (List ℕ)). h.done ++ ds) (sym first) ∙ h.parts)
-      (Contains-append_right h.done (c ∷ rest) c (0, (omega arith), refl)))
+  -- no rank is left
+  pub resolved-end : (n : ℕ) (rs : List Resolved) → count_of_root build root ≤ n → AllZip (IsResolution build root) (take n (choices_of_root build root)) rs → AllZip (IsResolution build root) (choices_of_root build root) rs
+  resolved-end n rs le h =
+      let cs = choices_of_root build root in
+      let long = root_count build root in
+      subst (λ (ds : List (List ℕ)). AllZip (IsResolution build root) ds rs) (lists.take_all n cs (omega (arith, le, long))) h
 
   pub resolves-length : (cs : List (List ℕ)) (rs : List Resolved) → AllZip (IsResolution build root) cs rs → length rs ≡ length cs
   resolves-length [] [] h = refl

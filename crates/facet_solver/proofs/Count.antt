@@ -1,7 +1,9 @@
 -- The number of choices: it is the length of their list, it follows the fields, and a table holds it.
 use Rattle.facet_solver.specs.Build.{Build, repr_for, Catalogue, kind_of}
 use Rattle.std.proofs.Common.{◌≡◌, ℕ, zero, suc, ◌+◌, ◌*◌, List, [], ◌∷◌, ◌++◌, map, Option, Some, None, Bool, true, false, sym, refl, ap, ◌∙◌, slice_get, length, length-append, ◌⊎◌, inl, inr, ◌<◌, ◌≤◌, subst, arith, get_or, take, add-one}
-use Rattle.std.specs.Prelude.{sum_by, IsSome, if◌then◌else◌}
+use Rattle.std.specs.Prelude.{sum_by, IsSome, if◌then◌else◌, ◌^◌, nat_lt}
+use Rattle.std.proofs.Common.{ltb-true}
+use Rattle.std.proofs.lemmas.Option.{same_Some}
 use Rattle.std.proofs.lemmas.List.Sums.{sum_by-cons}
 use Rattle.std.proofs.Math.Nat.{zero-mul, suc-mul, add_comm, mul_assoc}
 use Rattle.facet_solver_shape.specs.declared.shape.Shape.{Shape}
@@ -27,11 +29,11 @@ use Rattle.facet_solver.specs.declared.build.count.saturating.SaturatingCount.Th
 use Rattle.facet_solver.specs.declared.build.role.Target.{Target}
 
 -- ---- the number of choices is the length of their list
-length-map' : {X Y : Type 0} (f : X → Y) (xs : List X) → length (map f xs) ≡ length xs
+pub length-map' : {X Y : Type 0} (f : X → Y) (xs : List X) → length (map f xs) ≡ length xs
 length-map' f [] = refl
 length-map' f (x ∷ xs) = ap suc (length-map' f xs)
 
-length-product : (cs ds : Choices) → length (product cs ds) ≡ length cs * length ds
+pub length-product : (cs ds : Choices) → length (product cs ds) ≡ length cs * length ds
 unfolding product
 length-product [] ds = sym (zero-mul (length ds))
 length-product (c ∷ cs) ds =
@@ -62,7 +64,7 @@ module _ (build : Build) where
   variant_count true choices count v h = h _
   variant_count false choices count v h = refl
 
-  present_count : (choices : List Field → Choices) (count : Count) (r : Role) → AllCount choices count → length (choices_of_present choices build r) ≡ count_present count build r
+  pub present_count : (choices : List Field → Choices) (count : Count) (r : Role) → AllCount choices count → length (choices_of_present choices build r) ≡ count_present count build r
   present_count choices count regular h = refl
   present_count choices count (block target fs) h = h fs
   present_count choices count (alternatives target s vs) h = length-indexed 0 _ _ (λ v. variant_count (is_walked (repr_for build s)) choices count v h) vs
@@ -104,7 +106,7 @@ module _ (build : Build) where
 
 -- ---- on a checked catalogue the count of fields is the product over the fields
 module _ (build : Build) (checked : NamesEarlier build.catalogue) where
-  sum_by-same : (limit : ℕ) (g h : Variant → ℕ) (vs : List Variant) → VariantsBelow limit vs → ((v : Variant) → FieldsBelow limit v.fields.items → g v ≡ h v) → sum_by g vs ≡ sum_by h vs
+  pub sum_by-same : (limit : ℕ) (g h : Variant → ℕ) (vs : List Variant) → VariantsBelow limit vs → ((v : Variant) → FieldsBelow limit v.fields.items → g v ≡ h v) → sum_by g vs ≡ sum_by h vs
   sum_by-same limit g h [] b x = refl
   sum_by-same limit g h (v ∷ vs) b x =
       sum_by-cons g v vs
@@ -192,6 +194,14 @@ module _ (representation : Option Repr) (cat : Catalogue) (first second : Format
 -- what is answered by one kind of document is answered for each
 pub for_each_format : (representation : Option Repr) (cat : Catalogue) (root : ℕ) (known : Format) (answer : Option ℕ) → answer ≡ below_2_64 (count_of_root record { catalogue = cat; representation = representation; format = known } root) → IsCountOf cat root representation answer
 for_each_format representation cat root known answer e = λ format. e ∙ ap below_2_64 (same_root representation cat known format root)
+
+-- a number that is known to be below 2^64
+pub exactly : (n k : ℕ) → Some k ≡ below_2_64 n → (n ≡ k) × (n < 2 ^ 64)
+exactly n k e = go (nat_lt n (2 ^ 64)) refl e
+  where
+    go : (b : Bool) → nat_lt n (2 ^ 64) ≡ b → Some k ≡ (if b then Some n else None) → (n ≡ k) × (n < 2 ^ 64)
+    go true is e = (sym (same_Some k n e), ltb-true n (2 ^ 64) is)
+    go false is e = absurd (cc)
 
 -- ---- a table of counts grows index by index to that of the whole catalogue
 -- past the end there is no entry

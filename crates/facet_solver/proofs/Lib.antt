@@ -13,7 +13,8 @@ pub mod State
 pub mod Outcome
 pub mod Walk
 pub mod ChoiceResolutions
-pub mod ChoiceList
+pub mod Work
+pub mod ChoiceParts
 pub mod NestedFields
 pub mod Brings
 pub mod NestedSets

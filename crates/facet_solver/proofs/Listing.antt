@@ -238,102 +238,19 @@ unfolding product
 product-one_right [] = refl
 product-one_right (c ∷ cs) = ap (λ (x : List ℕ). x ∷ product cs no_choice) (append-nil c) ∙ ap (λ (xs : Choices). c ∷ xs) (product-one_right cs)
 
--- the choices of the fields that are left
-unfoldable pub choices_left : Build → List Field → Choices
-choices_left build fs = choices_of_fields_step (choices_of_fields build) build fs
-
-module _ (build : Build) where
-  left-nil : choices_left build [] ≡ no_choice
-  unfolding choices_left choices_of_fields_step
-  left-nil = refl
-
-  left-cons : (f : Field) (fs : List Field) → choices_left build (f ∷ fs) ≡ product (choices_of_field build f) (choices_left build fs)
-  unfolding choices_left choices_of_fields_step choices_of_field
-  left-cons f fs = refl
-
-  pub left-start : (fs : List Field) → NamesEarlier build.catalogue → FieldsBelow (length build.catalogue) fs → product no_choice (choices_left build fs) ≡ choices_of_fields build fs
-  unfolding choices_left
-  left-start fs checked b = product-one_left _ ∙ sym (choices_of_fields-step build checked fs b)
-
-  pub left-more : (found : Choices) (fs : List Field) (i : ℕ) (f : Field) → i < length fs → f ≡ get_or fs i f → product (product found (choices_of_field build f)) (choices_left build (drop (i + 1) fs)) ≡ product found (choices_left build (drop i fs))
-  left-more found fs i f h is =
-      product_assoc found (choices_of_field build f) (choices_left build (drop (i + 1) fs))
-      ∙ ap (product found) (sym (left-cons f (drop (i + 1) fs)))
-      ∙ ap (λ (g : Field). product found (choices_left build (g ∷ drop (i + 1) fs))) is
-      ∙ ap (λ (gs : List Field). product found (choices_left build gs)) (sym (drop_more fs i f h))
-
-  pub left-end : (found : Choices) (fs : List Field) (i : ℕ) → length fs ≤ i → product found (choices_left build (drop i fs)) ≡ found
-  left-end found fs i h =
-      ap (λ (gs : List Field). product found (choices_left build gs)) (drop_of_length-le fs h)
-      ∙ ap (product found) left-nil
-      ∙ product-one_right found
-
 -- the indexed choices of the variants from index i on
 module _ (choices : Variant → Choices) where
   pub indexed-more : (k : ℕ) (vs : List Variant) (i : ℕ) (d : Variant) → i < length vs → indexed k choices (drop i vs) ≡ map (λ c. k ∷ c) (choices (get_or vs i d)) ++ indexed (suc k) choices (drop (i + 1) vs)
   unfolding indexed
   indexed-more k vs i d h = ap (λ (ws : List Variant). indexed k choices ws) (drop_more vs i d h)
 
-  pub indexed-end : (k : ℕ) (vs : List Variant) (i : ℕ) → length vs ≤ i → indexed k choices (drop i vs) ≡ []
-  unfolding indexed
-  indexed-end k vs i h = ap (λ (ws : List Variant). indexed k choices ws) (drop_of_length-le vs h)
-
--- what a function that goes by a field's role needs
-module _ (build : Build) (f : Field) where
-  pub at-block : (target : Target) (fs : List Field) → block target fs ≡ role_of build.catalogue f → choices_of_field build f ≡ choices_of_optional target.optional (choices_of_fields build fs)
-  unfolding choices_of_field
-  at-block target fs e = ap (choices_of_role (choices_of_fields build) build) (sym e)
-
-  pub at-alternatives : (target : Target) (s : Shape) (vs : List Variant) → alternatives target s vs ≡ role_of build.catalogue f
-      → choices_of_field build f ≡ choices_of_optional target.optional (choices_of_variants build (is_walked (repr_for build s)) vs)
-  unfolding choices_of_field choices_of_variants
-  at-alternatives target s vs e = ap (choices_of_role (choices_of_fields build) build) (sym e)
-
-  pub at-plain : (r : Role) → r ≡ role_of build.catalogue f → IsPlain r → choices_of_field build f ≡ no_choice
-  unfolding choices_of_field
-  at-plain r e h = ap (choices_of_role (choices_of_fields build) build) (sym e) ∙ go r h
-    where
-      go : (r : Role) → IsPlain r → choices_of_role (choices_of_fields build) build r ≡ no_choice
-      go regular h = refl
-      go (block target fs) h = absurd h
-      go (alternatives target s vs) h = absurd h
-      go (catch_all target) h = refl
-      go (leaf target) h = refl
-
+-- what a field's role leads to is of earlier shapes
 module _ (cat : Catalogue) (checked : NamesEarlier cat) (f : Field) where
   pub block-below : (target : Target) (fs : List Field) → block target fs ≡ role_of cat f → FieldsBelow f.shape fs
   block-below target fs e = subst (RoleBelow f.shape) (sym e) (role_of-below cat checked f)
 
   pub alternatives-below : (target : Target) (s : Shape) (vs : List Variant) → alternatives target s vs ≡ role_of cat f → VariantsBelow f.shape vs
   alternatives-below target s vs e = subst (RoleBelow f.shape) (sym e) (role_of-below cat checked f)
-
--- the choices of one variant
-module _ (build : Build) (v : Variant) where
-  pub variant-walked : (walked : Bool) (cs : Choices) → walked ≡ true → cs ≡ choices_of_fields build (content_of build.catalogue v).fields → cs ≡ choices_of_variant (choices_of_fields build) build.catalogue walked v
-  variant-walked true cs e h = h
-  variant-walked false cs e h = absurd (cc)
-
-  pub variant-alone : (walked : Bool) (cs : Choices) → walked ≡ false → cs ≡ no_choice → cs ≡ choices_of_variant (choices_of_fields build) build.catalogue walked v
-  variant-alone true cs e h = absurd (cc)
-  variant-alone false cs e h = h
-
--- variants one by one
-module _ (build : Build) (walked : Bool) where
-  pub among-start : (vs : List Variant) → [] ++ indexed 0 (choices_of_variant (choices_of_fields build) build.catalogue walked) vs ≡ choices_of_variants build walked vs
-  unfolding choices_of_variants
-  among-start vs = refl
-
-  pub among-more : (found : Choices) (vs : List Variant) (i : ℕ) (v : Variant) (cs : Choices) → i < length vs → v ≡ get_or vs i v → cs ≡ choices_of_variant (choices_of_fields build) build.catalogue walked v
-      → (found ++ map (λ c. i ∷ c) cs) ++ indexed (i + 1) (choices_of_variant (choices_of_fields build) build.catalogue walked) (drop (i + 1) vs)
-      ≡ found ++ indexed i (choices_of_variant (choices_of_fields build) build.catalogue walked) (drop i vs)
-  among-more found vs i v cs h is e =
-      append_assoc found (map (λ c. i ∷ c) cs) _
-      ∙ ap (λ (xs : Choices). found ++ (map (λ c. i ∷ c) xs ++ indexed (i + 1) (choices_of_variant (choices_of_fields build) build.catalogue walked) (drop (i + 1) vs))) (e ∙ ap (choices_of_variant (choices_of_fields build) build.catalogue walked) is)
-      ∙ ap (λ (n : ℕ). found ++ (map (λ c. i ∷ c) (choices_of_variant (choices_of_fields build) build.catalogue walked (get_or vs i v)) ++ indexed n (choices_of_variant (choices_of_fields build) build.catalogue walked) (drop (i + 1) vs))) (omega arith)
-      ∙ ap (λ (xs : Choices). found ++ xs) (sym (indexed-more (choices_of_variant (choices_of_fields build) build.catalogue walked) i vs i v h))
-
-  pub among-end : (found : Choices) (vs : List Variant) (i : ℕ) → length vs ≤ i → found ++ indexed i (choices_of_variant (choices_of_fields build) build.catalogue walked) (drop i vs) ≡ found
-  among-end found vs i h = ap (λ (xs : Choices). found ++ xs) (indexed-end (choices_of_variant (choices_of_fields build) build.catalogue walked) i vs i h) ∙ append-nil found
 
 -- the choices of a root, by its kind
 module _ (build : Build) (root : ℕ) (s : Shape) (is : slice_get build.catalogue root ≡ Some s) where

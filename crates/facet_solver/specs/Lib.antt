@@ -15,7 +15,8 @@ pub mod CatchAlls
 pub mod Choice
 pub mod Count
 pub mod Listing
-pub mod ChoiceList
+pub mod Work
+pub mod ChoiceParts
 pub mod Outcome
 pub mod IndexSet
 pub mod Words

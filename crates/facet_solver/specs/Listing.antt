@@ -89,17 +89,7 @@ unfoldable pub choices_of_field : Build → Field → Choices
 choices_of_field build f =
     choices_of_role (choices_of_fields build) build (role_of build.catalogue f)
 
--- those at one field that is present
-unfoldable pub choices_of_present_field : Build → Field → Choices
-choices_of_present_field build f =
-    choices_of_present (choices_of_fields build) build (role_of build.catalogue f)
-
 -- those among variants whose contents are walked or not
 unfoldable pub choices_of_variants : Build → Bool → List Variant → Choices
 choices_of_variants build walked vs =
     indexed 0 (choices_of_variant (choices_of_fields build) build.catalogue walked) vs
-
--- choices that were found; none found is nothing to choose
-abbrev pub choices_found : Option Choices → Choices
-choices_found None = no_choice
-choices_found (Some found) = found

@@ -1,198 +1,240 @@
-//! The choices of a root, as lists of indices.
-ghost use Rattle.std.specs.Prelude.{◌≡◌, ◌++◌, ◌<◌, ◌∷◌, map, length, IfOk, OnOk};
+//! The choice of a rank among those of a root, as a list of indices.
+ghost use Rattle.std.specs.Prelude.{◌≡◌, ◌+◌, ◌<◌, ◌≤◌, ◌∷◌, Some, length, slice_get, sum_by, true, [], IfOk, OnOk, ◌++◌};
 ghost use Rattle.facet_solver_shape.specs.Catalogues.{FieldsBelow, VariantsBelow};
-ghost use Rattle.facet_solver.specs.Listing as listing;
-ghost use Rattle.facet_solver.specs.Choice.{ListsChoices};
-ghost use Rattle.facet_solver.specs.Listing.{choices_found};
-ghost use Rattle.facet_solver.specs.Count.{count_of_root};
-ghost use Rattle.facet_solver.specs.Counts.{IsReady};
 ghost use Rattle.facet_solver.specs.Build.{build_of};
-
-pub(crate) mod iter;
-pub(crate) mod list;
+ghost use Rattle.facet_solver.specs.ChoiceParts.{Adds, IsRank, StandFor, choice_at, presence, present_rank};
+ghost use Rattle.facet_solver.specs.Count as count;
+ghost use Rattle.facet_solver.specs.Counts.{IsReady};
+ghost use Rattle.facet_solver.specs.Listing as listing;
+ghost use Rattle.facet_solver.specs.Work as work;
 
 use crate::build::brings::Brings;
-use crate::build::choices::list::Choices;
 use crate::build::content::content_fields;
 use crate::build::role::{Role, role_of};
 use crate::build::walker::Walker;
 use facet_solver_shape::{Field, ShapeId, ShapeKind, Variant};
-use std::alloc::{AllocError, Global};
+use std::alloc::AllocError;
 
-/// Adds `first` before each of `seconds`.
-fn append_each(found: &mut Choices, first: &[usize], seconds: &Choices) -> Result<(), AllocError>
-    ensures { let added = map (λ d. first.now ++ d) seconds.now in
-        OnOk result (found.new ≡ found.old ++ added) }
+/// What a choice is put together from, in the order of the choice.
+#[derive(Clone, Copy)]
+pub(crate) enum Part<'c> {
+    /// One index: a variant's, or 0 or 1 for a field that may be absent.
+    Index(usize),
+    /// The choice of a rank among those at fields.
+    Fields(&'c [Field], u64),
+}
+
+/// Puts the choice of a rank among those of a root into `choice`: the indices that a walk of the root takes, a variant's for
+/// each enum, and 0 or 1 for each field that may be absent. `parts` is room for what is still to come. Both are cleared
+/// first, so that they serve one rank after another.
+pub(crate) fn choice_at<'c>(
+    walker: &Walker<'c>,
+    root: ShapeId,
+    rank: u64,
+    parts: &mut Vec<Part<'c>>,
+    choice: &mut Vec<usize>,
+) -> Result<(), AllocError>
+    requires ready { IsReady walker.now }
+    requires has { root < length walker.now.build.shapes.now }
+    requires rank { IsRank rank (count.count_of_root (build_of walker.now.build) root) }
+    ensures { let choices = listing.choices_of_root (build_of walker.now.build) root in
+        OnOk result (slice_get choices rank ≡ Some choice.new.items) }
 {
-    for second in seconds.iter() {
-        found.push(first, second)?;
+    choice.clear();
+    parts.clear();
+    push_root(walker, root, rank, parts)?;
+    // The last part comes first, as fields are gone through from the last.
+    while let Some(part) = parts.pop() {
+        match part {
+            Part::Index(index) => choice.push(index)?,
+            Part::Fields(fields, rank) => push_fields(walker, fields, rank, parts)?,
+        }
     }
+    choice.reverse();
     Ok(())
 }
 
-/// Each of `firsts` before each of `seconds`.
-#[tactic(auto, unfolding(crate::specs::Listing::product))]
-fn product(alloc: Global, firsts: &Choices, seconds: &Choices) -> Result<Choices, AllocError>
-    ensures { IfOk result (λ found. found ≡ listing.product firsts.now seconds.now) }
-{
-    let mut found = Choices::new(alloc);
-    for first in firsts.iter() {
-        append_each(&mut found, first, seconds)?;
-    }
-    Ok(found)
-}
-
-/// The same where there may be nothing to choose, which is `None`, on either side.
-fn product_found(
-    alloc: Global,
-    firsts: Option<Choices>,
-    seconds: Option<Choices>,
-) -> Result<Option<Choices>, AllocError>
-    ensures { IfOk result (λ found. choices_found found
-        ≡ listing.product (choices_found firsts) (choices_found seconds)) }
-{
-    match (firsts, seconds) {
-        (Some(firsts), Some(seconds)) => Ok(Some(product(alloc, &firsts, &seconds)?)),
-        (Some(firsts), None) => Ok(Some(firsts)),
-        (None, seconds) => Ok(seconds),
-    }
-}
-
-/// Adds `index` before each of `contents`, or alone where there is nothing to choose behind it.
-fn append_index(
-    found: &mut Choices,
-    index: usize,
-    contents: Option<Choices>,
+/// Adds what the choice of a rank among those of a root is put together from.
+fn push_root<'c>(
+    walker: &Walker<'c>,
+    root: ShapeId,
+    rank: u64,
+    parts: &mut Vec<Part<'c>>,
 ) -> Result<(), AllocError>
-    ensures { let added = map (λ d. index ∷ d) (choices_found contents) in
-        OnOk result (found.new ≡ found.old ++ added) }
-{
-    match contents {
-        Some(contents) => append_each(found, &[index], &contents),
-        None => found.push(&[index], &[]),
-    }
-}
-
-/// The choices at what may be absent, from those where it is present: 0 alone, and then 1 before each of them.
-fn choices_of_optional(
-    alloc: Global,
-    may_be_absent: bool,
-    present: Option<Choices>,
-) -> Result<Option<Choices>, AllocError>
-    ensures { IfOk result (λ found. choices_found found
-        ≡ listing.choices_of_optional may_be_absent (choices_found present)) }
-{
-    if !may_be_absent {
-        return Ok(present);
-    }
-    let mut found = Choices::new(alloc);
-    append_index(&mut found, 0, None)?;
-    append_index(&mut found, 1, present)?;
-    Ok(Some(found))
-}
-
-/// The choices at a list of fields, `None` where there is nothing to choose: those at each field before those at the
-/// fields behind it. Where one of them has none, the others are not gone through.
-#[cycle(choices)]
-fn choices_of_fields<'c>(
-    walker: &Walker<'c>,
-    fields: &'c [Field],
-) -> Result<Option<Choices>, AllocError>
-    requires ready { IsReady walker.now }
-    requires below { FieldsBelow (length walker.now.build.shapes.now) fields.now }
-    ensures { IfOk result (λ found. choices_found found
-        ≡ listing.choices_of_fields (build_of walker.now.build) fields.now) }
-{
-    if walker.counts.of_fields(walker.build, fields).is_zero() {
-        return Ok(Some(Choices::new(walker.build.alloc)));
-    }
-    let mut found = None;
-    for field in fields {
-        let alternatives = choices_of_field(walker, field)?;
-        found = product_found(walker.build.alloc, found, alternatives)?;
-    }
-    Ok(found)
-}
-
-/// The choices at one field, `None` where there is nothing to choose.
-#[cycle(choices)]
-fn choices_of_field<'c>(
-    walker: &Walker<'c>,
-    field: &'c Field,
-) -> Result<Option<Choices>, AllocError>
-    requires ready { IsReady walker.now }
-    requires below { field.now.shape < length walker.now.build.shapes.now }
-    ensures { IfOk result (λ found. choices_found found
-        ≡ listing.choices_of_field (build_of walker.now.build) field.now) }
-{
-    match role_of(walker.build.shapes, field) {
-        Role::Block(target, fields) => match walker.brings.of(target.shape) {
-            Brings::Choices => {
-                let present = choices_of_fields(walker, fields)?;
-                choices_of_optional(walker.build.alloc, target.optional, present)
-            }
-            Brings::CatchAlls(_) | Brings::Emissions => {
-                choices_of_optional(walker.build.alloc, target.optional, None)
-            }
-        },
-        Role::Alternatives(target, shape, variants) => {
-            let walked = walker.build.walks_content(shape);
-            let present = choices_of_variants(walker, walked, variants)?;
-            choices_of_optional(walker.build.alloc, target.optional, Some(present))
-        }
-        Role::Regular | Role::CatchAll(_) | Role::Leaf(_) => Ok(None),
-    }
-}
-
-/// Each variant's index before the choices of its content, where that is walked.
-#[cycle(choices)]
-fn choices_of_variants<'c>(
-    walker: &Walker<'c>,
-    walked: bool,
-    variants: &'c [Variant],
-) -> Result<Choices, AllocError>
-    requires ready { IsReady walker.now }
-    requires below { VariantsBelow (length walker.now.build.shapes.now) variants.now }
-    ensures { IfOk result (λ found. found
-        ≡ listing.choices_of_variants (build_of walker.now.build) walked variants.now) }
-{
-    let mut found = Choices::new(walker.build.alloc);
-    for (index, variant) in variants.iter().enumerate() {
-        let contents = if walked {
-            choices_of_fields(walker, content_fields(walker.build.shapes, variant))?
-        } else {
-            None
-        };
-        append_index(&mut found, index, contents)?;
-    }
-    Ok(found)
-}
-
-/// The one choice where there is nothing to choose.
-fn no_choice(alloc: Global) -> Result<Choices, AllocError>
-    ensures { IfOk result (λ found. found ≡ listing.no_choice) }
-{
-    let mut found = Choices::new(alloc);
-    found.push(&[], &[])?;
-    Ok(found)
-}
-
-/// All choices of a root, each once and in lexicographic order.
-pub(crate) fn choices_of_root<'c>(walker: &Walker<'c>, root: ShapeId) -> Result<Choices, AllocError>
     requires ready { IsReady walker.now }
     requires has { root < length walker.now.build.shapes.now }
-    ensures listed { IfOk result
-        (λ found. ListsChoices (build_of walker.now.build) root found) }
-    ensures counted { IfOk result
-        (λ found. length found ≡ count_of_root (build_of walker.now.build) root) }
+    requires rank { IsRank rank (count.count_of_root (build_of walker.now.build) root) }
+    requires nothing { parts.old.items ≡ [] }
+    ensures { let choices = listing.choices_of_root (build_of walker.now.build) root in
+        OnOk result (StandFor (build_of walker.now.build) parts.new.items (choice_at choices rank)) }
 {
     let shape = walker.build.shape(root);
     match &shape.kind {
-        ShapeKind::Struct { fields, .. } => match choices_of_fields(walker, fields)? {
-            Some(found) => Ok(found),
-            None => no_choice(walker.build.alloc),
-        },
-        ShapeKind::Enum { variants } => choices_of_variants(walker, true, variants),
-        _ => no_choice(walker.build.alloc),
+        ShapeKind::Struct { fields, .. } => {
+            parts.push(Part::Fields(fields, rank))?;
+            Ok(())
+        }
+        ShapeKind::Enum { variants } => push_variant(walker, true, variants, rank, parts),
+        _ => Ok(()),
     }
+}
+
+/// Adds what the choice of a rank at fields is put together from. The choices of the last field follow one another where those
+/// of the fields before it stay, so it has the rank that is left over.
+fn push_fields<'c>(
+    walker: &Walker<'c>,
+    fields: &'c [Field],
+    rank: u64,
+    parts: &mut Vec<Part<'c>>,
+) -> Result<(), AllocError>
+    requires ready { IsReady walker.now }
+    requires below { FieldsBelow (length walker.now.build.shapes.now) fields.now }
+    requires rank { IsRank rank (count.count_fields (build_of walker.now.build) fields.now) }
+    ensures { let build = build_of walker.now.build in
+        OnOk result (Adds build parts.old.items parts.new.items
+            (choice_at (listing.choices_of_fields build fields.now) rank)
+            (work.work_of_fields build fields.now)) }
+{
+    match up_to_choices(walker, fields).split_last() {
+        Some((field, before)) => {
+            let count = walker.counts.of_field(walker.build, field).or_largest();
+            parts.push(Part::Fields(before, rank / count))?;
+            push_field(walker, field, rank % count, parts)
+        }
+        None => Ok(()),
+    }
+}
+
+/// The fields up to the last one with something to choose.
+fn up_to_choices<'c>(walker: &Walker<'c>, fields: &'c [Field]) -> &'c [Field]
+    requires ready { IsReady walker.now }
+    requires below { FieldsBelow (length walker.now.build.shapes.now) fields.now }
+    ensures below { FieldsBelow (length walker.now.build.shapes.now) result.now }
+    ensures choices { let build = build_of walker.now.build in
+        listing.choices_of_fields build result.now ≡ listing.choices_of_fields build fields.now }
+    ensures work { let build = build_of walker.now.build in
+        work.work_of_fields build result.now ≤ work.work_of_fields build fields.now }
+{
+    let mut kept = fields;
+    while let Some((field, before)) = kept.split_last() {
+        match walker.brings.of_field(walker.build, field) {
+            Brings::Choices => break,
+            Brings::CatchAlls(_) | Brings::Emissions => kept = before,
+        }
+    }
+    kept
+}
+
+/// Adds what the choice of a rank at one field is put together from.
+fn push_field<'c>(
+    walker: &Walker<'c>,
+    field: &'c Field,
+    rank: u64,
+    parts: &mut Vec<Part<'c>>,
+) -> Result<(), AllocError>
+    requires ready { IsReady walker.now }
+    requires below { field.now.shape < length walker.now.build.shapes.now }
+    requires rank { IsRank rank (count.count_field (build_of walker.now.build) field.now) }
+    ensures { let build = build_of walker.now.build in
+        OnOk result (Adds build parts.old.items parts.new.items
+            (choice_at (listing.choices_of_field build field.now) rank)
+            (work.work_of_field build field.now)) }
+{
+    let role = role_of(walker.build.shapes, field);
+    let Some(rank) = push_presence(role.may_be_absent(), rank, parts)? else {
+        return Ok(());
+    };
+    match role {
+        Role::Block(_, fields) => {
+            parts.push(Part::Fields(fields, rank))?;
+            Ok(())
+        }
+        Role::Alternatives(_, shape, variants) => {
+            let walked = walker.build.walks_content(shape);
+            push_variant(walker, walked, variants, rank, parts)
+        }
+        Role::Regular | Role::CatchAll(_) | Role::Leaf(_) => Ok(()),
+    }
+}
+
+/// Adds the index of a field that may be absent: 0 where it is, which is the first choice there, and else 1. Where the field
+/// is present, the answer is the rank that is left.
+fn push_presence(
+    may_be_absent: bool,
+    rank: u64,
+    parts: &mut Vec<Part<'_>>,
+) -> Result<Option<u64>, AllocError>
+    ensures { IfOk result (λ present. (present ≡ present_rank may_be_absent rank)
+        × (parts.new.items ≡ parts.old.items ++ presence may_be_absent rank)) }
+{
+    if !may_be_absent {
+        return Ok(Some(rank));
+    }
+    match rank.checked_sub(1) {
+        Some(rank) => {
+            parts.push(Part::Index(1))?;
+            Ok(Some(rank))
+        }
+        None => {
+            parts.push(Part::Index(0))?;
+            Ok(None)
+        }
+    }
+}
+
+/// Adds what the choice of a rank among variants is put together from, whose contents are walked or not.
+fn push_variant<'c>(
+    walker: &Walker<'c>,
+    walked: bool,
+    variants: &'c [Variant],
+    rank: u64,
+    parts: &mut Vec<Part<'c>>,
+) -> Result<(), AllocError>
+    requires ready { IsReady walker.now }
+    requires below { VariantsBelow (length walker.now.build.shapes.now) variants.now }
+    requires rank { IsRank rank
+        (count.count_variants (build_of walker.now.build) walked variants.now) }
+    ensures { let build = build_of walker.now.build in
+        OnOk result (Adds build parts.old.items parts.new.items
+            (choice_at (listing.choices_of_variants build walked variants.now) rank)
+            (work.work_of_variants build variants.now)) }
+{
+    if !walked {
+        parts.push(Part::Index(rank as usize))?;
+        return Ok(());
+    }
+    let (index, fields, rank) = variant_at(walker, variants, rank);
+    parts.push(Part::Index(index))?;
+    parts.push(Part::Fields(fields, rank))?;
+    Ok(())
+}
+
+/// The index of the variant at which the choice of a rank stands, the fields of its content, and the rank among its choices.
+fn variant_at<'c>(
+    walker: &Walker<'c>,
+    variants: &'c [Variant],
+    rank: u64,
+) -> (usize, &'c [Field], u64)
+    requires ready { IsReady walker.now }
+    requires below { VariantsBelow (length walker.now.build.shapes.now) variants.now }
+    requires rank { IsRank rank
+        (count.count_variants (build_of walker.now.build) true variants.now) }
+    ensures below { FieldsBelow (length walker.now.build.shapes.now) result.1.now }
+    ensures rank { IsRank result.2 (count.count_fields (build_of walker.now.build) result.1.now) }
+    ensures choice { let build = build_of walker.now.build in
+        choice_at (listing.choices_of_variants build true variants.now) rank
+        ≡ result.0 ∷ choice_at (listing.choices_of_fields build result.1.now) result.2 }
+    ensures work { let build = build_of walker.now.build in
+        2 + work.work_of_fields build result.1.now ≤ work.work_of_variants build variants.now }
+{
+    let mut left = rank;
+    for (index, variant) in variants.iter().enumerate() {
+        let count = walker.counts.of_content(walker.build, variant).or_largest();
+        if left < count {
+            let fields = content_fields(walker.build.shapes, variant);
+            return (index, fields, left);
+        }
+        left -= count;
+    }
+    unreachable!()
 }

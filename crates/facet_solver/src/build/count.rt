@@ -13,8 +13,8 @@ pub(crate) mod table;
 
 use crate::build::Build;
 use crate::build::count::saturating::SaturatingCount;
-use crate::build::count::table::{count_fields, count_shape};
-use facet_solver_shape::{Field, ShapeId, Steps};
+use crate::build::count::table::{count_content, count_field, count_shape};
+use facet_solver_shape::{Field, ShapeId, Steps, Variant};
 use std::alloc::AllocError;
 use std::marker::Model;
 
@@ -61,14 +61,34 @@ impl Counts {
         Ok(Counts { by_index })
     }
 
-    /// The choices below fields.
-    pub(crate) fn of_fields(&self, build: Build, fields: &[Field]) -> SaturatingCount
+    /// The choices at one field.
+    pub(crate) fn of_field(&self, build: Build, field: &Field) -> SaturatingCount
         requires checked { NamesEarlier build.shapes.now }
         requires counted { AreCounts (build_of build) self.now }
-        requires below { FieldsBelow (length build.shapes.now) fields.now }
-        ensures { CountsTo result (count.count_fields (build_of build.entry) fields.now) }
+        requires below { field.now.shape < length build.shapes.now }
+        ensures { CountsTo result (count.count_field (build_of build.entry) field.now) }
     {
-        count_fields(build, self.by_index.as_slice(), fields, &mut Steps::new())
+        count_field(build, self.by_index.as_slice(), field)
+    }
+
+    /// The choices below the content of a variant.
+    pub(crate) fn of_content(&self, build: Build, variant: &Variant) -> SaturatingCount
+        requires checked { NamesEarlier build.shapes.now }
+        requires counted { AreCounts (build_of build) self.now }
+        requires below { FieldsBelow (length build.shapes.now) variant.now.fields.items }
+        ensures { CountsTo result (count.count_content (build_of build.entry) variant.now) }
+    {
+        count_content(build, self.by_index.as_slice(), variant, &mut Steps::new())
+    }
+
+    /// The choices of a root.
+    pub(crate) fn of_root(&self, build: Build, root: ShapeId) -> SaturatingCount
+        requires has { root < length build.shapes.now }
+        requires counted { AreCounts (build_of build) self.now }
+        ensures { CountsTo result (count.count_of_root (build_of build.entry) root) }
+    {
+        let shape = build.shape(root);
+        count_shape(build, self.by_index.as_slice(), shape, true, &mut Steps::new())
     }
 }
 

@@ -13,7 +13,7 @@ ghost use Rattle.facet_solver.specs.Reached.{ServesRoot, ServesVariant};
 
 use crate::build::Build;
 use crate::build::brings::BringsTable;
-use crate::build::choices::choices_of_root;
+use crate::build::choices::choice_at;
 use crate::build::count::Counts;
 use crate::build::emit::add_pick;
 use crate::build::nested::tables::NestedTables;
@@ -44,6 +44,9 @@ pub(crate) fn resolutions<'c>(
     ensures no_fall { NoCountFalls steps.old steps.new }
 {
     let counts = Counts::new(build)?;
+    let Some(count) = counts.of_root(build, root).exact() else {
+        return Err(SchemaError::OutOfMemory);
+    };
     let brings = BringsTable::new(build)?;
     let tables = NestedTables::new(build, root, steps)?;
     let walker = Walker {
@@ -52,11 +55,12 @@ pub(crate) fn resolutions<'c>(
         brings,
         tables,
     };
-    let choices = choices_of_root(&walker, root)?;
-    let mut resolutions = Vec::new(build.alloc);
-    for choice in choices.iter() {
-        let resolution = resolve(&walker, root, choice)?;
-        resolutions.push(resolution)?;
+    let mut resolutions = Vec::with_capacity(build.alloc, count as usize)?;
+    let mut parts = Vec::new(build.alloc);
+    let mut choice = Vec::new(build.alloc);
+    for rank in 0..count {
+        choice_at(&walker, root, rank, &mut parts, &mut choice)?;
+        resolutions.push(resolve(&walker, root, choice.as_slice())?)?;
     }
     Ok(resolutions)
 }

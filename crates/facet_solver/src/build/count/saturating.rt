@@ -1,5 +1,5 @@
 //! A number that is exact as long as it is small.
-ghost use Rattle.std.specs.Prelude.{◌≡◌, ℕ, ◌+◌, ◌*◌, ◌↔◌, IsTrue};
+ghost use Rattle.std.specs.Prelude.{◌≡◌, ℕ, ◌+◌, ◌*◌, ◌^◌, ◌<◌};
 ghost use Rattle.facet_solver.specs.Count.{below_2_64};
 ghost use Rattle.facet_solver.specs.Counts.{CountsTo, saturating_of};
 
@@ -11,13 +11,6 @@ pub(crate) enum SaturatingCount {
 }
 
 impl SaturatingCount {
-    /// Whether the number is 0.
-    pub(crate) fn is_zero(self) -> bool
-        ensures { (n : ℕ) → CountsTo self n → (IsTrue result ↔ (n ≡ 0)) }
-    {
-        matches!(self, Self::Exact(0))
-    }
-
     /// The sum.
     pub(crate) fn plus(self, other: SaturatingCount) -> SaturatingCount
         ensures { (m n : ℕ) → CountsTo self m → CountsTo other n → CountsTo result (m + n) }
@@ -46,6 +39,16 @@ impl SaturatingCount {
         match self {
             Self::Exact(number) => Some(number),
             Self::Larger => None,
+        }
+    }
+
+    /// The number where it is below 2^64, and else the largest one there.
+    pub(crate) fn or_largest(self) -> u64
+        ensures { (n : ℕ) → CountsTo self n → n < 2 ^ 64 → result ≡ n }
+    {
+        match self {
+            Self::Exact(number) => number,
+            Self::Larger => u64::MAX,
         }
     }
 

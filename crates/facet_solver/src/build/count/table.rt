@@ -46,7 +46,7 @@ pub(crate) fn count_field(
 }
 
 /// The choices below fields: the product.
-pub(crate) fn count_fields(
+fn count_fields(
     build: Build,
     counts: &[SaturatingCount],
     fields: &[Field],
@@ -68,7 +68,7 @@ pub(crate) fn count_fields(
 }
 
 /// The choices below the content of a variant.
-fn count_content(
+pub(crate) fn count_content(
     build: Build,
     counts: &[SaturatingCount],
     variant: &Variant,
