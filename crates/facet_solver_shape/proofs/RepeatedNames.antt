@@ -10,10 +10,10 @@ use Rattle.std.specs.Cmp.Lexicographic.{slice_cmp, nat_list_cmp_total}
 use Rattle.std.specs.BTreeMap.Comparable.{le_lt_trans}
 use Rattle.std.proofs.lemmas.Bool.{false≢true, cases_lt, cases_eq}
 use Rattle.std.proofs.lemmas.Cmp.{on_total}
-use Rattle.std.proofs.lemmas.List.{length-take, length-drop, length-map, get_or-take, get_or-drop, get_or-map, take_more, take_more_set, map-append}
+use Rattle.std.proofs.lemmas.List.{length-take, length-drop, length-map, get_or-take, get_or-drop, get_or-map, take_all, take_more, take_more_set, map-append}
 use Rattle.std.proofs.lemmas.List.Edits.{Swapped, swapped_from_swap, length-swap}
 use Rattle.std.proofs.lemmas.List.Folds.{Any-from_list_any, list_any_at}
-use Rattle.std.proofs.lemmas.List.Sorted.{IsPermutation-keeps, IsPermutation-sym, searchable_from_sorted}
+use Rattle.std.proofs.lemmas.List.Sorted.{IsPermutation-keeps, IsPermutation-map, IsPermutation-sym, searchable_from_sorted}
 use Rattle.std.proofs.lemmas.Map.Keys.{sorted_from_all_adjacent, Less-from_sorted}
 use Rattle.std.proofs.lemmas.Map.Text.{is_eq-slice_cmp}
 use Rattle.std.proofs.lemmas.Option.{slice_get-map, slice_get-get_or, slice_get_within, slice_get_read, get_or_from_slice_get}
@@ -343,7 +343,14 @@ module _ {X : Type 0} (name_of : X → Name) (xs : List X) where
       ∙ ap (λ n. map name_of (take index xs) ++ n ∷ []) (named ∙ ap name_of at)
       ∙ sym (ap (map name_of) (take_more xs index x inside) ∙ map-append name_of (take index xs) (get_or xs index x ∷ []))
 
-  -- what the search of a stretch answers, from what it asks of the sorted names
-  module _ (before : List X) (sorted : List (Bor Name)) where
-    pub found_before : list_any (λ x. list_any (λ n. bytes_eq n (name_of x)) (names_of sorted)) before ≡ is_shared (map name_of before) (names_of sorted)
-    found_before = sym (list_any-map (λ b. list_any (λ n. bytes_eq n b) (names_of sorted)) name_of before)
+  -- sorted copies are the names in another order
+  pub sorted_copies : (room sorted : List (Bor Name)) (index : ℕ) → length xs ≤ index → index ≤ length xs → names_of (take index room) ≡ map name_of (take index xs) → IsPermutation (take (length xs) room) sorted → IsPermutation (map name_of xs) (names_of sorted)
+  sorted_copies room sorted index past upto copied moved =
+      let here : index ≡ length xs = omega (arith, past, upto) in
+      let same : names_of (take (length xs) room) ≡ map name_of xs = ap (λ n. names_of (take n room)) (sym here) ∙ copied ∙ ap (λ n. map name_of (take n xs)) here ∙ ap (map name_of) (take_all (length xs) xs (omega arith)) in
+      let P : List Name → Type 0 = λ l. IsPermutation l (names_of sorted) in
+      subst P same (IsPermutation-map (λ n. n.now) (take (length xs) room) sorted moved)
+
+  -- whether an item has one of the names is whether they share one
+  pub found_is_shared : (names : List Name) → list_any (λ x. list_any (λ n. bytes_eq n (name_of x)) names) xs ≡ is_shared (map name_of xs) names
+  found_is_shared names = sym (list_any-map (λ b. list_any (λ n. bytes_eq n b) names) name_of xs)
