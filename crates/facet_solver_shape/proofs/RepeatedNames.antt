@@ -1,5 +1,5 @@
 -- Lemmas of lists in which a name repeats, and of lists in which all differ.
-use Rattle.std.proofs.Common.{◌≡◌, ◌≢◌, ℕ, ◌+◌, ◌-◌, ◌<◌, ◌≤◌, Bool, true, false, List, ◌∷◌, ◌++◌, length, Some, Option, slice_get, refl, sym, ◌∙◌, inl, inr, ◌⊎◌, ◌↔◌, map, take, drop, set, get_or, ap, arith, subst, [], None, swap, IsPermutation, IsSorted, Bor, Ordering, Less, Equal, Greater, nat_cmp, is_eq, is_lt, bytes_eq, Result, Ok, Err}
+use Rattle.std.proofs.Common.{◌≡◌, ◌≢◌, ℕ, ◌+◌, ◌-◌, ◌<◌, ◌≤◌, Bool, true, false, List, ◌∷◌, ◌++◌, length, Some, Option, slice_get, refl, sym, ◌∙◌, inl, inr, ◌⊎◌, ◌↔◌, map, take, drop, set, get_or, ap, arith, subst, [], None, swap, IsPermutation, IsSorted, Bor, Ordering, Less, Equal, Greater, nat_cmp, min, is_eq, is_lt, bytes_eq, Result, Ok, Err}
 use Rattle.std.specs.List.{list_any, Any, slice_range}
 use Rattle.std.specs.List.Sorted.{IsBinarySearchResult, IsSearchInRange}
 use Rattle.std.specs.Option.{option_map}
@@ -8,9 +8,10 @@ use Rattle.std.specs.Ordering.{is_le, ordering_reverse, flip_args}
 use Rattle.std.specs.Cmp.{IsTotalOrder, tied_itself, back_total}
 use Rattle.std.specs.Cmp.Lexicographic.{slice_cmp, nat_list_cmp_total}
 use Rattle.std.specs.BTreeMap.Comparable.{le_lt_trans}
+use Rattle.std.proofs.Math.Nat.{min-le_right, le-min}
 use Rattle.std.proofs.lemmas.Bool.{false≢true, cases_lt, cases_eq}
 use Rattle.std.proofs.lemmas.Cmp.{on_total}
-use Rattle.std.proofs.lemmas.List.{length-take, length-drop, length-map, get_or-take, get_or-drop, get_or-map, take_all, take_more, take_more_set, map-append}
+use Rattle.std.proofs.lemmas.List.{length-take, length-drop, length-map, get_or-take, get_or-drop, get_or-map, take-map, drop-map, take_all, take_more, take_more_set, map-append}
 use Rattle.std.proofs.lemmas.List.Edits.{Swapped, swapped_from_swap, length-swap}
 use Rattle.std.proofs.lemmas.List.Folds.{Any-from_list_any, list_any_at}
 use Rattle.std.proofs.lemmas.List.Sorted.{IsPermutation-keeps, IsPermutation-map, IsPermutation-sym, searchable_from_sorted}
@@ -354,3 +355,37 @@ module _ {X : Type 0} (name_of : X → Name) (xs : List X) where
   -- whether an item has one of the names is whether they share one
   pub found_is_shared : (names : List Name) → list_any (λ x. list_any (λ n. bytes_eq n (name_of x)) names) xs ≡ is_shared (map name_of xs) names
   found_is_shared names = sym (list_any-map (λ b. list_any (λ n. bytes_eq n b) names) name_of xs)
+
+-- ---- a stretch of items
+
+module _ {X : Type 0} (name_of : X → Name) (xs : List X) where
+  pub name_at : (index : ℕ) (x : X) (name : Name) → slice_get xs index ≡ Some x → name ≡ name_of x → slice_get (map name_of xs) index ≡ Some name
+  name_at index x name at named = slice_get-map name_of xs index ∙ ap (option_map name_of) at ∙ ap Some (sym named)
+
+  module _ (index end : ℕ) (upto : index ≤ end) (within : end ≤ length xs) where
+    within_names : end ≤ length (map name_of xs)
+    within_names = omega (arith, within, length-map xs name_of)
+
+    same_front : map name_of (take index xs) ≡ take index (map name_of xs)
+    same_front = sym (take-map name_of index xs)
+
+    same_stretch : map name_of (slice_range xs index end) ≡ slice_range (map name_of xs) index end
+    same_stretch = sym (ap (take (end - index)) (drop-map name_of index xs) ∙ take-map name_of (end - index) (drop index xs))
+
+    of_names : RepeatsInStretch (map name_of (take index xs)) (map name_of (slice_range xs index end)) ≡ RepeatsInStretch (take index (map name_of xs)) (slice_range (map name_of xs) index end)
+    of_names = ap (λ l. RepeatsInStretch l (map name_of (slice_range xs index end))) same_front ∙ ap (RepeatsInStretch (take index (map name_of xs))) same_stretch
+
+    pub items_apart : ApartBelow (map name_of xs) index → ¬ RepeatsInStretch (map name_of (take index xs)) (map name_of (slice_range xs index end)) → ApartBelow (map name_of xs) end
+    items_apart apart fresh =
+        apart_to_end (map name_of xs) index end upto within_names apart (λ one. fresh (subst (λ (A : Type 0). A) (sym of_names) one))
+
+    pub items_repeated : RepeatsInStretch (map name_of (take index xs)) (map name_of (slice_range xs index end)) → RepeatsName (map name_of xs)
+    items_repeated one =
+        repeated_in_stretch (map name_of xs) index end upto within_names (subst (λ (A : Type 0). A) of_names one)
+
+-- a stretch begins before the end of a list, and ends there at the latest
+pub stretch_ends : (most taken index long : ℕ) → 0 < most → index < long → taken ≡ min most (long - index) → (index + 1 ≤ index + taken) × (index + taken ≤ long)
+stretch_ends most taken index long some inside is =
+    let one : 1 ≤ min most (long - index) = le-min (omega (arith, some)) (omega (arith, inside)) in
+    let upto = min-le_right most (long - index) in
+    (omega (arith, is, one), omega (arith, is, upto, inside))
