@@ -148,20 +148,20 @@ module _ (names : List Name) (index end : ℕ) (upto : index ≤ end) (within : 
     | inl earlier ↦ apart i j name less earlier at_i at_j
     | inr later ↦ elim (cases_lt i index) [
       | inl front ↦ fresh (inr (record {
-          name = name;
-          first = i;
-          second = j - index;
-          at_first = in_front i name front at_i;
-          at_second = in_stretch j name later low at_j;
-        }))
+        name = name;
+        first = i;
+        second = j - index;
+        at_first = in_front i name front at_i;
+        at_second = in_stretch j name later low at_j;
+      }))
       | inr inside ↦ fresh (inl (record {
-          name = name;
-          first = i - index;
-          second = j - index;
-          apart = omega (arith, less, inside);
-          at_first = in_stretch i name inside (omega (arith, less, low)) at_i;
-          at_second = in_stretch j name later low at_j;
-        }))
+        name = name;
+        first = i - index;
+        second = j - index;
+        apart = omega (arith, less, inside);
+        at_first = in_stretch i name inside (omega (arith, less, low)) at_i;
+        at_second = in_stretch j name later low at_j;
+      }))
     ]
   ]
 
@@ -198,10 +198,13 @@ module _ (names : List Name) (a b : ℕ) (p : a < length names) (q : b < length 
     where
       s : Swapped (λ i. get_or names i name) (λ i. get_or (swap names a b) i name) a b
       s = swapped_from_swap names (swap names a b) a b name p q refl
+
       inside : k < length names
       inside = slice_get_within names k name at
+
       there : (m : ℕ) → m < length names → get_or (swap names a b) m name ≡ get_or names k name → slice_get (swap names a b) m ≡ Some name
       there m less e = slice_get_read _ (length names) m name (sym (length-swap names a b)) less (sym (e ∙ get_or_from_slice_get names k name name at))
+
       go : (k ≡ a) ⊎ (k ≢ a) → (k ≡ b) ⊎ (k ≢ b) → (m : ℕ) × Moved a b k m × (slice_get (swap names a b) m ≡ Some name)
       go (inl e) y = (b, inl (e, refl), there b q (s.1 ∙ ap (λ n. get_or names n name) (sym e)))
       go (inr n) (inl e) = (a, inr (inl (e, refl)), there a p (s.0 ∙ ap (λ n. get_or names n name) (sym e)))
@@ -230,9 +233,9 @@ SharesName-permutation before names others moved shared = IsPermutation-keeps na
 -- what sorted names say of the stretch that they are from
 pub told_by_sorted : (before names sorted : List Name) → IsPermutation names sorted → RepeatsInStretch before names ↔ RepeatsInStretch before sorted
 told_by_sorted before names sorted moved = (
-    λ one. elim one [ inl twice ↦ inl (RepeatsName-permutation names sorted moved twice) | inr shared ↦ inr (SharesName-permutation before names sorted moved shared) ],
-    λ one. let back = IsPermutation-sym names sorted moved in elim one [ inl twice ↦ inl (RepeatsName-permutation sorted names back twice) | inr shared ↦ inr (SharesName-permutation before sorted names back shared) ],
-  )
+  λ one. elim one [ inl twice ↦ inl (RepeatsName-permutation names sorted moved twice) | inr shared ↦ inr (SharesName-permutation before names sorted moved shared) ],
+  λ one. let back = IsPermutation-sym names sorted moved in elim one [ inl twice ↦ inl (RepeatsName-permutation sorted names back twice) | inr shared ↦ inr (SharesName-permutation before sorted names back shared) ],
+)
 
 -- ---- names that are searched
 
@@ -260,6 +263,7 @@ shared_told names others = (there, back)
       where
         same_read : (x : Name) (k : ℕ) (y : Name) → get_or others k y ≡ y → bytes_eq y x ≡ true → x ≡ get_or others k x
         same_read x k y at e = let same = (bytes_eq-Decides y x).0 e in let P : Name → Type 0 = λ z. z ≡ get_or others k z in subst P same (sym at)
+
     back : SharesName names others → is_shared names others ≡ true
     back one =
         let name = one.name in

@@ -44,11 +44,14 @@ fn repeats_neighbour(names: &[&str]) -> bool
 // Whether an item has one of the names.
 fn has_name_among<T: Named>(items: &[T], names: &[&str]) -> bool
     requires { IsSorted name_ref_cmp names.now }
-    ensures { result ≡ list_any (λ item. list_any (λ n. bytes_eq n (T.name_of item)) (names_of names.now)) items.now }
+    ensures { result ≡ list_any (λ item. list_any (λ n. bytes_eq n (T.name_of item))
+        (names_of names.now)) items.now }
 {
-    items.iter().any(|item|
-        requires { IsSorted name_ref_cmp names.now }
-        { is_among(item.declared_name(), names) })
+    items.iter().any(
+        |item|
+            requires { IsSorted name_ref_cmp names.now }
+        { is_among(item.declared_name(), names) },
+    )
 }
 
 // Whether the name is one of the names, by halving.
