@@ -80,6 +80,14 @@ pub record RepeatsName (names : List Name) : Type 0 where
   pub at_first : slice_get names first ≡ Some name
   pub at_second : slice_get names second ≡ Some name
 
+-- one name stands in both lists
+pub record SharesName (names others : List Name) : Type 0 where
+  pub name : Name
+  pub first : ℕ
+  pub second : ℕ
+  pub at_first : slice_get names first ≡ Some name
+  pub at_second : slice_get others second ≡ Some name
+
 -- two fields of a struct, or of one variant, have one declared name
 abbrev pub RepeatsFieldName : ShapeKind → Type 0
 RepeatsFieldName (Struct kind fields) = RepeatsName (field_names fields.items)

@@ -6,6 +6,7 @@ ghost use Rattle.facet_solver_shape.specs.Pointers.{NeverEnds, EndsBelow};
 mod indices;
 mod names;
 mod pointers;
+mod stretch;
 
 use super::{CatalogueError, Shape, ShapeId};
 use indices::{names_early_from, names_past};

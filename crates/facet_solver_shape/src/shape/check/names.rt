@@ -1,15 +1,14 @@
 //! Whether a name is given twice.
 ghost use Rattle.std.specs.Prelude.{◌≡◌, ◌↔◌, IsTrue, map};
-ghost use Rattle.std.specs.List.{list_any};
-ghost use Rattle.std.specs.Str.{bytes_eq};
 ghost use Rattle.std.specs.String.{string_bytes};
 ghost use Rattle.facet_solver_shape.specs.Names.{Name};
 ghost use Rattle.facet_solver_shape.specs.Catalogues.{RepeatsName, RepeatsFieldName, RepeatsVariantName};
 
+use super::stretch::{STRETCH, repeats_in_stretch};
 use crate::shape::{Field, ShapeKind, Variant};
 
 // What has a declared name.
-trait Named {
+pub(super) trait Named {
     ghost name_of: { Self → Name };
 
     fn declared_name(&self) -> &str
@@ -53,26 +52,30 @@ pub(super) fn repeats_variant_name(kind: &ShapeKind) -> bool
     }
 }
 
-// Whether two items have one name. A name above all before it is none of them, so names that rise
-// are compared once each.
+// Whether two items have one name. A name above all before it, or below them, is new. At any other
+// name a stretch of items begins, which are compared with one another and with all before them.
 fn repeats_name<T: Named>(items: &[T]) -> bool
     ensures { IsTrue result ↔ RepeatsName (map T.name_of items.now) }
 {
-    let mut highest = "";
+    let Some(first) = items.first() else {
+        return false;
+    };
+    let mut lowest = first.declared_name();
+    let mut highest = lowest;
+    // The items before this index have different names.
+    let mut compared = 1;
     for (index, item) in items.iter().enumerate() {
         let name = item.declared_name();
         if highest < name {
             highest = name;
-        } else if has_name(&items[..index], name) {
-            return true;
+        } else if name < lowest {
+            lowest = name;
+        } else if compared <= index {
+            compared = index + STRETCH.min(items.len() - index);
+            if repeats_in_stretch(&items[..index], &items[index..compared]) {
+                return true;
+            }
         }
     }
     false
-}
-
-// Whether an item has the name.
-fn has_name<T: Named>(items: &[T], name: &str) -> bool
-    ensures { result ≡ list_any (λ item. bytes_eq (T.name_of item) name.now) items.now }
-{
-    items.iter().any(|item| item.declared_name() == name)
 }
