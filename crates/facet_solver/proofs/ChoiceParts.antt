@@ -398,9 +398,9 @@ module _ (build : Build) where
       let are = before_part build new (p ∷ []) stand.are in
       let before = flat_map (indices_of build) new in
       let rest : before ++ indices_of build p ≡ h.rest =
-          ap (λ (c : List ℕ). before ++ c) (sym (append-nil (indices_of build p)))
-          ∙ sym (flat_map-append (indices_of build) new (p ∷ []))
-          ∙ stand.stand in
+      ap (λ (c : List ℕ). before ++ c) (sym (append-nil (indices_of build p)))
+      ∙ sym (flat_map-append (indices_of build) new (p ∷ []))
+      ∙ stand.stand in
       record {
         is = are.1.0;
         before = before;

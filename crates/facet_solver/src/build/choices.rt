@@ -92,8 +92,8 @@ fn push_fields<'c>(
     requires rank { IsRank rank (count.count_fields (build_of walker.now.build) fields.now) }
     ensures { let build = build_of walker.now.build in
         OnOk result (Adds build parts.old.items parts.new.items
-            (choice_at (listing.choices_of_fields build fields.now) rank)
-            (work.work_of_fields build fields.now)) }
+        (choice_at (listing.choices_of_fields build fields.now) rank)
+        (work.work_of_fields build fields.now)) }
 {
     match up_to_choices(walker, fields).split_last() {
         Some((field, before)) => {
@@ -137,8 +137,8 @@ fn push_field<'c>(
     requires rank { IsRank rank (count.count_field (build_of walker.now.build) field.now) }
     ensures { let build = build_of walker.now.build in
         OnOk result (Adds build parts.old.items parts.new.items
-            (choice_at (listing.choices_of_field build field.now) rank)
-            (work.work_of_field build field.now)) }
+        (choice_at (listing.choices_of_field build field.now) rank)
+        (work.work_of_field build field.now)) }
 {
     let role = role_of(walker.build.shapes, field);
     let Some(rank) = push_presence(role.may_be_absent(), rank, parts)? else {
@@ -196,8 +196,8 @@ fn push_variant<'c>(
         (count.count_variants (build_of walker.now.build) walked variants.now) }
     ensures { let build = build_of walker.now.build in
         OnOk result (Adds build parts.old.items parts.new.items
-            (choice_at (listing.choices_of_variants build walked variants.now) rank)
-            (work.work_of_variants build variants.now)) }
+        (choice_at (listing.choices_of_variants build walked variants.now) rank)
+        (work.work_of_variants build variants.now)) }
 {
     if !walked {
         parts.push(Part::Index(rank as usize))?;

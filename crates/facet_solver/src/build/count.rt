@@ -88,7 +88,13 @@ impl Counts {
         ensures { CountsTo result (count.count_of_root (build_of build.entry) root) }
     {
         let shape = build.shape(root);
-        count_shape(build, self.by_index.as_slice(), shape, true, &mut Steps::new())
+        count_shape(
+            build,
+            self.by_index.as_slice(),
+            shape,
+            true,
+            &mut Steps::new(),
+        )
     }
 }
 
