@@ -1,12 +1,13 @@
 -- What a strict loader of configurations answers.
-use Rattle.std.specs.Prelude.{◌≡◌, ◌≢◌, ℕ, true, false, List, [], ◌∷◌, Option, Some, None, Result, Ok, Err, Contains, slice_get}
+use Rattle.std.specs.Prelude.{◌≡◌, ◌≢◌, ℕ, true, false, List, [], ◌∷◌, Option, Some, None, Result, Ok, Err, Contains, filter, map, not, slice_get}
+use Rattle.std.specs.List.{flat_map}
 use Rattle.facet_solver.specs.Keys.{Key, key_of, flat_key}
-use Rattle.facet_solver.specs.Names.{Name}
+use Rattle.facet_solver.specs.Names.{Name, name_eq, names_of}
 use Rattle.facet_solver.specs.Resolved.{Resolved}
 use Rattle.facet_solver.specs.Schema.{IsHandleOf, SchemaView, index_of, resolution_of}
 use Rattle.facet_solver.specs.State.{State, has_key, has_tag_field, hint_variant_for_tag, new_solver, passing, picks_variant, see_key}
 use Rattle.facet_solver.specs.Told.{has_keys, see_keys}
-use Rattle.facet_solver.specs.Verdict.{IsReportOn, viable}
+use Rattle.facet_solver.specs.Verdict.{IsReportOn, resolutions_at, viable}
 use Rattle.facet_solver.specs.declared.FieldKey.{FieldKey}
 use Rattle.facet_solver.specs.declared.ResolutionHandle.{ResolutionHandle}
 use Rattle.facet_solver_tests.specs.declared.callers.load_config.Refused.{Refused}
@@ -27,6 +28,21 @@ NamesVariant s tag name =
     (passing (has_tag_field s.schema.build.catalogue tag) s ≢ [])
     × (passing (picks_variant name) s ≢ [])
 
+-- names, each once, where it first stands
+abbrev pub each_once : List Name → List Name
+each_once [] = []
+each_once (name ∷ names) =
+    name ∷ filter (λ other. not (name_eq other name)) (each_once names)
+
+-- the names of the variants that a resolution picked, in order
+abbrev pub picked_names : Resolved → List Name
+picked_names r = map (λ pick. pick.variant_name) r.picks
+
+-- the names of the variants that the candidates picked, each once, in the order of the candidates
+abbrev pub variant_names : State → List Name
+variant_names s =
+    each_once (flat_map picked_names (resolutions_at s.schema.resolutions s.candidates))
+
 -- a configuration was told: its tag, the text under it, and its other keys
 abbrev pub told : SchemaView → (Name × Name) → List Key → State
 told schema tag keys =
@@ -42,14 +58,16 @@ pub record IsUnknown (s : State) (keys : List Key) (key : Key) : Type 0 where
   pub lacking : has_key key resolution ≡ false
 
 -- a handle is that of the only viable resolution, which has each key; a text is refused that names
--- no variant under the tag, and a key that the only viable resolution lacks
+-- no variant under the tag, with the names that there are, and a key that the only viable
+-- resolution lacks
 abbrev pub Loads : SchemaView → (Name × Name) → List Key → Result ResolutionHandle Refused → Type 0
 Loads schema tag keys (Ok handle) =
     (viable (told schema tag keys) ≡ index_of handle ∷ [])
     × IsHandleOf (told schema tag keys).schema handle
     × (has_keys keys (resolution_of handle) ≡ true)
-Loads schema tag keys (Err UnknownVariant) =
-    ¬ NamesVariant (saw_tag schema tag.0) tag.0 tag.1
+Loads schema tag keys (Err (UnknownVariant names)) =
+    (¬ NamesVariant (saw_tag schema tag.0) tag.0 tag.1)
+    × (names_of names.items ≡ variant_names (saw_tag schema tag.0))
 Loads schema tag keys (Err (UnknownKey key)) =
     IsUnknown (told schema tag keys) keys (key_of key)
 Loads schema tag keys (Err (Solver error)) = IsReportOn (told schema tag keys) error

@@ -71,7 +71,10 @@ fn load(schema: &Schema<'_>, answer: &mut Answer<'_>) {
                 answer.add_value(&handle.index());
                 answer.add_description(handle.resolution());
             }
-            Err(Refused::UnknownVariant) => answer.add("unknown variant"),
+            Err(Refused::UnknownVariant(names)) => {
+                answer.add("unknown variant, of");
+                answer.add_all(&names);
+            }
             Err(Refused::UnknownKey(key)) => {
                 answer.add("unknown key");
                 add_key(key, answer);

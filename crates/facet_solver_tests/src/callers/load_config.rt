@@ -1,6 +1,8 @@
 //! A configuration loader: the text under a tag names the variant, and a key that the variant does not have is an error.
-ghost use Rattle.std.specs.Prelude.{◌≡◌};
-ghost use Rattle.facet_solver_tests.specs.LoadConfig.{IsFirstUnknown, Loads};
+ghost use Rattle.std.specs.Prelude.{◌≡◌, ◌++◌, IfOk, List, OnOk};
+ghost use Rattle.std.specs.List.{list_any};
+ghost use Rattle.facet_solver.specs.Names.{Name, name_eq, names_of};
+ghost use Rattle.facet_solver_tests.specs.LoadConfig.{IsFirstUnknown, Loads, each_once, picked_names, variant_names};
 ghost use Rattle.facet_solver_tests.specs.KeysToChoice.{keys_of};
 
 use facet_solver::{FieldKey, Resolution, ResolutionHandle, Schema, Solver, SolverError};
@@ -9,8 +11,8 @@ use std::alloc::{AllocError, Global};
 /// Why a configuration is refused.
 #[derive(Drop)]
 pub enum Refused<'c, 'd> {
-    /// The text under the tag names no variant.
-    UnknownVariant,
+    /// The text under the tag names no variant. These names there are.
+    UnknownVariant(Vec<&'c str>),
     /// The variant that was found has no field of this key.
     UnknownKey(FieldKey<'d>),
     /// A field is missing, or several variants fit, or memory was refused.
@@ -53,7 +55,7 @@ pub fn load_config<'s, 'c, 'd>(
     let mut solver = Solver::new(alloc, schema)?;
     solver.see_key(alloc, FieldKey::flat(tag))?;
     if !solver.hint_variant_for_tag(tag, variant) {
-        return Err(Refused::UnknownVariant);
+        return Err(Refused::UnknownVariant(variant_names(alloc, &solver)?));
     }
     for key in keys {
         solver.see_key(alloc, *key)?;
@@ -63,6 +65,41 @@ pub fn load_config<'s, 'c, 'd>(
         Some(key) => Err(Refused::UnknownKey(key)),
         None => Ok(handle),
     }
+}
+
+// The names of the variants that the candidates picked, each once, in their order.
+fn variant_names<'c>(alloc: Global, solver: &Solver<'_, 'c, '_>) -> Result<Vec<&'c str>, AllocError>
+    ensures { IfOk result (λ names. names_of names.items ≡ variant_names solver.now) }
+{
+    let handles = solver.candidates(alloc)?;
+    let mut names = Vec::new(alloc);
+    for handle in &handles {
+        add_variant_names(handle.resolution(), &mut names)?;
+    }
+    Ok(names)
+}
+
+// Adds those names of the variants that a resolution picked that are new.
+fn add_variant_names<'c>(
+    resolution: &Resolution<'c>,
+    names: &mut Vec<&'c str>,
+) -> Result<(), AllocError>
+    ensures { OnOk result ((met : List Name) → names_of names.old.items ≡ each_once met
+        → names_of names.new.items ≡ each_once (met ++ picked_names resolution.now)) }
+{
+    for pick in resolution.variant_selections() {
+        if !has_name(names, pick.variant_name) {
+            names.push(pick.variant_name)?;
+        }
+    }
+    Ok(())
+}
+
+// Whether a name is one of some names.
+fn has_name(names: &[&str], name: &str) -> bool
+    ensures { result ≡ list_any (λ other. name_eq other.now name.now) names.now }
+{
+    names.iter().any(|other| *other == name)
 }
 
 // The first key that a resolution has no field of.
