@@ -1,5 +1,5 @@
 -- Names, each once, and those of the variants that candidates picked.
-use Rattle.std.proofs.Common.{◌≡◌, ℕ, ◌<◌, ◌+◌, Bool, true, false, cond, ◌||◌, ◌&&◌, not, List, [], ◌∷◌, ◌++◌, Bor, All, Some, filter, map, length, get_or, take, nat_eq, refl, ap, sym, ◌∙◌, append-nil, append_assoc}
+use Rattle.std.proofs.Common.{◌≡◌, ℕ, ◌<◌, ◌+◌, Bool, true, false, cond, ◌||◌, ◌&&◌, not, List, [], ◌∷◌, ◌++◌, Bor, All, filter, map, length, get_or, take, refl, ap, sym, ◌∙◌, append-nil, append_assoc}
 use lib.Pointwise.{bytes_decides}
 use Rattle.std.specs.Cmp.Lexicographic.{nat_list_eq_equiv}
 use Rattle.std.specs.List.{AllByRecursion, cons_option, flat_map, list_any}

@@ -11,7 +11,7 @@ use std::alloc::{AllocError, Global};
 /// Why a configuration is refused.
 #[derive(Drop)]
 pub enum Refused<'c, 'd> {
-    /// The text under the tag names no variant. The names of those that there are.
+    /// The text under the tag names no variant. These names there are.
     UnknownVariant(Vec<&'c str>),
     /// The variant that was found has no field of this key.
     UnknownKey(FieldKey<'d>),
@@ -67,7 +67,7 @@ pub fn load_config<'s, 'c, 'd>(
     }
 }
 
-// The names of the variants that the candidates have, each once, in the order in which they are met.
+// The names of the variants that the candidates picked, each once, in their order.
 fn variant_names<'c>(alloc: Global, solver: &Solver<'_, 'c, '_>) -> Result<Vec<&'c str>, AllocError>
     ensures { IfOk result (λ names. names_of names.items ≡ variant_names solver.now) }
 {
@@ -79,7 +79,7 @@ fn variant_names<'c>(alloc: Global, solver: &Solver<'_, 'c, '_>) -> Result<Vec<&
     Ok(names)
 }
 
-// Adds the names of the variants that a resolution has, those that are new.
+// Adds those names of the variants that a resolution picked that are new.
 fn add_variant_names<'c>(
     resolution: &Resolution<'c>,
     names: &mut Vec<&'c str>,
