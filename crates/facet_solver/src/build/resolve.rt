@@ -17,8 +17,7 @@ use crate::build::choices::choice_at;
 use crate::build::count::Counts;
 use crate::build::emit::add_pick;
 use crate::build::nested::tables::NestedTables;
-use crate::build::place::Place;
-use crate::build::walk::{enter_content, next_variant, walk_fields};
+use crate::build::walk::{Cursor, enter_content, next_variant, walk_fields};
 use crate::build::walker::Walker;
 use facet_solver_shape::{
     FieldPath, Resolution, SchemaError, Shape, ShapeId, ShapeKind, Steps, Variant,
@@ -58,9 +57,10 @@ pub(crate) fn resolutions<'c>(
     let mut resolutions = Vec::with_capacity(build.alloc, count as usize)?;
     let mut parts = Vec::new(build.alloc);
     let mut choice = Vec::new(build.alloc);
+    let mut cursor = Cursor::new(build.alloc);
     for rank in 0..count {
         choice_at(&walker, root, rank, &mut parts, &mut choice)?;
-        resolutions.push(resolve(&walker, root, choice.as_slice())?)?;
+        resolutions.push(resolve(&walker, root, &mut cursor, choice.as_slice())?)?;
     }
     Ok(resolutions)
 }
@@ -69,6 +69,7 @@ pub(crate) fn resolutions<'c>(
 fn resolve<'c>(
     walker: &Walker<'c>,
     root: ShapeId,
+    cursor: &mut Cursor<'c>,
     choice: &[usize],
 ) -> Result<Resolution<'c>, SchemaError<'c>>
     requires ready { IsReady walker.now }
@@ -79,7 +80,7 @@ fn resolve<'c>(
     ensures refused { IfErr result (IsRefusal (build_of walker.now.build) root) }
 {
     let mut resolution = Resolution::new(walker.build.alloc);
-    walk_root(walker, root, choice, &mut resolution)?;
+    walk_root(walker, root, cursor, choice, &mut resolution)?;
     Ok(resolution)
 }
 
@@ -87,6 +88,7 @@ fn resolve<'c>(
 fn walk_root<'c, 'n>(
     walker: &Walker<'c>,
     root: ShapeId,
+    cursor: &mut Cursor<'c>,
     indices: &'n [usize],
     resolution: &mut Resolution<'c>,
 ) -> Result<&'n [usize], SchemaError<'c>>
@@ -100,12 +102,13 @@ fn walk_root<'c, 'n>(
     let shape = walker.build.shape(root);
     match &shape.kind {
         ShapeKind::Struct { fields, .. } => {
-            let mut place = Place::root(walker.build.alloc);
-            walk_fields(walker, fields, &mut place, indices, resolution)
+            let Cursor { place, frames } = cursor;
+            place.cut(0);
+            walk_fields(walker, fields, place, frames, indices, resolution)
         }
         ShapeKind::Enum { variants } => {
             let (variant, rest) = next_variant(variants, indices);
-            walk_root_variant(walker, shape, variant, rest, resolution)
+            walk_root_variant(walker, shape, variant, cursor, rest, resolution)
         }
         _ => Ok(indices),
     }
@@ -116,6 +119,7 @@ fn walk_root_variant<'c, 'n>(
     walker: &Walker<'c>,
     shape: &'c Shape,
     variant: &'c Variant,
+    cursor: &mut Cursor<'c>,
     indices: &'n [usize],
     resolution: &mut Resolution<'c>,
 ) -> Result<&'n [usize], SchemaError<'c>>
@@ -129,14 +133,15 @@ fn walk_root_variant<'c, 'n>(
         walk.walk_root_variant (build_of walker.now.build) shape.now variant.now indices.now in
         Walks (effect resolution.old walked) result resolution.new }
 {
-    let mut place = Place::root(walker.build.alloc);
     add_pick(
         FieldPath::empty(walker.build.alloc),
         shape,
         variant,
         resolution,
     )?;
+    let Cursor { place, frames } = cursor;
+    place.cut(0);
     place.enter_root_variant(variant)?;
-    let fields = enter_content(walker, variant, &mut place)?;
-    walk_fields(walker, fields, &mut place, indices, resolution)
+    let fields = enter_content(walker, variant, place)?;
+    walk_fields(walker, fields, place, frames, indices, resolution)
 }

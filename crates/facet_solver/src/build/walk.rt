@@ -20,13 +20,30 @@ use crate::build::place::{Chosen, Place};
 use crate::build::role::{Role, role_of};
 use crate::build::walker::Walker;
 use facet_solver_shape::{Field, Resolution, SchemaError, Variant};
-use std::alloc::AllocError;
+use std::alloc::{AllocError, Global};
 
 /// Fields that are still to be walked, and how many segments the path to them has.
 #[derive(Clone, Copy)]
 pub(crate) struct Frame<'c> {
     pub(crate) fields: &'c [Field],
     pub(crate) depth: usize,
+}
+
+/// Where walks are, one after another: the place, and the fields that are left. So one walk leaves its memory to the next.
+#[derive(Drop)]
+pub(crate) struct Cursor<'c> {
+    pub(crate) place: Place<'c>,
+    pub(crate) frames: Vec<Frame<'c>>,
+}
+
+impl<'c> Cursor<'c> {
+    /// Where no walk has been.
+    pub(crate) fn new(alloc: Global) -> Cursor<'c> {
+        Cursor {
+            place: Place::root(alloc),
+            frames: Vec::new(alloc),
+        }
+    }
 }
 
 /// What the walk of one field leaves to walk.
@@ -64,11 +81,13 @@ fn presence<'n>(may_be_absent: bool, indices: &'n [usize]) -> (bool, &'n [usize]
 }
 
 /// Walks fields in order, each with the indices that the one before it left, and what is inside a field before the next one;
-/// answers the indices that the last one left.
+/// answers the indices that the last one left. `frames` is room for the fields that are left at each level, and is cleared
+/// first.
 pub(crate) fn walk_fields<'c, 'n>(
     walker: &Walker<'c>,
     fields: &'c [Field],
     place: &mut Place<'c>,
+    frames: &mut Vec<Frame<'c>>,
     indices: &'n [usize],
     resolution: &mut Resolution<'c>,
 ) -> Result<&'n [usize], SchemaError<'c>>
@@ -82,7 +101,7 @@ pub(crate) fn walk_fields<'c, 'n>(
         Walks (effect resolution.old walked) result resolution.new }
 {
     let mut rest = indices;
-    let mut frames = Vec::new(walker.build.alloc);
+    frames.clear();
     frames.push(Frame {
         fields,
         depth: place.depth(),

@@ -17,13 +17,13 @@ walk_fields-requires-clause-below c =
 pub walk_fields-requires-clause-walked : goal.walk_fields-requires-clause-walked
 walk_fields-requires-clause-walked c =
     let e = root-fields (build_of c.args.walker.now.build) c.args.root c.args.indices.now c.shape-shape.result.now c.shape-shape.ensures.found c.in-Struct.kind c.in-Struct.fields c.in-Struct.is in
-    rw (c.deref.ensures.value, c.root-place.ensures) (subst (λ (w : Walked). IsSome w) e c.requires.walked)
+    rw (c.deref.ensures.value, c.cut.ensures) (subst (λ (w : Walked). IsSome w) e c.requires.walked)
 
 pub returns-in-Struct : goal.returns-in-Struct
 returns-in-Struct c =
     let e = root-fields (build_of c.args.walker.now.build) c.args.root c.args.indices.now c.shape-shape.result.now c.shape-shape.ensures.found c.in-Struct.kind c.in-Struct.fields c.in-Struct.is
     ∙ ap (λ (fs : List Field). walk_fields (build_of c.args.walker.now.build) fs at_root c.args.indices.now) (sym c.deref.ensures.value)
-    ∙ ap (λ (place : Path). walk_fields (build_of c.args.walker.now.build) c.deref.result.now place c.args.indices.now) (sym c.root-place.ensures) in
+    ∙ ap (λ (place : Path). walk_fields (build_of c.args.walker.now.build) c.deref.result.now place c.args.indices.now) (sym c.cut.ensures) in
     walks-same c.walk_fields.result c.walk_fields.new.resolution _ _ (ap (effect c.args.resolution.now) e) c.walk_fields.ensures
 
 pub next_variant-requires : goal.next_variant-requires

@@ -21,8 +21,8 @@ loop-frame-init c =
     let fs = c.args.fields in
     let place = c.args.place.now in
     let stack : reverse c.push.new.self.items ≡ record { fields = fs; depth = length place } ∷ [] =
-    stack-pushed c.push.new.self.items c.new-frames.result.items (record { fields = fs; depth = c.depth.result }) c.in_ok-push.ensures.items
-    ∙ ap (λ (frames : List Frame). record { fields = fs; depth = c.depth.result } ∷ reverse frames) c.new-frames.ensures.items
+    stack-pushed c.push.new.self.items c.clear.new.self.items (record { fields = fs; depth = c.depth.result }) c.in_ok-push.ensures.items
+    ∙ ap (λ (frames : List Frame). record { fields = fs; depth = c.depth.result } ∷ reverse frames) c.clear.ensures.items
     ∙ ap (λ (d : ℕ). record { fields = fs; depth = d } ∷ []) c.depth.ensures in (
       subst (AreFrames build tables (length place)) (sym stack) (frames-start build tables fs place c.requires.below c.requires.serves),
       ap (λ (frames : List Frame). effect c.args.resolution.now (walk_frames build place frames c.args.indices.now)) stack
