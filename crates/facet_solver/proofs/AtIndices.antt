@@ -7,8 +7,7 @@ use Rattle.std.proofs.lemmas.List.Elements.{All-from_recursion, recursion_from_A
 use Rattle.std.proofs.lemmas.Option.{slice_get_past, slice_get_read, slice_get_within}
 use Rattle.facet_solver_shape.specs.Names.{Name}
 use Rattle.facet_solver_shape.specs.Resolved.{Resolved}
-use Rattle.facet_solver.specs.Failure.{has_field_named}
-use Rattle.facet_solver.specs.State.{passes}
+use Rattle.facet_solver.specs.Resolutions.{has_field_named, passes}
 use Rattle.facet_solver.specs.Verdict.{resolutions_at}
 
 copied_item : {X : Type 0} (xs : List X) (i : ℕ) (r : Option (Bor X)) → IsItemAt xs i r → option_copied r ≡ slice_get xs i

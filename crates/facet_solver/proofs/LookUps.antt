@@ -16,8 +16,7 @@ use Rattle.facet_solver_shape.specs.Names.{Name, name_eq}
 use Rattle.facet_solver_shape.specs.Resolved.{Resolved, field_by_key}
 use Rattle.facet_solver_shape.proofs.Keys.{category_cmp_same}
 use Rattle.facet_solver.specs.Indexed.{Meant, IsEntryIfAny, IsIndexOf, IsOfFormat, AreOfFormat, first_passing, fields_of_each}
-use Rattle.facet_solver.specs.KeyResult.{field_at}
-use Rattle.facet_solver.specs.State.{has_key, passes}
+use Rattle.facet_solver.specs.Resolutions.{field_at, has_key, passes}
 use Rattle.facet_solver.specs.IndexEntries.{entry_at}
 use Rattle.facet_solver.specs.Slots.{dom_slot, is_at, is_named, slot_of}
 use Rattle.facet_solver.specs.declared.build.representation.Format.{Format}

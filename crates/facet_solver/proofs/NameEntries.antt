@@ -10,13 +10,11 @@ use Rattle.facet_solver_shape.specs.Fields.{category_eq, has_name, FieldView}
 use Rattle.facet_solver_shape.specs.Names.{Name, name_eq}
 use Rattle.facet_solver_shape.specs.Resolved.{Resolved, field_by_key}
 use Rattle.facet_solver_shape.proofs.Lists.{list_any-map}
-use Rattle.facet_solver.specs.Failure.{has_field_named}
+use Rattle.facet_solver.specs.Resolutions.{field_at, has_field_named, has_key, is_known, passes}
 use Rattle.facet_solver.specs.IndexEntries.{entry_at, holds, is_held}
 use Rattle.facet_solver.specs.IndexSet.{IndexSet, has}
 use Rattle.facet_solver.specs.Indexed.{AgreesOn, Differs, IsEntryIfAny, IsIndexOf, Meant, fields_of_each, first_passing}
-use Rattle.facet_solver.specs.KeyResult.{field_at}
 use Rattle.facet_solver.specs.Slots.{categories, is_at, slot_in}
-use Rattle.facet_solver.specs.State.{has_key, is_known, passes}
 use Rattle.facet_solver_shape.specs.Keys.{Key}
 use Rattle.facet_solver.specs.declared.schema.index.Entry.{Entry}
 use Rattle.facet_solver.specs.declared.schema.index.Index.{Index}

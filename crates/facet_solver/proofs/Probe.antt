@@ -8,7 +8,8 @@ use Rattle.facet_solver_shape.proofs.Lists.{list_any-map}
 use Rattle.facet_solver.specs.Build.{Catalogue}
 use Rattle.facet_solver.specs.KeyResult.{ambiguous, unambiguous, unknown}
 use Rattle.facet_solver.specs.Probe.{by_shapes, scored}
-use Rattle.facet_solver.specs.ShapeAtPath.{first_of_each, shape_below, shape_of_member}
+use Rattle.facet_solver.specs.ShapeAtPath.{shape_below, shape_of_member}
+use Rattle.facet_solver.specs.FirstOfEach.{first_of_each}
 use Rattle.facet_solver.proofs.FirstOfEach.{first_of_each-told}
 use Rattle.facet_solver.proofs.IndexSet.{filter_more}
 use Rattle.facet_solver.proofs.KeyResultFields.{filter_map_found, filter_map_none}

@@ -20,7 +20,8 @@ use Rattle.facet_solver.specs.Choice.{IsResolution, ListsChoices}
 use Rattle.facet_solver.specs.IndexSet.{has, how_many, upto}
 use Rattle.facet_solver.specs.KeyResult.{by_number, distinct_fields, key_result, unknown}
 use Rattle.facet_solver.specs.Schema.{IsOwnBuild, SchemaView}
-use Rattle.facet_solver.specs.State.{State, has_key, is_known, mark_seen, narrowed, new_solver, or_all, passes, passing, see_key, state_of}
+use Rattle.facet_solver.specs.State.{State, mark_seen, narrow, new_solver, or_all, passing, retain, see_key, state_of}
+use Rattle.facet_solver.specs.Resolutions.{has_key, is_known, passes}
 use Rattle.facet_solver.specs.Told.{accept, accepted_keys, EndsWithOrNames, has_keys, HasAllKnown, HaveSameKeys, indices_with, known_keys, see_keys, LeavesSome, TellsChoice}
 use Rattle.facet_solver.specs.Verdict.{is_viable, viable}
 use Rattle.facet_solver.proofs.Choice.{one_list, resolution-one}
@@ -414,10 +415,13 @@ some_or_all : (p : ℕ → Bool) (is some : List ℕ) → some ≡ filter p is �
 some_or_all p is [] same = ((λ i. true), all_stay is)
 some_or_all p is (i ∷ some) same = (p, same)
 
--- nothing is added by narrowing
-pub narrowed_leaves : (may_be_none : Bool) (test : Resolved → Bool) (s : State) → LeavesSome s.candidates (narrowed may_be_none test s).candidates
-narrowed_leaves true test s = record { stays = passes test s.schema.resolutions; left = refl }
-narrowed_leaves false test s =
+-- nothing is added where only those stay that pass
+pub retain_leaves : (test : Resolved → Bool) (s : State) → LeavesSome s.candidates (retain test s).candidates
+retain_leaves test s = record { stays = passes test s.schema.resolutions; left = refl }
+
+-- nor where all stay if none does
+pub narrow_leaves : (test : Resolved → Bool) (s : State) → LeavesSome s.candidates (narrow test s).candidates
+narrow_leaves test s =
     let some = some_or_all (passes test s.schema.resolutions) s.candidates (passing test s) refl in
     record { stays = some.0; left = some.1 }
 

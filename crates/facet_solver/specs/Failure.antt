@@ -6,14 +6,14 @@ use Rattle.std.specs.FinMap as finite
 use Rattle.std.specs.List.{list_any}
 use Rattle.std.specs.Option.{option_map_or}
 use Rattle.std.specs.Ordering.{nat_cmp}
-use Rattle.facet_solver_shape.specs.Fields.{has_name, matches, FieldView}
+use Rattle.facet_solver_shape.specs.Fields.{matches, FieldView}
 use Rattle.facet_solver_shape.specs.Keys.{Key}
 use Rattle.facet_solver_shape.specs.Names.{Name}
 use Rattle.facet_solver_shape.specs.Paths.{path_text}
 use Rattle.facet_solver_shape.specs.Resolved.{description, Resolved}
 use Rattle.facet_solver.specs.Build.{Catalogue}
 use Rattle.facet_solver.specs.Report.{FailureView, MissingView}
-use Rattle.facet_solver.specs.State.{has_key}
+use Rattle.facet_solver.specs.Resolutions.{has_key}
 
 -- some names in byte order, each once
 abbrev pub in_byte_order : List Name → List Name
@@ -23,10 +23,6 @@ in_byte_order (name ∷ names) = insert_key (slice_cmp nat_cmp) (in_byte_order n
 -- the names of the keys that pass a test, one for each key, in key order
 abbrev pub names_where : (Key → Bool) → List Key → List Name
 names_where test seen = map (λ k. k.name) (filter test seen)
-
--- whether a resolution has a field of the name
-abbrev pub has_field_named : Name → Resolved → Bool
-has_field_named name r = list_any (has_name name) (finite.values r.fields)
 
 -- whether the seen keys meet a field: it is not required, or one of them matches it
 abbrev pub is_met : List Key → FieldView → Bool

@@ -21,9 +21,11 @@ pub mod Outcome
 pub mod IndexSet
 pub mod Words
 pub mod SharedBits
+pub mod Resolutions
 pub mod Schema
 pub mod KeyPath
 pub mod State
+pub mod FirstOfEach
 pub mod KeyResult
 pub mod SatisfyResult
 pub mod Reached

@@ -15,7 +15,7 @@ use Rattle.facet_solver.specs.Names.{Name, name_eq}
 use Rattle.facet_solver.specs.Pairs.{CanBothBeViable, HasKeyFor, HasKeysRequiredBy, LeavesBothViable}
 use Rattle.facet_solver.specs.Resolved.{Resolved, nothing}
 use Rattle.facet_solver.specs.Schema.{SchemaView}
-use Rattle.facet_solver.specs.State.{has_key}
+use Rattle.facet_solver.specs.Resolutions.{has_key}
 use Rattle.facet_solver.specs.Told.{has_keys}
 use Rattle.facet_solver.specs.Verdict.{is_viable}
 use Rattle.facet_solver.specs.declared.FieldCategory.{FieldCategory}
