@@ -57,11 +57,11 @@ fields_of_kept key s entry is = fields_kept (field_at key s.schema.resolutions) 
 -- the answer by the candidates that the entry has
 pub result_by : (key : Key) (s : State) (entry : Entry) → IsEntry (length s.schema.resolutions) (field_at key s.schema.resolutions) entry → (kept : List ℕ)
     → kept ≡ filter (has entry.set.members) s.candidates
-    → by_number (distinct_fields key s.schema kept) (how_many kept) ≡ key_result key s
+    → by_number (of_fields (distinct_fields key s.schema kept)) (how_many kept) ≡ key_result key s
 result_by key s entry is kept kept_is =
     let rs = s.schema.resolutions in
     let shown : List FieldView → List (FieldView × ℕ) = λ fs. map (with_score s.schema.build.catalogue) (first_of_each (λ (f : FieldView). f.shape) fs) in
-    (λ j. by_number (shown ((ap (fields_by_key key rs) kept_is ∙ fields_of_kept key s entry is) j)) (how_many ((kept_is ∙ members_pass key rs entry is s.candidates) j)))
+    (λ j. by_number (of_fields (shown ((ap (fields_by_key key rs) kept_is ∙ fields_of_kept key s entry is) j))) (how_many ((kept_is ∙ members_pass key rs entry is s.candidates) j)))
 
 -- and how many they are
 pub kept_count : (key : Key) (s : State) (entry : Entry) → IsEntry (length s.schema.resolutions) (field_at key s.schema.resolutions) entry → (kept : List ℕ)
@@ -103,7 +103,7 @@ one_shape cat shape (f ∷ fs) all some =
 -- where the resolutions of the entry agree on the shape, it is the answer
 pub result_agreed : (key : Key) (schema : SchemaView) (entry : Entry) (shape first second : ℕ) (rest : List ℕ) → entry.shape ≡ Some shape → IsEntry (length schema.resolutions) (field_at key schema.resolutions) entry
     → has entry.set.members first ≡ true
-    → unambiguous shape ≡ by_number (distinct_fields key schema (first ∷ second ∷ rest)) (how_many (first ∷ second ∷ rest))
+    → unambiguous shape ≡ by_number (of_fields (distinct_fields key schema (first ∷ second ∷ rest))) (how_many (first ∷ second ∷ rest))
 result_agreed key schema entry shape first second rest shape_is is member =
     let at = field_at key schema.resolutions in
     let one : AgreesOn shape at = subst (λ o. MatchOption o (Differs at) (λ n. AgreesOn n at)) shape_is is.shape in
@@ -148,14 +148,14 @@ pub unknown_key : (key : Key) (s : State) → ((i : ℕ) → field_at key s.sche
 unknown_key key s none =
     let nothing : passing (has_key key) s ≡ [] =
     filter_nothing (passes (has_key key) s.schema.resolutions) (λ i. sym (has_field key s.schema.resolutions i) ∙ ap is_some (none i)) s.candidates in
-    ap (λ xs. by_number (distinct_fields key s.schema s.candidates) (how_many xs)) nothing
+    ap (λ xs. by_number (of_fields (distinct_fields key s.schema s.candidates)) (how_many xs)) nothing
 
 results_known : (fields : List (FieldView × ℕ)) → of_fields fields ≡ unknown → ⊥
 results_known [] e = cc
 results_known (f ∷ []) e = cc
 results_known (f ∷ g ∷ fs) e = cc
 
-unknown_number : (fields : List (FieldView × ℕ)) (n : HowMany) → by_number fields n ≡ unknown → n ≡ no_index
+unknown_number : (fields : List (FieldView × ℕ)) (n : HowMany) → by_number (of_fields fields) n ≡ unknown → n ≡ no_index
 unknown_number fields no_index e = refl
 unknown_number fields (one_index i) e = cc
 unknown_number fields several_indices e = absurd (results_known fields e)
@@ -181,7 +181,7 @@ passing_long key s =
 -- the candidates after a key that some of them have
 pub left_known : (key : Key) (s : State) → (key_result key s ≡ unknown → ⊥) → passing (has_key key) s ≡ (see_key key s).candidates
 left_known key s known =
-    sym (or_all_some _ s.candidates (λ none. known (ap (λ xs. by_number (distinct_fields key s.schema s.candidates) (how_many xs)) none)))
+    sym (or_all_some _ s.candidates (λ none. known (ap (λ xs. by_number (of_fields (distinct_fields key s.schema s.candidates)) (how_many xs)) none)))
 
 -- and after one that none of them has
 pub left_unknown : (key : Key) (s : State) → key_result key s ≡ unknown → s.candidates ≡ (see_key key s).candidates

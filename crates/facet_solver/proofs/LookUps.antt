@@ -15,7 +15,7 @@ use Rattle.facet_solver_shape.specs.Fields.{category_eq, is_unnamed, matches, me
 use Rattle.facet_solver_shape.specs.Names.{Name, name_eq}
 use Rattle.facet_solver_shape.specs.Resolved.{Resolved, field_by_key}
 use Rattle.facet_solver_shape.proofs.Keys.{category_cmp_same}
-use Rattle.facet_solver.specs.Indexed.{Meant, IsEntryIfAny, IsIndexOf, IsOfFormat, AreOfFormat, first_passing, fields_of_each}
+use Rattle.facet_solver.specs.Indexed.{Meant, IsEntryIfAny, IsIndexOf, HasFormat, IsOfFormat, AreOfFormat, first_passing, fields_of_each}
 use Rattle.facet_solver.specs.Resolutions.{field_at, has_key, passes}
 use Rattle.facet_solver.specs.IndexEntries.{entry_at}
 use Rattle.facet_solver.specs.Slots.{dom_slot, is_at, is_named, slot_of}
@@ -110,13 +110,9 @@ each_exact : (format : Format) (key : Key) (fs : List FieldView) → AllByRecurs
 each_exact format key [] each = tt
 each_exact format key (f ∷ fs) each = (slot_exact format key f each.0, each_exact format key fs each.1)
 
-AreAll : Format → Resolved → Type 0
-AreAll format r = All (λ (f : FieldView). IsOfFormat format f.category) (finite.values r.fields)
-
 -- the field that a key means is the first of the slot
-meant_exact : (format : Format) (key : Key) (rs : List Resolved) → AllByRecursion (AreAll format) rs → (i : ℕ)
+meant_exact : (format : Format) (key : Key) (rs : List Resolved) → AllByRecursion (HasFormat format) rs → (i : ℕ)
     → first_passing (is_at (slot_of format key)) (fields_of_each rs) i ≡ field_at key rs i
-unfolding AreAll
 meant_exact format key [] each i = refl
 meant_exact format key (r ∷ rs) each zero =
     sym (find_same (matches key) (is_at (slot_of format key)) (finite.values r.fields) (each_exact format key (finite.values r.fields) (recursion_from_All (λ (f : FieldView). IsOfFormat format f.category) (finite.values r.fields) each.0)))
@@ -125,9 +121,8 @@ meant_exact format key (r ∷ rs) each (suc i) = meant_exact format key rs each.
 -- so the entry of the slot is that of the key
 pub entry_exact : (format : Format) (key : Key) (rs : List Resolved) (index : Index) → AreOfFormat format rs → IsIndexOf (length rs) (fields_of_each rs) index
     → IsEntryIfAny (length rs) (field_at key rs) (entry_at index (slot_of format key))
-unfolding AreAll
 entry_exact format key rs index each is =
-    let all : AllByRecursion (AreAll format) rs = recursion_from_All (AreAll format) rs each in
+    let all : AllByRecursion (HasFormat format) rs = recursion_from_All (HasFormat format) rs each in
     let meant : Meant = first_passing (is_at (slot_of format key)) (fields_of_each rs) in
     subst (λ m. IsEntryIfAny (length rs) m (entry_at index (slot_of format key))) (λ j i. meant_exact format key rs all i j) (is (slot_of format key))
 

@@ -18,7 +18,7 @@ use Rattle.facet_solver_shape.specs.Resolved.{description, Resolved}
 use Rattle.facet_solver_shape.proofs.Keys.{key_cmp_same}
 use Rattle.facet_solver.specs.Choice.{IsResolution, ListsChoices}
 use Rattle.facet_solver.specs.IndexSet.{has, how_many, upto}
-use Rattle.facet_solver.specs.KeyResult.{by_number, distinct_fields, key_result, unknown}
+use Rattle.facet_solver.specs.KeyResult.{by_number, distinct_fields, key_result, of_fields, unknown}
 use Rattle.facet_solver.specs.Schema.{IsOwnBuild, SchemaView}
 use Rattle.facet_solver.specs.State.{State, mark_seen, narrow, new_solver, or_all, passing, retain, see_key, state_of}
 use Rattle.facet_solver.specs.Resolutions.{has_key, is_known, passes}
@@ -430,4 +430,4 @@ pub unknown_seen : (key : Key) (s : State) → passing (has_key key) s ≡ [] �
 unknown_seen key s none = ap (λ is. record (mark_seen key s) { candidates = or_all is s.candidates }) none
 
 pub unknown_answered : (key : Key) (s : State) → passing (has_key key) s ≡ [] → key_result key s ≡ unknown
-unknown_answered key s none = ap (λ is. by_number (distinct_fields key s.schema s.candidates) (how_many is)) none
+unknown_answered key s none = ap (λ is. by_number (of_fields (distinct_fields key s.schema s.candidates)) (how_many is)) none

@@ -11,7 +11,7 @@ use Rattle.facet_solver_shape.specs.Keys.{Key}
 use Rattle.facet_solver_shape.specs.Names.{Name}
 use Rattle.facet_solver_shape.specs.Paths.{path_text}
 use Rattle.facet_solver_shape.specs.Resolved.{description, Resolved}
-use Rattle.facet_solver.specs.Build.{Catalogue}
+use Rattle.facet_solver.specs.Build.{Catalogue, type_identifier}
 use Rattle.facet_solver.specs.Report.{FailureView, MissingView}
 use Rattle.facet_solver.specs.Resolutions.{has_key}
 
@@ -31,11 +31,6 @@ is_met seen f = not f.is_required || list_any (λ key. matches key f) seen
 -- what a resolution lacks: its fields that are not met, by stored key
 abbrev pub missing : List Key → Resolved → List FieldView
 missing seen r = filter (λ f. not (is_met seen f)) (finite.values r.fields)
-
--- the type identifier of a shape
-abbrev pub type_identifier : Catalogue → ℕ → Name
-type_identifier catalogue shape =
-    option_map_or (λ s. string_bytes s.type_identifier) (slice_get catalogue shape) []
 
 -- what is told of a field that a resolution lacks
 abbrev pub missing_field : Catalogue → FieldView → MissingView

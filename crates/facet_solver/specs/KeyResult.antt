@@ -13,7 +13,7 @@ use Rattle.facet_solver.specs.Schema.{index_of, IsHandleOf, SchemaView}
 use Rattle.facet_solver.specs.IndexSet.{HowMany, no_index, one_index, several_indices, how_many}
 use Rattle.facet_solver.specs.State.{State, passing}
 use Rattle.facet_solver.specs.Resolutions.{field_at, has_key}
-use Rattle.facet_solver.specs.Build.{Catalogue}
+use Rattle.facet_solver.specs.Build.{Catalogue, type_identifier}
 use Rattle.facet_solver.specs.FirstOfEach.{first_of_each}
 
 -- no candidate has the key; one is left; the value has one shape; or it has one of several, each
@@ -52,8 +52,7 @@ HoldsHandleOf schema Unknown = ⊤
 -- the score of a shape. One that is not there scores as a shape of any name without a score of its
 -- own
 abbrev pub score_at : Catalogue → ℕ → ℕ
-score_at cat id =
-    option_map_or (λ s. score_of (string_bytes s.type_identifier)) (slice_get cat id) (score_of [])
+score_at cat id = score_of (type_identifier cat id)
 
 -- a field with the score of its shape
 abbrev pub with_score : Catalogue → FieldView → FieldView × ℕ
@@ -80,13 +79,14 @@ abbrev pub of_fields : List (FieldView × ℕ) → KeyResultView
 of_fields (e ∷ []) = unambiguous e.0.shape
 of_fields es = ambiguous es
 
--- by how many candidates have the key
-abbrev pub by_number : List (FieldView × ℕ) → HowMany → KeyResultView
-by_number fields no_index = unknown
-by_number fields (one_index index) = solved index
-by_number fields several_indices = of_fields fields
+-- by how many candidates there are: where there are several, an answer is given for them
+abbrev pub by_number : KeyResultView → HowMany → KeyResultView
+by_number several no_index = unknown
+by_number several (one_index index) = solved index
+by_number several several_indices = several
 
--- the answer to a key
+-- the answer to a key, by how many candidates have it
 abbrev pub key_result : Key → State → KeyResultView
 key_result key s =
-    by_number (distinct_fields key s.schema s.candidates) (how_many (passing (has_key key) s))
+    by_number (of_fields (distinct_fields key s.schema s.candidates))
+    (how_many (passing (has_key key) s))

@@ -8,8 +8,8 @@ use Rattle.facet_solver_shape.specs.Resolved.{Resolved, field_by_name}
 use Rattle.facet_solver.specs.Build.{Catalogue}
 use Rattle.facet_solver.specs.FirstOfEach.{first_of_each}
 use Rattle.facet_solver.specs.KeyPath.{has_key_at, has_key_path, whole_path}
-use Rattle.facet_solver.specs.IndexSet.{HowMany, no_index, one_index, several_indices, how_many}
-use Rattle.facet_solver.specs.KeyResult.{KeyResultView, unknown, solved, unambiguous, ambiguous, score_at}
+use Rattle.facet_solver.specs.IndexSet.{how_many}
+use Rattle.facet_solver.specs.KeyResult.{KeyResultView, unknown, unambiguous, ambiguous, by_number, score_at}
 use Rattle.facet_solver.specs.Schema.{SchemaView}
 use Rattle.facet_solver.specs.ShapeAtPath.{shape_below}
 use Rattle.facet_solver.specs.State.{State, retain}
@@ -71,13 +71,7 @@ by_shapes cat [] = unknown
 by_shapes cat (e ∷ []) = unambiguous e.1
 by_shapes cat es = ambiguous (map (scored cat) es)
 
--- by how many candidates are left
-abbrev pub by_number : KeyResultView → HowMany → KeyResultView
-by_number several no_index = unknown
-by_number several (one_index index) = solved index
-by_number several several_indices = several
-
--- the answer to a key at a path, by the candidates that are left
+-- the answer to a key at a path, by how many candidates are left
 abbrev pub probe_result : List Name → Name → State → KeyResultView
 probe_result path key s =
     let cat = s.schema.build.catalogue in

@@ -3,7 +3,8 @@ ghost use Rattle.std.specs.Prelude.{◌≡◌, ◌<◌, IfOk, List, Some, length
 ghost use Rattle.std.specs.Option.{option_map};
 ghost use Rattle.facet_solver_shape.specs.Keys.{Key};
 ghost use Rattle.facet_solver.specs.Failure as spec;
-ghost use Rattle.facet_solver.specs.Failure.{failure_of, type_identifier};
+ghost use Rattle.facet_solver.specs.Build.{type_identifier};
+ghost use Rattle.facet_solver.specs.Failure.{failure_of};
 ghost use Rattle.facet_solver.specs.Report.{failure_view, missing_view};
 ghost use Rattle.facet_solver.specs.SeenNames.{AreSeenNames};
 ghost use Rattle.facet_solver.specs.Verdict.{resolutions_at, state_of_report};
