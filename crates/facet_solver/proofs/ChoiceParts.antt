@@ -1,16 +1,16 @@
 -- The choice of a rank: among products, variants and what may be absent, and by parts that are taken from the end.
-use Rattle.std.proofs.Common.{◌≡◌, ◌≢◌, ◌+◌, ◌-◌, ◌*◌, ◌/◌, ◌%◌, ◌^◌, ◌<◌, ◌≤◌, ℕ, zero, suc, List, [], ◌∷◌, ◌++◌, map, reverse, flat_map, sum_by, Option, Some, None, Bool, true, false, ap, append-nil, append_assoc, arith, drop, get_or, length, refl, subst, sym, ◌∙◌, suc-mul, zero-mul, mul-zero, mul_comm, slice_get, option_to_list, get_or-append-add, drop_of_length-le}
+use Rattle.std.proofs.Common.{◌≡◌, ◌+◌, ◌-◌, ◌*◌, ◌/◌, ◌%◌, ◌^◌, ◌<◌, ◌≤◌, ℕ, zero, suc, List, [], ◌∷◌, ◌++◌, map, reverse, flat_map, sum_by, Some, None, Bool, true, false, ap, append-nil, append_assoc, arith, drop, get_or, length, refl, subst, sym, ◌∙◌, suc-mul, zero-mul, mul-zero, mul_comm, slice_get, get_or-append-add}
 use Rattle.std.specs.List.{AllByRecursion}
 use Rattle.std.proofs.lemmas.List.{get_or_append_left, get_or-append_right, reverse-append}
 use Rattle.std.proofs.lemmas.List.Concat.{flat_map-append}
-use Rattle.std.proofs.lemmas.List.Sums.{sum_by-append, sum_by-cons, sum_by-drop_more, get_or-le-sum_by, sum_by_push}
+use Rattle.std.proofs.lemmas.List.Sums.{sum_by-append, sum_by-cons, get_or-le-sum_by, sum_by_push}
 use Rattle.std.proofs.lemmas.Nat.{div-add-mod', div_below, mod_below}
 use Rattle.std.proofs.lemmas.Option.{same_Some, slice_get-get_or}
 use Rattle.facet_solver_shape.specs.declared.shape.Field.{Field}
 use Rattle.facet_solver_shape.specs.declared.shape.Variant.{Variant}
 use Rattle.facet_solver_shape.specs.Catalogues.{FieldsBelow, NamesEarlier}
 use Rattle.facet_solver.specs.declared.build.choices.Part.{Part}
-use Rattle.facet_solver.specs.declared.build.choices.Part.TheVariants.{Index, Fields}
+use Rattle.facet_solver.specs.declared.build.choices.Part.TheVariants.{Index}
 use Rattle.facet_solver.specs.Build.{Build, repr_for}
 use Rattle.facet_solver.specs.Representation.{is_walked}
 use Rattle.facet_solver.specs.declared.build.role.Target.{Target}

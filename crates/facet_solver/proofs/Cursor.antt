@@ -4,6 +4,7 @@ use Rattle.std.specs.FinMap as finite
 use Rattle.std.specs.List.{list_all, list_any}
 use Rattle.std.proofs.lemmas.Bool.{or_right}
 use Rattle.std.proofs.lemmas.List.Folds.{list_any-append}
+use Rattle.std.proofs.Math.Bool.{or-true}
 use Rattle.facet_solver_shape.specs.declared.resolution.key.FieldKey.{FieldKey}
 use Rattle.facet_solver_shape.specs.Fields.{FieldView, entry_view, matches}
 use Rattle.facet_solver_shape.specs.Keys.{Key, key_cmp, key_of}
@@ -29,11 +30,7 @@ met_behind keys seen f end found =
     ap (list_any (λ (k : FieldKey). matches (key_of k) f)) (sym end.1)
     ∙ list_any-append (λ (k : FieldKey). matches (key_of k) f) end.0 keys
     ∙ or_right (list_any (λ (k : FieldKey). matches (key_of k) f) end.0) (list_any (λ (k : FieldKey). matches (key_of k) f) keys) found in
-    sym (ap (λ b. not f.is_required || b) (list_any-map (λ (k : Key). matches k f) key_of seen ∙ some) ∙ or_true (not f.is_required))
-  where
-    or_true : (b : Bool) → (b || true) ≡ true
-    or_true true = refl
-    or_true false = refl
+    sym (ap (λ b. not f.is_required || b) (list_any-map (λ (k : Key). matches k f) key_of seen ∙ some) ∙ or-true (not f.is_required))
 
 -- a field that is required is met where some seen key matches it
 pub met_by_match : (seen : List FieldKey) (f : FieldView) → f.is_required ≡ true → list_any (λ k. matches (key_of k) f) seen ≡ is_met (map key_of seen) f

@@ -1,5 +1,5 @@
 -- A key looks in the slot of the fields that it means.
-use Rattle.std.proofs.Common.{◌≡◌, ◌≢◌, ℕ, zero, suc, Bool, true, false, cond, ◌&&◌, ◌||◌, List, [], ◌∷◌, Option, Some, None, All, refl, ap, sym, ◌∙◌, subst}
+use Rattle.std.proofs.Common.{◌≡◌, ◌≢◌, ℕ, zero, suc, Bool, true, false, cond, ◌&&◌, ◌||◌, List, [], ◌∷◌, Option, Some, None, refl, ap, sym, ◌∙◌, subst}
 use Rattle.std.specs.Prelude.{if◌then◌else◌, is_some, length, slice_get}
 use Rattle.std.specs.Option.{option_and_then, option_map_or}
 use Rattle.std.specs.FinMap as finite
@@ -8,6 +8,7 @@ use Rattle.std.specs.Ordering.{nat_cmp}
 use Rattle.std.proofs.lemmas.Bool.Decides.{Decides-eqb}
 use Rattle.std.proofs.lemmas.Cmp.{tied_itself, nat_cmp_total}
 use Rattle.std.proofs.lemmas.List.Elements.{recursion_from_All}
+use Rattle.std.proofs.Math.Bool.{or-false, or-true}
 use Rattle.facet_solver_shape.specs.declared.resolution.key.FieldCategory.{FieldCategory}
 use Rattle.facet_solver_shape.specs.declared.resolution.key.FieldCategory.TheVariants.{Flat as FlatCategory, Attribute, Element, Text, Tag, Elements}
 use Rattle.facet_solver_shape.specs.Keys.{Key, category_index}
@@ -70,20 +71,12 @@ second_true : (a b : Bool) → (a && b) ≡ true → b ≡ true
 second_true true b e = e
 second_true false b e = cc
 
-or_true : (a : Bool) → (a || true) ≡ true
-or_true true = refl
-or_true false = refl
-
-or_false : (a : Bool) → (a || false) ≡ a
-or_false true = refl
-or_false false = refl
-
 -- a name, or all of a category
 any_or_named : (asked : Name) (f : FieldView) (any : Bool) → (is_unnamed asked && takes_any_name f.category) ≡ any
     → (name_eq asked f.name || (is_unnamed asked && takes_any_name f.category)) ≡ is_named (if any then None else Some asked) f
 any_or_named asked f true e =
-    ap (λ b. name_eq asked f.name || b) e ∙ or_true (name_eq asked f.name) ∙ sym (second_true (is_unnamed asked) (takes_any_name f.category) e)
-any_or_named asked f false e = ap (λ b. name_eq asked f.name || b) e ∙ or_false (name_eq asked f.name)
+    ap (λ b. name_eq asked f.name || b) e ∙ or-true (name_eq asked f.name) ∙ sym (second_true (is_unnamed asked) (takes_any_name f.category) e)
+any_or_named asked f false e = ap (λ b. name_eq asked f.name || b) e ∙ or-false (name_eq asked f.name)
 
 dom_exact : (dom : Option FieldCategory) (asked : Name) (f : FieldView) → f.category ≢ FlatCategory → means dom asked f.category f.name ≡ is_at (dom_slot dom asked) f
 dom_exact None asked f is = means_flat asked f.name f.category is

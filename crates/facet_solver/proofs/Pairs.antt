@@ -14,7 +14,7 @@ use Rattle.facet_solver.specs.Pairs.{CanBothBeViable, HasKeyFor, HasKeysRequired
 use Rattle.facet_solver.specs.Schema.{SchemaView}
 use Rattle.facet_solver.specs.State.{new_solver}
 use Rattle.facet_solver.specs.Resolutions.{has_key, is_known, passes}
-use Rattle.facet_solver.specs.Told.{HasAllKnown, accept, accepted_keys, has_keys, indices_with, known_keys, see_keys}
+use Rattle.facet_solver.specs.Told.{accept, accepted_keys, has_keys, known_keys, see_keys}
 use Rattle.facet_solver.specs.Verdict.{is_viable, viable}
 use Rattle.facet_solver.proofs.Told.{accepted_left, at_index, one_viable, same_schema, viable_told}
 

@@ -12,6 +12,8 @@ use Rattle.std.proofs.lemmas.Bool.{and_from, and_parts, cases_Bool, false≢true
 use Rattle.std.proofs.lemmas.Bool.Decides.{Decides-eqb}
 use Rattle.std.proofs.lemmas.List.Elements.{filter_agree}
 use Rattle.std.proofs.lemmas.Option.{none-some, same_Some, slice_get-get_or, slice_get-map, slice_get_within}
+use Rattle.std.proofs.Math.Bool.{and-true, or-false, or_self_left}
+use Rattle.facet_solver_shape.proofs.Finite.{or_swap}
 use Rattle.facet_solver_shape.specs.Fields.{FieldView, matches}
 use Rattle.facet_solver_shape.specs.Keys.{Key, key_cmp}
 use Rattle.facet_solver_shape.specs.Resolved.{description, Resolved}
@@ -137,10 +139,6 @@ none_of_both key before (r ∷ rs) h =
     let parts = or_parts (has_key key r) (list_any (has_key key) rs) h in
     ap (λ b. (b && has_keys before r) || list_any (has_keys (key ∷ before)) rs) parts.0 ∙ none_of_both key before rs parts.1
 
-and_true : (b : Bool) → b ≡ (b && true)
-and_true true = refl
-and_true false = refl
-
 regrouped : (a b c : Bool) → ((a && b) && c) ≡ (b && (a && c))
 regrouped true true c = refl
 regrouped true false c = refl
@@ -151,7 +149,7 @@ module _ (rs : List Resolved) (index : ℕ) (r : Resolved) (at : slice_get rs in
   -- where one resolution has all known keys, they are the accepted ones
   accepted_known : (keys before : List Key) → has_keys before r ≡ true → has_keys (known_keys rs keys) r ≡ true
       → (q : Resolved) → has_keys (fold (accept rs) before keys) q ≡ (has_keys before q && has_keys (known_keys rs keys) q)
-  accepted_known [] before has_before has_known q = and_true (has_keys before q)
+  accepted_known [] before has_before has_known q = sym (and-true (has_keys before q))
   accepted_known (key ∷ keys) before has_before has_known q =
       let later = known_keys rs keys in
       ⊎_elim
@@ -234,18 +232,6 @@ alike rs keys others same q =
     (λ h. has_known rs keys q (λ key at known. known_has rs others q h key (same.in_others key at) known))
 
 -- ---- keys that are seen
-swap_or : (a b c : Bool) → (a || (b || c)) ≡ (b || (a || c))
-swap_or true true c = refl
-swap_or true false c = refl
-swap_or false b c = refl
-
-or_same : (a b : Bool) → (a || b) ≡ (a || (a || b))
-or_same true b = refl
-or_same false b = refl
-
-or_false : (b : Bool) → (b || false) ≡ b
-or_false true = refl
-or_false false = refl
 
 module _ (p : Key → Bool) where
   -- a key is put in, and is one more
@@ -256,8 +242,8 @@ module _ (p : Key → Bool) where
       go : (o : Ordering) → key_cmp k x ≡ o → list_any p (insert_key key_cmp xs k) ≡ (p k || list_any p xs)
           → list_any p (match_ordering o (k ∷ x ∷ xs) (x ∷ xs) (x ∷ insert_key key_cmp xs k)) ≡ (p k || (p x || list_any p xs))
       go Less is later = refl
-      go Equal is later = or_same (p x) (list_any p xs) ∙ ap (λ (y : Key). p y || (p x || list_any p xs)) (sym (key_cmp_same k x is))
-      go Greater is later = ap (λ b. p x || b) later ∙ swap_or (p x) (p k) (list_any p xs)
+      go Equal is later = sym (or_self_left (p x) (list_any p xs)) ∙ ap (λ (y : Key). p y || (p x || list_any p xs)) (sym (key_cmp_same k x is))
+      go Greater is later = ap (λ b. p x || b) later ∙ or_swap (p x) (p k) (list_any p xs)
 
   -- so the seen keys are those that were seen before and those that are told
   all_put : (keys : List Key) (s : State) → list_any p (see_keys keys s).seen ≡ (list_any p keys || list_any p s.seen)
@@ -274,7 +260,7 @@ module _ (p : Key → Bool) where
       grouped false false c = refl
 
   told : (schema : SchemaView) (keys : List Key) → list_any p (see_keys keys (new_solver schema)).seen ≡ list_any p keys
-  told schema keys = all_put keys (new_solver schema) ∙ or_false (list_any p keys)
+  told schema keys = all_put keys (new_solver schema) ∙ or-false (list_any p keys)
 
 -- a resolution is viable by the told keys where it is by the seen ones
 pub viable_told : (schema : SchemaView) (keys : List Key) (r : Resolved) → is_viable (see_keys keys (new_solver schema)).seen r ≡ is_viable keys r

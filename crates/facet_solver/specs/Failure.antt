@@ -1,10 +1,9 @@
 -- Why a resolution is not the answer: what it lacks, and which seen keys mean nothing in it.
-use Rattle.std.specs.Prelude.{ℕ, Bool, ◌||◌, List, [], ◌∷◌, filter, map, not, slice_get, string_bytes}
+use Rattle.std.specs.Prelude.{Bool, ◌||◌, List, [], ◌∷◌, filter, map, not}
 use Rattle.std.specs.BTreeSet.{insert_key}
 use Rattle.std.specs.Cmp.Lexicographic.{slice_cmp}
 use Rattle.std.specs.FinMap as finite
 use Rattle.std.specs.List.{list_any}
-use Rattle.std.specs.Option.{option_map_or}
 use Rattle.std.specs.Ordering.{nat_cmp}
 use Rattle.facet_solver_shape.specs.Fields.{matches, FieldView}
 use Rattle.facet_solver_shape.specs.Keys.{Key}

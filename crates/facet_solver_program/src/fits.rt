@@ -1,7 +1,7 @@
 //! Which values of JSON fit a shape.
-ghost use Rattle.std.specs.Prelude.{◌≡◌, ◌==◌, ℤ, length};
+ghost use Rattle.std.specs.Prelude.{◌≡◌, ◌==◌, length};
 ghost use Rattle.std.specs.Str.{chars};
-ghost use Rattle.serde_json.specs.View.{number_view, view};
+ghost use Rattle.serde_json.specs.View.{view};
 ghost use Rattle.facet_solver.specs.Pointers as pointers;
 ghost use Rattle.facet_solver.specs.Content as content;
 ghost use Rattle.facet_solver_program.specs.Fits as fits;

@@ -1,11 +1,11 @@
 -- Lemmas of lists in which a name repeats, and of lists in which all differ.
-use Rattle.std.proofs.Common.{◌≡◌, ◌≢◌, ℕ, ◌+◌, ◌-◌, ◌<◌, ◌≤◌, Bool, true, false, List, ◌∷◌, ◌++◌, length, Some, Option, slice_get, refl, sym, ◌∙◌, inl, inr, ◌⊎◌, ◌↔◌, map, take, drop, set, get_or, ap, arith, subst, [], None, swap, IsPermutation, IsSorted, Bor, Ordering, Less, Equal, Greater, nat_cmp, min, is_eq, is_lt, bytes_eq, Result, Ok, Err}
-use Rattle.std.specs.List.{list_any, Any, slice_range}
+use Rattle.std.proofs.Common.{◌≡◌, ◌≢◌, ℕ, ◌+◌, ◌-◌, ◌<◌, ◌≤◌, Bool, true, false, List, ◌∷◌, ◌++◌, length, Some, slice_get, refl, sym, ◌∙◌, inl, inr, ◌⊎◌, ◌↔◌, map, take, drop, set, get_or, ap, arith, subst, [], swap, IsPermutation, IsSorted, Bor, Ordering, Less, Equal, Greater, nat_cmp, min, is_eq, is_lt, bytes_eq, Result, Ok, Err}
+use Rattle.std.specs.List.{list_any, slice_range}
 use Rattle.std.specs.List.Sorted.{IsBinarySearchResult, IsSearchInRange}
 use Rattle.std.specs.Option.{option_map}
 use Rattle.std.specs.Result.{is_ok}
 use Rattle.std.specs.Ordering.{is_le, ordering_reverse, flip_args}
-use Rattle.std.specs.Cmp.{IsTotalOrder, tied_itself, back_total}
+use Rattle.std.specs.Cmp.{IsTotalOrder, tied_itself}
 use Rattle.std.specs.Cmp.Lexicographic.{slice_cmp, nat_list_cmp_total}
 use Rattle.std.specs.BTreeMap.Comparable.{le_lt_trans}
 use Rattle.std.proofs.Math.Nat.{min-le_right, le-min}

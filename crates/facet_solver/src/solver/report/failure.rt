@@ -1,6 +1,5 @@
 //! Why resolutions are not the answer.
-ghost use Rattle.std.specs.Prelude.{◌≡◌, ◌<◌, IfOk, List, Some, length, map, slice_get, string_bytes};
-ghost use Rattle.std.specs.Option.{option_map};
+ghost use Rattle.std.specs.Prelude.{◌≡◌, ◌<◌, IfOk, List, Some, map, slice_get, string_bytes};
 ghost use Rattle.facet_solver_shape.specs.Keys.{Key};
 ghost use Rattle.facet_solver.specs.Failure as spec;
 ghost use Rattle.facet_solver.specs.Build.{type_identifier};

@@ -1,4 +1,4 @@
-use Rattle.std.proofs.Common.{◌≡◌, ℕ, subst}
+use Rattle.std.proofs.Common.{◌≡◌, subst}
 use Rattle.facet_solver.specs.Resolutions.{has_field_named, passes}
 use Rattle.facet_solver.specs.IndexEntries.{is_held}
 use Rattle.facet_solver.specs.Schema.{SchemaView}
