@@ -51,6 +51,7 @@ pub use Rattle.facet_solver_shape.specs.Names
 pub use Rattle.facet_solver_shape.specs.Scalars
 pub use Rattle.facet_solver_shape.specs.Catalogues
 pub use Rattle.facet_solver_shape.specs.Pointers
+pub use Rattle.facet_solver_shape.specs.EffectiveShapes
 pub use Rattle.facet_solver_shape.specs.Paths
 pub use Rattle.facet_solver_shape.specs.Keys
 pub use Rattle.facet_solver_shape.specs.Fields

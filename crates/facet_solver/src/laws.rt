@@ -21,7 +21,7 @@ ghost use Rattle.facet_solver.specs.Nested.{nested_paths, flattened_paths, varia
 ghost use Rattle.facet_solver.specs.Nested.{content_paths_of_shape, content_paths};
 ghost use Rattle.facet_solver.specs.Nested.{FollowsKinds, EndsByLength, HasNoGaps};
 ghost use Rattle.facet_solver.specs.Build.{Build, Catalogue};
-ghost use Rattle.facet_solver.specs.Content.{effective, go_on, next_inside};
+ghost use Rattle.facet_solver_shape.specs.EffectiveShapes.{effective, go_on, next_inside};
 ghost use Rattle.facet_solver.specs.Walk.{walk_fields, walk_fields_step};
 ghost use Rattle.facet_solver_shape.specs.Fields.{key_of_field, matches};
 ghost use Rattle.facet_solver_shape.specs.Keys.{Key, key_cmp};

@@ -14,12 +14,8 @@ use Rattle.facet_solver.specs.declared.ShapeKind.TheVariants.{Scalar, Struct, Op
 use Rattle.facet_solver.specs.declared.StructKind.{StructKind}
 use Rattle.facet_solver.specs.declared.StructKind.TheVariants.{Unit as NoFields, Struct as ByName, Tuple, TupleStruct}
 use Rattle.facet_solver.specs.Build.{Catalogue}
-use Rattle.facet_solver.specs.Content.{effective, next_inside}
+use Rattle.facet_solver.specs.EffectiveShapes.{effective}
 use Rattle.facet_solver.specs.Pointers as pointers
-
--- where the shape at an index leads to by `inner`, or else by `proxy`
-abbrev pub next_inside_at : Catalogue → ℕ → Option ℕ
-next_inside_at cat id = next_inside (slice_get cat id)
 
 -- the end of a shape: its effective shape, and from there pointers are followed
 abbrev pub end_of : Catalogue → ℕ → ℕ
