@@ -124,11 +124,6 @@ pub list_in_order : (keys : List (Bor Name)) (names : List Name) → IsStrictlyS
 list_in_order keys names sorted view =
     names_sorted keys names sorted (λ q. ap (λ s. set.contains s q) view ∙ set.contains-from_list nat_list_cmp_total names q)
 
--- those of a set
-pub set_in_order : (keys : List (Bor Name)) (s : set.FinSet (slice_cmp nat_cmp)) → IsStrictlySortedBy name_ref_cmp keys → names_view keys ≡ s → names_of keys ≡ in_byte_order (set.items s)
-set_in_order keys s sorted view =
-    names_sorted keys (set.items s) sorted (λ q. ap (λ s. set.contains s q) view ∙ set.contains-items s q)
-
 -- a set is that of its members in byte order
 pub items_in_order : (s : set.FinSet (slice_cmp nat_cmp)) → set.from_list (in_byte_order (set.items s)) ≡ s
 items_in_order s =

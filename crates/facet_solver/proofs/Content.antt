@@ -1,6 +1,6 @@
 -- Newtypes.
 use Rattle.facet_solver.specs.Build.{Catalogue, kind_of, kind_at}
-use Rattle.std.proofs.Common.{◌≡◌, ℕ, ◌<◌, ◌≤◌, List, [], ◌∷◌, Some, None, Bool, true, false, sym, refl, ap, ◌∙◌, slice_get, length, arith, subst, get_or, string_bytes}
+use Rattle.std.proofs.Common.{◌≡◌, ℕ, List, [], ◌∷◌, Some, None, Bool, true, false, sym, refl, ap, ◌∙◌, slice_get, arith, subst, string_bytes}
 use Rattle.std.specs.Prelude.{if◌then◌else◌, IsSome, nat_eq, not}
 use Rattle.facet_solver_shape.specs.declared.shape.Shape.{Shape}
 use Rattle.facet_solver_shape.specs.declared.shape.Field.{Field}
@@ -12,11 +12,6 @@ use Rattle.std.specs.Cmp.Lexicographic.{pointwise, same_text}
 use Rattle.facet_solver_shape.specs.declared.shape.ShapeKind.{ShapeKind}
 
 -- ---- a single field `0` over a struct is a newtype of it
--- a list of one element
-pub only-one : (fs : List Field) (f : Field) → 1 ≤ length fs → length fs < 2 → f ≡ get_or fs 0 f → fs ≡ f ∷ []
-only-one [] f h l e = absurd (omega arith)
-only-one (g ∷ []) f h l e = ap (λ (x : Field). x ∷ []) (sym e)
-only-one (g ∷ h ∷ fs) f k l e = absurd (omega arith)
 
 module _ (cat : Catalogue) (checked : NamesEarlier cat) where
   kind-at : (id : ℕ) (s : Shape) → slice_get cat id ≡ Some s → kind_at cat id ≡ s.kind

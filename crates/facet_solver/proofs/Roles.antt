@@ -184,23 +184,6 @@ unfolding limit_of
 limit_of-le limit [] h = omega arith
 limit_of-le limit (f ∷ fs) h = let k = limit_of-le limit fs h.1 in omega arith
 
-pub limit_of_variants-le : (limit : ℕ) (vs : List Variant) → VariantsBelow limit vs → limit_of_variants vs ≤ limit
-unfolding limit_of_variants
-limit_of_variants-le limit [] h = omega arith
-limit_of_variants-le limit (v ∷ vs) h = let k = limit_of_variants-le limit vs h.1 in let l = limit_of-le limit v.fields.items h.0 in omega arith
-
-pub limit_of-at : (fs : List Field) (i : ℕ) (d : Field) → i < length fs → (get_or fs i d).shape < limit_of fs
-unfolding limit_of
-limit_of-at [] i d h = absurd (omega arith)
-limit_of-at (f ∷ fs) zero d h = omega arith
-limit_of-at (f ∷ fs) (suc i) d h = let k = limit_of-at fs i d (omega arith) in omega arith
-
-pub limit_of_variants-at : (vs : List Variant) (i : ℕ) (d : Variant) → i < length vs → limit_of (get_or vs i d).fields.items ≤ limit_of_variants vs
-unfolding limit_of_variants
-limit_of_variants-at [] i d h = absurd (omega arith)
-limit_of_variants-at (v ∷ vs) zero d h = omega arith
-limit_of_variants-at (v ∷ vs) (suc i) d h = let k = limit_of_variants-at vs i d (omega arith) in omega arith
-
 pub FieldsBelow-limit : (fs : List Field) → FieldsBelow (limit_of fs) fs
 unfolding limit_of
 FieldsBelow-limit [] = tt
@@ -215,10 +198,6 @@ pub VariantsBelow-at : (limit : ℕ) (vs : List Variant) (i : ℕ) (d : Variant)
 VariantsBelow-at limit [] i d h b = absurd (omega arith)
 VariantsBelow-at limit (v ∷ vs) zero d h b = b.0
 VariantsBelow-at limit (v ∷ vs) (suc i) d h b = VariantsBelow-at limit vs i d (omega arith) b.1
-
--- a variant's content names no later shapes than its fields
-pub limit_of-content : (cat : Catalogue) → NamesEarlier cat → (v : Variant) → limit_of (content_of cat v).fields ≤ limit_of v.fields.items
-limit_of-content cat checked v = limit_of-le (limit_of v.fields.items) _ (content_of-below cat checked (limit_of v.fields.items) v (FieldsBelow-limit v.fields.items))
 
 -- ---- what the code's roles say: which leave nothing to choose, and which have a target with choices
 -- a role that is regular, a catch-all or a leaf is plain

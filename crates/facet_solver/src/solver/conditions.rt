@@ -99,10 +99,7 @@ fn has_shape_among<T: Shaped>(resolution: &Resolution<'_>, items: &[T]) -> bool
     have_shape_among(resolution.fields(), items)
 }
 
-fn have_shape_among<T: Shaped>(
-    fields: &BTreeMap<FieldKey<'_>, FieldInfo<'_>>,
-    items: &[T],
-) -> bool
+fn have_shape_among<T: Shaped>(fields: &BTreeMap<FieldKey<'_>, FieldInfo<'_>>, items: &[T]) -> bool
     ensures { result
         ≡ list_any (λ e. is_among T.shape_of items.now e.1.shape) fields.now.entries }
 {

@@ -35,7 +35,8 @@ impl Shaped for (&FieldInfo<'_>, u64) {
     ghost shape_of = { λ e. e.0.now.shape };
 
     fn shape(&self) -> ShapeId {
-        self.0.value_shape
+        let field = self.0;
+        field.value_shape
     }
 }
 
