@@ -13,16 +13,16 @@ use serde_json::{Number, Value};
 pub fn fits(shapes: &Shapes, id: ShapeId, value: &Value) -> bool
     ensures { result ≡ fits.fits shapes.now id (view value.now) }
 {
-    let end = end_of(shapes, id);
+    let end = effective_end(shapes, id);
     match inside_at(shapes, end) {
-        Some(inside) => value.is_null() || fits_end(shapes, end_of(shapes, inside), value),
+        Some(inside) => value.is_null() || fits_end(shapes, effective_end(shapes, inside), value),
         None => fits_end(shapes, end, value),
     }
 }
 
 // The end of a shape: its effective shape, and from there pointers are followed.
-fn end_of(shapes: &Shapes, id: ShapeId) -> ShapeId
-    ensures { result ≡ fits.end_of shapes.now id }
+fn effective_end(shapes: &Shapes, id: ShapeId) -> ShapeId
+    ensures { result ≡ fits.effective_end shapes.now id }
 {
     shapes.end_of(shapes.effective(id))
 }
