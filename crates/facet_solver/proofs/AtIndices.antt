@@ -4,16 +4,12 @@ use Rattle.std.specs.List.{AllByRecursion, cons_option, list_all}
 use Rattle.std.specs.Option.{option_copied, option_map_or}
 use Rattle.std.specs.Slice.{IsItemAt}
 use Rattle.std.proofs.lemmas.List.Elements.{All-from_recursion, recursion_from_All}
-use Rattle.std.proofs.lemmas.Option.{slice_get_past, slice_get_read, slice_get_within}
+use Rattle.std.proofs.lemmas.Option.{slice_get_within}
 use Rattle.facet_solver_shape.specs.Names.{Name}
 use Rattle.facet_solver_shape.specs.Resolved.{Resolved}
-use Rattle.facet_solver.specs.Failure.{has_field_named}
-use Rattle.facet_solver.specs.State.{passes}
+use Rattle.facet_solver_shape.proofs.Lists.{copied_item}
+use Rattle.facet_solver.specs.Resolutions.{has_field_named, passes}
 use Rattle.facet_solver.specs.Verdict.{resolutions_at}
-
-copied_item : {X : Type 0} (xs : List X) (i : ℕ) (r : Option (Bor X)) → IsItemAt xs i r → option_copied r ≡ slice_get xs i
-copied_item xs i None h = sym (slice_get_past xs i h.3)
-copied_item xs i (Some x) h = sym (slice_get_read xs (length xs) i x.now refl h.3.0 (h.3.1 x.now))
 
 -- what `get` of their list gives
 pub got : {X : Type 0} (all xs : List X) → xs ≡ all → (i : ℕ) (r : Option (Bor X)) → IsItemAt xs i r → slice_get all i ≡ option_copied r

@@ -109,9 +109,6 @@ pub record AreFirstBrought (build : Build) (table : List Brings) : Type 0 where
   pub each : AreBrought build table
 
 module _ (build : Build) where
-  pub none_brought : AreFirstBrought build []
-  none_brought = record { within = omega arith; each = λ id b e. absurd (cc) }
-
   pub one_brought : NamesEarlier build.catalogue → (ts : List Brings) → AreFirstBrought build ts → length ts < length build.catalogue → (b : Brings) → b ≡ kind_brings ts build (kind_at build.catalogue (length ts)) → AreFirstBrought build (ts ++ b ∷ [])
   one_brought checked ts first lt b is = record {
     within = let l = length_push ts b in omega (arith, l);

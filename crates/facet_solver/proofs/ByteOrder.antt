@@ -12,20 +12,13 @@ use Rattle.std.specs.List.{AllByRecursion, list_any}
 use Rattle.std.specs.List.Sorted.{IsStrictlySortedBy}
 use Rattle.std.specs.Ordering.{eq_by_cmp, is_eq, match_ordering, nat_cmp, ordering_reverse}
 use Rattle.std.proofs.lemmas.Cmp.{eq_by_cmp_equiv, nat_list_cmp_total}
+use Rattle.std.proofs.Math.Bool.{or_self_left}
+use Rattle.facet_solver_shape.proofs.Finite.{or_swap}
 use Rattle.facet_solver_shape.specs.Names.{Name, name_ref_cmp, names_of}
 use Rattle.facet_solver_shape.specs.Resolved.{names_view}
 use Rattle.facet_solver_shape.proofs.Fields.{rising_seen, rising_test}
 use Rattle.facet_solver_shape.proofs.Keys.{name_cmp_same}
 use Rattle.facet_solver.specs.Failure.{in_byte_order}
-
-or_swap : (a b c : Bool) → (a || (b || c)) ≡ (b || (a || c))
-or_swap true true c = refl
-or_swap true false c = refl
-or_swap false b c = refl
-
-or_twice : (a b : Bool) → (a || b) ≡ (a || (a || b))
-or_twice true b = refl
-or_twice false b = refl
 
 module _ {K : Type 0} {R : K → K → Ordering} (o : IsTotalOrder R) where
   -- the members after one more was put in
@@ -39,7 +32,7 @@ module _ {K : Type 0} {R : K → K → Ordering} (o : IsTotalOrder R) where
       go Equal is later =
           let laws = eq_by_cmp_equiv o in
           let alike : eq_by_cmp R q k ≡ eq_by_cmp R q x = laws.symm q k ∙ laws.congr k x q (ap is_eq is) ∙ laws.symm x q in
-          or_twice (eq_by_cmp R q x) _ ∙ ap (λ b. b || (eq_by_cmp R q x || list_any (eq_by_cmp R q) xs)) (sym alike)
+          sym (or_self_left (eq_by_cmp R q x) _) ∙ ap (λ b. b || (eq_by_cmp R q x || list_any (eq_by_cmp R q) xs)) (sym alike)
       go Greater is later =
           ap (λ b. eq_by_cmp R q x || b) later ∙ or_swap (eq_by_cmp R q x) (eq_by_cmp R q k) (list_any (eq_by_cmp R q) xs)
 
@@ -130,11 +123,6 @@ names_sorted keys names sorted members =
 pub list_in_order : (keys : List (Bor Name)) (names : List Name) → IsStrictlySortedBy name_ref_cmp keys → names_view keys ≡ set.from_list names → names_of keys ≡ in_byte_order names
 list_in_order keys names sorted view =
     names_sorted keys names sorted (λ q. ap (λ s. set.contains s q) view ∙ set.contains-from_list nat_list_cmp_total names q)
-
--- those of a set
-pub set_in_order : (keys : List (Bor Name)) (s : set.FinSet (slice_cmp nat_cmp)) → IsStrictlySortedBy name_ref_cmp keys → names_view keys ≡ s → names_of keys ≡ in_byte_order (set.items s)
-set_in_order keys s sorted view =
-    names_sorted keys (set.items s) sorted (λ q. ap (λ s. set.contains s q) view ∙ set.contains-items s q)
 
 -- a set is that of its members in byte order
 pub items_in_order : (s : set.FinSet (slice_cmp nat_cmp)) → set.from_list (in_byte_order (set.items s)) ≡ s

@@ -4,10 +4,11 @@ use Rattle.std.specs.Cmp.Lexicographic.{slice_cmp}
 use Rattle.std.specs.FinSet as set
 use Rattle.std.specs.List.{list_any}
 use Rattle.std.specs.Ordering.{nat_cmp}
+use Rattle.std.proofs.Math.Bool.{and-false, and-true, or-false}
 use Rattle.facet_solver_shape.specs.declared.resolution.key.FieldCategory.{FieldCategory}
 use Rattle.facet_solver_shape.specs.declared.resolution.key.FieldCategory.TheVariants.{Flat, Attribute, Element, Text, Tag, Elements}
 use Rattle.facet_solver_shape.specs.declared.resolution.key.FieldKey.{FieldKey}
-use Rattle.facet_solver_shape.specs.Fields.{FieldView, category_eq, is_unnamed, matches, means, takes_any_name}
+use Rattle.facet_solver_shape.specs.Fields.{FieldView, is_unnamed, means, takes_any_name}
 use Rattle.facet_solver_shape.specs.Keys.{Key, key_of}
 use Rattle.facet_solver_shape.specs.Names.{Name, name_eq}
 use Rattle.facet_solver_shape.specs.Resolved.{names_view}
@@ -16,31 +17,19 @@ use Rattle.facet_solver.specs.SeenNames.{AreSeenNames, may_match, names_for, of_
 use Rattle.facet_solver.specs.declared.solver.report.seen.SeenNames.{SeenNames}
 use Rattle.facet_solver.proofs.Verdict.{contains-names_among}
 
-and_false : (a : Bool) → (a && false) ≡ false
-and_false true = refl
-and_false false = refl
-
-or_false : (a : Bool) → (a || false) ≡ a
-or_false true = refl
-or_false false = refl
-
 -- no name is taken for any other
 plain : (a b : Bool) → a ≡ (a || (b && false))
-plain a b = sym (ap (λ c. a || c) (and_false b) ∙ or_false a)
-
-and_true : (a : Bool) → (a && true) ≡ a
-and_true true = refl
-and_true false = refl
+plain a b = sym (ap (λ c. a || c) (and-false b) ∙ or-false a)
 
 -- a key matches by its kind, and then by its name
 by_kind_and_name : (dom : Option FieldCategory) (asked : Name) (category : FieldCategory) (name : Name)
     → means dom asked category name ≡ (may_match dom category && (name_eq asked name || (is_unnamed asked && takes_any_name category)))
 by_kind_and_name dom asked Flat name = plain (name_eq asked name) (is_unnamed asked)
-by_kind_and_name None asked Attribute name = and_false (name_eq asked name)
-by_kind_and_name None asked Element name = and_true (name_eq asked name) ∙ plain (name_eq asked name) (is_unnamed asked)
-by_kind_and_name None asked Text name = and_false (name_eq asked name)
-by_kind_and_name None asked Tag name = and_false (name_eq asked name)
-by_kind_and_name None asked Elements name = and_false (name_eq asked name)
+by_kind_and_name None asked Attribute name = and-false (name_eq asked name)
+by_kind_and_name None asked Element name = and-true (name_eq asked name) ∙ plain (name_eq asked name) (is_unnamed asked)
+by_kind_and_name None asked Text name = and-false (name_eq asked name)
+by_kind_and_name None asked Tag name = and-false (name_eq asked name)
+by_kind_and_name None asked Elements name = and-false (name_eq asked name)
 by_kind_and_name (Some c) asked Attribute name = refl
 by_kind_and_name (Some c) asked Element name = refl
 by_kind_and_name (Some c) asked Text name = refl
@@ -63,7 +52,7 @@ step false a u t A U = refl
 -- some key passes and bears one name, or passes and is taken for any
 split : (p a u : Key → Bool) (t : Bool) (keys : List Key)
     → list_any (λ k. p k && (a k || (u k && t))) keys ≡ (list_any (λ k. p k && a k) keys || (t && list_any (λ k. p k && u k) keys))
-split p a u t [] = sym (and_false t)
+split p a u t [] = sym (and-false t)
 split p a u t (k ∷ keys) =
     ap (λ b. (p k && (a k || (u k && t))) || b) (split p a u t keys)
     ∙ step (p k) (a k) (u k) t (list_any (λ k. p k && a k) keys) (list_any (λ k. p k && u k) keys)

@@ -22,8 +22,8 @@ use Rattle.std.specs.List.Sorted.{IsStrictlySortedBy}
 use Rattle.std.specs.Cmp.{nat_cmp_is}
 use Rattle.std.specs.declared.cmp.Ordering.{Ordering}
 use Rattle.std.specs.declared.cmp.Ordering.TheVariants.{Less, Equal, Greater}
-use Rattle.facet_solver.specs.Count.{count_fields, count_of_root}
-use Rattle.facet_solver.proofs.Count.{below_count, root_count}
+use Rattle.facet_solver.specs.Count.{count_of_root}
+use Rattle.facet_solver.proofs.Count.{root_count}
 use Rattle.facet_solver_shape.specs.Resolved.{Resolved}
 use Rattle.facet_solver_shape.specs.Names.{Name}
 use Rattle.std.proofs.lemmas.Cmp.{nat_list_cmp_total}

@@ -1,16 +1,15 @@
 -- The choice of a rank: among products, variants and what may be absent, and by parts that are taken from the end.
-use Rattle.std.proofs.Common.{◌≡◌, ◌≢◌, ◌+◌, ◌-◌, ◌*◌, ◌/◌, ◌%◌, ◌^◌, ◌<◌, ◌≤◌, ℕ, zero, suc, List, [], ◌∷◌, ◌++◌, map, reverse, flat_map, sum_by, Option, Some, None, Bool, true, false, ap, append-nil, append_assoc, arith, drop, get_or, length, refl, subst, sym, ◌∙◌, suc-mul, zero-mul, mul-zero, mul_comm, slice_get, option_to_list, get_or-append-add, drop_of_length-le}
+use Rattle.std.proofs.Common.{◌≡◌, ◌+◌, ◌-◌, ◌*◌, ◌/◌, ◌%◌, ◌^◌, ◌<◌, ◌≤◌, ℕ, zero, suc, List, [], ◌∷◌, ◌++◌, map, reverse, flat_map, sum_by, Some, None, Bool, true, false, ap, append-nil, append_assoc, arith, drop, get_or, length, refl, subst, sym, ◌∙◌, suc-mul, zero-mul, mul-zero, mul_comm, slice_get, get_or-append-add}
 use Rattle.std.specs.List.{AllByRecursion}
-use Rattle.std.proofs.lemmas.List.{get_or_append_left, get_or-append_right, reverse-append}
+use Rattle.std.proofs.lemmas.List.{get_or_append_left, get_or-append_right}
 use Rattle.std.proofs.lemmas.List.Concat.{flat_map-append}
-use Rattle.std.proofs.lemmas.List.Sums.{sum_by-append, sum_by-cons, sum_by-drop_more, get_or-le-sum_by, sum_by_push}
+use Rattle.std.proofs.lemmas.List.Sums.{sum_by-append, sum_by-cons, get_or-le-sum_by}
 use Rattle.std.proofs.lemmas.Nat.{div-add-mod', div_below, mod_below}
 use Rattle.std.proofs.lemmas.Option.{same_Some, slice_get-get_or}
 use Rattle.facet_solver_shape.specs.declared.shape.Field.{Field}
 use Rattle.facet_solver_shape.specs.declared.shape.Variant.{Variant}
 use Rattle.facet_solver_shape.specs.Catalogues.{FieldsBelow, NamesEarlier}
 use Rattle.facet_solver.specs.declared.build.choices.Part.{Part}
-use Rattle.facet_solver.specs.declared.build.choices.Part.TheVariants.{Index, Fields}
 use Rattle.facet_solver.specs.Build.{Build, repr_for}
 use Rattle.facet_solver.specs.Representation.{is_walked}
 use Rattle.facet_solver.specs.declared.build.role.Target.{Target}
@@ -408,14 +407,6 @@ module _ (build : Build) where
         all = sym (append_assoc before (indices_of build p) (reverse out)) ∙ ap (λ (c : List ℕ). c ++ reverse out) rest ∙ h.all;
       }
 
-  -- an index comes out
-  pub index_out : (parts : List Part) (k : ℕ) (out put choice : List ℕ) → put ≡ out ++ k ∷ [] → IsLast parts (Index k) out choice → IsUnderWay build parts put choice
-  index_out parts k out put choice e h = record {
-    rest = h.before;
-    stand = h.stand;
-    all = ap (λ (c : List ℕ). h.before ++ c) (ap (λ (o : List ℕ). reverse o) e ∙ reverse-append out (k ∷ [])) ∙ h.all;
-  }
-
   -- fields are put in parts
   pub fields_in : (old new : List Part) (p : Part) (out choice : List ℕ) (n : ℕ) → Adds build old new (indices_of build p) n → IsLast old p out choice → IsUnderWay build new out choice
   fields_in old new p out choice n added h = record {
@@ -428,12 +419,3 @@ module _ (build : Build) where
   pub all_out : (parts : List Part) (out choice : List ℕ) → length parts ≡ 0 → IsUnderWay build parts out choice → reverse out ≡ choice
   all_out [] out choice e h = ap (λ (c : List ℕ). c ++ reverse out) h.stand.stand ∙ h.all
   all_out (p ∷ parts) out choice e h = absurd (omega (arith, e))
-
-  -- there is less to do without the last part
-  pub work-last : (old new : List Part) (p : Part) → old ≡ new ++ p ∷ [] → sum_by (work_of_part build) old ≡ sum_by (work_of_part build) new + work_of_part build p
-  work-last old new p e = ap (sum_by (work_of_part build)) e ∙ sum_by_push (work_of_part build) new p
-
-  pub work-added : (old new : List Part) (c : List ℕ) (n : ℕ) → Adds build old new c n → sum_by (work_of_part build) new ≤ sum_by (work_of_part build) old + n
-  work-added old new c n h =
-      let all = ap (sum_by (work_of_part build)) h.is ∙ sum_by-append (work_of_part build) old h.added in
-      omega (arith, all, h.within)

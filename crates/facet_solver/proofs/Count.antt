@@ -22,7 +22,7 @@ use Rattle.facet_solver.proofs.Outcome.{get_push}
 use Rattle.facet_solver.specs.declared.build.representation.Format.{Format}
 use Rattle.std.proofs.lemmas.List.{length_push, take_all}
 use Rattle.facet_solver.specs.declared.build.count.saturating.SaturatingCount.{SaturatingCount}
-use Rattle.facet_solver.specs.Counts.{CountsTo, count_at, AreFirstCounts, AreCounts}
+use Rattle.facet_solver.specs.Counts.{CountsTo, count_at, AreFirstCounts}
 use Rattle.std.specs.Option.{option_map_or}
 use Rattle.std.proofs.lemmas.Option.{slice_get-get_or}
 use Rattle.facet_solver.specs.declared.build.count.saturating.SaturatingCount.TheVariants.{Exact}
@@ -228,10 +228,6 @@ module _ (build : Build) where
       entry id u (inr last) =
           subst (λ (v : SaturatingCount). CountsTo v (count_at build id)) last.1
           (subst (CountsTo t) (sym (ap (λ (i : ℕ). count_at build i) last.0 ∙ at_index s (length ts) here)) tells)
-
-  -- no index is left
-  pub all_entries : (ts : List SaturatingCount) → AreFirstCounts build ts → slice_get build.catalogue (length ts) ≡ None → AreCounts build ts
-  all_entries ts counted past = let h = none_past build.catalogue (length ts) past in let w = counted.within in record { all = omega arith; first = counted }
 
 -- ---- what a table of counts says of fields, of a newtype and of the first of several parts
 module _ (build : Build) where

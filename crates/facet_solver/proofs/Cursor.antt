@@ -1,9 +1,10 @@
 -- Going through seen keys as the fields of a resolution rise.
-use Rattle.std.proofs.Common.{◌≡◌, Bool, true, false, ◌||◌, ◌&&◌, not, List, [], ◌∷◌, ◌++◌, Option, Some, None, Bor, MatchOption, map, refl, ap, sym, ◌∙◌, append_assoc}
+use Rattle.std.proofs.Common.{◌≡◌, Bool, true, ◌||◌, ◌&&◌, not, List, [], ◌∷◌, ◌++◌, Option, Some, None, Bor, MatchOption, map, refl, ap, sym, ◌∙◌, append_assoc}
 use Rattle.std.specs.FinMap as finite
 use Rattle.std.specs.List.{list_all, list_any}
 use Rattle.std.proofs.lemmas.Bool.{or_right}
 use Rattle.std.proofs.lemmas.List.Folds.{list_any-append}
+use Rattle.std.proofs.Math.Bool.{or-true}
 use Rattle.facet_solver_shape.specs.declared.resolution.key.FieldKey.{FieldKey}
 use Rattle.facet_solver_shape.specs.Fields.{FieldView, entry_view, matches}
 use Rattle.facet_solver_shape.specs.Keys.{Key, key_cmp, key_of}
@@ -29,20 +30,12 @@ met_behind keys seen f end found =
     ap (list_any (λ (k : FieldKey). matches (key_of k) f)) (sym end.1)
     ∙ list_any-append (λ (k : FieldKey). matches (key_of k) f) end.0 keys
     ∙ or_right (list_any (λ (k : FieldKey). matches (key_of k) f) end.0) (list_any (λ (k : FieldKey). matches (key_of k) f) keys) found in
-    sym (ap (λ b. not f.is_required || b) (list_any-map (λ (k : Key). matches k f) key_of seen ∙ some) ∙ or_true (not f.is_required))
-  where
-    or_true : (b : Bool) → (b || true) ≡ true
-    or_true true = refl
-    or_true false = refl
+    sym (ap (λ b. not f.is_required || b) (list_any-map (λ (k : Key). matches k f) key_of seen ∙ some) ∙ or-true (not f.is_required))
 
 -- a field that is required is met where some seen key matches it
 pub met_by_match : (seen : List FieldKey) (f : FieldView) → f.is_required ≡ true → list_any (λ k. matches (key_of k) f) seen ≡ is_met (map key_of seen) f
 met_by_match seen f required =
     sym (list_any-map (λ (k : Key). matches k f) key_of seen) ∙ ap (λ b. not b || list_any (λ (k : Key). matches k f) (map key_of seen)) (sym required)
-
--- a field that is not required is met
-pub met_freely : (seen : List Key) (f : FieldView) → f.is_required ≡ false → true ≡ is_met seen f
-met_freely seen f optional = sym (ap (λ b. not b || list_any (λ (k : Key). matches k f) seen) optional)
 
 all_viewed : (p : FieldView → Bool) (es : List (FieldKey × FieldView)) → list_all (λ (e : FieldKey × FieldView). p e.1) es ≡ list_all p (map (λ (e : Key × FieldView). e.1) (map entry_view es))
 all_viewed p [] = refl

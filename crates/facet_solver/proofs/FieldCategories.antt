@@ -33,7 +33,7 @@ use Rattle.facet_solver.specs.Emissions.{Emission, a_field, some_key_paths, a_pi
 use Rattle.facet_solver.specs.Place.{Chosen, at_root, at_root_variant, choosing, field_path, variant_path, Path}
 use Rattle.facet_solver.specs.Walk.{Walked, Walk, put_before, and_then, emit, choose, at_chosen, walk_variant_step, walk_content_step, Walking, walk_present, walk_optional, walk_role, walk_fields_step, walk_within, walk_fields, walk_root, walk_root_shape, walk_root_kind, walk_root_variant, walk_content}
 use Rattle.facet_solver.specs.Choice.{with_emission, resolution_of, IsResolution, GoesByName}
-use Rattle.facet_solver.specs.Indexed.{AreOfFormat, IsOfFormat}
+use Rattle.facet_solver.specs.Indexed.{AreOfFormat, HasFormat, IsOfFormat}
 use Rattle.facet_solver.specs.Schema.{IsBuilt, SchemaView}
 
 -- all categories that fields and selectors get in a format
@@ -297,11 +297,7 @@ format_categories : (format : Format) → HasCategories (IsOfFormat format) form
 format_categories Flat = flat_categories
 format_categories Dom = dom_categories
 
-OfFormat : Format → Resolved → Type 0
-OfFormat format r = All (λ (f : FieldView). IsOfFormat format f.category) (finite.values r.fields)
-
-each_of_format : (build : Build) (root : ℕ) (cs : List (List ℕ)) (rs : List Resolved) → AllZip (IsResolution build root) cs rs → AllByRecursion (OfFormat build.format) rs
-unfolding OfFormat
+each_of_format : (build : Build) (root : ℕ) (cs : List (List ℕ)) (rs : List Resolved) → AllZip (IsResolution build root) cs rs → AllByRecursion (HasFormat build.format) rs
 each_of_format build root [] [] each = tt
 each_of_format build root [] (r ∷ rs) each = absurd each
 each_of_format build root (c ∷ cs) [] each = absurd each
@@ -309,6 +305,5 @@ each_of_format build root (c ∷ cs) (r ∷ rs) each =
     (fields-having (IsOfFormat build.format) build root c r (format_categories build.format) each.0, each_of_format build root cs rs each.1)
 
 pub built_of_format : (build : Build) (root : ℕ) (schema : SchemaView) → IsBuilt build root schema → AreOfFormat build.format schema.resolutions
-unfolding OfFormat
 built_of_format build root schema built =
-    All-from_recursion (OfFormat build.format) schema.resolutions (each_of_format build root built.enumerates.choices schema.resolutions built.enumerates.resolved)
+    All-from_recursion (HasFormat build.format) schema.resolutions (each_of_format build root built.enumerates.choices schema.resolutions built.enumerates.resolved)

@@ -9,7 +9,7 @@ use Rattle.std.proofs.lemmas.List.Folds.{find-append}
 use Rattle.facet_solver_shape.proofs.Resolved.{or_none}
 use Rattle.facet_solver_shape.specs.Fields.{FieldView}
 use Rattle.facet_solver.specs.IndexSet.{IndexSet, has, upto}
-use Rattle.facet_solver.specs.IndexEntries.{HasBound, added, agreed, entry_at, entry_of_one, with_number, with_occurrence}
+use Rattle.facet_solver.specs.IndexEntries.{added, agreed, entry_at, entry_of_one, with_number, with_occurrence}
 use Rattle.facet_solver.specs.Indexed.{Meant, AgreesOn, Differs, IsEntry, IsEntryIfAny, IsIndexOf, first_passing}
 use Rattle.facet_solver.specs.Slots.{Slot, is_at}
 use Rattle.facet_solver.specs.declared.schema.index.Entry.{Entry}
@@ -206,9 +206,3 @@ index_more bound before seen f old new within is step slot =
 -- an index before the fields of one more resolution
 pub index_same : (bound : ℕ) (before : List (List FieldView)) (index : Index) → IsIndexOf bound before index → IsIndexOf bound (before ++ [] ∷ []) index
 index_same bound before index is slot = subst (λ m. IsEntryIfAny bound m (entry_at index slot)) (λ j k. sym (passing_none (is_at slot) before k) j) (is slot)
-
--- the entries of an index are over the numbers below the bound
-pub index_bounds : (bound : ℕ) (lists : List (List FieldView)) (index : Index) → IsIndexOf bound lists index → (slot : Slot) → HasBound bound (entry_at index slot)
-index_bounds bound lists index is slot e here =
-    let entry : IsEntry bound (first_passing (is_at slot) lists) e = subst (IsEntryIfAny bound (first_passing (is_at slot) lists)) here (is slot) in
-    ap (λ (s : IndexSet). s.bound) entry.set

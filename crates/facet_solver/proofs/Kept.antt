@@ -14,9 +14,11 @@ use Rattle.facet_solver_shape.specs.Fields.{FieldView}
 use Rattle.facet_solver_shape.specs.Resolved.{Resolved, field_by_key}
 use Rattle.facet_solver.specs.IndexSet.{HowMany, no_index, one_index, several_indices, how_many, IndexSet, has}
 use Rattle.facet_solver.specs.Indexed.{AgreesOn, Differs, IsEntry}
-use Rattle.facet_solver.specs.KeyResult.{HaveShape, unambiguous, unknown, by_number, distinct_fields, field_at, fields_by_key, first_of_each_shape, key_result, of_fields, with_score}
+use Rattle.facet_solver.specs.FirstOfEach.{first_of_each}
+use Rattle.facet_solver.specs.KeyResult.{HaveShape, unambiguous, unknown, by_number, distinct_fields, fields_by_key, key_result, of_fields, with_score}
+use Rattle.facet_solver.specs.Resolutions.{field_at, has_key, passes}
 use Rattle.facet_solver.specs.Schema.{SchemaView}
-use Rattle.facet_solver.specs.State.{State, has_key, or_all, passes, passing, see_key}
+use Rattle.facet_solver.specs.State.{State, or_all, passing, see_key}
 use Rattle.facet_solver.specs.Build.{Catalogue}
 use Rattle.facet_solver.specs.declared.schema.index.Entry.{Entry}
 use Rattle.facet_solver.proofs.IndexSet.{has_passing, none_of_none}
@@ -55,11 +57,11 @@ fields_of_kept key s entry is = fields_kept (field_at key s.schema.resolutions) 
 -- the answer by the candidates that the entry has
 pub result_by : (key : Key) (s : State) (entry : Entry) → IsEntry (length s.schema.resolutions) (field_at key s.schema.resolutions) entry → (kept : List ℕ)
     → kept ≡ filter (has entry.set.members) s.candidates
-    → by_number (distinct_fields key s.schema kept) (how_many kept) ≡ key_result key s
+    → by_number (of_fields (distinct_fields key s.schema kept)) (how_many kept) ≡ key_result key s
 result_by key s entry is kept kept_is =
     let rs = s.schema.resolutions in
-    let shown : List FieldView → List (FieldView × ℕ) = λ fs. map (with_score s.schema.build.catalogue) (first_of_each_shape fs) in
-    (λ j. by_number (shown ((ap (fields_by_key key rs) kept_is ∙ fields_of_kept key s entry is) j)) (how_many ((kept_is ∙ members_pass key rs entry is s.candidates) j)))
+    let shown : List FieldView → List (FieldView × ℕ) = λ fs. map (with_score s.schema.build.catalogue) (first_of_each (λ (f : FieldView). f.shape) fs) in
+    (λ j. by_number (of_fields (shown ((ap (fields_by_key key rs) kept_is ∙ fields_of_kept key s entry is) j))) (how_many ((kept_is ∙ members_pass key rs entry is s.candidates) j)))
 
 -- and how many they are
 pub kept_count : (key : Key) (s : State) (entry : Entry) → IsEntry (length s.schema.resolutions) (field_at key s.schema.resolutions) entry → (kept : List ℕ)
@@ -83,9 +85,9 @@ filter_each p shape (f ∷ fs) all = go (p f) (filter_each p shape fs all.1)
     go true later = (all.0, later)
     go false later = later
 
-firsts_each : (shape : ℕ) (fs : List FieldView) → AllByRecursion (λ (f : FieldView). f.shape ≡ shape) fs → AllByRecursion (λ (f : FieldView). f.shape ≡ shape) (first_of_each_shape fs)
+firsts_each : (shape : ℕ) (fs : List FieldView) → AllByRecursion (λ (f : FieldView). f.shape ≡ shape) fs → AllByRecursion (λ (f : FieldView). f.shape ≡ shape) (first_of_each (λ (f : FieldView). f.shape) fs)
 firsts_each shape [] all = tt
-firsts_each shape (f ∷ fs) all = (all.0, filter_each (λ g. not (nat_eq g.shape f.shape)) shape (first_of_each_shape fs) (firsts_each shape fs all.1))
+firsts_each shape (f ∷ fs) all = (all.0, filter_each (λ g. not (nat_eq g.shape f.shape)) shape (first_of_each (λ (f : FieldView). f.shape) fs) (firsts_each shape fs all.1))
 
 none_other : (f : FieldView) (shape : ℕ) (fs : List FieldView) → f.shape ≡ shape → AllByRecursion (λ (g : FieldView). g.shape ≡ shape) fs → filter (λ g. not (nat_eq g.shape f.shape)) fs ≡ []
 none_other f shape [] here all = refl
@@ -93,15 +95,15 @@ none_other f shape (g ∷ fs) here all =
     ap (λ b. cond (not b) (g ∷ filter (λ e. not (nat_eq e.shape f.shape)) fs) (filter (λ e. not (nat_eq e.shape f.shape)) fs)) ((Decides-eqb g.shape f.shape).1 (all.0 ∙ sym here))
     ∙ none_other f shape fs here all.1
 
-one_shape : (cat : Catalogue) (shape : ℕ) (fs : List FieldView) → AllByRecursion (λ (f : FieldView). f.shape ≡ shape) fs → (fs ≡ [] → ⊥) → of_fields (map (with_score cat) (first_of_each_shape fs)) ≡ unambiguous shape
+one_shape : (cat : Catalogue) (shape : ℕ) (fs : List FieldView) → AllByRecursion (λ (f : FieldView). f.shape ≡ shape) fs → (fs ≡ [] → ⊥) → of_fields (map (with_score cat) (first_of_each (λ (f : FieldView). f.shape) fs)) ≡ unambiguous shape
 one_shape cat shape [] all some = absurd (some refl)
 one_shape cat shape (f ∷ fs) all some =
-    ap (λ rest. of_fields (map (with_score cat) (f ∷ rest))) (none_other f shape (first_of_each_shape fs) all.0 (firsts_each shape fs all.1)) ∙ ap (λ n. unambiguous n) all.0
+    ap (λ rest. of_fields (map (with_score cat) (f ∷ rest))) (none_other f shape (first_of_each (λ (f : FieldView). f.shape) fs) all.0 (firsts_each shape fs all.1)) ∙ ap (λ n. unambiguous n) all.0
 
 -- where the resolutions of the entry agree on the shape, it is the answer
 pub result_agreed : (key : Key) (schema : SchemaView) (entry : Entry) (shape first second : ℕ) (rest : List ℕ) → entry.shape ≡ Some shape → IsEntry (length schema.resolutions) (field_at key schema.resolutions) entry
     → has entry.set.members first ≡ true
-    → unambiguous shape ≡ by_number (distinct_fields key schema (first ∷ second ∷ rest)) (how_many (first ∷ second ∷ rest))
+    → unambiguous shape ≡ by_number (of_fields (distinct_fields key schema (first ∷ second ∷ rest))) (how_many (first ∷ second ∷ rest))
 result_agreed key schema entry shape first second rest shape_is is member =
     let at = field_at key schema.resolutions in
     let one : AgreesOn shape at = subst (λ o. MatchOption o (Differs at) (λ n. AgreesOn n at)) shape_is is.shape in
@@ -146,14 +148,14 @@ pub unknown_key : (key : Key) (s : State) → ((i : ℕ) → field_at key s.sche
 unknown_key key s none =
     let nothing : passing (has_key key) s ≡ [] =
     filter_nothing (passes (has_key key) s.schema.resolutions) (λ i. sym (has_field key s.schema.resolutions i) ∙ ap is_some (none i)) s.candidates in
-    ap (λ xs. by_number (distinct_fields key s.schema s.candidates) (how_many xs)) nothing
+    ap (λ xs. by_number (of_fields (distinct_fields key s.schema s.candidates)) (how_many xs)) nothing
 
 results_known : (fields : List (FieldView × ℕ)) → of_fields fields ≡ unknown → ⊥
 results_known [] e = cc
 results_known (f ∷ []) e = cc
 results_known (f ∷ g ∷ fs) e = cc
 
-unknown_number : (fields : List (FieldView × ℕ)) (n : HowMany) → by_number fields n ≡ unknown → n ≡ no_index
+unknown_number : (fields : List (FieldView × ℕ)) (n : HowMany) → by_number (of_fields fields) n ≡ unknown → n ≡ no_index
 unknown_number fields no_index e = refl
 unknown_number fields (one_index i) e = cc
 unknown_number fields several_indices e = absurd (results_known fields e)
@@ -179,7 +181,7 @@ passing_long key s =
 -- the candidates after a key that some of them have
 pub left_known : (key : Key) (s : State) → (key_result key s ≡ unknown → ⊥) → passing (has_key key) s ≡ (see_key key s).candidates
 left_known key s known =
-    sym (or_all_some _ s.candidates (λ none. known (ap (λ xs. by_number (distinct_fields key s.schema s.candidates) (how_many xs)) none)))
+    sym (or_all_some _ s.candidates (λ none. known (ap (λ xs. by_number (of_fields (distinct_fields key s.schema s.candidates)) (how_many xs)) none)))
 
 -- and after one that none of them has
 pub left_unknown : (key : Key) (s : State) → key_result key s ≡ unknown → s.candidates ≡ (see_key key s).candidates

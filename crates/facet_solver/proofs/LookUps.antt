@@ -1,5 +1,5 @@
 -- A key looks in the slot of the fields that it means.
-use Rattle.std.proofs.Common.{◌≡◌, ◌≢◌, ℕ, zero, suc, Bool, true, false, cond, ◌&&◌, ◌||◌, List, [], ◌∷◌, Option, Some, None, All, refl, ap, sym, ◌∙◌, subst}
+use Rattle.std.proofs.Common.{◌≡◌, ◌≢◌, ℕ, zero, suc, Bool, true, false, cond, ◌&&◌, ◌||◌, List, [], ◌∷◌, Option, Some, None, refl, ap, sym, ◌∙◌, subst}
 use Rattle.std.specs.Prelude.{if◌then◌else◌, is_some, length, slice_get}
 use Rattle.std.specs.Option.{option_and_then, option_map_or}
 use Rattle.std.specs.FinMap as finite
@@ -8,6 +8,7 @@ use Rattle.std.specs.Ordering.{nat_cmp}
 use Rattle.std.proofs.lemmas.Bool.Decides.{Decides-eqb}
 use Rattle.std.proofs.lemmas.Cmp.{tied_itself, nat_cmp_total}
 use Rattle.std.proofs.lemmas.List.Elements.{recursion_from_All}
+use Rattle.std.proofs.Math.Bool.{or-false, or-true}
 use Rattle.facet_solver_shape.specs.declared.resolution.key.FieldCategory.{FieldCategory}
 use Rattle.facet_solver_shape.specs.declared.resolution.key.FieldCategory.TheVariants.{Flat as FlatCategory, Attribute, Element, Text, Tag, Elements}
 use Rattle.facet_solver_shape.specs.Keys.{Key, category_index}
@@ -15,9 +16,8 @@ use Rattle.facet_solver_shape.specs.Fields.{category_eq, is_unnamed, matches, me
 use Rattle.facet_solver_shape.specs.Names.{Name, name_eq}
 use Rattle.facet_solver_shape.specs.Resolved.{Resolved, field_by_key}
 use Rattle.facet_solver_shape.proofs.Keys.{category_cmp_same}
-use Rattle.facet_solver.specs.Indexed.{Meant, IsEntryIfAny, IsIndexOf, IsOfFormat, AreOfFormat, first_passing, fields_of_each}
-use Rattle.facet_solver.specs.KeyResult.{field_at}
-use Rattle.facet_solver.specs.State.{has_key, passes}
+use Rattle.facet_solver.specs.Indexed.{Meant, IsEntryIfAny, IsIndexOf, HasFormat, IsOfFormat, AreOfFormat, first_passing, fields_of_each}
+use Rattle.facet_solver.specs.Resolutions.{field_at, has_key, passes}
 use Rattle.facet_solver.specs.IndexEntries.{entry_at}
 use Rattle.facet_solver.specs.Slots.{dom_slot, is_at, is_named, slot_of}
 use Rattle.facet_solver.specs.declared.build.representation.Format.{Format}
@@ -71,20 +71,12 @@ second_true : (a b : Bool) → (a && b) ≡ true → b ≡ true
 second_true true b e = e
 second_true false b e = cc
 
-or_true : (a : Bool) → (a || true) ≡ true
-or_true true = refl
-or_true false = refl
-
-or_false : (a : Bool) → (a || false) ≡ a
-or_false true = refl
-or_false false = refl
-
 -- a name, or all of a category
 any_or_named : (asked : Name) (f : FieldView) (any : Bool) → (is_unnamed asked && takes_any_name f.category) ≡ any
     → (name_eq asked f.name || (is_unnamed asked && takes_any_name f.category)) ≡ is_named (if any then None else Some asked) f
 any_or_named asked f true e =
-    ap (λ b. name_eq asked f.name || b) e ∙ or_true (name_eq asked f.name) ∙ sym (second_true (is_unnamed asked) (takes_any_name f.category) e)
-any_or_named asked f false e = ap (λ b. name_eq asked f.name || b) e ∙ or_false (name_eq asked f.name)
+    ap (λ b. name_eq asked f.name || b) e ∙ or-true (name_eq asked f.name) ∙ sym (second_true (is_unnamed asked) (takes_any_name f.category) e)
+any_or_named asked f false e = ap (λ b. name_eq asked f.name || b) e ∙ or-false (name_eq asked f.name)
 
 dom_exact : (dom : Option FieldCategory) (asked : Name) (f : FieldView) → f.category ≢ FlatCategory → means dom asked f.category f.name ≡ is_at (dom_slot dom asked) f
 dom_exact None asked f is = means_flat asked f.name f.category is
@@ -111,13 +103,9 @@ each_exact : (format : Format) (key : Key) (fs : List FieldView) → AllByRecurs
 each_exact format key [] each = tt
 each_exact format key (f ∷ fs) each = (slot_exact format key f each.0, each_exact format key fs each.1)
 
-AreAll : Format → Resolved → Type 0
-AreAll format r = All (λ (f : FieldView). IsOfFormat format f.category) (finite.values r.fields)
-
 -- the field that a key means is the first of the slot
-meant_exact : (format : Format) (key : Key) (rs : List Resolved) → AllByRecursion (AreAll format) rs → (i : ℕ)
+meant_exact : (format : Format) (key : Key) (rs : List Resolved) → AllByRecursion (HasFormat format) rs → (i : ℕ)
     → first_passing (is_at (slot_of format key)) (fields_of_each rs) i ≡ field_at key rs i
-unfolding AreAll
 meant_exact format key [] each i = refl
 meant_exact format key (r ∷ rs) each zero =
     sym (find_same (matches key) (is_at (slot_of format key)) (finite.values r.fields) (each_exact format key (finite.values r.fields) (recursion_from_All (λ (f : FieldView). IsOfFormat format f.category) (finite.values r.fields) each.0)))
@@ -126,9 +114,8 @@ meant_exact format key (r ∷ rs) each (suc i) = meant_exact format key rs each.
 -- so the entry of the slot is that of the key
 pub entry_exact : (format : Format) (key : Key) (rs : List Resolved) (index : Index) → AreOfFormat format rs → IsIndexOf (length rs) (fields_of_each rs) index
     → IsEntryIfAny (length rs) (field_at key rs) (entry_at index (slot_of format key))
-unfolding AreAll
 entry_exact format key rs index each is =
-    let all : AllByRecursion (AreAll format) rs = recursion_from_All (AreAll format) rs each in
+    let all : AllByRecursion (HasFormat format) rs = recursion_from_All (HasFormat format) rs each in
     let meant : Meant = first_passing (is_at (slot_of format key)) (fields_of_each rs) in
     subst (λ m. IsEntryIfAny (length rs) m (entry_at index (slot_of format key))) (λ j i. meant_exact format key rs all i j) (is (slot_of format key))
 

@@ -46,13 +46,6 @@ more-set ms i lt = record {
   below = λ id le m. sym (set_other ms i id (λ e. omega (arith, e, le))) ∙ m;
 }
 
--- a mark that others make too
-pub among-set : (ms others : List Bool) (i : ℕ) → MarksAmong ms others → IsMarked others i → MarksAmong (set ms i true) others
-among-set ms others i among here id m = elim (cases_eq id i) [
-  | inl same ↦ subst (IsMarked others) (sym same) here
-  | inr apart ↦ among id (sym (set_other ms i id apart) ∙ m)
-]
-
 -- more marks keep what a kind of shape asks for
 pub asks_kept : (entered : Entered) (cat : Catalogue) (a b : List Bool) → MarksAmong a b → (k : ShapeKind) → KindAsks (IsMarked a) entered cat k → KindAsks (IsMarked b) entered cat k
 asks_kept entered cat a b kept (Struct kind fs) h = λ i d lt asked. kept _ (h i d lt asked)

@@ -4,19 +4,18 @@ use Rattle.std.specs.FinMap as finite
 use Rattle.std.specs.List.{cons_option, filter_map, find, list_any}
 use Rattle.std.specs.Option.{option_and_then, option_copied}
 use Rattle.std.proofs.lemmas.Option.{slice_get_past}
+use Rattle.std.proofs.Math.Bool.{or-true}
 use Rattle.facet_solver_shape.specs.declared.resolution.key.FieldCategory.{FieldCategory}
 use Rattle.facet_solver_shape.specs.declared.resolution.key.FieldCategory.TheVariants.{Flat, Attribute, Element, Text, Tag, Elements}
 use Rattle.facet_solver_shape.specs.Fields.{category_eq, has_name, FieldView}
 use Rattle.facet_solver_shape.specs.Names.{Name, name_eq}
 use Rattle.facet_solver_shape.specs.Resolved.{Resolved, field_by_key}
 use Rattle.facet_solver_shape.proofs.Lists.{list_any-map}
-use Rattle.facet_solver.specs.Failure.{has_field_named}
+use Rattle.facet_solver.specs.Resolutions.{field_at, has_field_named, has_key, is_known, passes}
 use Rattle.facet_solver.specs.IndexEntries.{entry_at, holds, is_held}
 use Rattle.facet_solver.specs.IndexSet.{IndexSet, has}
 use Rattle.facet_solver.specs.Indexed.{AgreesOn, Differs, IsEntryIfAny, IsIndexOf, Meant, fields_of_each, first_passing}
-use Rattle.facet_solver.specs.KeyResult.{field_at}
 use Rattle.facet_solver.specs.Slots.{categories, is_at, slot_in}
-use Rattle.facet_solver.specs.State.{has_key, is_known, passes}
 use Rattle.facet_solver_shape.specs.Keys.{Key}
 use Rattle.facet_solver.specs.declared.schema.index.Entry.{Entry}
 use Rattle.facet_solver.specs.declared.schema.index.Index.{Index}
@@ -24,9 +23,6 @@ use Rattle.facet_solver.proofs.IndexSet.{has_passing}
 use Rattle.facet_solver.proofs.LookUps.{has_field}
 
 -- ---- two tests in either order
-or_false : (a : Bool) → (a || false) ≡ a
-or_false true = refl
-or_false false = refl
 
 or_swap : (a b c d : Bool) → ((a || b) || (c || d)) ≡ ((a || c) || (b || d))
 or_swap true b c d = refl
@@ -135,17 +131,13 @@ none_has : (key : Key) (rs : List Resolved) → ((i : ℕ) → field_at key rs i
 none_has key [] absent = refl
 none_has key (r ∷ rs) absent = ap (λ b. b || list_any (has_key key) rs) (ap is_some (absent 0)) ∙ none_has key rs (λ i. absent (suc i))
 
-or_true : (a : Bool) → (a || true) ≡ true
-or_true true = refl
-or_true false = refl
-
 one_has : (key : Key) (rs : List Resolved) (i : ℕ) (f : FieldView) → field_at key rs i ≡ Some f → list_any (has_key key) rs ≡ true
 one_has key [] i f here = absurd (missed here)
   where
     missed : None ≡ Some f → ⊥
     missed e = cc
 one_has key (r ∷ rs) zero f here = ap (λ b. b || list_any (has_key key) rs) (ap is_some here)
-one_has key (r ∷ rs) (suc i) f here = ap (λ b. has_key key r || b) (one_has key rs i f here) ∙ or_true (has_key key r)
+one_has key (r ∷ rs) (suc i) f here = ap (λ b. has_key key r || b) (one_has key rs i f here) ∙ or-true (has_key key r)
 
 present : (key : Key) (rs : List Resolved) (shape : Option ℕ)
     → MatchOption shape (Differs (field_at key rs)) (λ s. AgreesOn s (field_at key rs)) → list_any (has_key key) rs ≡ true

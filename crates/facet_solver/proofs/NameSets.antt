@@ -8,6 +8,7 @@ use Rattle.std.specs.List.{list_any}
 use Rattle.std.specs.Ordering.{eq_by_cmp, nat_cmp}
 use Rattle.std.proofs.lemmas.Cmp.{nat_list_cmp_total}
 use Rattle.std.proofs.lemmas.List.Folds.{list_any-append}
+use Rattle.std.proofs.Math.Bool.{or-false}
 use Rattle.facet_solver_shape.specs.Fields.{FieldView}
 use Rattle.facet_solver_shape.specs.Keys.{Key}
 use Rattle.facet_solver_shape.specs.Names.{Name, name_ref_cmp}
@@ -36,10 +37,6 @@ or_swap true true c = refl
 or_swap true false c = refl
 or_swap false b c = refl
 
-or_false : (a : Bool) → (a || false) ≡ a
-or_false true = refl
-or_false false = refl
-
 -- at the start
 pub fills_start : (keys : List (Bor Name)) (names : List Name) → keys ≡ [] → Fills keys names (in_list names)
 fills_start keys names none q =
@@ -56,7 +53,7 @@ fills_more old new name left wanted before made q =
 
 -- at the end
 pub fills_end : (keys : List (Bor Name)) (wanted : Name → Bool) → Fills keys [] wanted → (q : Name) → set.contains (names_view keys) q ≡ wanted q
-fills_end keys wanted done q = sym (or_false (set.contains (names_view keys) q)) ∙ done q
+fills_end keys wanted done q = sym (or-false (set.contains (names_view keys) q)) ∙ done q
 
 -- which are the names of a list
 pub filled_list : (keys : List (Bor Name)) (names : List Name) → Fills keys [] (in_list names) → names_view keys ≡ set.from_list names

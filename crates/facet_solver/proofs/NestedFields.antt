@@ -144,12 +144,6 @@ unfolding limit_of_shapes
 below_limit [] limit h = tt
 below_limit (id ∷ ids) limit h = (omega arith, below_limit ids limit (omega arith))
 
-pub limit-at : (ids : List ℕ) (i id : ℕ) → slice_get ids i ≡ Some id → id < limit_of_shapes ids
-unfolding limit_of_shapes
-limit-at [] i id e = absurd (cc)
-limit-at (k ∷ ids) zero id e = let same : k ≡ id = cc in omega (arith, same)
-limit-at (k ∷ ids) (suc i) id e = let rest = limit-at ids i id e in omega (arith, rest)
-
 pub limit-some : (ids : List ℕ) → 0 < length ids → 0 < limit_of_shapes ids
 unfolding limit_of_shapes
 limit-some [] h = absurd (omega arith)

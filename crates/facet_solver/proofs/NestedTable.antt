@@ -270,14 +270,6 @@ has_entry None entry e = absurd (cc)
 has_entry (Some o) entry e = ap Some e
 
 module _ (entered : Entered) (cat : Catalogue) (marks : List Bool) where
-  pub no_entries : AreFirstEntries entered cat marks []
-  no_entries = record {
-    within = omega arith;
-    each = λ id entry e. absurd (cc);
-    leads = λ id entry e. absurd (cc);
-    marked = λ id h. absurd (omega arith);
-  }
-
   module _ (ts : List (Option Entry)) (first : AreFirstEntries entered cat marks ts) where
     -- what the next shape asks for is there, if that is marked
     pub asked_next : NamesEarlier cat → IsClosed entered cat marks → IsMarked marks (length ts) → KindAsks (IsFilled ts) entered cat (kind_at cat (length ts))

@@ -70,14 +70,6 @@ effect-stopped r d es None h k = absurd (cc)
 effect-stopped r d es (Some w) h k =
     (w.1, ap (λ (o : Outcome). Some (o, w.1)) (take_all-append r es w.0 ∙ ap (λ (o : Outcome). next o (λ s. take_all s w.0)) h))
 
--- one walk after another
-pub effect-and_then : (r s : Resolved) (w : Walked) (ns : List ℕ) (go : List ℕ → Walked) → effect r w ≡ Some (resolved s, ns) → effect r (and_then w go) ≡ effect s (go ns)
-effect-and_then r s None ns go h = absurd (cc)
-effect-and_then r s (Some w) ns go h =
-    let p : (take_all r w.0, w.1) ≡ (resolved s, ns) = cc in
-    effect-put_before r s w.0 (go w.1) (ap (λ (p : Outcome × List ℕ). p.0) p)
-    ∙ ap (λ (ms : List ℕ). effect s (go ms)) (ap (λ (p : Outcome × List ℕ). p.1) p)
-
 pub effect-and_then-stopped : (r : Resolved) (d : Duplicate) (w : Walked) (ns : List ℕ) (go : List ℕ → Walked) → effect r w ≡ Some (duplicate d, ns) → IsSome (and_then w go) → (rest : List ℕ) × (effect r (and_then w go) ≡ Some (duplicate d, rest))
 effect-and_then-stopped r d None ns go h k = absurd (cc)
 effect-and_then-stopped r d (Some w) ns go h k =

@@ -12,8 +12,9 @@ use Rattle.facet_solver.specs.Failure.{is_met}
 use Rattle.facet_solver.specs.IndexSet.{upto}
 use Rattle.facet_solver.specs.Pairs.{CanBothBeViable, HasKeyFor, HasKeysRequiredBy, LeavesBothViable}
 use Rattle.facet_solver.specs.Schema.{SchemaView}
-use Rattle.facet_solver.specs.State.{has_key, is_known, new_solver, passes}
-use Rattle.facet_solver.specs.Told.{HasAllKnown, accept, accepted_keys, has_keys, indices_with, known_keys, see_keys}
+use Rattle.facet_solver.specs.State.{new_solver}
+use Rattle.facet_solver.specs.Resolutions.{has_key, is_known, passes}
+use Rattle.facet_solver.specs.Told.{accept, accepted_keys, has_keys, known_keys, see_keys}
 use Rattle.facet_solver.specs.Verdict.{is_viable, viable}
 use Rattle.facet_solver.proofs.Told.{accepted_left, at_index, one_viable, same_schema, viable_told}
 

@@ -1,14 +1,13 @@
 -- Keys at a path: shapes at whole paths, and the first field for each shape.
-use Rattle.std.proofs.Common.{◌≡◌, ℕ, Bool, true, false, cond, List, [], ◌∷◌, ◌++◌, filter, map, nat_eq, refl, ap, sym, ◌∙◌, Option, Some, None, append-nil, length, ◌≤◌, arith}
+use Rattle.std.proofs.Common.{◌≡◌, ℕ, Bool, true, false, cond, List, [], ◌∷◌, ◌++◌, filter, map, nat_eq, refl, ap, sym, ◌∙◌, Option, Some, None, append-nil}
 use Rattle.std.specs.List.{filter_map, list_any}
 use Rattle.std.specs.Option.{option_and_then}
 use Rattle.facet_solver_shape.specs.Fields.{FieldView}
 use Rattle.facet_solver_shape.specs.Names.{Name}
 use Rattle.facet_solver_shape.proofs.Lists.{list_any-map}
 use Rattle.facet_solver.specs.Build.{Catalogue}
-use Rattle.facet_solver.specs.KeyResult.{ambiguous, unambiguous, unknown}
-use Rattle.facet_solver.specs.Probe.{by_shapes, scored}
-use Rattle.facet_solver.specs.ShapeAtPath.{first_of_each, shape_below, shape_of_member}
+use Rattle.facet_solver.specs.ShapeAtPath.{shape_below, shape_of_member}
+use Rattle.facet_solver.specs.FirstOfEach.{first_of_each}
 use Rattle.facet_solver.proofs.FirstOfEach.{first_of_each-told}
 use Rattle.facet_solver.proofs.IndexSet.{filter_more}
 use Rattle.facet_solver.proofs.KeyResultFields.{filter_map_found, filter_map_none}
@@ -77,18 +76,3 @@ told_of fields id so_far same told is =
     ∙ ap (list_any has_it) (sym so_far ∙ sym same)
     ∙ sym told
     ∙ is
-
--- ---- the answer by the shapes
-pub by_none : (cat : Catalogue) (es : List (FieldView × ℕ)) → map (λ (e : FieldView × ℕ). e.1) es ≡ [] → unknown ≡ by_shapes cat es
-by_none cat [] none = refl
-by_none cat (e ∷ es) none = cc
-
-pub by_one : (cat : Catalogue) (es : List (FieldView × ℕ)) (shape : ℕ) → map (λ (e : FieldView × ℕ). e.1) es ≡ shape ∷ [] → unambiguous shape ≡ by_shapes cat es
-by_one cat [] shape one = cc
-by_one cat (e ∷ []) shape one = let same : shape ≡ e.1 = cc in ap (λ id. unambiguous id) same
-by_one cat (e ∷ f ∷ es) shape one = cc
-
-pub by_several : (cat : Catalogue) (es : List (FieldView × ℕ)) (shapes : List ℕ) (fields : List (FieldView × ℕ)) → shapes ≡ map (λ (e : FieldView × ℕ). e.1) es → 2 ≤ length shapes → fields ≡ map (scored cat) es → ambiguous fields ≡ by_shapes cat es
-by_several cat [] shapes fields is many shown = absurd (let e = ap length is in omega (arith, many, e))
-by_several cat (e ∷ []) shapes fields is many shown = absurd (let e = ap length is in omega (arith, many, e))
-by_several cat (e ∷ f ∷ es) shapes fields is many shown = ap (λ fs. ambiguous fs) shown

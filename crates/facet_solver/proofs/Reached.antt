@@ -105,9 +105,6 @@ module _ (a b : Reach) (walked_kept : (id : ℕ) → IsMarked a.walked id → Is
   shape_kept A B also build None h = tt
   shape_kept A B also build (Some s) h = kind_kept a b walked_kept structs_kept build.catalogue A B also (is_walked (repr_for build s)) s.kind h
 
-pub reached-refl : (limit : ℕ) (m : Reach) → IsReachedMore limit m m
-reached-refl limit m = record { walked = more-refl limit m.walked; structs = more-refl limit m.structs }
-
 -- ---- from the last index down
 -- what the marked shapes from an index on lead to is marked, and so it is from one index less
 module _ (build : Build) (m n : Reach) (apart more_apart : List Bool) (left : ℕ) where

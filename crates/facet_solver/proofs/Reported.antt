@@ -1,7 +1,7 @@
 -- What a report says of the number of viable candidates.
 use Rattle.std.proofs.Common.{◌≡◌, ◌<◌, ℕ, List, [], ◌∷◌, Some, length, refl, arith}
 use Rattle.facet_solver.specs.IndexSet.{HowMany, no_index, one_index, several_indices, how_many}
-use Rattle.facet_solver.specs.Report.{AmbiguityView, NoMatchView, ambiguous, no_match}
+use Rattle.facet_solver.specs.Report.{NoMatchView, no_match}
 use Rattle.facet_solver.specs.State.{State}
 use Rattle.facet_solver.specs.Verdict.{report_by, report_of, viable}
 use Rattle.facet_solver.proofs.IndexSet.{none_of_none}
@@ -19,12 +19,3 @@ more : (xs : List ℕ) → how_many xs ≡ several_indices → 1 < length xs
 more [] e = cc
 more (i ∷ []) e = cc
 more (i ∷ j ∷ rest) e = omega arith
-
--- and that several match where several are
-pub several_viable : (s : State) (v : AmbiguityView) → Some (ambiguous v) ≡ report_of s → 1 < length (viable s)
-several_viable s v is = more (viable s) (go (how_many (viable s)) is)
-  where
-    go : (h : HowMany) → Some (ambiguous v) ≡ report_by h s → h ≡ several_indices
-    go no_index e = cc
-    go (one_index i) e = cc
-    go several_indices e = refl

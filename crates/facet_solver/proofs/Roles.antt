@@ -2,7 +2,6 @@
 -- levels that are left.
 use Rattle.std.proofs.Common.{◌≡◌, ℕ, zero, suc, ◌<◌, ◌≤◌, List, [], ◌∷◌, Option, Some, None, Bool, true, false, sym, refl, subst, ◌∙◌, slice_get, length, arith, string_bytes, Vec, max, get_or, ◌⊎◌, inl, inr, ap}
 use Rattle.std.specs.Prelude.{⊤, if◌then◌else◌}
-use Rattle.std.specs.Option.{IfSome, option_or}
 use Rattle.std.specs.declared.alloc.Global.{Global}
 use Rattle.std.proofs.lemmas.Option.{slice_get_within}
 use Rattle.facet_solver_shape.specs.declared.shape.Shape.{Shape}
@@ -12,8 +11,10 @@ use Rattle.facet_solver_shape.specs.declared.shape.ShapeKind.TheVariants.{Struct
 use Rattle.facet_solver_shape.specs.declared.shape.Field.{Field}
 use Rattle.facet_solver_shape.specs.declared.shape.Variant.{Variant}
 use Rattle.facet_solver_shape.specs.Catalogues.{FieldsBelow, VariantsBelow, KindBelow, NamesEarlier}
+use Rattle.facet_solver_shape.specs.EffectiveShapes.{effective}
+use Rattle.facet_solver_shape.proofs.EffectiveShapes.{effective-le}
 use Rattle.facet_solver.specs.Build.{Catalogue, kind_of, kind_at}
-use Rattle.facet_solver.specs.Content.{effective, effective_within, go_on, next_inside, struct_fields, newtype_fields, content_of, content_or, is_zero}
+use Rattle.facet_solver.specs.Content.{struct_fields, newtype_fields, content_of, content_or, is_zero}
 use Rattle.facet_solver.specs.Roles.{Role, regular, block, alternatives, catch_all, leaf, target_of, target_by_kind, role_of, role_of_target, role_by_kind, role_view, may_be_absent, IsPlain}
 use Rattle.facet_solver.specs.declared.build.role.Target.{Target}
 use Rattle.std.specs.Borrow.{Bor}
@@ -117,25 +118,6 @@ module _ (cat : Catalogue) (checked : NamesEarlier cat) where
       (RoleBelow-mono (target_of cat f).shape f.shape (role_of_target (target_of cat f) (slice_get cat (target_of cat f).shape)) (target_of-le f)
       (role_of_target-below (target_of cat f) (slice_get cat (target_of cat f).shape) refl))
 
-  pub next_inside-below : (id : ℕ) (o : Option Shape) → slice_get cat id ≡ o → IfSome (next_inside o) (λ p. p < id)
-  next_inside-below id None e = tt
-  next_inside-below id (Some s) e = both s.inner s.proxy (checked id s e).inner (checked id s e).proxy
-    where
-      both : (a b : Option ℕ) → IfSome a (λ p. p < id) → IfSome b (λ p. p < id) → IfSome (option_or a b) (λ p. p < id)
-      both None b h k = k
-      both (Some a) b h k = h
-
-  effective_within-le : (n : ℕ) (id : ℕ) → effective_within n cat id ≤ id
-  effective_within-le zero id = omega arith
-  effective_within-le (suc n) id = go (next_inside (slice_get cat id)) (next_inside-below id (slice_get cat id) refl) (λ next. effective_within-le n next)
-    where
-      go : (o : Option ℕ) → IfSome o (λ p. p < id) → ((next : ℕ) → effective_within n cat next ≤ next) → go_on (effective_within n cat) id o ≤ id
-      go None h below = omega arith
-      go (Some next) h below = omega (arith, below next)
-
-  pub effective-le : (id : ℕ) → effective cat id ≤ id
-  effective-le id = effective_within-le (length cat) id
-
   -- the fields of a variant's content
   struct_fields-below : (limit : ℕ) (k : ShapeKind) (v : Variant) → FieldsBelow limit v.fields.items → KindBelow limit k → FieldsBelow limit (content_or v (struct_fields k)).fields
   struct_fields-below limit (Struct kind fs) v h b = b
@@ -149,7 +131,7 @@ module _ (cat : Catalogue) (checked : NamesEarlier cat) where
       by_name true f lt =
           let id = (effective cat f.shape) in
           struct_fields-below limit (kind_at cat (effective cat f.shape)) v h
-          (KindBelow-mono id limit (kind_of (slice_get cat id)) (omega (arith, effective-le f.shape)) (kind_of-below id (slice_get cat id) refl))
+          (KindBelow-mono id limit (kind_of (slice_get cat id)) (omega (arith, effective-le cat checked f.shape)) (kind_of-below id (slice_get cat id) refl))
       by_name false f lt = h
 
       go : (fs : List Field) → FieldsBelow limit fs → FieldsBelow limit (content_or v (newtype_fields cat fs)).fields
@@ -202,23 +184,6 @@ unfolding limit_of
 limit_of-le limit [] h = omega arith
 limit_of-le limit (f ∷ fs) h = let k = limit_of-le limit fs h.1 in omega arith
 
-pub limit_of_variants-le : (limit : ℕ) (vs : List Variant) → VariantsBelow limit vs → limit_of_variants vs ≤ limit
-unfolding limit_of_variants
-limit_of_variants-le limit [] h = omega arith
-limit_of_variants-le limit (v ∷ vs) h = let k = limit_of_variants-le limit vs h.1 in let l = limit_of-le limit v.fields.items h.0 in omega arith
-
-pub limit_of-at : (fs : List Field) (i : ℕ) (d : Field) → i < length fs → (get_or fs i d).shape < limit_of fs
-unfolding limit_of
-limit_of-at [] i d h = absurd (omega arith)
-limit_of-at (f ∷ fs) zero d h = omega arith
-limit_of-at (f ∷ fs) (suc i) d h = let k = limit_of-at fs i d (omega arith) in omega arith
-
-pub limit_of_variants-at : (vs : List Variant) (i : ℕ) (d : Variant) → i < length vs → limit_of (get_or vs i d).fields.items ≤ limit_of_variants vs
-unfolding limit_of_variants
-limit_of_variants-at [] i d h = absurd (omega arith)
-limit_of_variants-at (v ∷ vs) zero d h = omega arith
-limit_of_variants-at (v ∷ vs) (suc i) d h = let k = limit_of_variants-at vs i d (omega arith) in omega arith
-
 pub FieldsBelow-limit : (fs : List Field) → FieldsBelow (limit_of fs) fs
 unfolding limit_of
 FieldsBelow-limit [] = tt
@@ -233,10 +198,6 @@ pub VariantsBelow-at : (limit : ℕ) (vs : List Variant) (i : ℕ) (d : Variant)
 VariantsBelow-at limit [] i d h b = absurd (omega arith)
 VariantsBelow-at limit (v ∷ vs) zero d h b = b.0
 VariantsBelow-at limit (v ∷ vs) (suc i) d h b = VariantsBelow-at limit vs i d (omega arith) b.1
-
--- a variant's content names no later shapes than its fields
-pub limit_of-content : (cat : Catalogue) → NamesEarlier cat → (v : Variant) → limit_of (content_of cat v).fields ≤ limit_of v.fields.items
-limit_of-content cat checked v = limit_of-le (limit_of v.fields.items) _ (content_of-below cat checked (limit_of v.fields.items) v (FieldsBelow-limit v.fields.items))
 
 -- ---- what the code's roles say: which leave nothing to choose, and which have a target with choices
 -- a role that is regular, a catch-all or a leaf is plain

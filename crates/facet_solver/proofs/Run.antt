@@ -1,5 +1,5 @@
 -- What a run of calls leaves.
-use Rattle.std.proofs.Common.{◌≡◌, ℕ, ◌+◌, ◌<◌, ◌≤◌, true, false, ◌&&◌, ◌++◌, filter, List, [], ◌∷◌, get_or, length, map, subst, take, ap, sym, ◌∙◌}
+use Rattle.std.proofs.Common.{◌≡◌, ℕ, ◌+◌, ◌<◌, ◌≤◌, true, ◌&&◌, ◌++◌, filter, List, [], ◌∷◌, get_or, length, map, subst, take, ap, sym, ◌∙◌}
 use Rattle.std.proofs.lemmas.List.{map-append, take_all, take_more}
 use Rattle.std.proofs.lemmas.List.Folds.{fold-map}
 use Rattle.std.proofs.lemmas.List.Sums.{fold-append, fold_push}
@@ -10,10 +10,11 @@ use Rattle.facet_solver.specs.KeyPath.{has_key_at}
 use Rattle.facet_solver.specs.Schema.{IsOwnBuild, SchemaView}
 use Rattle.facet_solver.specs.ShapeAtPath.{has_shape_at_path}
 use Rattle.facet_solver.specs.State as state
-use Rattle.facet_solver.specs.State.{State, has_key, has_shape_among, has_tag_field, passing, picks_variant, where_any}
+use Rattle.facet_solver.specs.State.{State, has_shape_among, has_tag_field, passing, picks_variant, where_any}
+use Rattle.facet_solver.specs.Resolutions.{has_key}
 use Rattle.facet_solver.specs.Told.{see_keys, EndsWithOrNames, LeavesSome}
 use Rattle.facet_solver.proofs.IndexSet.{filter_filter}
-use Rattle.facet_solver.proofs.Told.{all_stay, choice_ends, narrowed_leaves}
+use Rattle.facet_solver.proofs.Told.{all_stay, choice_ends, narrow_leaves, retain_leaves}
 use Rattle.facet_solver.specs.declared.solver.run.Call.{Call}
 
 -- one more call
@@ -53,18 +54,18 @@ found_of_all calls made before after built all is =
 -- ---- no call adds a candidate
 pub call_leaves : (call : CallView) (s : State) → LeavesSome s.candidates (after_call call s).candidates
 call_leaves (see_key key) s =
-    let some = narrowed_leaves false (has_key key) (state.mark_seen key s) in
+    let some = narrow_leaves (has_key key) (state.mark_seen key s) in
     record { stays = some.stays; left = some.left }
 call_leaves (mark_seen key) s = record { stays = λ i. true; left = all_stay s.candidates }
-call_leaves (satisfy_shapes shapes) s = narrowed_leaves true (has_shape_among shapes) s
-call_leaves (satisfy_at_path path shapes) s = narrowed_leaves true (has_shape_at_path s.schema.build.catalogue path shapes) s
-call_leaves (probe_key path key) s = narrowed_leaves true (has_key_at path key) s
-call_leaves (hint_variant name) s = narrowed_leaves false (picks_variant name) s
+call_leaves (satisfy_shapes shapes) s = retain_leaves (has_shape_among shapes) s
+call_leaves (satisfy_at_path path shapes) s = retain_leaves (has_shape_at_path s.schema.build.catalogue path shapes) s
+call_leaves (probe_key path key) s = retain_leaves (has_key_at path key) s
+call_leaves (hint_variant name) s = narrow_leaves (picks_variant name) s
 call_leaves (hint_variant_for_tag tag name) s = go (passing (has_tag_field s.schema.build.catalogue tag) s)
   where
     go : (found : List ℕ) → LeavesSome s.candidates (where_any found (state.hint_variant name s) s).candidates
     go [] = record { stays = λ i. true; left = all_stay s.candidates }
-    go (i ∷ rest) = narrowed_leaves false (picks_variant name) s
+    go (i ∷ rest) = narrow_leaves (picks_variant name) s
 
 -- so no run does
 pub calls_leave : (calls : List CallView) (s : State) → LeavesSome s.candidates (after_calls calls s).candidates

@@ -3,14 +3,14 @@ use Rattle.std.proofs.Common.{◌≡◌, ℕ, zero, suc, ◌+◌, ◌-◌, ◌*�
 use Rattle.std.proofs.lemmas.Bool.{and_left, cases_eq, cases_lt}
 use Rattle.std.proofs.lemmas.List.{get_or_past, get_or-replicate, length-replicate}
 use Rattle.std.proofs.lemmas.Nat.Bits.{bit_at_and, bit_at-zero, bit_at-lt, bit_at_set_same, bit_at_set_other, bit_at_above, bit_at-trailing_zeros}
-use Rattle.std.proofs.lemmas.Nat.{shr_le, and_le_l}
+use Rattle.std.proofs.lemmas.Nat.{shr_le}
 use Rattle.std.specs.Int.{bit_at, trailing_zeros}
 use Rattle.std.specs.List.{range_with_len}
 use Rattle.std.specs.Prelude.{bit_and, bit_or}
 use Rattle.facet_solver.specs.IndexSet.{has, upto}
 use Rattle.facet_solver.specs.SharedBits.{IsNext, IsNextShared, NoneBetween, common_bit, common_from}
 use Rattle.facet_solver.specs.Words.{HoldBelow, IsClearFrom, bit_of, has_bit, members_of}
-use Rattle.facet_solver.proofs.Words.{bit_at-shr, clear_of_zeros, clear_past, next_in_later, not_set, has_members, members_below}
+use Rattle.facet_solver.proofs.Words.{bit_at-shr, clear_of_zeros, clear_past, next_in_later, has_members, members_below}
 use Rattle.facet_solver.proofs.IndexSet.{filter-next, filter_filter, filter_none, filter_same}
 
 -- one bit more
@@ -104,12 +104,6 @@ common_is words others i =
 
 pub common_clear : (words others : List ℕ) (bound : ℕ) → IsClearFrom words bound → (i : ℕ) → bound ≤ i → common_bit words others i ≡ false
 common_clear words others bound clear i high = common_is words others i ∙ and_left (has_bit words i) (has_bit others i) (clear i high)
-
-pub common_past : (words others : List ℕ) (i : ℕ) → length words ≤ i / 64 → common_bit words others i ≡ false
-common_past words others i past = common_is words others i ∙ and_left (has_bit words i) (has_bit others i) (sym (not_set words i past))
-
-pub fits_and : (a b : ℕ) → a < 2 ^ 64 → bit_and a b < 2 ^ 64
-fits_and a b small = let below = and_le_l a b in omega arith
 
 -- those of no index
 pub zeros_clear : (n i : ℕ) → has_bit (replicate n 0) i ≡ false

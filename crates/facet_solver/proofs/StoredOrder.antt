@@ -1,20 +1,13 @@
 -- Fields that stand under their stored keys rise by them, and so do some of them.
-use Rattle.std.proofs.Common.{◌≡◌, Bool, true, false, cond, T, List, [], ◌∷◌, filter, map, refl, ap, sym, subst, ◌∙◌}
-use Rattle.std.specs.declared.cmp.Ordering.{Ordering}
-use Rattle.std.specs.declared.cmp.Ordering.TheVariants.{Less, Equal, Greater}
+use Rattle.std.proofs.Common.{◌≡◌, Bool, true, false, cond, T, List, [], ◌∷◌, filter, map, ap, sym, subst, ◌∙◌}
+use Rattle.std.specs.declared.cmp.Ordering.TheVariants.{Less}
 use Rattle.std.specs.FinMap as finite
 use Rattle.std.specs.FinMap.Entries.{below_all}
 use Rattle.std.specs.List.{AllByRecursion}
 use Rattle.std.specs.List.Sorted.{IsStrictlySortedBy}
-use Rattle.std.specs.Ordering.{is_lt}
 use Rattle.facet_solver_shape.specs.Fields.{FieldView, IsStored, key_of_field}
 use Rattle.facet_solver_shape.specs.Keys.{Key, key_cmp}
-use Rattle.facet_solver_shape.proofs.Resolved.{first_part, second_part}
-
-pub less : (r : Ordering) → T (is_lt r) → r ≡ Less
-less Less h = refl
-less Equal h = absurd h
-less Greater h = absurd h
+use Rattle.facet_solver_shape.proofs.Resolved.{first_part, less, second_part}
 
 -- the keys of fields that are left rise above a key
 above : (p : FieldView → Bool) (key : Key) (es : List (Key × FieldView)) → AllByRecursion IsStored es → T (below_all key_cmp key es)

@@ -12,15 +12,18 @@ use Rattle.std.proofs.lemmas.Bool.{and_from, and_parts, cases_Bool, false≢true
 use Rattle.std.proofs.lemmas.Bool.Decides.{Decides-eqb}
 use Rattle.std.proofs.lemmas.List.Elements.{filter_agree}
 use Rattle.std.proofs.lemmas.Option.{none-some, same_Some, slice_get-get_or, slice_get-map, slice_get_within}
+use Rattle.std.proofs.Math.Bool.{and-true, or-false, or_self_left}
+use Rattle.facet_solver_shape.proofs.Finite.{or_swap}
 use Rattle.facet_solver_shape.specs.Fields.{FieldView, matches}
 use Rattle.facet_solver_shape.specs.Keys.{Key, key_cmp}
 use Rattle.facet_solver_shape.specs.Resolved.{description, Resolved}
 use Rattle.facet_solver_shape.proofs.Keys.{key_cmp_same}
 use Rattle.facet_solver.specs.Choice.{IsResolution, ListsChoices}
 use Rattle.facet_solver.specs.IndexSet.{has, how_many, upto}
-use Rattle.facet_solver.specs.KeyResult.{by_number, distinct_fields, key_result, unknown}
+use Rattle.facet_solver.specs.KeyResult.{by_number, distinct_fields, key_result, of_fields, unknown}
 use Rattle.facet_solver.specs.Schema.{IsOwnBuild, SchemaView}
-use Rattle.facet_solver.specs.State.{State, has_key, is_known, mark_seen, narrowed, new_solver, or_all, passes, passing, see_key, state_of}
+use Rattle.facet_solver.specs.State.{State, mark_seen, narrow, new_solver, or_all, passing, retain, see_key, state_of}
+use Rattle.facet_solver.specs.Resolutions.{has_key, is_known, passes}
 use Rattle.facet_solver.specs.Told.{accept, accepted_keys, EndsWithOrNames, has_keys, HasAllKnown, HaveSameKeys, indices_with, known_keys, see_keys, LeavesSome, TellsChoice}
 use Rattle.facet_solver.specs.Verdict.{is_viable, viable}
 use Rattle.facet_solver.proofs.Choice.{one_list, resolution-one}
@@ -136,10 +139,6 @@ none_of_both key before (r ∷ rs) h =
     let parts = or_parts (has_key key r) (list_any (has_key key) rs) h in
     ap (λ b. (b && has_keys before r) || list_any (has_keys (key ∷ before)) rs) parts.0 ∙ none_of_both key before rs parts.1
 
-and_true : (b : Bool) → b ≡ (b && true)
-and_true true = refl
-and_true false = refl
-
 regrouped : (a b c : Bool) → ((a && b) && c) ≡ (b && (a && c))
 regrouped true true c = refl
 regrouped true false c = refl
@@ -150,7 +149,7 @@ module _ (rs : List Resolved) (index : ℕ) (r : Resolved) (at : slice_get rs in
   -- where one resolution has all known keys, they are the accepted ones
   accepted_known : (keys before : List Key) → has_keys before r ≡ true → has_keys (known_keys rs keys) r ≡ true
       → (q : Resolved) → has_keys (fold (accept rs) before keys) q ≡ (has_keys before q && has_keys (known_keys rs keys) q)
-  accepted_known [] before has_before has_known q = and_true (has_keys before q)
+  accepted_known [] before has_before has_known q = sym (and-true (has_keys before q))
   accepted_known (key ∷ keys) before has_before has_known q =
       let later = known_keys rs keys in
       ⊎_elim
@@ -233,18 +232,6 @@ alike rs keys others same q =
     (λ h. has_known rs keys q (λ key at known. known_has rs others q h key (same.in_others key at) known))
 
 -- ---- keys that are seen
-swap_or : (a b c : Bool) → (a || (b || c)) ≡ (b || (a || c))
-swap_or true true c = refl
-swap_or true false c = refl
-swap_or false b c = refl
-
-or_same : (a b : Bool) → (a || b) ≡ (a || (a || b))
-or_same true b = refl
-or_same false b = refl
-
-or_false : (b : Bool) → (b || false) ≡ b
-or_false true = refl
-or_false false = refl
 
 module _ (p : Key → Bool) where
   -- a key is put in, and is one more
@@ -255,8 +242,8 @@ module _ (p : Key → Bool) where
       go : (o : Ordering) → key_cmp k x ≡ o → list_any p (insert_key key_cmp xs k) ≡ (p k || list_any p xs)
           → list_any p (match_ordering o (k ∷ x ∷ xs) (x ∷ xs) (x ∷ insert_key key_cmp xs k)) ≡ (p k || (p x || list_any p xs))
       go Less is later = refl
-      go Equal is later = or_same (p x) (list_any p xs) ∙ ap (λ (y : Key). p y || (p x || list_any p xs)) (sym (key_cmp_same k x is))
-      go Greater is later = ap (λ b. p x || b) later ∙ swap_or (p x) (p k) (list_any p xs)
+      go Equal is later = sym (or_self_left (p x) (list_any p xs)) ∙ ap (λ (y : Key). p y || (p x || list_any p xs)) (sym (key_cmp_same k x is))
+      go Greater is later = ap (λ b. p x || b) later ∙ or_swap (p x) (p k) (list_any p xs)
 
   -- so the seen keys are those that were seen before and those that are told
   all_put : (keys : List Key) (s : State) → list_any p (see_keys keys s).seen ≡ (list_any p keys || list_any p s.seen)
@@ -273,7 +260,7 @@ module _ (p : Key → Bool) where
       grouped false false c = refl
 
   told : (schema : SchemaView) (keys : List Key) → list_any p (see_keys keys (new_solver schema)).seen ≡ list_any p keys
-  told schema keys = all_put keys (new_solver schema) ∙ or_false (list_any p keys)
+  told schema keys = all_put keys (new_solver schema) ∙ or-false (list_any p keys)
 
 -- a resolution is viable by the told keys where it is by the seen ones
 pub viable_told : (schema : SchemaView) (keys : List Key) (r : Resolved) → is_viable (see_keys keys (new_solver schema)).seen r ≡ is_viable keys r
@@ -414,10 +401,13 @@ some_or_all : (p : ℕ → Bool) (is some : List ℕ) → some ≡ filter p is �
 some_or_all p is [] same = ((λ i. true), all_stay is)
 some_or_all p is (i ∷ some) same = (p, same)
 
--- nothing is added by narrowing
-pub narrowed_leaves : (may_be_none : Bool) (test : Resolved → Bool) (s : State) → LeavesSome s.candidates (narrowed may_be_none test s).candidates
-narrowed_leaves true test s = record { stays = passes test s.schema.resolutions; left = refl }
-narrowed_leaves false test s =
+-- nothing is added where only those stay that pass
+pub retain_leaves : (test : Resolved → Bool) (s : State) → LeavesSome s.candidates (retain test s).candidates
+retain_leaves test s = record { stays = passes test s.schema.resolutions; left = refl }
+
+-- nor where all stay if none does
+pub narrow_leaves : (test : Resolved → Bool) (s : State) → LeavesSome s.candidates (narrow test s).candidates
+narrow_leaves test s =
     let some = some_or_all (passes test s.schema.resolutions) s.candidates (passing test s) refl in
     record { stays = some.0; left = some.1 }
 
@@ -426,4 +416,4 @@ pub unknown_seen : (key : Key) (s : State) → passing (has_key key) s ≡ [] �
 unknown_seen key s none = ap (λ is. record (mark_seen key s) { candidates = or_all is s.candidates }) none
 
 pub unknown_answered : (key : Key) (s : State) → passing (has_key key) s ≡ [] → key_result key s ≡ unknown
-unknown_answered key s none = ap (λ is. by_number (distinct_fields key s.schema s.candidates) (how_many is)) none
+unknown_answered key s none = ap (λ is. by_number (of_fields (distinct_fields key s.schema s.candidates)) (how_many is)) none

@@ -1,16 +1,17 @@
 -- An index while the fields of a resolution are added.
-use Rattle.std.proofs.Common.{◌≡◌, ℕ, zero, suc, ◌+◌, ◌<◌, List, [], ◌∷◌, ◌++◌, map, length, get_or, take, append_assoc, append-nil, refl, ap, sym, ◌∙◌, subst, arith}
+use Rattle.std.proofs.Common.{◌≡◌, ℕ, zero, suc, ◌+◌, ◌<◌, List, [], ◌∷◌, ◌++◌, length, get_or, take, append_assoc, append-nil, refl, ap, sym, ◌∙◌, subst, arith}
 use Rattle.std.proofs.lemmas.Option.{slice_get-get_or}
 use Rattle.std.specs.Prelude.{if◌then◌else◌, Some, slice_get}
 use Rattle.std.specs.FinMap as finite
 use Rattle.std.specs.Option.{option_map_or}
 use Rattle.facet_solver_shape.specs.declared.resolution.key.FieldKey.{FieldKey}
-use Rattle.facet_solver_shape.specs.Fields.{entry_view, FieldView}
+use Rattle.facet_solver_shape.specs.Fields.{FieldView}
 use Rattle.facet_solver_shape.specs.Resolved.{Resolved}
 use Rattle.facet_solver.specs.IndexEntries.{added, entry_at}
 use Rattle.facet_solver.specs.Indexed.{IsIndexOf, fields_of_each}
 use Rattle.facet_solver.specs.Slots.{Slot, is_at}
 use Rattle.facet_solver.specs.declared.schema.index.Index.{Index}
+use Rattle.facet_solver_shape.proofs.Fields.{fields_of}
 use Rattle.facet_solver.proofs.Indexing.{index_more, index_same}
 
 -- the fields of the resolution of a number
@@ -34,18 +35,14 @@ each_more (r ∷ resolutions) (suc i) within =
     let e : suc i + 1 ≡ suc (i + 1) = omega arith in
     rw e (ap (λ lists. finite.values r.fields ∷ lists) (each_more resolutions i (omega arith)))
 
--- the fields of entries
-abbrev pub fields_in : List (FieldKey × FieldView) → List FieldView
-fields_in es = map (λ e. e.1) (map entry_view es)
-
 -- some of the fields of a resolution were added after those of the resolutions before it, and the others are still to come
 pub record IsUnderWay (bound : ℕ) (before : List (List FieldView)) (fields : List FieldView) (rest : List (FieldKey × FieldView)) (index : Index) : Type 0 where
   pub seen : List FieldView
-  pub parts : seen ++ fields_in rest ≡ fields
+  pub parts : seen ++ fields_of rest ≡ fields
   pub indexed : IsIndexOf bound (before ++ seen ∷ []) index
 
 -- none yet
-pub way_start : (bound : ℕ) (before : List (List FieldView)) (fields : List FieldView) (rest : List (FieldKey × FieldView)) (index : Index) → fields_in rest ≡ fields → IsIndexOf bound before index
+pub way_start : (bound : ℕ) (before : List (List FieldView)) (fields : List FieldView) (rest : List (FieldKey × FieldView)) (index : Index) → fields_of rest ≡ fields → IsIndexOf bound before index
     → IsUnderWay bound before fields rest index
 way_start bound before fields rest index all is = record { seen = []; parts = all; indexed = index_same bound before index is }
 
@@ -57,7 +54,7 @@ pub way_more : (bound : ℕ) (before : List (List FieldView)) (fields : List Fie
     → IsUnderWay bound before fields rest new
 way_more bound before fields key f rest old new i count within way step = record {
   seen = way.seen ++ f ∷ [];
-  parts = append_assoc way.seen (f ∷ []) (fields_in rest) ∙ way.parts;
+  parts = append_assoc way.seen (f ∷ []) (fields_of rest) ∙ way.parts;
   indexed = index_more bound before way.seen f old new (rw count within) way.indexed (rw count step);
 }
 

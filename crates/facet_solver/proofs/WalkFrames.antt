@@ -1,6 +1,6 @@
 -- The loop of the walk: what lies on its stack has the effect of the whole walk.
 use Rattle.std.proofs.Common.{◌≡◌, ℕ, suc, ◌+◌, ◌<◌, ◌≤◌, List, [], ◌∷◌, ◌++◌, Option, Some, None, sym, refl, ap, ◌∙◌, subst, length, take, reverse, append_assoc, append-nil, arith, true, IsSome, slice_get, take-take, take_all, length-take}
-use Rattle.std.specs.Prelude.{⊤, IfSome, IsErrAnd, OnOk, Result, Ok, Err}
+use Rattle.std.specs.Prelude.{IfSome, IsErrAnd, OnOk, Result, Ok, Err}
 use Rattle.std.proofs.Math.Seq.{take-append_seam}
 use Rattle.std.proofs.lemmas.List.{reverse-append, take-append-le}
 use Rattle.std.proofs.lemmas.Result.{err_from_is_err_and}

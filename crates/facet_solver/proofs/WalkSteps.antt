@@ -105,11 +105,6 @@ module _ (build : Build) (checked : NamesEarlier build.catalogue) where
   unfolding walk_within
   walk-step n fs = refl
 
-  -- the walk of fields, by that of what is flattened into them
-  pub walk_step : (fs : List Field) (place : Path) (ns : List ℕ) → FieldsBelow (length build.catalogue) fs → walk_fields build fs place ns ≡ walk_fields_step (walk_fields build) build fs place ns
-  unfolding walk_fields
-  walk_step fs place ns b = ap (λ (w : Path → Walking). w place ns) (one_step (λ below gs. walk_fields_step below build gs) (λ n gs. walk_within n build gs) walk-step walk-local (length build.catalogue) fs b)
-
 -- ---- on a checked catalogue the walk and the count of any fields are their own steps, whatever the fields name
 module _ (build : Build) (checked : NamesEarlier build.catalogue) where
   -- a role has nothing below it, or what is below it stands before some shape

@@ -1,10 +1,11 @@
 -- What a build goes by: a catalogue, which is a list of shapes, each named by its index, and its
 -- rules.
-use Rattle.std.specs.Prelude.{ℕ, List, Option, Some, None, slice_get}
-use Rattle.std.specs.Option.{unwrap_or}
+use Rattle.std.specs.Prelude.{ℕ, List, [], Option, Some, None, slice_get, string_bytes}
+use Rattle.std.specs.Option.{option_map_or, unwrap_or}
 use Rattle.facet_solver_shape.specs.declared.shape.Shape.{Shape}
 use Rattle.facet_solver_shape.specs.declared.shape.ShapeKind.{ShapeKind}
 use Rattle.facet_solver_shape.specs.declared.shape.ShapeKind.TheVariants.{Other}
+use Rattle.facet_solver_shape.specs.Names.{Name}
 use Rattle.facet_solver.specs.declared.build.Build as code
 use Rattle.facet_solver.specs.declared.build.representation.Format.{Format}
 use Rattle.facet_solver.specs.Representation.{Repr, asked_view, repr_of_shape}
@@ -21,6 +22,10 @@ kind_of (Some s) = s.kind
 -- the kind of the shape at an index
 abbrev pub kind_at : Catalogue → ℕ → ShapeKind
 kind_at cat id = kind_of (slice_get cat id)
+
+-- the type identifier of the shape at an index, and the empty one where there is none
+abbrev pub type_identifier : Catalogue → ℕ → Name
+type_identifier cat id = option_map_or (λ s. string_bytes s.type_identifier) (slice_get cat id) []
 
 -- a catalogue, one representation for all flattened enums or else each enum's own, and the kind of
 -- document

@@ -8,7 +8,8 @@ use Rattle.facet_solver_shape.specs.Fields.{FieldView}
 use Rattle.facet_solver_shape.specs.Keys.{Key}
 use Rattle.facet_solver_shape.specs.Names.{Name}
 use Rattle.facet_solver_shape.specs.Resolved.{Resolved, field_by_name}
-use Rattle.facet_solver.specs.Failure.{has_field_named, in_byte_order, names_where}
+use Rattle.facet_solver.specs.Failure.{in_byte_order, names_where}
+use Rattle.facet_solver.specs.Resolutions.{has_field_named}
 
 -- the names of keys
 abbrev pub names_among : List Key → set.FinSet (slice_cmp nat_cmp)

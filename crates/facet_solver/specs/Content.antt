@@ -1,36 +1,15 @@
--- Effective shapes, and the content of a variant, which goes by them.
-use Rattle.std.specs.Prelude.{ℕ, zero, suc, Bool, List, Option, Some, None, slice_get, length, if◌then◌else◌, [], ◌∷◌, string_bytes, codes, ◌≡◌, ◌<◌, IsSome}
-use Rattle.std.specs.Option.{option_or}
-use Rattle.facet_solver_shape.specs.declared.shape.Shape.{Shape}
+-- The content of a variant, which goes by effective shapes.
+use Rattle.std.specs.Prelude.{ℕ, Bool, List, Option, Some, None, if◌then◌else◌, [], ◌∷◌, string_bytes, codes, ◌≡◌, ◌<◌, IsSome}
 use Rattle.facet_solver_shape.specs.declared.shape.ShapeKind.{ShapeKind}
 use Rattle.facet_solver_shape.specs.declared.shape.ShapeKind.TheVariants.{Struct}
 use Rattle.facet_solver_shape.specs.declared.shape.Field.{Field}
 use Rattle.facet_solver_shape.specs.declared.shape.Variant.{Variant}
 use Rattle.facet_solver_shape.specs.Names.{Name}
 use Rattle.facet_solver_shape.specs.Paths.{Step, by_field}
-use Rattle.facet_solver.specs.Build.{Catalogue, kind_at}
 use Rattle.facet_solver_shape.specs.Catalogues.{FieldsBelow}
+use Rattle.facet_solver_shape.specs.EffectiveShapes.{effective}
+use Rattle.facet_solver.specs.Build.{Catalogue, kind_at}
 use Rattle.std.specs.Str.{bytes_eq}
-
--- where the effective shape is sought next: `inner` before `proxy`
-abbrev pub next_inside : Option Shape → Option ℕ
-next_inside None = None
-next_inside (Some s) = option_or s.inner s.proxy
-
--- from one index on to the next, if there is one
-abbrev pub go_on : (ℕ → ℕ) → ℕ → Option ℕ → ℕ
-go_on below id None = id
-go_on below id (Some next) = below next
-
--- the effective shape, at most n steps away
-abbrev pub effective_within : ℕ → Catalogue → ℕ → ℕ
-effective_within zero cat id = id
-effective_within (suc n) cat id = go_on (effective_within n cat) id (next_inside (slice_get cat id))
-
--- the effective shape: `inner` is followed to its end, then `proxy`, and again from there. Both
--- name earlier shapes, so no chain is longer than the catalogue
-abbrev pub effective : Catalogue → ℕ → ℕ
-effective cat id = effective_within (length cat) cat id
 
 -- the fields of a struct
 abbrev pub struct_fields : ShapeKind → Option (List Field)

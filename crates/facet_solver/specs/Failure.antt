@@ -1,19 +1,18 @@
 -- Why a resolution is not the answer: what it lacks, and which seen keys mean nothing in it.
-use Rattle.std.specs.Prelude.{ℕ, Bool, ◌||◌, List, [], ◌∷◌, filter, map, not, slice_get, string_bytes}
+use Rattle.std.specs.Prelude.{Bool, ◌||◌, List, [], ◌∷◌, filter, map, not}
 use Rattle.std.specs.BTreeSet.{insert_key}
 use Rattle.std.specs.Cmp.Lexicographic.{slice_cmp}
 use Rattle.std.specs.FinMap as finite
 use Rattle.std.specs.List.{list_any}
-use Rattle.std.specs.Option.{option_map_or}
 use Rattle.std.specs.Ordering.{nat_cmp}
-use Rattle.facet_solver_shape.specs.Fields.{has_name, matches, FieldView}
+use Rattle.facet_solver_shape.specs.Fields.{matches, FieldView}
 use Rattle.facet_solver_shape.specs.Keys.{Key}
 use Rattle.facet_solver_shape.specs.Names.{Name}
 use Rattle.facet_solver_shape.specs.Paths.{path_text}
 use Rattle.facet_solver_shape.specs.Resolved.{description, Resolved}
-use Rattle.facet_solver.specs.Build.{Catalogue}
+use Rattle.facet_solver.specs.Build.{Catalogue, type_identifier}
 use Rattle.facet_solver.specs.Report.{FailureView, MissingView}
-use Rattle.facet_solver.specs.State.{has_key}
+use Rattle.facet_solver.specs.Resolutions.{has_key}
 
 -- some names in byte order, each once
 abbrev pub in_byte_order : List Name → List Name
@@ -24,10 +23,6 @@ in_byte_order (name ∷ names) = insert_key (slice_cmp nat_cmp) (in_byte_order n
 abbrev pub names_where : (Key → Bool) → List Key → List Name
 names_where test seen = map (λ k. k.name) (filter test seen)
 
--- whether a resolution has a field of the name
-abbrev pub has_field_named : Name → Resolved → Bool
-has_field_named name r = list_any (has_name name) (finite.values r.fields)
-
 -- whether the seen keys meet a field: it is not required, or one of them matches it
 abbrev pub is_met : List Key → FieldView → Bool
 is_met seen f = not f.is_required || list_any (λ key. matches key f) seen
@@ -35,11 +30,6 @@ is_met seen f = not f.is_required || list_any (λ key. matches key f) seen
 -- what a resolution lacks: its fields that are not met, by stored key
 abbrev pub missing : List Key → Resolved → List FieldView
 missing seen r = filter (λ f. not (is_met seen f)) (finite.values r.fields)
-
--- the type identifier of a shape
-abbrev pub type_identifier : Catalogue → ℕ → Name
-type_identifier catalogue shape =
-    option_map_or (λ s. string_bytes s.type_identifier) (slice_get catalogue shape) []
 
 -- what is told of a field that a resolution lacks
 abbrev pub missing_field : Catalogue → FieldView → MissingView

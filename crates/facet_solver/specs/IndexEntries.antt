@@ -34,15 +34,6 @@ category_of index Text = index.texts
 category_of index Tag = index.tags
 category_of index Elements = index.lists
 
--- with other entries for a category
-abbrev pub with_category : Index → FieldCategory → CategoryIndex → Index
-with_category index Flat t = record index { flat = t }
-with_category index Attribute t = record index { attributes = t }
-with_category index Element t = record index { elements = t }
-with_category index Text t = record index { texts = t }
-with_category index Tag t = record index { tags = t }
-with_category index Elements t = record index { lists = t }
-
 -- the entry of a slot
 abbrev pub entry_at : Index → Slot → Option Entry
 entry_at index slot = entry_in (category_of index slot.category) slot.name

@@ -66,7 +66,10 @@ abbrev pub IsOfFormat : Format → FieldCategory → Type 0
 IsOfFormat Flat category = category ≡ FlatCategory
 IsOfFormat Dom category = category ≢ FlatCategory
 
--- the fields of each resolution are of the format
+-- the fields of a resolution are of the format
+abbrev pub HasFormat : Format → Resolved → Type 0
+HasFormat format r = All (λ f. IsOfFormat format f.category) (finite.values r.fields)
+
+-- the fields of each resolution are
 abbrev pub AreOfFormat : Format → List Resolved → Type 0
-AreOfFormat format resolutions =
-    All (λ r. All (λ f. IsOfFormat format f.category) (finite.values r.fields)) resolutions
+AreOfFormat format resolutions = All (HasFormat format) resolutions

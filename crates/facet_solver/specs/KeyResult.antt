@@ -1,18 +1,20 @@
 -- What a solver answers to a key.
-use Rattle.std.specs.Prelude.{◌≡◌, ℕ, List, [], ◌∷◌, Option, filter, map, nat_eq, not, slice_get, string_bytes, ⊤}
+use Rattle.std.specs.Prelude.{◌≡◌, ℕ, List, [], ◌∷◌, map, ⊤}
 use Rattle.std.specs.List.{filter_map}
-use Rattle.std.specs.Option.{ForSome, option_and_then, option_map_or}
+use Rattle.std.specs.Option.{ForSome}
 use denote.Bor.{Bor}
 use Rattle.facet_solver_shape.specs.Keys.{Key}
 use Rattle.facet_solver_shape.specs.Fields.{FieldView}
-use Rattle.facet_solver_shape.specs.Resolved.{Resolved, field_by_key}
+use Rattle.facet_solver_shape.specs.Resolved.{Resolved}
 use Rattle.facet_solver_shape.specs.Scores.{score_of}
 use Rattle.facet_solver.specs.declared.solver.key_result.KeyResult.{KeyResult}
 use Rattle.facet_solver.specs.declared.solver.key_result.KeyResult.TheVariants.{Unambiguous, Ambiguous, Solved, Unknown}
 use Rattle.facet_solver.specs.Schema.{index_of, IsHandleOf, SchemaView}
 use Rattle.facet_solver.specs.IndexSet.{HowMany, no_index, one_index, several_indices, how_many}
-use Rattle.facet_solver.specs.State.{State, has_key, passing}
-use Rattle.facet_solver.specs.Build.{Catalogue}
+use Rattle.facet_solver.specs.State.{State, passing}
+use Rattle.facet_solver.specs.Resolutions.{field_at, has_key}
+use Rattle.facet_solver.specs.Build.{Catalogue, type_identifier}
+use Rattle.facet_solver.specs.FirstOfEach.{first_of_each}
 
 -- no candidate has the key; one is left; the value has one shape; or it has one of several, each
 -- shown by a field with the score of the shape
@@ -50,16 +52,11 @@ HoldsHandleOf schema Unknown = ⊤
 -- the score of a shape. One that is not there scores as a shape of any name without a score of its
 -- own
 abbrev pub score_at : Catalogue → ℕ → ℕ
-score_at cat id =
-    option_map_or (λ s. score_of (string_bytes s.type_identifier)) (slice_get cat id) (score_of [])
+score_at cat id = score_of (type_identifier cat id)
 
 -- a field with the score of its shape
 abbrev pub with_score : Catalogue → FieldView → FieldView × ℕ
 with_score cat f = (f, score_at cat f.shape)
-
--- the field that a key means in the resolution at an index
-abbrev pub field_at : Key → List Resolved → ℕ → Option FieldView
-field_at key resolutions index = option_and_then (field_by_key key) (slice_get resolutions index)
 
 -- each field that a key means in some resolutions has the shape
 abbrev pub HaveShape : ℕ → Key → List Resolved → Type 0
@@ -71,30 +68,25 @@ HaveShape shape key resolutions =
 abbrev pub fields_by_key : Key → List Resolved → List ℕ → List FieldView
 fields_by_key key resolutions indices = filter_map (field_at key resolutions) indices
 
--- the first field of each shape
-abbrev pub first_of_each_shape : List FieldView → List FieldView
-first_of_each_shape [] = []
-first_of_each_shape (f ∷ fs) =
-    f ∷ filter (λ g. not (nat_eq g.shape f.shape)) (first_of_each_shape fs)
-
 -- of the fields that a key means, the first of each shape, with the score of the shape
 abbrev pub distinct_fields : Key → SchemaView → List ℕ → List (FieldView × ℕ)
 distinct_fields key schema indices =
     map (with_score schema.build.catalogue)
-    (first_of_each_shape (fields_by_key key schema.resolutions indices))
+    (first_of_each (λ f. f.shape) (fields_by_key key schema.resolutions indices))
 
 -- fields of different shapes: one says what the value is, more do not
 abbrev pub of_fields : List (FieldView × ℕ) → KeyResultView
 of_fields (e ∷ []) = unambiguous e.0.shape
 of_fields es = ambiguous es
 
--- by how many candidates have the key
-abbrev pub by_number : List (FieldView × ℕ) → HowMany → KeyResultView
-by_number fields no_index = unknown
-by_number fields (one_index index) = solved index
-by_number fields several_indices = of_fields fields
+-- by how many candidates there are: where there are several, an answer is given for them
+abbrev pub by_number : KeyResultView → HowMany → KeyResultView
+by_number several no_index = unknown
+by_number several (one_index index) = solved index
+by_number several several_indices = several
 
--- the answer to a key
+-- the answer to a key, by how many candidates have it
 abbrev pub key_result : Key → State → KeyResultView
 key_result key s =
-    by_number (distinct_fields key s.schema s.candidates) (how_many (passing (has_key key) s))
+    by_number (of_fields (distinct_fields key s.schema s.candidates))
+    (how_many (passing (has_key key) s))

@@ -21,9 +21,11 @@ pub mod Outcome
 pub mod IndexSet
 pub mod Words
 pub mod SharedBits
+pub mod Resolutions
 pub mod Schema
 pub mod KeyPath
 pub mod State
+pub mod FirstOfEach
 pub mod KeyResult
 pub mod SatisfyResult
 pub mod Reached
@@ -49,6 +51,7 @@ pub use Rattle.facet_solver_shape.specs.Names
 pub use Rattle.facet_solver_shape.specs.Scalars
 pub use Rattle.facet_solver_shape.specs.Catalogues
 pub use Rattle.facet_solver_shape.specs.Pointers
+pub use Rattle.facet_solver_shape.specs.EffectiveShapes
 pub use Rattle.facet_solver_shape.specs.Paths
 pub use Rattle.facet_solver_shape.specs.Keys
 pub use Rattle.facet_solver_shape.specs.Fields

@@ -6,7 +6,8 @@ use Rattle.facet_solver_shape.specs.Fields.{FieldView, matches}
 use Rattle.facet_solver_shape.specs.Keys.{Key}
 use Rattle.facet_solver_shape.specs.Resolved.{Resolved}
 use Rattle.facet_solver.specs.Schema.{SchemaView}
-use Rattle.facet_solver.specs.State.{has_key, new_solver}
+use Rattle.facet_solver.specs.State.{new_solver}
+use Rattle.facet_solver.specs.Resolutions.{has_key}
 use Rattle.facet_solver.specs.Told.{see_keys}
 use Rattle.facet_solver.specs.Verdict.{viable}
 

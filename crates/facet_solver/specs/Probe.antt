@@ -1,21 +1,23 @@
 -- What a solver does with a key that stands at a path of names, and what it answers.
-use Rattle.std.specs.Prelude.{ℕ, List, [], ◌∷◌, Option, None, filter, map, slice_get, true}
+use Rattle.std.specs.Prelude.{ℕ, List, [], ◌∷◌, Option, None, filter, map, slice_get}
 use Rattle.std.specs.List.{filter_map}
 use Rattle.std.specs.Option.{option_and_then, option_map}
 use Rattle.facet_solver_shape.specs.Fields.{FieldView}
 use Rattle.facet_solver_shape.specs.Names.{Name}
 use Rattle.facet_solver_shape.specs.Resolved.{Resolved, field_by_name}
 use Rattle.facet_solver.specs.Build.{Catalogue}
+use Rattle.facet_solver.specs.FirstOfEach.{first_of_each}
 use Rattle.facet_solver.specs.KeyPath.{has_key_at, has_key_path, whole_path}
-use Rattle.facet_solver.specs.IndexSet.{HowMany, no_index, one_index, several_indices, how_many}
-use Rattle.facet_solver.specs.KeyResult.{KeyResultView, unknown, solved, unambiguous, ambiguous, score_at}
+use Rattle.facet_solver.specs.IndexSet.{how_many}
+use Rattle.facet_solver.specs.KeyResult.{KeyResultView, unknown, unambiguous, ambiguous, by_number, score_at}
 use Rattle.facet_solver.specs.Schema.{SchemaView}
-use Rattle.facet_solver.specs.ShapeAtPath.{first_of_each, shape_below}
-use Rattle.facet_solver.specs.State.{State, narrowed, passes}
+use Rattle.facet_solver.specs.ShapeAtPath.{shape_below}
+use Rattle.facet_solver.specs.State.{State, retain}
+use Rattle.facet_solver.specs.Resolutions.{passes}
 
 -- only the candidates stay that have the whole path of the key
 abbrev pub probe_key : List Name → Name → State → State
-probe_key path key s = narrowed true (has_key_at path key) s
+probe_key path key s = retain (has_key_at path key) s
 
 -- the names of a path below the first
 abbrev pub below_first : List Name → List Name
@@ -69,13 +71,7 @@ by_shapes cat [] = unknown
 by_shapes cat (e ∷ []) = unambiguous e.1
 by_shapes cat es = ambiguous (map (scored cat) es)
 
--- by how many candidates are left
-abbrev pub by_number : KeyResultView → HowMany → KeyResultView
-by_number several no_index = unknown
-by_number several (one_index index) = solved index
-by_number several several_indices = several
-
--- the answer to a key at a path, by the candidates that are left
+-- the answer to a key at a path, by how many candidates are left
 abbrev pub probe_result : List Name → Name → State → KeyResultView
 probe_result path key s =
     let cat = s.schema.build.catalogue in

@@ -1,14 +1,16 @@
 -- The shape of a resolution at a path of names, and what calls that go by it leave of a state.
-use Rattle.std.specs.Prelude.{ℕ, Bool, List, [], ◌∷◌, Option, Some, None, filter, find, nat_eq, not, slice_get, true, false}
-use Rattle.std.specs.List.{filter_map, list_any}
+use Rattle.std.specs.Prelude.{ℕ, Bool, List, [], ◌∷◌, Option, Some, None, find, slice_get, false}
+use Rattle.std.specs.List.{filter_map}
 use Rattle.std.specs.Option.{option_and_then, option_map, option_map_or}
 use Rattle.facet_solver_shape.specs.declared.shape.Field.{Field}
 use Rattle.facet_solver_shape.specs.Names.{Name, effective_name, name_eq}
 use Rattle.facet_solver_shape.specs.Resolved.{Resolved, field_by_name}
 use Rattle.facet_solver.specs.Build.{Catalogue, kind_at}
 use Rattle.facet_solver.specs.Content.{struct_fields}
+use Rattle.facet_solver.specs.FirstOfEach.{first_of_each}
+use Rattle.facet_solver.specs.IndexSet.{has}
 use Rattle.facet_solver.specs.Schema.{SchemaView}
-use Rattle.facet_solver.specs.State.{State, narrowed}
+use Rattle.facet_solver.specs.State.{State, retain}
 
 -- the shape of the first field that goes by a name
 abbrev pub shape_of_field : Name → List Field → Option ℕ
@@ -35,24 +37,17 @@ shape_at_path cat (name ∷ path) r =
 -- whether the shape of a resolution at a path is one of some shapes
 abbrev pub has_shape_at_path : Catalogue → List Name → List ℕ → Resolved → Bool
 has_shape_at_path cat path shapes r =
-    option_map_or (λ shape. list_any (λ id. nat_eq id shape) shapes)
-    (shape_at_path cat path r) false
+    option_map_or (has shapes) (shape_at_path cat path r) false
 
 -- only the candidates stay whose shape at the path is one of the shapes
 abbrev pub satisfy_at_path : List Name → List ℕ → State → State
 satisfy_at_path path shapes s =
-    narrowed true (has_shape_at_path s.schema.build.catalogue path shapes) s
+    retain (has_shape_at_path s.schema.build.catalogue path shapes) s
 
 -- the shape at a path of the resolution at an index
 abbrev pub shape_at : Catalogue → List Name → List Resolved → ℕ → Option ℕ
 shape_at cat path resolutions index =
     option_and_then (shape_at_path cat path) (slice_get resolutions index)
-
--- of some items with shapes the first of each shape
-abbrev pub first_of_each : {X : Type 0} → (X → ℕ) → List X → List X
-first_of_each shape_of [] = []
-first_of_each shape_of (x ∷ xs) =
-    x ∷ filter (λ y. not (nat_eq (shape_of y) (shape_of x))) (first_of_each shape_of xs)
 
 -- some shapes, each once
 abbrev pub distinct : List ℕ → List ℕ

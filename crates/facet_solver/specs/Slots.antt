@@ -3,8 +3,8 @@ use Rattle.std.specs.Prelude.{Bool, ◌&&◌, if◌then◌else◌, List, [], ◌
 use Rattle.facet_solver_shape.specs.declared.resolution.key.FieldCategory.{FieldCategory}
 use Rattle.facet_solver_shape.specs.declared.resolution.key.FieldCategory.TheVariants.{Flat as FlatCategory, Attribute, Element, Text, Tag, Elements}
 use Rattle.facet_solver_shape.specs.Keys.{Key}
-use Rattle.facet_solver_shape.specs.Fields.{category_eq, is_unnamed, takes_any_name, FieldView}
-use Rattle.facet_solver_shape.specs.Names.{Name, name_eq}
+use Rattle.facet_solver_shape.specs.Fields.{category_eq, has_name, is_unnamed, takes_any_name, FieldView}
+use Rattle.facet_solver_shape.specs.Names.{Name}
 use Rattle.facet_solver.specs.declared.build.representation.Format.{Format}
 use Rattle.facet_solver.specs.declared.build.representation.Format.TheVariants.{Flat, Dom}
 
@@ -24,7 +24,7 @@ slot_in name category = record { category = category; name = Some name }
 -- whether a field goes by the name, or by any
 abbrev pub is_named : Option Name → FieldView → Bool
 is_named None f = takes_any_name f.category
-is_named (Some name) f = name_eq name f.name
+is_named (Some name) f = has_name name f
 
 -- whether a field stands in a slot
 abbrev pub is_at : Slot → FieldView → Bool

@@ -1,10 +1,10 @@
 -- States of a solver, and what calls leave of them.
-use Rattle.std.specs.Prelude.{ℕ, Bool, List, [], ◌∷◌, ◌&&◌, Option, Some, None, filter, if◌then◌else◌, is_some, length, map, nat_eq, refl, slice_get, string_bytes, true, false}
+use Rattle.std.specs.Prelude.{ℕ, Bool, List, [], ◌∷◌, ◌&&◌, Option, Some, None, filter, length, map, refl, slice_get, string_bytes, false}
 use Rattle.std.specs.BTreeSet.{insert_key}
 use Rattle.std.specs.Coded.{Coded, code_by, coded×, coded_ℕ, coded_list}
 use Rattle.std.specs.FinMap as finite
 use Rattle.std.specs.List.{list_any}
-use Rattle.std.specs.Option.{option_and_then, option_map_or}
+use Rattle.std.specs.Option.{option_map_or}
 use denote.Bor.{Bor}
 use Rattle.std.specs.declared.alloc.Global.{Global}
 use Rattle.std.specs.declared.string.String.{String}
@@ -12,10 +12,11 @@ use Rattle.facet_solver_shape.specs.declared.shape.Shape.{Shape}
 use Rattle.facet_solver_shape.specs.Keys.{Key, key_cmp}
 use Rattle.facet_solver_shape.specs.Fields.{FieldView}
 use Rattle.facet_solver_shape.specs.Names.{Name, name_eq}
-use Rattle.facet_solver_shape.specs.Resolved.{Resolved, field_by_key}
+use Rattle.facet_solver_shape.specs.Resolved.{Resolved}
 use Rattle.facet_solver_shape.specs.ResolvedCode.{key_code}
 use Rattle.facet_solver.specs.Build.{Catalogue}
-use Rattle.facet_solver.specs.IndexSet.{upto}
+use Rattle.facet_solver.specs.IndexSet.{has, upto}
+use Rattle.facet_solver.specs.Resolutions.{has_key, passes}
 use Rattle.facet_solver.specs.Schema.{SchemaView, schema_code}
 
 -- a schema, the candidates, which are the resolutions of it that are left, by their indices, and
@@ -33,15 +34,6 @@ state_of schema candidates = record { schema = schema; candidates = candidates; 
 abbrev pub new_solver : SchemaView → State
 new_solver schema = state_of schema (upto (length schema.resolutions))
 
--- whether the resolution at an index passes a test
-abbrev pub passes : (Resolved → Bool) → List Resolved → ℕ → Bool
-passes test resolutions index = option_map_or test (slice_get resolutions index) false
-
--- the resolution at an index, where it passes a test
-abbrev pub passing_at : (Resolved → Bool) → List Resolved → ℕ → Option Resolved
-passing_at test resolutions index =
-    option_and_then (λ r. if test r then Some r else None) (slice_get resolutions index)
-
 -- the candidates that pass a test
 abbrev pub passing : (Resolved → Bool) → State → List ℕ
 passing test s = filter (passes test s.schema.resolutions) s.candidates
@@ -51,28 +43,21 @@ abbrev pub or_all : List ℕ → List ℕ → List ℕ
 or_all [] all = all
 or_all (index ∷ rest) all = index ∷ rest
 
--- only the candidates stay that pass a test. Where none does, none is left, or all stay if one has
--- to be
-abbrev pub narrowed : Bool → (Resolved → Bool) → State → State
-narrowed may_be_none test s = record s {
-  candidates = if may_be_none then passing test s else or_all (passing test s) s.candidates;
-}
+-- only the candidates stay that pass a test, so none where none does
+abbrev pub retain : (Resolved → Bool) → State → State
+retain test s = record s { candidates = passing test s }
+
+-- only the candidates stay that pass a test, or all where none does
+abbrev pub narrow : (Resolved → Bool) → State → State
+narrow test s = record s { candidates = or_all (passing test s) s.candidates }
 
 -- a key is seen
 abbrev pub mark_seen : Key → State → State
 mark_seen key s = record s { seen = insert_key key_cmp s.seen key }
 
--- whether a resolution has a field that the key means
-abbrev pub has_key : Key → Resolved → Bool
-has_key key r = is_some (field_by_key key r)
-
--- whether some resolution has a key
-abbrev pub is_known : List Resolved → Key → Bool
-is_known resolutions key = list_any (has_key key) resolutions
-
 -- a key is seen, and only the candidates stay that have it, or all where none has
 abbrev pub see_key : Key → State → State
-see_key key s = narrowed false (has_key key) (mark_seen key s)
+see_key key s = narrow (has_key key) (mark_seen key s)
 
 -- whether a variant of the name was picked, for whichever enum
 abbrev pub picks_variant : Name → Resolved → Bool
@@ -80,7 +65,7 @@ picks_variant name r = list_any (λ pick. name_eq pick.variant_name name) r.pick
 
 -- only the candidates stay that picked a variant of the name, or all where none did
 abbrev pub hint_variant : Name → State → State
-hint_variant name s = narrowed false (picks_variant name) s
+hint_variant name s = narrow (picks_variant name) s
 
 -- whether an enum of these attributes has the name as its tag, and no content beside it
 abbrev pub is_tag_alone : Name → Option (String Global) → Option (String Global) → Bool
@@ -112,12 +97,11 @@ hint_variant_for_tag tag name s =
 
 -- whether one of a resolution's fields has one of the shapes
 abbrev pub has_shape_among : List ℕ → Resolved → Bool
-has_shape_among shapes r =
-    list_any (λ f. list_any (λ id. nat_eq id f.shape) shapes) (finite.values r.fields)
+has_shape_among shapes r = list_any (λ f. has shapes f.shape) (finite.values r.fields)
 
 -- only the candidates stay that have a field of one of the shapes
 abbrev pub satisfy_shapes : List ℕ → State → State
-satisfy_shapes shapes s = narrowed true (has_shape_among shapes) s
+satisfy_shapes shapes s = retain (has_shape_among shapes) s
 
 -- the shapes of fields behind references
 abbrev pub shapes_of : List (Bor FieldView) → List ℕ

@@ -7,7 +7,8 @@ use Rattle.facet_solver_shape.specs.Resolved.{Resolved}
 use Rattle.facet_solver.specs.Build.{Build}
 use Rattle.facet_solver.specs.Choice.{IsResolution}
 use Rattle.facet_solver.specs.Schema.{SchemaView}
-use Rattle.facet_solver.specs.State.{State, has_key, is_known, new_solver, passing, see_key}
+use Rattle.facet_solver.specs.State.{State, new_solver, passing, see_key}
+use Rattle.facet_solver.specs.Resolutions.{has_key, is_known}
 use Rattle.facet_solver.specs.Verdict.{descriptions, is_viable, resolutions_at, viable}
 
 -- keys are seen, one after another

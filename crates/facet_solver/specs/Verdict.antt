@@ -9,10 +9,11 @@ use Rattle.facet_solver_shape.specs.Resolved.{description, Resolved}
 use Rattle.facet_solver.specs.declared.error.SolverError.{SolverError}
 use Rattle.facet_solver.specs.declared.solver.report.Report.{Report}
 use Rattle.facet_solver.specs.declared.error.SolverError.TheVariants.{OutOfMemory}
-use Rattle.facet_solver.specs.Failure.{failure_of, has_field_named, in_byte_order, is_met, missing, missing_fields, names_where}
+use Rattle.facet_solver.specs.Failure.{failure_of, in_byte_order, is_met, missing, missing_fields, names_where}
+use Rattle.facet_solver.specs.Resolutions.{has_field_named, is_known}
 use Rattle.facet_solver.specs.IndexSet.{HowMany, no_index, one_index, several_indices, how_many, upto}
 use Rattle.facet_solver.specs.Report.{AmbiguityView, ErrorView, NoMatchView, ambiguous, error_view, no_match}
-use Rattle.facet_solver.specs.State.{State, is_known, or_all, passing}
+use Rattle.facet_solver.specs.State.{State, or_all, passing}
 
 -- the seen keys meet each field
 abbrev pub is_viable : List Key → Resolved → Bool

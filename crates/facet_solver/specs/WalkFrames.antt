@@ -1,7 +1,6 @@
 -- The walk as a loop: what one field leaves to walk, and the fields that lie on a stack. Only
 -- private contracts and proofs speak of it.
 use Rattle.std.specs.Prelude.{⊤, ℕ, List, [], ◌∷◌, ◌≤◌, ◌≡◌, Option, Some, None, IfOk, IfSome, MatchResult, Result, length, take}
-use Rattle.std.specs.Borrow.{Bor}
 use Rattle.std.specs.Option.{option_copied}
 use Rattle.facet_solver_shape.specs.declared.shape.Field.{Field}
 use Rattle.facet_solver_shape.specs.declared.resolution.error.SchemaError.{SchemaError}
@@ -15,7 +14,7 @@ use Rattle.facet_solver.specs.FieldCount.{field_count}
 use Rattle.facet_solver.specs.Outcome.{Outcome, StopsBy, effect}
 use Rattle.facet_solver.specs.Place.{Path}
 use Rattle.facet_solver.specs.Reached.{ServesFields}
-use Rattle.facet_solver.specs.Walk.{Walk, Walked, Walking, and_then, walk_fields}
+use Rattle.facet_solver.specs.Walk.{Walking, and_then, walk_fields}
 
 -- the walk of fields inside a field, if there are any
 abbrev pub walk_inside : Build → Option (List Field) → Path → Walking

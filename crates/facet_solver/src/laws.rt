@@ -1,5 +1,5 @@
 //! Laws of choices, walks, counts, told keys, calls and reports: each is the contract of a function that does nothing.
-ghost use Rattle.std.specs.Prelude.{◌≡◌, ◌≢◌, ◌↔◌, ◌++◌, ◌∷◌, [], ℕ, All, Bool, Contains, List, Option, Some, length, map, slice_get, true};
+ghost use Rattle.std.specs.Prelude.{◌≡◌, ◌≢◌, ◌↔◌, ◌++◌, ◌∷◌, [], ℕ, All, Contains, List, Option, Some, length, map, slice_get, true};
 ghost use Rattle.std.specs.Cmp.Lexicographic.{slice_cmp};
 ghost use Rattle.std.specs.List.{list_any};
 ghost use Rattle.std.specs.List.Sorted.{IsStrictlySortedBy};
@@ -21,7 +21,7 @@ ghost use Rattle.facet_solver.specs.Nested.{nested_paths, flattened_paths, varia
 ghost use Rattle.facet_solver.specs.Nested.{content_paths_of_shape, content_paths};
 ghost use Rattle.facet_solver.specs.Nested.{FollowsKinds, EndsByLength, HasNoGaps};
 ghost use Rattle.facet_solver.specs.Build.{Build, Catalogue};
-ghost use Rattle.facet_solver.specs.Content.{effective, go_on, next_inside};
+ghost use Rattle.facet_solver_shape.specs.EffectiveShapes.{effective, go_on, next_inside};
 ghost use Rattle.facet_solver.specs.Walk.{walk_fields, walk_fields_step};
 ghost use Rattle.facet_solver_shape.specs.Fields.{key_of_field, matches};
 ghost use Rattle.facet_solver_shape.specs.Keys.{Key, key_cmp};
@@ -31,7 +31,8 @@ ghost use Rattle.facet_solver.specs.Schema.{IsOwnBuild, SchemaView};
 ghost use Rattle.facet_solver.specs.Pairs.{CanBothBeViable, HasKeysRequiredBy, LeavesBothViable};
 ghost use Rattle.facet_solver.specs.Run.{CallView, after_call, after_calls};
 ghost use Rattle.facet_solver.specs.ShapeAtPath.{satisfy_at_path};
-ghost use Rattle.facet_solver.specs.State.{State, has_key, mark_seen, new_solver, passing, satisfy, satisfy_shapes, see_key};
+ghost use Rattle.facet_solver.specs.State.{State, mark_seen, new_solver, passing, satisfy, satisfy_shapes, see_key};
+ghost use Rattle.facet_solver.specs.Resolutions.{has_key};
 ghost use Rattle.facet_solver.specs.Told.{accepted_keys, has_keys, indices_with, known_keys, see_keys};
 ghost use Rattle.facet_solver.specs.Told.{EndsWithOrNames, HasAllKnown, HaveSameKeys, LeavesSome, TellsChoice};
 ghost use Rattle.facet_solver.specs.Verdict.{disambiguating, is_viable, unknown_names, viable};

@@ -8,12 +8,10 @@ ghost use Rattle.facet_solver.specs.Choice.{Enumerates, IsRefusal};
 ghost use Rattle.facet_solver.specs.Count.{IsCountOf, count_of_root};
 ghost use Rattle.facet_solver.specs.IndexEntries.{is_held};
 ghost use Rattle.facet_solver.specs.Indexed.{IsEntryIfAny};
-ghost use Rattle.facet_solver.specs.Failure.{has_field_named};
+ghost use Rattle.facet_solver.specs.Resolutions.{field_at, has_field_named, has_key, is_known, passes};
 ghost use Rattle.facet_solver.specs.FieldCount.{field_count, fields_of_kind};
-ghost use Rattle.facet_solver.specs.KeyResult.{field_at};
 ghost use Rattle.facet_solver.specs.Representation.{asked_view, externally_tagged, flattened, repr_view};
 ghost use Rattle.facet_solver.specs.Schema.{IsBuilt, IsOwnBuild, flat_build};
-ghost use Rattle.facet_solver.specs.State.{has_key, is_known, passes};
 
 pub(crate) mod handle;
 pub(crate) mod index;

@@ -1,5 +1,5 @@
 //! The solver: it narrows the resolutions of a schema by the keys of a document.
-ghost use Rattle.std.specs.Prelude.{◌≡◌, ◌≢◌, ◌↔◌, ◌+◌, ◌*◌, ◌∷◌, [], ◌≤◌, ℕ, All, IfErr, IfOk, IsOk, IsTrue, OnErr, OnOk, false, length, map, true};
+ghost use Rattle.std.specs.Prelude.{◌≡◌, ◌≢◌, ◌↔◌, ◌+◌, ◌*◌, [], ◌≤◌, ℕ, All, IfOk, IsOk, IsTrue, OnErr, OnOk, false, length, map, true};
 ghost use Rattle.std.specs.Bool.{OnFalse};
 ghost use Rattle.std.specs.List.Sorted.{IsStrictlyIncreasing};
 ghost use Rattle.facet_solver_shape.specs.Keys.{dom_key, key_of};
@@ -9,7 +9,7 @@ ghost use Rattle.facet_solver.specs.Schema.{IsHandleOf, index_of};
 ghost use Rattle.facet_solver.specs.IndexSet.{IsWithin, how_many, matches_view};
 ghost use Rattle.facet_solver.specs.KeyResult.{HaveShape, HoldsHandleOf, IsUnknownOrSolved, key_result, key_result_view};
 ghost use Rattle.facet_solver.specs.State as state;
-ghost use Rattle.facet_solver.specs.State.{narrowed, new_solver, passing};
+ghost use Rattle.facet_solver.specs.State.{narrow, new_solver, passing, retain};
 ghost use Rattle.facet_solver.specs.Words.{begun_words};
 
 pub(crate) mod conditions;
@@ -24,6 +24,7 @@ pub(crate) mod run;
 mod satisfy;
 pub(crate) mod satisfy_result;
 pub(crate) mod shape_at_path;
+pub(crate) mod shaped;
 
 use crate::schema::Schema;
 use crate::schema::handle::ResolutionHandle;
@@ -239,7 +240,7 @@ impl<'s, 'c, 'a> Solver<'s, 'c, 'a> {
 
     // Only the candidates stay that pass a test.
     fn retain<T: Test>(&mut self, test: T)
-        ensures { self.new ≡ narrowed true (T.is_passed test) self.old }
+        ensures { self.new ≡ retain (T.is_passed test) self.old }
     {
         let resolutions = self.schema.resolutions();
         self.candidates.retain(&AtIndex { resolutions, test });
@@ -248,7 +249,7 @@ impl<'s, 'c, 'a> Solver<'s, 'c, 'a> {
     // Only the candidates stay that pass a test. Where none does, all stay and the answer is false.
     fn narrow<T: Test>(&mut self, test: T) -> bool
         ensures passed { IsTrue result ↔ (passing (T.is_passed test) self.old ≢ []) }
-        ensures narrowed { self.new ≡ narrowed false (T.is_passed test) self.old }
+        ensures narrowed { self.new ≡ narrow (T.is_passed test) self.old }
         ensures unchanged { OnFalse result (self.new ≡ self.old) }
     {
         let resolutions = self.schema.resolutions();

@@ -1,4 +1,3 @@
 pub mod Each
-pub mod Steps
 pub mod Telling
 pub mod Endings

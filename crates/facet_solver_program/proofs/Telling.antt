@@ -13,7 +13,8 @@ use Rattle.facet_solver.specs.Probe.{probe_key}
 use Rattle.facet_solver.specs.Resolved.{Resolved}
 use Rattle.facet_solver.specs.Schema.{SchemaView, IsHandleOf, index_of, resolution_of}
 use Rattle.facet_solver.specs.ShapeAtPath.{get_shapes_at_path, satisfy_at_path}
-use Rattle.facet_solver.specs.State.{State, narrowed, passes}
+use Rattle.facet_solver.specs.State.{State, retain}
+use Rattle.facet_solver.specs.Resolutions.{passes}
 use Rattle.facet_solver.specs.declared.schema.handle.ResolutionHandle.{ResolutionHandle}
 use Rattle.facet_solver_program.specs.Tell.{fits_some_not_all, fitting, is_known_path, probe_path, tell_path, tell_shapes, tell_value}
 
@@ -58,5 +59,5 @@ module _ (cat : Catalogue) (path : List Name) (d : Data) (s after : State) where
       → after ≡ tell_shapes cat path d probed → after ≡ tell_path cat path d s
   path_told above key is_known probed whole told holds probed_is is =
       is
-      ∙ ap (tell_shapes cat path d) (probed_is ∙ ap (λ names. narrowed true (has_key_path names) s) whole)
+      ∙ ap (tell_shapes cat path d) (probed_is ∙ ap (λ names. retain (has_key_path names) s) whole)
       ∙ sym (ap (λ (b : Bool). if b then tell_shapes cat path d (probe_path path s) else s) (sym told ∙ holds))

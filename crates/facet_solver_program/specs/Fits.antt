@@ -14,16 +14,12 @@ use Rattle.facet_solver.specs.declared.ShapeKind.TheVariants.{Scalar, Struct, Op
 use Rattle.facet_solver.specs.declared.StructKind.{StructKind}
 use Rattle.facet_solver.specs.declared.StructKind.TheVariants.{Unit as NoFields, Struct as ByName, Tuple, TupleStruct}
 use Rattle.facet_solver.specs.Build.{Catalogue}
-use Rattle.facet_solver.specs.Content.{effective, next_inside}
-use Rattle.facet_solver.specs.Pointers as pointers
-
--- where the shape at an index leads to by `inner`, or else by `proxy`
-abbrev pub next_inside_at : Catalogue → ℕ → Option ℕ
-next_inside_at cat id = next_inside (slice_get cat id)
+use Rattle.facet_solver.specs.EffectiveShapes.{effective}
+use Rattle.facet_solver.specs.Pointers.{end_of}
 
 -- the end of a shape: its effective shape, and from there pointers are followed
-abbrev pub end_of : Catalogue → ℕ → ℕ
-end_of cat id = pointers.end_of cat (effective cat id)
+abbrev pub effective_end : Catalogue → ℕ → ℕ
+effective_end cat id = end_of cat (effective cat id)
 
 -- the inside of an option
 abbrev pub inside_of_kind : ShapeKind → Option ℕ
@@ -124,8 +120,8 @@ fits_end cat end d = option_map_or (fits_shape d) (slice_get cat end) true
 -- null fits an option, and so does what fits the end of its inside; else the end alone decides
 abbrev pub fits_by : Catalogue → ℕ → Data → Option ℕ → Bool
 fits_by cat end d None = fits_end cat end d
-fits_by cat end d (Some inside) = is_null d || fits_end cat (end_of cat inside) d
+fits_by cat end d (Some inside) = is_null d || fits_end cat (effective_end cat inside) d
 
 -- whether a value fits the shape at an index
 abbrev pub fits : Catalogue → ℕ → Data → Bool
-fits cat id d = fits_by cat (end_of cat id) d (inside_at cat (end_of cat id))
+fits cat id d = fits_by cat (effective_end cat id) d (inside_at cat (effective_end cat id))

@@ -1,5 +1,5 @@
 -- What the members of a document tell a solver.
-use Rattle.std.specs.Prelude.{◌&&◌, ℕ, Bool, List, [], ◌∷◌, filter, fold, if◌then◌else◌, not, true}
+use Rattle.std.specs.Prelude.{◌&&◌, ℕ, Bool, List, [], ◌∷◌, filter, fold, if◌then◌else◌, not}
 use Rattle.std.specs.List.{list_all, list_any}
 use Rattle.std.specs.Option.{option_map_or}
 use Rattle.serde_json.specs.Data.{Data}
@@ -9,7 +9,8 @@ use Rattle.facet_solver.specs.KeyPath.{has_key_path}
 use Rattle.facet_solver.specs.Keys.{flat_key}
 use Rattle.facet_solver.specs.Names.{Name}
 use Rattle.facet_solver.specs.ShapeAtPath.{get_shapes_at_path, satisfy_at_path}
-use Rattle.facet_solver.specs.State.{State, hint_variant_for_tag, narrowed, passes, see_key}
+use Rattle.facet_solver.specs.State.{State, hint_variant_for_tag, retain, see_key}
+use Rattle.facet_solver.specs.Resolutions.{passes}
 use Rattle.facet_solver_program.specs.Document.{Member}
 use Rattle.facet_solver_program.specs.Fits.{fits}
 
@@ -51,7 +52,7 @@ is_known_path path s = list_any (passes (has_key_path path) s.schema.resolutions
 
 -- a key is asked for by its whole path, as `probe_key` does: only the candidates stay that have it
 abbrev pub probe_path : List Name → State → State
-probe_path path s = narrowed true (has_key_path path) s
+probe_path path s = retain (has_key_path path) s
 
 -- a member further below: where some candidate has its path, its key is asked for, and then the
 -- shapes count

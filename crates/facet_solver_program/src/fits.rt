@@ -1,9 +1,7 @@
 //! Which values of JSON fit a shape.
-ghost use Rattle.std.specs.Prelude.{◌≡◌, ◌==◌, ℤ, length};
+ghost use Rattle.std.specs.Prelude.{◌≡◌, ◌==◌, length};
 ghost use Rattle.std.specs.Str.{chars};
-ghost use Rattle.serde_json.specs.View.{number_view, view};
-ghost use Rattle.facet_solver.specs.Pointers as pointers;
-ghost use Rattle.facet_solver.specs.Content as content;
+ghost use Rattle.serde_json.specs.View.{view};
 ghost use Rattle.facet_solver_program.specs.Fits as fits;
 
 use facet_solver::{Field, ScalarType, Shape, ShapeId, ShapeKind, Shapes, StructKind};
@@ -15,64 +13,18 @@ use serde_json::{Number, Value};
 pub fn fits(shapes: &Shapes, id: ShapeId, value: &Value) -> bool
     ensures { result ≡ fits.fits shapes.now id (view value.now) }
 {
-    let end = end_of(shapes, id);
+    let end = effective_end(shapes, id);
     match inside_at(shapes, end) {
-        Some(inside) => value.is_null() || fits_end(shapes, end_of(shapes, inside), value),
+        Some(inside) => value.is_null() || fits_end(shapes, effective_end(shapes, inside), value),
         None => fits_end(shapes, end, value),
     }
 }
 
 // The end of a shape: its effective shape, and from there pointers are followed.
-fn end_of(shapes: &Shapes, id: ShapeId) -> ShapeId
-    ensures { result ≡ fits.end_of shapes.now id }
+fn effective_end(shapes: &Shapes, id: ShapeId) -> ShapeId
+    ensures { result ≡ fits.effective_end shapes.now id }
 {
-    pointed_at(shapes, effective(shapes, id))
-}
-
-// The shape that `inner` and then `proxy` lead to, and so on to the end.
-fn effective(shapes: &Shapes, id: ShapeId) -> ShapeId
-    ensures { result ≡ content.effective shapes.now id }
-{
-    let mut here = id;
-    for _ in 0..shapes.len() {
-        match next_inside(shapes, here) {
-            Some(next) => here = next,
-            None => return here,
-        }
-    }
-    here
-}
-
-// Where a shape's `inner` leads to, or else its `proxy`.
-fn next_inside(shapes: &Shapes, id: ShapeId) -> Option<ShapeId>
-    ensures { result ≡ fits.next_inside_at shapes.now id }
-{
-    let shape = shapes.get(id)?;
-    shape.inner.or(shape.proxy)
-}
-
-// The shape that a pointer leads to, and so on to the end.
-fn pointed_at(shapes: &Shapes, id: ShapeId) -> ShapeId
-    ensures { result ≡ pointers.end_of shapes.now id }
-{
-    let mut here = id;
-    for _ in 0..shapes.len() {
-        match pointee_at(shapes, here) {
-            Some(next) => here = next,
-            None => return here,
-        }
-    }
-    here
-}
-
-// Where a pointer leads to.
-fn pointee_at(shapes: &Shapes, id: ShapeId) -> Option<ShapeId>
-    ensures { result ≡ pointers.pointee_at shapes.now id }
-{
-    match shapes.get(id)?.kind {
-        ShapeKind::Pointer(pointee) => pointee,
-        _ => None,
-    }
+    shapes.end_of(shapes.effective(id))
 }
 
 // The inside of an option.

@@ -1,5 +1,5 @@
 //! The value that bytes of JSON are.
-ghost use Rattle.std.specs.Prelude.{◌≡◌, IfOk, IsErrOf, None, Option, Some, false};
+ghost use Rattle.std.specs.Prelude.{◌≡◌, IfOk, IsErrOf, None, Option, Some};
 ghost use Rattle.serde_json.specs.Data.{Data};
 ghost use Rattle.serde_json.specs.View.{view};
 ghost use Rattle.facet_solver_program.specs.Reading.{IsReading, whole};

@@ -1,32 +1,21 @@
 -- What the tests of the shapes of a list say of the whole list.
-use Rattle.std.proofs.Common.{◌≡◌, ℕ, ◌<◌, ◌≤◌, Bool, true, false, List, [], ◌∷◌, ◌++◌, length, Some, None, Option, slice_get, nat_le, refl, sym, ◌∙◌, inl, inr, ◌+◌, map, take, get_or, ap, arith, IsSomeAnd, ◌||◌, ◌⊎◌}
+use Rattle.std.proofs.Common.{◌≡◌, ℕ, ◌<◌, ◌≤◌, Bool, true, false, List, [], ◌∷◌, ◌++◌, length, Some, None, Option, slice_get, nat_le, refl, sym, ◌∙◌, inl, inr, ◌+◌, ap, arith, IsSomeAnd, ◌||◌}
 use Rattle.std.specs.List.{list_any, Any, flat_map}
-use Rattle.std.specs.Option.{option_to_list, IfSome, option_map, option_and_then, is_some, unwrap_or}
+use Rattle.std.specs.Option.{option_to_list, IfSome, option_and_then, is_some, unwrap_or}
 use Rattle.std.proofs.lemmas.Bool.{false≢true, false_from_ne_true, leb-true, leb-false, le-leb, cases_lt, or_parts}
-use Rattle.std.proofs.lemmas.List.Folds.{list_any-append, Any-from_list_any, list_any-from_Any, list_any_at}
+use Rattle.std.proofs.lemmas.List.Folds.{list_any-append, Any-from_list_any, list_any-from_Any}
 use Rattle.facet_solver_shape.specs.declared.shape.Shape.{Shape}
 use Rattle.facet_solver_shape.specs.declared.shape.Field.{Field}
 use Rattle.facet_solver_shape.specs.declared.shape.Variant.{Variant}
 use Rattle.facet_solver_shape.specs.declared.shape.ShapeKind.{ShapeKind}
 use Rattle.facet_solver_shape.specs.declared.shape.ShapeKind.TheVariants.{Struct, Enum, Option as OptionOf}
 use Rattle.facet_solver_shape.specs.declared.shape.catalogue.CatalogueError.TheVariants.{OutOfRange, NotEarlier, PointerCycle, DuplicateFieldName, DuplicateVariantName}
-use Rattle.facet_solver_shape.specs.Catalogues.{early_indices, early_indices_of_kind, late_indices_of_kind, named_indices, FieldsBelow, VariantsBelow, KindBelow, IsEarlierThan, NamesEarlier, HasFault, IsChecked, NamesPast, NamesLater, shape_of, number_of, ComesBefore, IsFirstFault, IsFaultlessAt, IsLowestFaultAt, RepeatsName, RepeatsFieldName, RepeatsVariantName, field_indices}
+use Rattle.facet_solver_shape.specs.Catalogues.{early_indices, early_indices_of_kind, late_indices_of_kind, named_indices, FieldsBelow, VariantsBelow, KindBelow, IsEarlierThan, NamesEarlier, HasFault, IsChecked, NamesPast, NamesLater, shape_of, number_of, ComesBefore, IsFirstFault, IsFaultlessAt, IsLowestFaultAt, RepeatsFieldName, RepeatsVariantName, field_indices}
 use Rattle.facet_solver_shape.proofs.Lists.{list_any-map}
-use Rattle.std.specs.Str.{bytes_eq}
-use Rattle.std.proofs.lemmas.List.{length-take, length-map, get_or-take}
-use Rattle.std.proofs.lemmas.Option.{slice_get-map, slice_get_within, slice_get_read, get_or_from_slice_get}
-use Rattle.std.proofs.lemmas.Slice.Eq.{bytes_eq-Decides}
-use Rattle.facet_solver_shape.specs.Names.{Name}
+use Rattle.std.proofs.lemmas.Option.{slice_get_within}
 use Rattle.facet_solver_shape.specs.declared.shape.catalogue.CatalogueError.{CatalogueError}
 use Rattle.facet_solver_shape.specs.Pointers.{pointee_at, pointee_after, NeverEnds, EndsBelow}
 use Rattle.facet_solver_shape.proofs.Pointers.{within, pointee_ends}
-use Rattle.facet_solver_shape.proofs.Finite.{same_value}
-use Rattle.std.specs.declared.cmp.Ordering.{Ordering}
-use Rattle.std.specs.declared.cmp.Ordering.TheVariants.{Less, Equal, Greater}
-use Rattle.std.specs.Ordering.{is_lt, is_le, ordering_reverse, nat_cmp}
-use Rattle.std.specs.Cmp.{tied_itself}
-use Rattle.std.specs.Cmp.Lexicographic.{slice_cmp, nat_list_cmp_total}
-use Rattle.std.specs.BTreeMap.Comparable.{le_lt_trans}
 
 -- a test of the indices that the fields of all variants name
 pub list_any-fields : (p : ℕ → Bool) (variants : List Variant) → list_any p (flat_map (λ v. field_indices v.fields.items) variants) ≡ list_any (λ v. list_any (λ f. p f.shape) v.fields.items) variants

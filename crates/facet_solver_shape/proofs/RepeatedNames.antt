@@ -1,17 +1,17 @@
 -- Lemmas of lists in which a name repeats, and of lists in which all differ.
-use Rattle.std.proofs.Common.{◌≡◌, ◌≢◌, ℕ, ◌+◌, ◌-◌, ◌<◌, ◌≤◌, Bool, true, false, List, ◌∷◌, ◌++◌, length, Some, Option, slice_get, refl, sym, ◌∙◌, inl, inr, ◌⊎◌, ◌↔◌, map, take, drop, set, get_or, ap, arith, subst, [], None, swap, IsPermutation, IsSorted, Bor, Ordering, Less, Equal, Greater, nat_cmp, min, is_eq, is_lt, bytes_eq, Result, Ok, Err}
-use Rattle.std.specs.List.{list_any, Any, slice_range}
+use Rattle.std.proofs.Common.{◌≡◌, ◌≢◌, ℕ, ◌+◌, ◌-◌, ◌<◌, ◌≤◌, Bool, true, false, List, length, Some, slice_get, refl, sym, ◌∙◌, inl, inr, ◌⊎◌, ◌↔◌, map, take, drop, get_or, ap, arith, subst, [], swap, IsPermutation, IsSorted, Bor, Ordering, Less, Equal, Greater, nat_cmp, min, is_eq, is_lt, bytes_eq, Result, Ok, Err}
+use Rattle.std.specs.List.{list_any, slice_range}
 use Rattle.std.specs.List.Sorted.{IsBinarySearchResult, IsSearchInRange}
 use Rattle.std.specs.Option.{option_map}
 use Rattle.std.specs.Result.{is_ok}
 use Rattle.std.specs.Ordering.{is_le, ordering_reverse, flip_args}
-use Rattle.std.specs.Cmp.{IsTotalOrder, tied_itself, back_total}
+use Rattle.std.specs.Cmp.{IsTotalOrder, tied_itself}
 use Rattle.std.specs.Cmp.Lexicographic.{slice_cmp, nat_list_cmp_total}
 use Rattle.std.specs.BTreeMap.Comparable.{le_lt_trans}
 use Rattle.std.proofs.Math.Nat.{min-le_right, le-min}
 use Rattle.std.proofs.lemmas.Bool.{false≢true, cases_lt, cases_eq}
 use Rattle.std.proofs.lemmas.Cmp.{on_total}
-use Rattle.std.proofs.lemmas.List.{length-take, length-drop, length-map, get_or-take, get_or-drop, get_or-map, take-map, drop-map, take_all, take_more, take_more_set, map-append}
+use Rattle.std.proofs.lemmas.List.{length-take, length-drop, length-map, get_or-take, get_or-drop, get_or-map, take-map, drop-map, take_all}
 use Rattle.std.proofs.lemmas.List.Edits.{Swapped, swapped_from_swap, length-swap}
 use Rattle.std.proofs.lemmas.List.Folds.{Any-from_list_any, list_any_at}
 use Rattle.std.proofs.lemmas.List.Sorted.{IsPermutation-keeps, IsPermutation-map, IsPermutation-sym, searchable_from_sorted}
@@ -340,14 +340,6 @@ repeated_neighbours ns later d e some inside equal =
 -- ---- names that are copied
 
 module _ {X : Type 0} (name_of : X → Name) (xs : List X) where
-  pub copied_more : (room : List (Bor Name)) (index : ℕ) (x : X) (y : Bor Name) → index < length xs → index < length room → x ≡ get_or xs index x → y.now ≡ name_of x → names_of (take index room) ≡ map name_of (take index xs) → names_of (take (index + 1) (set room index y)) ≡ map name_of (take (index + 1) xs)
-  copied_more room index x y inside space at named so_far =
-      ap names_of (take_more_set room index y space)
-      ∙ map-append (λ n. n.now) (take index room) (y ∷ [])
-      ∙ ap (λ l. l ++ y.now ∷ []) so_far
-      ∙ ap (λ n. map name_of (take index xs) ++ n ∷ []) (named ∙ ap name_of at)
-      ∙ sym (ap (map name_of) (take_more xs index x inside) ∙ map-append name_of (take index xs) (get_or xs index x ∷ []))
-
   -- sorted copies are the names in another order
   pub sorted_copies : (room sorted : List (Bor Name)) (index : ℕ) → length xs ≤ index → index ≤ length xs → names_of (take index room) ≡ map name_of (take index xs) → IsPermutation (take (length xs) room) sorted → IsPermutation (map name_of xs) (names_of sorted)
   sorted_copies room sorted index past upto copied moved =

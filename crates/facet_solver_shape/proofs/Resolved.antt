@@ -11,7 +11,7 @@ use Rattle.std.specs.FinMap as finite
 use Rattle.std.specs.FinMap.{find}
 use Rattle.std.specs.FinMap.Entries.{below_all}
 use Rattle.std.specs.FinSet as set
-use Rattle.std.proofs.lemmas.Bool.{false≢true}
+use Rattle.std.proofs.lemmas.Bool.{false≢true, or_cases, or_right}
 use Rattle.facet_solver_shape.specs.Keys.{Key, key_cmp}
 use Rattle.facet_solver_shape.specs.Paths.{Step, key_path_eq}
 use Rattle.facet_solver_shape.specs.Fields.{FieldView, key_of_field, IsStored, as_optional}
@@ -22,6 +22,7 @@ use Rattle.std.specs.Cmp.Lexicographic.{slice_cmp, lists_ties, texts_ties}
 use Rattle.facet_solver_shape.specs.Names.{Name, name_eq, names_of}
 use Rattle.std.specs.Prelude.{Vec}
 use Rattle.std.specs.declared.alloc.Global.{Global}
+use Rattle.std.proofs.Math.Bool.{or-false}
 use lib.Pointwise.{pointwise}
 use Rattle.facet_solver_shape.specs.declared.resolution.field.VariantSelection.{VariantSelection}
 use Rattle.facet_solver_shape.proofs.Lists.{flat_map-map}
@@ -42,7 +43,8 @@ pub second_part : (a b : Bool) → T (a && b) → T b
 second_part true b p = p
 second_part false b p = absurd p
 
-less : (r : Ordering) → T (is_lt r) → r ≡ Less
+-- what a test of an order tells
+pub less : (r : Ordering) → T (is_lt r) → r ≡ Less
 less Less p = refl
 less Equal p = absurd p
 less Greater p = absurd p
@@ -163,10 +165,6 @@ merge_clash old other k f present first second among stored taken is_first is_se
 pub record IsFilling {K : Type 0} {R : K → K → Ordering} (old now : set.FinSet R) (all left : List K) : Type 0 where
   pub same : (q : K) → (set.contains now q || list_any (eq_by_cmp R q) left) ≡ (set.contains old q || list_any (eq_by_cmp R q) all)
 
-or_false : (b : Bool) → (b || false) ≡ b
-or_false true = refl
-or_false false = refl
-
 or_moved : (a b c : Bool) → ((a || b) || c) ≡ (b || (a || c))
 or_moved true true c = refl
 or_moved true false c = refl
@@ -185,7 +183,7 @@ module _ {K : Type 0} {R : K → K → Ordering} (o : IsTotalOrder R) (same : fi
   -- none left
   pub fill_end : (old now : set.FinSet R) (all : List K) → IsFilling old now all [] → now ≡ set.union old (set.from_list all)
   fill_end old now all done = set.same_set o same _ _ (λ q.
-      sym (or_false _)
+      sym (or-false _)
       ∙ done.same q
       ∙ ap (λ b. set.contains old q || b) (sym (set.contains-from_list o all q))
       ∙ sym (set.contains-union o old (set.from_list all) q))
@@ -193,14 +191,6 @@ module _ {K : Type 0} {R : K → K → Ordering} (o : IsTotalOrder R) (same : fi
   -- with nothing else
   pub union-empty : (s : set.FinSet R) → set.union set.empty s ≡ s
   union-empty s = set.same_set o same _ _ (λ q. set.contains-union o set.empty s q ∙ ap (λ b. b || set.contains s q) (set.contains-empty R q))
-
-one_of : (a b : Bool) → (a || b) ≡ true → (a ≡ true) ⊎ (b ≡ true)
-one_of true b e = inl refl
-one_of false b e = inr e
-
-or_second : (a b : Bool) → b ≡ true → (a || b) ≡ true
-or_second true b e = refl
-or_second false b e = e
 
 or_first : (a b : Bool) → a ≡ true → (a || b) ≡ true
 or_first true b e = refl
@@ -254,7 +244,7 @@ module _ (fields : finite.FinMap key_cmp FieldView) (f : FieldView) (fresh : fin
 
   -- a required field brings its name
   pub names_put : (names : set.FinSet (slice_cmp nat_cmp)) → f.is_required ≡ true → AreRequiredNames fields names → AreRequiredNames (finite.insert fields (key_of_field f) f) (set.insert names f.name)
-  names_put names required are name = (λ has. forth (one_of _ _ (sym put_name ∙ has)), λ after. put_name ∙ back (new_name name after))
+  names_put names required are name = (λ has. forth (or_cases _ _ (sym put_name ∙ has)), λ after. put_name ∙ back (new_name name after))
     where
       put_name : set.contains (set.insert names f.name) name ≡ (eq_by_cmp (slice_cmp nat_cmp) name f.name || set.contains names name)
       put_name = set.contains-insert nat_list_cmp_total names f.name name
@@ -264,12 +254,12 @@ module _ (fields : finite.FinMap key_cmp FieldView) (f : FieldView) (fresh : fin
       forth (inr has) = kept_name name ((are name).0 has)
 
       back : (IsRequiredName fields name) ⊎ ((f.is_required ≡ true) × (f.name ≡ name)) → (eq_by_cmp (slice_cmp nat_cmp) name f.name || set.contains names name) ≡ true
-      back (inl before) = or_second _ _ ((are name).1 before)
+      back (inl before) = or_right _ _ ((are name).1 before)
       back (inr new) = or_first _ _ (ap (λ n. eq_by_cmp (slice_cmp nat_cmp) n f.name) (sym new.1) ∙ ap is_eq (tied_itself nat_list_cmp_total f.name))
 
 -- the names of two resolutions that have no key in common
 pub names_joined : (first second made : finite.FinMap key_cmp FieldView) (a b : set.FinSet (slice_cmp nat_cmp)) → IsUnionOf first second made → AreRequiredNames first a → AreRequiredNames second b → AreRequiredNames made (set.union a b)
-names_joined first second made a b joined in_a in_b name = (λ has. forth (one_of _ _ (sym both ∙ has)), λ after. both ∙ back after (finite.get first after.key) refl)
+names_joined first second made a b joined in_a in_b name = (λ has. forth (or_cases _ _ (sym both ∙ has)), λ after. both ∙ back after (finite.get first after.key) refl)
   where
     both : set.contains (set.union a b) name ≡ (set.contains a name || set.contains b name)
     both = set.contains-union nat_list_cmp_total a b name
@@ -290,7 +280,7 @@ names_joined first second made a b joined in_a in_b name = (λ has. forth (one_o
 
     back : (after : IsRequiredName made name) (r : Option FieldView) → finite.get first after.key ≡ r → (set.contains a name || set.contains b name) ≡ true
     back after None none =
-        or_second _ _ ((in_b name).1 (record { key = after.key; field = after.field; present = ap (λ r. option_or r (finite.get second after.key)) (sym none) ∙ sym (joined.joined after.key) ∙ after.present; is_required = after.is_required; same_name = after.same_name }))
+        or_right _ _ ((in_b name).1 (record { key = after.key; field = after.field; present = ap (λ r. option_or r (finite.get second after.key)) (sym none) ∙ sym (joined.joined after.key) ∙ after.present; is_required = after.is_required; same_name = after.same_name }))
     back after (Some g) some =
         or_first _ _ ((in_a name).1 (record { key = after.key; field = after.field; present = some ∙ ap (λ r. option_or r (finite.get second after.key)) (sym some) ∙ sym (joined.joined after.key) ∙ after.present; is_required = after.is_required; same_name = after.same_name }))
 

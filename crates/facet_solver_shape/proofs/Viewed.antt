@@ -1,5 +1,5 @@
 -- A map or a set whose keys lie behind references, as a finite map or set of what they say.
-use Rattle.std.proofs.Common.{◌≡◌, Bool, true, false, cond, ◌||◌, ◌&&◌, not, inl, inr, List, [], ◌∷◌, map, Some, None, Option, Bor, refl, sym, ◌∙◌, ap}
+use Rattle.std.proofs.Common.{◌≡◌, true, false, cond, ◌||◌, ◌&&◌, not, inl, inr, List, [], ◌∷◌, map, Some, refl, sym, ◌∙◌, ap}
 use Rattle.std.specs.declared.cmp.Ordering.{Ordering}
 use Rattle.std.specs.declared.cmp.Ordering.TheVariants.{Less, Equal, Greater}
 use Rattle.std.specs.Cmp.{IsTotalOrder}
@@ -16,7 +16,8 @@ use Rattle.std.specs.List.Sorted.{IsStrictlySortedBy}
 use Rattle.std.proofs.lemmas.Map.Keys.{IsDistinct-from_sorted, IsDistinct-head, IsDistinct-tail}
 use Rattle.std.proofs.lemmas.Cmp.{alike_right, eq_by_cmp_equiv}
 use Rattle.std.proofs.lemmas.Bool.{false≢true}
-use Rattle.facet_solver_shape.proofs.Finite.{insert-insert_same, insert-insert_other, insert_twice, insert_either_order, taken_back, kept, equal, and_false, cases_bool}
+use Rattle.std.proofs.Math.Bool.{and-false}
+use Rattle.facet_solver_shape.proofs.Finite.{insert-insert_same, insert-insert_other, insert_twice, insert_either_order, taken_back, kept, equal, cases_bool}
 
 module _ {K J : Type 0} {R : K → K → Ordering} {S : J → J → Ordering} (o : IsTotalOrder S) (same : finite.IsAntisymmetric S) (key : K → J) (agree : (x y : K) → R x y ≡ S (key x) (key y)) where
   module _ {X : Type 0} where
@@ -83,7 +84,7 @@ module _ {K J : Type 0} {R : K → K → Ordering} {S : J → J → Ordering} (o
     where
       left : (k : K) (ks : List K) → IsDistinct (eq_by_cmp R) ks → (q : J)
           → list_any (eq_by_cmp S q) (map key (remove_key (is_at (R k)) ks)) ≡ (not (eq_by_cmp S q (key k)) && list_any (eq_by_cmp S q) (map key ks))
-      left k [] distinct q = sym (and_false _)
+      left k [] distinct q = sym (and-false _)
       left k (x ∷ xs) distinct q =
           elim (cases_bool (eq_by_cmp R k x)) [
             | inl ties ↦

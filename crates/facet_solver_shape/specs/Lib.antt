@@ -1,5 +1,6 @@
 pub mod Names
 pub mod Pointers
+pub mod EffectiveShapes
 pub mod Scalars
 pub mod Catalogues
 pub mod Paths

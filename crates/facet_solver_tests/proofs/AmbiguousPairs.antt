@@ -1,5 +1,5 @@
 -- Pairs of resolutions that some keys leave both viable, and the keys that two resolutions share.
-use Rattle.std.proofs.Common.{◌≡◌, ℕ, zero, suc, ◌<◌, get_or, length, ◌+◌, ◌++◌, ◌⊎◌, inl, inr, Bool, true, false, ◌&&◌, ◌||◌, not, List, [], ◌∷◌, Option, Some, None, filter, is_some, map, refl, ap, sym, subst, ◌∙◌, ⊎_elim, append-nil, append_assoc, arith}
+use Rattle.std.proofs.Common.{◌≡◌, ℕ, zero, suc, ◌<◌, get_or, length, ◌+◌, ◌++◌, ◌⊎◌, inl, inr, Bool, true, false, ◌&&◌, ◌||◌, not, List, [], ◌∷◌, Option, Some, None, refl, ap, sym, subst, ◌∙◌, ⊎_elim, append_assoc, arith}
 use lib.Pointwise.{bytes_decides}
 use Rattle.std.specs.Prelude.{slice_get}
 use Rattle.std.specs.FinMap as finite
@@ -15,13 +15,13 @@ use Rattle.facet_solver.specs.Names.{Name, name_eq}
 use Rattle.facet_solver.specs.Pairs.{CanBothBeViable, HasKeyFor, HasKeysRequiredBy, LeavesBothViable}
 use Rattle.facet_solver.specs.Resolved.{Resolved, nothing}
 use Rattle.facet_solver.specs.Schema.{SchemaView}
-use Rattle.facet_solver.specs.State.{has_key}
+use Rattle.facet_solver.specs.Resolutions.{has_key}
 use Rattle.facet_solver.specs.Told.{has_keys}
 use Rattle.facet_solver.specs.Verdict.{is_viable}
 use Rattle.facet_solver.specs.declared.FieldCategory.{FieldCategory}
 use Rattle.facet_solver.specs.declared.FieldCategory.TheVariants.{Flat, Attribute, Element, Text, Tag, Elements}
 use Rattle.facet_solver.specs.declared.FieldKey.{FieldKey}
-use Rattle.facet_solver_tests.specs.AmbiguousPairs.{AddsKeys, AreShared, IsPairAt, IsPairOf, PairsIfAny, ListsPairs, MeetsMore, keys_for, pairs_below, pairs_with, serves}
+use Rattle.facet_solver_tests.specs.AmbiguousPairs.{AddsKeys, AreShared, IsPairAt, IsPairOf, PairsIfAny, ListsPairs, MeetsMore, keys_for, pairs_with, serves}
 use Rattle.facet_solver_tests.specs.KeysToChoice.{keys_of}
 use Rattle.facet_solver_tests.specs.declared.callers.ambiguous_pairs.AmbiguousPair.{AmbiguousPair}
 
@@ -80,16 +80,6 @@ pub record UnderWay (r s : Resolved) (before keys : List Key) (rest : List Field
   pub met : (later : List Key) → Keeps keys later → list_all (is_met later) rest ≡ true → is_viable later r ≡ true
 
 module _ (r s : Resolved) (before : List Key) where
-  pub started : (rest : List FieldView) → rest ≡ finite.values r.fields → ((key : Key) (q : Resolved) → has_key key q ≡ list_any (matches key) (finite.values q.fields)) → UnderWay r s before before rest
-  started rest all law = subst (UnderWay r s before before) (sym all) record {
-    of_first = λ h. h;
-    of_second = λ h. h;
-    keeps = λ p h. h;
-    own = λ key h. law key r ∙ h;
-    required = λ h. h;
-    met = λ later keeps h. h;
-  }
-
   module _ (keys : List Key) (f : FieldView) (rest : List FieldView) (so_far : UnderWay r s before keys (f ∷ rest)) where
     own_rest : (key : Key) → list_any (matches key) rest ≡ true → has_key key r ≡ true
     own_rest key h = so_far.own key (or_right (matches key f) (list_any (matches key) rest) h)
@@ -253,11 +243,6 @@ one_more schema all second first pairs h =
     let next : first + 1 ≡ suc first = omega arith in
     subst (λ (xs : List (ℕ × ℕ)). ListsPairs schema xs pairs)
     (append_assoc all (pairs_with second first) ((first, second) ∷ []) ∙ ap (λ (n : ℕ). all ++ pairs_with second n) (sym next)) h
-
-pub one_row_more : (schema : SchemaView) (second : ℕ) (pairs : List AmbiguousPair) → ListsPairs schema (pairs_below second ++ pairs_with second second) pairs → ListsPairs schema (pairs_below (second + 1)) pairs
-one_row_more schema second pairs h =
-    let next : second + 1 ≡ suc second = omega arith in
-    subst (λ (xs : List (ℕ × ℕ)). ListsPairs schema xs pairs) (ap pairs_below (sym next)) h
 
 -- a key of a list meets a field
 pub met_at : (keys : List FieldKey) (i : ℕ) (d : FieldKey) (f : FieldView) → i < length keys → matches (key_of (get_or keys i d)) f ≡ true → is_met (keys_of keys) f ≡ true

@@ -25,12 +25,7 @@ use Rattle.facet_solver_tests.specs.declared.callers.choice_to_values.Values.{Va
 use Rattle.facet_solver_tests.specs.declared.callers.choice_to_values.Mismatch.{Mismatch}
 use Rattle.facet_solver_tests.specs.declared.callers.choice_to_values.Mismatch.TheVariants.{Unknown, Repeated, Missing, OutOfMemory}
 use Rattle.facet_solver_tests.specs.ChoiceToValues.{AreTaken, AreValues, HaveOneKey, IsFieldFault, IsMemberOf, IsMismatch, IsPlaced, IsValue, Meaning, field_at, is_taken, meant_by, rest_of}
-
--- what stands at a place of a list is in it
-contained : {X : Type 0} (xs : List X) (i : ℕ) (x : X) → slice_get xs i ≡ Some x → Contains xs x
-contained [] i x e = absurd (cc)
-contained (y ∷ xs) zero x e = (0, omega arith, cc)
-contained (y ∷ xs) (suc i) x e = let r = contained xs i x e in (suc r.0, omega (arith, r.1), r.2)
+use Rattle.facet_solver_tests.proofs.KeysToChoice.{at_place}
 
 -- what is in a list stands at a place of it
 place : {X : Type 0} (xs : List X) (x : X) → Contains xs x → (i : ℕ) × (slice_get xs i ≡ Some x)
@@ -98,7 +93,7 @@ meant_among r keys member f e = go (slice_get keys member) e
   where
     go : (o : Option Key) → option_and_then (λ key. field_by_key key r) o ≡ Some f → Contains (finite.values r.fields) f
     go None e = absurd (cc)
-    go (Some key) e = contained (finite.values r.fields) _ f (sym (find_at (matches key) (finite.values r.fields)) ∙ e)
+    go (Some key) e = at_place (finite.values r.fields) _ f (sym (find_at (matches key) (finite.values r.fields)) ∙ e)
 
 later : {X : Type 0} (y : X) (xs : List X) (x : X) → Contains xs x → Contains (y ∷ xs) x
 later y xs x c = (suc c.0, omega (arith, c.1), c.2)

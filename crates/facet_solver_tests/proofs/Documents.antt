@@ -8,6 +8,7 @@ use Rattle.std.proofs.lemmas.List.{append-nil, get_or_at, length_push, take-appe
 use Rattle.std.proofs.lemmas.Option.{slice_get_read}
 use Rattle.std.proofs.lemmas.List.Folds.{list_any-append}
 use Rattle.std.proofs.lemmas.List.Sums.{fold-append}
+use Rattle.std.proofs.Math.Bool.{or-false, or-true}
 use Rattle.facet_solver.specs.Names.{Name}
 use Rattle.facet_solver.specs.Run.{CallView, after_calls}
 use Rattle.facet_solver.specs.Schema.{SchemaView}
@@ -66,13 +67,6 @@ last_is xs x =
     (sym (get_or_at xs x [] x (length (xs ++ x ∷ []) - 1) (omega (arith, length_push xs x))))
 
 -- ---- calls outside lists alone
-or_false : (b : Bool) → (b || false) ≡ b
-or_false true = refl
-or_false false = refl
-
-or_true : (b : Bool) → (b || true) ≡ true
-or_true true = refl
-or_true false = refl
 
 no_calls : (b : Bool) → cond {A = List CallView} b [] [] ≡ []
 no_calls true = refl
@@ -94,10 +88,10 @@ same_list : (frames : List Frame) (frame : Frame) → is_list frame ≡ false �
 same_list frames frame plain =
     list_any-append is_list frames (frame ∷ [])
     ∙ ap (λ (b : Bool). list_any is_list frames || (b || false)) plain
-    ∙ or_false (list_any is_list frames)
+    ∙ or-false (list_any is_list frames)
 
 inside_list : (frames : List Frame) → list_any is_list (frames ++ InList ∷ []) ≡ true
-inside_list frames = list_any-append is_list frames (InList ∷ []) ∙ or_true (list_any is_list frames)
+inside_list frames = list_any-append is_list frames (InList ∷ []) ∙ or-true (list_any is_list frames)
 
 -- ---- where a value may stand: under a key, or in a list
 value_stands : (event : Event) (frame : Option Frame) → (frame ≡ Some Member) ⊎ (frame ≡ Some InList) → may_stand_in event (Some Member) ≡ true → may_stand_in event (Some InList) ≡ true → may_stand_in event frame ≡ true

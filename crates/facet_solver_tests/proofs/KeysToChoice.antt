@@ -26,7 +26,7 @@ see_keys_more {X} one_by_one key xs i d s before after low so_far more =
     ∙ one_by_one (map key (take i xs)) (key (get_or xs i d)) s)
 
 -- what stands at a place of a list is in it
-at_place : {X : Type 0} (xs : List X) (i : ℕ) (x : X) → slice_get xs i ≡ Some x → Contains xs x
+pub at_place : {X : Type 0} (xs : List X) (i : ℕ) (x : X) → slice_get xs i ≡ Some x → Contains xs x
 at_place [] i x e = absurd (cc)
 at_place (y ∷ xs) zero x e = (0, omega arith, cc)
 at_place (y ∷ xs) (suc i) x e = let r = at_place xs i x e in (suc r.0, omega (arith, r.1), r.2)

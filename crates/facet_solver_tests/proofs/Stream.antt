@@ -4,6 +4,7 @@ use Rattle.std.specs.Prelude.{Result, Ok, Err}
 use denote.Bor.{Bor}
 use Rattle.std.proofs.lemmas.List.{append-nil, append_assoc, length-map, take-map, take_all, take_more}
 use Rattle.std.proofs.lemmas.List.Sums.{fold-append, fold_push}
+use Rattle.std.proofs.Math.Bool.{and-true}
 use Rattle.facet_solver.specs.Names.{Name, names_of}
 use Rattle.facet_solver.specs.Run.{CallView, after_call, after_calls}
 use Rattle.facet_solver.specs.Schema.{SchemaView}
@@ -59,10 +60,6 @@ pub reading_more : (schema : SchemaView) (events : List Event) (i : ℕ) (d : Ev
 reading_more schema events i d low =
     ap (λ (es : List Event). reading_of schema es) (take_more events i d low) ∙ reading_push schema (take i events) (get_or events i d)
 
-and_true : (b : Bool) → (b && true) ≡ b
-and_true true = refl
-and_true false = refl
-
 and_assoc : (a b c : Bool) → (a && (b && c)) ≡ ((a && b) && c)
 and_assoc true b c = refl
 and_assoc false b c = refl
@@ -78,7 +75,7 @@ placed_append place (event ∷ xs) ys =
 placed_push : (place : PlaceView) (events : List Event) (event : Event) → well_placed place (events ++ event ∷ []) ≡ (well_placed place events && may_stand event (place_behind place events))
 placed_push place events event =
     placed_append place events (event ∷ [])
-    ∙ ap (λ (b : Bool). well_placed place events && b) (and_true (may_stand event (place_behind place events)))
+    ∙ ap (λ (b : Bool). well_placed place events && b) (and-true (may_stand event (place_behind place events)))
 
 -- so at an index, where those before may stand
 pub placed_more : (events : List Event) (i : ℕ) (d : Event) → i < length events → well_placed beginning (take i events) ≡ true → well_placed beginning (take (i + 1) events) ≡ may_stand (get_or events i d) (place_behind beginning (take i events))

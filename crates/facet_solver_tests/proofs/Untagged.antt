@@ -7,6 +7,7 @@ use Rattle.std.specs.Option.{option_map}
 use Rattle.std.specs.Ordering.{is_lt, nat_cmp}
 use Rattle.std.proofs.lemmas.Bool.Decides.{Decides-eqb}
 use Rattle.std.proofs.lemmas.List.{get_or-map, length-map}
+use Rattle.std.proofs.Math.Bool.{and-false, and-true, or-true}
 use Rattle.facet_solver.specs.Formats.{format_of}
 use Rattle.facet_solver.specs.Groups.{Entry, Groups, ends_at, entries_view, groups_of, groups_view, listed_by, scalar_shape, variants_view}
 use Rattle.facet_solver.specs.Scalars.{end_scalar, is_bool, is_float, is_int, is_string}
@@ -15,18 +16,6 @@ use Rattle.facet_solver.specs.declared.Shape.{Shape}
 use Rattle.facet_solver.specs.declared.Variant.{Variant}
 use Rattle.facet_solver.specs.declared.VariantsByFormat.{VariantsByFormat}
 use Rattle.facet_solver_tests.specs.Untagged.{IsByScore, TellsType, has_shape, is_of, variant_score}
-
-or_true : (b : Bool) → (b || true) ≡ true
-or_true true = refl
-or_true false = refl
-
-and_true : (b : Bool) → (b && true) ≡ b
-and_true true = refl
-and_true false = refl
-
-and_false : (b : Bool) → (b && false) ≡ false
-and_false true = refl
-and_false false = refl
 
 -- a shape is in a list, wherever its variants lie
 has_shape_view : (shape : ℕ) (es : List (Bor Variant × ℕ)) → has_shape es shape ≡ has_shape (entries_view es) shape
@@ -47,14 +36,14 @@ filter_more q shape e es rest more false h true k = rw h more
 filter_more q shape e es rest more false h false k = rw h more
 
 has_shape-filter : (q : ℕ → Bool) (shape : ℕ) (es : List Entry) → has_shape (filter (λ e. q e.1) es) shape ≡ (q shape && has_shape es shape)
-has_shape-filter q shape [] = sym (and_false (q shape))
+has_shape-filter q shape [] = sym (and-false (q shape))
 has_shape-filter q shape (e ∷ es) =
     filter_more q shape e es (filter (λ e. q e.1) es) (has_shape-filter q shape es) (e.1 == shape) refl (q e.1) refl
 
 -- the shape of a scalar among the variants is listed
 listed_more : (shape : ℕ) (w : Variant) (rest : List Entry) → has_shape rest shape ≡ true → (o : Option ℕ) → has_shape (cons_option (option_map (λ n. (w, n)) o) rest) shape ≡ true
 listed_more shape w rest more None = more
-listed_more shape w rest more (Some n) = ap (λ b. (n == shape) || b) more ∙ or_true (n == shape)
+listed_more shape w rest more (Some n) = ap (λ b. (n == shape) || b) more ∙ or-true (n == shape)
 
 has_shape-listed : (shapes : List Shape) (shape : ℕ) (vs : List Variant) (k : ℕ) (v : Variant) → k < length vs → v ≡ get_or vs k v → scalar_shape (format_of shapes v) ≡ Some shape → has_shape (listed_by shapes scalar_shape vs) shape ≡ true
 has_shape-listed shapes shape [] k v inside is listed = absurd (omega (arith, inside))
@@ -78,7 +67,7 @@ tells_type shapes vs g made k v inside is shape listed = record {
     of test =
         has_shape-filter (λ n. is_of test (end_scalar shapes n)) shape (listed_by shapes scalar_shape vs)
         ∙ ap (λ b. is_of test (end_scalar shapes shape) && b) (has_shape-listed shapes shape vs k v inside is listed)
-        ∙ and_true (is_of test (end_scalar shapes shape))
+        ∙ and-true (is_of test (end_scalar shapes shape))
 
 -- the variants that pass a test, wherever they lie
 kept_view : (b : Bool) (v : Bor Variant) (some : List (Bor Variant)) (kept : List Variant) → kept ≡ variants_view some → cond b (v.now ∷ kept) kept ≡ variants_view (cond b (v ∷ some) some)

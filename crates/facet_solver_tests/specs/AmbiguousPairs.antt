@@ -6,7 +6,7 @@ use Rattle.facet_solver.specs.Names.{Name, names_of}
 use Rattle.facet_solver.specs.Pairs.{CanBothBeViable, HasKeyFor, HasKeysRequiredBy, LeavesBothViable}
 use Rattle.facet_solver.specs.Resolved.{Resolved, field_by_name}
 use Rattle.facet_solver.specs.Schema.{SchemaView}
-use Rattle.facet_solver.specs.State.{has_key}
+use Rattle.facet_solver.specs.Resolutions.{has_key}
 use Rattle.facet_solver.specs.Told.{has_keys}
 use Rattle.facet_solver.specs.Verdict.{field_names, is_viable}
 use Rattle.facet_solver.specs.declared.FieldCategory.TheVariants.{Flat, Attribute, Element, Text, Tag, Elements}

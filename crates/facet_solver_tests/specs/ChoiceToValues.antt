@@ -9,7 +9,7 @@ use Rattle.facet_solver.specs.Fields.{FieldView}
 use Rattle.facet_solver.specs.IndexSet.{upto}
 use Rattle.facet_solver.specs.Keys.{Key, key_of}
 use Rattle.facet_solver.specs.Resolved.{Resolved, field_by_key}
-use Rattle.facet_solver.specs.State.{has_key}
+use Rattle.facet_solver.specs.Resolutions.{has_key}
 use Rattle.facet_solver.specs.declared.FieldCategory.TheVariants.{Flat, Element}
 use Rattle.facet_solver_tests.specs.declared.callers.choice_to_values.FieldValue.{FieldValue}
 use Rattle.facet_solver_tests.specs.declared.callers.choice_to_values.Values.{Values}

@@ -5,7 +5,8 @@ use Rattle.facet_solver.specs.Keys.{Key, key_of, flat_key}
 use Rattle.facet_solver.specs.Names.{Name, name_eq, names_of}
 use Rattle.facet_solver.specs.Resolved.{Resolved}
 use Rattle.facet_solver.specs.Schema.{IsHandleOf, SchemaView, index_of, resolution_of}
-use Rattle.facet_solver.specs.State.{State, has_key, has_tag_field, hint_variant_for_tag, new_solver, passing, picks_variant, see_key}
+use Rattle.facet_solver.specs.State.{State, has_tag_field, hint_variant_for_tag, new_solver, passing, picks_variant, see_key}
+use Rattle.facet_solver.specs.Resolutions.{has_key}
 use Rattle.facet_solver.specs.Told.{has_keys, see_keys}
 use Rattle.facet_solver.specs.Verdict.{IsReportOn, resolutions_at, viable}
 use Rattle.facet_solver.specs.declared.FieldKey.{FieldKey}

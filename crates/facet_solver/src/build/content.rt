@@ -1,26 +1,11 @@
 //! The content of a variant.
-ghost use Rattle.std.specs.Prelude.{◌≡◌, ◌∷◌, [], slice_get, MatchOption};
-ghost use Rattle.std.specs.Option.{option_copied, option_map};
+ghost use Rattle.std.specs.Prelude.{◌≡◌, ◌∷◌, [], MatchOption};
+ghost use Rattle.std.specs.Option.{option_copied};
 ghost use Rattle.facet_solver_shape.specs.Catalogues.{NamesEarlier};
 ghost use Rattle.facet_solver.specs.Content as content;
 ghost use Rattle.facet_solver.specs.Content.{IsNewtypeOf};
 
 use facet_solver_shape::{Field, ShapeId, ShapeKind, Shapes, Variant};
-
-/// The shape that `inner` and then `proxy` lead to, and so on to the end.
-pub(crate) fn effective(shapes: &Shapes, id: ShapeId) -> ShapeId
-    requires { NamesEarlier shapes.now }
-    ensures { result ≡ content.effective shapes.now id }
-{
-    let mut id = id;
-    while let Some(shape) = shapes.get(id) {
-        let Some(next) = shape.inner.or(shape.proxy) else {
-            break;
-        };
-        id = next;
-    }
-    id
-}
 
 /// The struct behind a single field `0`.
 pub(crate) fn newtype_struct(shapes: &Shapes, fields: &[Field]) -> Option<ShapeId>
@@ -43,7 +28,7 @@ pub(crate) fn newtype_of(shapes: &Shapes, field: &Field) -> Option<ShapeId>
     if field.name.as_str() != "0" {
         return None;
     }
-    let id = effective(shapes, field.shape);
+    let id = shapes.effective(field.shape);
     match shapes.get(id)?.kind {
         ShapeKind::Struct { .. } => Some(id),
         _ => None,

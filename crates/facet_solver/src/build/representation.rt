@@ -1,7 +1,7 @@
 //! How enums are written in a document, and what kind of document it is.
 ghost use Rattle.std.specs.Prelude.{◌≡◌};
 ghost use Rattle.facet_solver.specs.Representation as representation;
-ghost use Rattle.facet_solver.specs.Representation.{repr_view, asked_view};
+ghost use Rattle.facet_solver.specs.Representation.{repr_view};
 
 use facet_solver_shape::Shape;
 

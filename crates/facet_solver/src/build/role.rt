@@ -1,5 +1,5 @@
 //! What a field is to the fields that it stands among, by the kind of its target.
-ghost use Rattle.std.specs.Prelude.{◌≡◌, slice_get};
+ghost use Rattle.std.specs.Prelude.{◌≡◌};
 ghost use Rattle.facet_solver.specs.Roles as roles;
 ghost use Rattle.facet_solver.specs.Roles.{role_view};
 

@@ -8,9 +8,7 @@ ghost use Rattle.facet_solver_shape.specs.Names.{Name, name_eq};
 ghost use Rattle.facet_solver_shape.specs.Resolved.{Resolved};
 ghost use Rattle.facet_solver.specs.IndexEntries.{HasBound, added, category_of, entry_at, entry_in, entry_of_one, holds, is_held, named_entry, with_occurrence};
 ghost use Rattle.facet_solver.specs.Indexed.{AreOfFormat, IsEntryIfAny, IsIndexOf, fields_of_each};
-ghost use Rattle.facet_solver.specs.Failure.{has_field_named};
-ghost use Rattle.facet_solver.specs.KeyResult.{field_at};
-ghost use Rattle.facet_solver.specs.State.{passes};
+ghost use Rattle.facet_solver.specs.Resolutions.{field_at, has_field_named, passes};
 ghost use Rattle.facet_solver.specs.Slots.{Slot, categories, is_at, is_named, slot_in, slot_of};
 
 use crate::build::representation::Format;

@@ -1,17 +1,19 @@
 //! What a solver asks of a resolution.
-ghost use Rattle.std.specs.Prelude.{◌≡◌, map, nat_eq};
+ghost use Rattle.std.specs.Prelude.{◌≡◌, map};
 ghost use Rattle.std.specs.List.{list_any};
 ghost use Rattle.std.specs.Option.{option_copied};
 ghost use Rattle.facet_solver_shape.specs.Keys.{key_of};
 ghost use Rattle.facet_solver_shape.specs.Names.{name_eq};
-ghost use Rattle.facet_solver.specs.State.{has_shape_among, passes, passing_at, picks_variant};
+ghost use Rattle.facet_solver.specs.FirstOfEach.{is_among};
+ghost use Rattle.facet_solver.specs.State.{has_shape_among, picks_variant};
+ghost use Rattle.facet_solver.specs.Resolutions.{passes, passing_at};
 
-pub(crate) mod shape_of;
 pub(crate) mod tag_field;
 pub(crate) mod viable;
 
 use crate::set::Condition;
-use facet_solver_shape::{FieldInfo, FieldKey, Resolution, ShapeId, VariantSelection};
+use crate::solver::shaped::{Shaped, is_among};
+use facet_solver_shape::{FieldInfo, FieldKey, Resolution, VariantSelection};
 use std::collections::{BTreeMap, BTreeSet};
 
 /// A test of a resolution.
@@ -68,51 +70,45 @@ impl Test for PicksVariant<'_> {
 fn picks_variant(resolution: &Resolution<'_>, name: &str) -> bool
     ensures { result ≡ picks_variant name.now resolution.now }
 {
-    is_among(resolution.variant_selections(), name)
+    is_picked(resolution.variant_selections(), name)
 }
 
-fn is_among(picks: &[VariantSelection<'_>], name: &str) -> bool
+fn is_picked(picks: &[VariantSelection<'_>], name: &str) -> bool
     ensures { result ≡ list_any (λ pick. name_eq pick.variant_name.now name.now) picks.now }
 {
     picks.iter().any(|pick| pick.variant_name == name)
 }
 
-/// Whether a field of a resolution has one of some shapes.
+/// Whether a field of a resolution has the shape of one of some items.
 #[derive(Clone, Copy)]
-pub(crate) struct HasShapeAmong<'l> {
-    pub(crate) shapes: &'l [ShapeId],
+pub(crate) struct HasShapeAmong<'l, T> {
+    pub(crate) items: &'l [T],
 }
 
-impl Test for HasShapeAmong<'_> {
-    ghost is_passed = { λ t. has_shape_among t.shapes.now };
+impl<T: Shaped> Test for HasShapeAmong<'_, T> {
+    ghost is_passed = { λ t. has_shape_among (map T.shape_of t.items.now) };
 
     fn is_passed(&self, resolution: &Resolution<'_>) -> bool {
-        has_shape_among(resolution, self.shapes)
+        has_shape_among(resolution, self.items)
     }
 }
 
-fn has_shape_among(resolution: &Resolution<'_>, shapes: &[ShapeId]) -> bool
-    ensures { result ≡ has_shape_among shapes.now resolution.now }
+fn has_shape_among<T: Shaped>(resolution: &Resolution<'_>, items: &[T]) -> bool
+    ensures { result ≡ has_shape_among (map T.shape_of items.now) resolution.now }
 {
-    have_shape_among(resolution.fields(), shapes)
+    have_shape_among(resolution.fields(), items)
 }
 
-fn have_shape_among(fields: &BTreeMap<FieldKey<'_>, FieldInfo<'_>>, shapes: &[ShapeId]) -> bool
+fn have_shape_among<T: Shaped>(fields: &BTreeMap<FieldKey<'_>, FieldInfo<'_>>, items: &[T]) -> bool
     ensures { result
-        ≡ list_any (λ e. list_any (λ id. nat_eq id e.1.shape) shapes.now) fields.now.entries }
+        ≡ list_any (λ e. is_among T.shape_of items.now e.1.shape) fields.now.entries }
 {
     for (_, field) in fields {
-        if has_shape(shapes, field.value_shape) {
+        if is_among(items, field.value_shape) {
             return true;
         }
     }
     false
-}
-
-fn has_shape(shapes: &[ShapeId], shape: ShapeId) -> bool
-    ensures { result ≡ list_any (λ id. nat_eq id shape) shapes.now }
-{
-    shapes.iter().any(|id| *id == shape)
 }
 
 /// Whether a name is that of a seen key.

@@ -1,14 +1,15 @@
 //! The fields that a key means in the candidates of a solver.
-ghost use Rattle.std.specs.Prelude.{◌≡◌, ◌+◌, ◌++◌, ◌∷◌, [], ◌≤◌, ℕ, IfOk, List, OnOk, length, map, nat_eq};
-ghost use Rattle.std.specs.List.{list_any};
+ghost use Rattle.std.specs.Prelude.{◌≡◌, ◌+◌, ◌++◌, ◌∷◌, [], ◌≤◌, ℕ, IfOk, List, OnOk, length, map};
 ghost use Rattle.std.specs.Option.{option_copied};
 ghost use Rattle.facet_solver_shape.specs.Keys.{key_of};
 ghost use Rattle.facet_solver_shape.specs.Steps.{NoCountFalls};
 ghost use Rattle.facet_solver.specs.KeyResult as key_result;
-ghost use Rattle.facet_solver.specs.KeyResult.{field_at, scored_view};
+ghost use Rattle.facet_solver.specs.KeyResult.{scored_view};
+ghost use Rattle.facet_solver.specs.Resolutions.{field_at};
 
 use crate::schema::Schema;
 use crate::set::CommonIter;
+use crate::solver::shaped::is_among;
 use facet_solver_shape::{FieldInfo, FieldKey, ShapeId, Steps, specificity_score};
 use std::alloc::{AllocError, Global};
 
@@ -77,17 +78,10 @@ fn add_if_new<'s, 'c>(
     let Some(field) = search.field_at(index, steps) else {
         return Ok(());
     };
-    if !has_shape(fields, field.value_shape) {
+    if !is_among(fields, field.value_shape) {
         fields.push((field, score_at(search.schema, field.value_shape)))?;
     }
     Ok(())
-}
-
-// Whether one of the fields has the shape.
-fn has_shape(fields: &[(&FieldInfo<'_>, u64)], shape: ShapeId) -> bool
-    ensures { result ≡ list_any (λ e. nat_eq e.0.now.shape shape) fields.now }
-{
-    fields.iter().any(|(field, _)| field.value_shape == shape)
 }
 
 // The score of a shape that is not there.

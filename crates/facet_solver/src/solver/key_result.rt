@@ -3,9 +3,10 @@ ghost use Rattle.std.specs.Prelude.{◌≡◌, ◌↔◌, ◌+◌, ◌<◌, ◌�
 ghost use Rattle.facet_solver_shape.specs.Keys.{key_of};
 ghost use Rattle.facet_solver_shape.specs.Steps.{NoCountFalls};
 ghost use Rattle.facet_solver.specs.Indexed.{IsEntry};
-ghost use Rattle.facet_solver.specs.KeyResult.{HaveShape, HoldsHandleOf, IsUnknownOrSolved, field_at, key_result, key_result_view, of_fields, scored_view, solved, unknown};
+ghost use Rattle.facet_solver.specs.KeyResult.{HaveShape, HoldsHandleOf, IsUnknownOrSolved, key_result, key_result_view, of_fields, scored_view, solved, unknown};
+ghost use Rattle.facet_solver.specs.Resolutions.{field_at, has_key};
 ghost use Rattle.facet_solver.specs.Schema.{SchemaView};
-ghost use Rattle.facet_solver.specs.State.{has_key, passing, state_of};
+ghost use Rattle.facet_solver.specs.State.{passing, state_of};
 ghost use Rattle.facet_solver.specs.Words.{begun_words};
 
 use crate::schema::Schema;

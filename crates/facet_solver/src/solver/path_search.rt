@@ -6,7 +6,7 @@ ghost use Rattle.facet_solver.specs.KeyResult.{HoldsHandleOf, key_result_view, s
 ghost use Rattle.facet_solver.specs.KeyPath.{has_key_at, has_key_path, whole_path};
 ghost use Rattle.facet_solver.specs.Probe.{below_first, by_shapes, field_on_path_at, fields_on_path, first_field, scored_at, shapes_at};
 ghost use Rattle.facet_solver.specs.ShapeAtPath as at_path;
-ghost use Rattle.facet_solver.specs.State.{passes};
+ghost use Rattle.facet_solver.specs.Resolutions.{passes};
 
 use crate::key_path::has_key_at;
 use crate::schema::Schema;
@@ -14,7 +14,8 @@ use crate::set::ResolutionSet;
 use crate::solver::conditions::Test;
 use crate::solver::distinct_fields::score_at;
 use crate::solver::key_result::KeyResult;
-use crate::solver::shape_at_path::{is_among, shape_below, shape_of_member};
+use crate::solver::shape_at_path::{shape_below, shape_of_member};
+use crate::solver::shaped::is_among;
 use facet_solver_shape::{FieldInfo, Resolution, ShapeId, Shapes};
 use std::alloc::{AllocError, Global};
 

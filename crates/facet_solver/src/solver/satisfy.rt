@@ -8,7 +8,6 @@ ghost use Rattle.facet_solver.specs.State as state;
 use crate::schema::handle::ResolutionHandle;
 use crate::solver::Solver;
 use crate::solver::conditions::HasShapeAmong;
-use crate::solver::conditions::shape_of::HasShapeOf;
 use crate::solver::satisfy_result::SatisfyResult;
 use crate::solver::shape_at_path::{HasShapeAtPath, distinct_shapes};
 use facet_solver_shape::{FieldInfo, ShapeId};
@@ -24,7 +23,7 @@ impl<'s, 'c> Solver<'s, 'c, '_> {
         ensures handle { HoldsHandleOf self.old.schema result }
         ensures narrowed { self.new ≡ state.satisfy fields.now self.old }
     {
-        self.retain(HasShapeOf { fields });
+        self.retain(HasShapeAmong { items: fields });
         self.satisfy_result()
     }
 
@@ -37,7 +36,7 @@ impl<'s, 'c> Solver<'s, 'c, '_> {
         ensures handle { HoldsHandleOf self.old.schema result }
         ensures narrowed { self.new ≡ state.satisfy_shapes shapes.now self.old }
     {
-        self.retain(HasShapeAmong { shapes });
+        self.retain(HasShapeAmong { items: shapes });
         self.satisfy_result()
     }
 

@@ -1,6 +1,5 @@
 //! The shape of a resolution at a path of names.
-ghost use Rattle.std.specs.Prelude.{◌≡◌, ◌++◌, ◌∷◌, [], IfOk, OnOk, List, ℕ, nat_eq};
-ghost use Rattle.std.specs.List.{list_any};
+ghost use Rattle.std.specs.Prelude.{◌≡◌, ◌++◌, ◌∷◌, [], IfOk, OnOk, List, ℕ};
 ghost use Rattle.facet_solver_shape.specs.Names.{names_of};
 ghost use Rattle.facet_solver.specs.ShapeAtPath as at_path;
 ghost use Rattle.facet_solver.specs.ShapeAtPath.{distinct, has_shape_at_path, shape_of_member};
@@ -8,6 +7,7 @@ ghost use Rattle.facet_solver.specs.ShapeAtPath.{distinct, has_shape_at_path, sh
 use crate::schema::Schema;
 use crate::set::ResolutionSet;
 use crate::solver::conditions::Test;
+use crate::solver::shaped::is_among;
 use facet_solver_shape::{Field, Resolution, ShapeId, ShapeKind, Shapes};
 use std::alloc::{AllocError, Global};
 
@@ -109,11 +109,4 @@ fn shape_of_field(name: &str, fields: &[Field]) -> Option<ShapeId>
 {
     let field = fields.iter().find(|field| field.effective_name() == name)?;
     Some(field.shape)
-}
-
-/// Whether a shape is one of some shapes.
-pub(crate) fn is_among(shapes: &[ShapeId], shape: ShapeId) -> bool
-    ensures { result ≡ list_any (λ id. nat_eq id shape) shapes.now }
-{
-    shapes.iter().any(|id| *id == shape)
 }

@@ -2,6 +2,7 @@
 ghost use Rattle.std.specs.Prelude.{◌≡◌, ◌<◌, ◌↔◌, length, IsTrue, slice_get, IfSome, IsOk, IfOk, IfErr, OnOk, Some};
 ghost use Rattle.std.specs.Option.{option_copied};
 ghost use Rattle.facet_solver_shape.specs.Catalogues.{IsEarlierThan, shape_of, number_of, fault_text, refusal_text, IsChecked, IsFirstFault};
+ghost use Rattle.facet_solver_shape.specs.EffectiveShapes.{effective};
 ghost use Rattle.facet_solver_shape.specs.Pointers.{pointee_at, end_of, IsEndOf, EveryShapeEnds};
 
 use super::check::{check_shape, later_pointee};
@@ -162,8 +163,22 @@ impl Shapes {
         id.index() < self.len()
     }
 
+    /// The effective shape: that which `inner`, and else `proxy`, lead to, and so on to the end.
+    pub fn effective(&self, id: ShapeId) -> ShapeId
+        ensures { result ≡ effective self.now id }
+    {
+        let mut id = id;
+        while let Some(shape) = self.get(id) {
+            let Some(next) = shape.inner.or(shape.proxy) else {
+                break;
+            };
+            id = next;
+        }
+        id
+    }
+
     /// The end of a shape: pointers are followed, and an opaque one is an end.
-    pub(crate) fn end_of(&self, id: ShapeId) -> ShapeId
+    pub fn end_of(&self, id: ShapeId) -> ShapeId
         ensures value { result ≡ end_of self.now id }
         ensures is_end { IsEndOf self.now id result }
         ensures inside { id < length self.now → result < length self.now }

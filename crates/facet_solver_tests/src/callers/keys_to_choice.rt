@@ -1,6 +1,6 @@
 //! From keys to a choice: the schema of a type is built, a solver is told the keys of a document, and
 //! its end is the answer.
-ghost use Rattle.std.specs.Prelude.{◌≡◌, ◌<◌, IfErr, Some, length};
+ghost use Rattle.std.specs.Prelude.{◌≡◌, ◌<◌, Some, length};
 ghost use Rattle.facet_solver.specs.Representation.{flattened};
 ghost use Rattle.facet_solver.specs.Schema.{flat_build};
 ghost use Rattle.facet_solver.specs.State.{new_solver};

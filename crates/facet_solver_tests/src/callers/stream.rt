@@ -2,8 +2,7 @@
 //!
 //! There is no tree and no second pass. A solver sees the keys of the first level, is asked for the
 //! deeper ones, and is told the shapes that scalars fit. What lies in lists is passed over.
-ghost use Rattle.std.specs.Prelude.{◌≡◌, ◌≢◌, ◌↔◌, ◌++◌, ◌∷◌, [], Err, IfErr, IfOk, IsTrue, OnErr, OnOk, Option, Some, false, true};
-ghost use Rattle.std.specs.List.{list_any};
+ghost use Rattle.std.specs.Prelude.{◌≡◌, ◌↔◌, ◌++◌, ◌∷◌, [], Err, IfOk, IsTrue, OnErr, OnOk, Option, Some, false, true};
 ghost use Rattle.facet_solver.specs.Names.{names_of};
 ghost use Rattle.facet_solver.specs.Run.{after_call};
 ghost use Rattle.facet_solver.specs.State.{new_solver};

@@ -1,5 +1,5 @@
 use Rattle.facet_solver_shape.proofs.Catalogues.{names_earlier}
-use Rattle.facet_solver.proofs.Content.{effective-step}
+use Rattle.facet_solver_shape.proofs.EffectiveShapes.{effective-step}
 use Rattle.facet_solver.proofs.laws.effective_shapes_follow_inner_and_proxy.Goals as goal
 
 pub returns : goal.returns

@@ -1,9 +1,9 @@
 //! Why resolutions are not the answer.
-ghost use Rattle.std.specs.Prelude.{◌≡◌, ◌<◌, IfOk, List, Some, length, map, slice_get, string_bytes};
-ghost use Rattle.std.specs.Option.{option_map};
+ghost use Rattle.std.specs.Prelude.{◌≡◌, ◌<◌, IfOk, List, Some, map, slice_get, string_bytes};
 ghost use Rattle.facet_solver_shape.specs.Keys.{Key};
 ghost use Rattle.facet_solver.specs.Failure as spec;
-ghost use Rattle.facet_solver.specs.Failure.{failure_of, type_identifier};
+ghost use Rattle.facet_solver.specs.Build.{type_identifier};
+ghost use Rattle.facet_solver.specs.Failure.{failure_of};
 ghost use Rattle.facet_solver.specs.Report.{failure_view, missing_view};
 ghost use Rattle.facet_solver.specs.SeenNames.{AreSeenNames};
 ghost use Rattle.facet_solver.specs.Verdict.{resolutions_at, state_of_report};

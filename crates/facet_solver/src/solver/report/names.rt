@@ -2,7 +2,7 @@
 ghost use Rattle.std.specs.Prelude.{◌≡◌, IfOk, map, not, string_bytes};
 ghost use Rattle.facet_solver_shape.specs.Keys.{key_of};
 ghost use Rattle.facet_solver.specs.Failure as spec;
-ghost use Rattle.facet_solver.specs.State.{has_key, is_known, passes};
+ghost use Rattle.facet_solver.specs.Resolutions.{has_key, is_known, passes};
 
 use crate::schema::Schema;
 use facet_solver_shape::FieldKey;

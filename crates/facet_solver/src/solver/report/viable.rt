@@ -3,9 +3,8 @@ ghost use Rattle.std.specs.Prelude.{◌≡◌, ◌<◌, All, IfOk, OnOk, length,
 ghost use Rattle.std.specs.FinSet as set;
 ghost use Rattle.std.specs.List.{flat_map, list_all};
 ghost use Rattle.facet_solver_shape.specs.Resolved.{names_view};
-ghost use Rattle.facet_solver.specs.Failure.{has_field_named};
+ghost use Rattle.facet_solver.specs.Resolutions.{has_field_named, passes};
 ghost use Rattle.facet_solver.specs.IndexEntries.{is_held};
-ghost use Rattle.facet_solver.specs.State.{passes};
 ghost use Rattle.facet_solver.specs.Verdict as verdict;
 ghost use Rattle.facet_solver.specs.Verdict.{field_names, resolutions_at, state_of_report, viable};
 

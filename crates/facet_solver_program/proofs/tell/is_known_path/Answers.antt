@@ -3,7 +3,7 @@ use Rattle.std.specs.List.{list_any}
 use Rattle.facet_solver.specs.KeyPath.{has_key_path}
 use Rattle.facet_solver.specs.Names.{names_of}
 use Rattle.facet_solver.specs.Schema.{resolution_of}
-use Rattle.facet_solver.specs.State.{passes}
+use Rattle.facet_solver.specs.Resolutions.{passes}
 use Rattle.facet_solver.specs.declared.schema.handle.ResolutionHandle.{ResolutionHandle}
 use Rattle.facet_solver_program.proofs.Telling.{any_of_handles}
 use Rattle.facet_solver_program.proofs.tell.is_known_path.Goals as goal

@@ -7,6 +7,6 @@ use Rattle.facet_solver.proofs.solver.conditions.picks_variant.Goals as goal
 
 pub returns : goal.returns
 returns c =
-    c.is_among.ensures
+    c.is_picked.ensures
     ∙ variant_named c.variant_selections.result.now c.args.name.now
     ∙ ap (list_any (λ (pick : Pick). name_eq pick.variant_name c.args.name.now)) c.variant_selections.ensures

@@ -1,4 +1,4 @@
-use Rattle.std.proofs.Common.{◌≡◌, List, [], ◌∷◌, ap, map, subst, sym, ◌∙◌}
+use Rattle.std.proofs.Common.{List, [], ◌∷◌, ap, map, subst, sym, ◌∙◌}
 use Rattle.std.proofs.lemmas.List.{map-append}
 use Rattle.facet_solver.specs.Fields.{entry_view}
 use Rattle.facet_solver.specs.Keys.{Key, key_of}

@@ -1,4 +1,4 @@
-use Rattle.std.proofs.Common.{◌≡◌, ◌<◌, ℕ, length, arith, List, [], ◌∷◌, ◌++◌, ap, subst, sym, ◌∙◌}
+use Rattle.std.proofs.Common.{◌≡◌, ◌<◌, length, arith, List, [], ◌∷◌, ◌++◌, ap, subst, sym, ◌∙◌}
 use Rattle.facet_solver.specs.Resolved.{Resolved}
 use Rattle.facet_solver_tests.specs.AmbiguousPairs.{ListsPairs, PairsIfAny, pairs_with}
 use Rattle.facet_solver_tests.specs.declared.callers.ambiguous_pairs.AmbiguousPair.{AmbiguousPair}

@@ -1,8 +1,4 @@
-use Rattle.std.proofs.Common.{◌≡◌, Bool, List, [], true, ap, get_or, refl, subst, sym, ◌∙◌}
-use Rattle.std.proofs.lemmas.Option.{slice_get-get_or}
-use Rattle.facet_solver.specs.Keys.{Key}
-use Rattle.facet_solver.specs.Resolved.{Resolved}
-use Rattle.facet_solver_tests.specs.AmbiguousPairs.{AddsKeys, MeetsMore}
+use Rattle.std.proofs.Common.{ap, refl}
 use Rattle.facet_solver_tests.specs.KeysToChoice.{keys_of}
 use Rattle.facet_solver_tests.proofs.AmbiguousPairs.{shared_by, there_at}
 use Rattle.facet_solver_tests.proofs.callers.ambiguous_pairs.pair_of.Goals as goal

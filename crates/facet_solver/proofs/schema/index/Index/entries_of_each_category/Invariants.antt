@@ -1,6 +1,5 @@
 use Rattle.std.proofs.Common.{◌≡◌, ◌++◌, Bor, drop, map}
 use Rattle.std.specs.List.{filter_map}
-use Rattle.facet_solver_shape.specs.declared.resolution.key.FieldCategory.{FieldCategory}
 use Rattle.facet_solver.specs.IndexEntries.{entry_at}
 use Rattle.facet_solver.specs.Slots.{categories, slot_in}
 use Rattle.facet_solver.specs.declared.schema.index.Entry.{Entry}

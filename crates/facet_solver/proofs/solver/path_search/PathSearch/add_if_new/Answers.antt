@@ -6,7 +6,7 @@ use Rattle.facet_solver.specs.KeyResult.{scored_view}
 use Rattle.facet_solver.specs.KeyPath.{has_key_path, whole_path}
 use Rattle.facet_solver.specs.Probe.{field_on_path_at, fields_on_path, scored}
 use Rattle.facet_solver.specs.Schema.{SchemaView}
-use Rattle.facet_solver.specs.State.{passes}
+use Rattle.facet_solver.specs.Resolutions.{passes}
 use Rattle.facet_solver.proofs.Probe.{firsts_new, firsts_old, firsts_none, firsts_failed, told_of}
 use Rattle.facet_solver.proofs.solver.path_search.PathSearch.add_if_new.Goals as goal
 use Rattle.facet_solver.proofs.solver.path_search.PathSearch.add_if_new.Goals.{else-not-is_among-via-then-not-is_among+else-is_at, else-not-is_among-via-else-not-is_among}

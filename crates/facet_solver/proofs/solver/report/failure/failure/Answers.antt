@@ -3,7 +3,7 @@ use Rattle.std.specs.Option.{option_map_or}
 use Rattle.facet_solver_shape.specs.Keys.{key_of}
 use Rattle.facet_solver.specs.Build.{Catalogue}
 use Rattle.facet_solver.specs.Failure.{missing_fields, names_where}
-use Rattle.facet_solver.specs.State.{has_key}
+use Rattle.facet_solver.specs.Resolutions.{has_key}
 use Rattle.facet_solver.proofs.solver.report.failure.failure.Goals as goal
 
 pub returns : goal.returns

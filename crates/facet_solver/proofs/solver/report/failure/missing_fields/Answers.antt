@@ -1,4 +1,4 @@
-use Rattle.std.proofs.Common.{◌≡◌, List, [], map, ap, refl, sym, ◌∙◌}
+use Rattle.std.proofs.Common.{List, map, ap, refl, sym, ◌∙◌}
 use Rattle.facet_solver_shape.specs.Fields.{FieldView, entry_view}
 use Rattle.facet_solver_shape.specs.Keys.{Key}
 use Rattle.facet_solver_shape.specs.declared.resolution.key.FieldKey.{FieldKey}

@@ -1,5 +1,5 @@
 use Rattle.std.proofs.Common.{◌≡◌, ◌++◌, List, map}
-use Rattle.facet_solver_shape.specs.Fields.{FieldView, entry_view}
+use Rattle.facet_solver_shape.specs.Fields.{entry_view}
 use Rattle.facet_solver_shape.specs.Keys.{Key}
 use Rattle.std.specs.FinMap as finite
 use Rattle.facet_solver.specs.Report.{missing_view}

@@ -1,4 +1,4 @@
-use Rattle.std.proofs.Common.{◌∷◌, ◌∙◌, List, ap, sym, subst}
+use Rattle.std.proofs.Common.{◌∷◌, ◌∙◌, List, sym, subst}
 use Rattle.facet_solver_shape.specs.Names.{Name}
 use Rattle.facet_solver.proofs.CategoryNames.{name_kept, name_passed, names_left}
 use Rattle.facet_solver.proofs.NameSets.{Fills, fills_more, fills_start, filled_list, in_list}

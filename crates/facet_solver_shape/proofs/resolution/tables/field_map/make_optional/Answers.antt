@@ -1,4 +1,4 @@
-use Rattle.std.proofs.Common.{false, rules}
+use Rattle.std.proofs.Common.{rules}
 use Rattle.std.proofs.lemmas.Map.Made.{map_same_pairs}
 use Rattle.facet_solver_shape.specs.Fields.{as_optional}
 use Rattle.facet_solver_shape.proofs.resolution.tables.field_map.make_optional.Goals as goal

@@ -1,7 +1,6 @@
-use Rattle.std.proofs.Common.{◌≡◌, ◌&&◌, Bool, true, false, List, [], ap, sym, ◌∙◌}
+use Rattle.std.proofs.Common.{◌≡◌, ◌&&◌, true, false, [], ap, sym, ◌∙◌}
 use Rattle.std.specs.FinSet.{contains}
 use Rattle.facet_solver_shape.specs.Fields.{FieldView, takes_any_name}
-use Rattle.facet_solver_shape.specs.Names.{Name}
 use Rattle.facet_solver_shape.specs.Resolved.{names_view}
 use Rattle.facet_solver.specs.SeenNames.{of_category}
 use Rattle.facet_solver.proofs.CategoryNames.{met_by_kept, met_by_name, met_by_rest}
