@@ -1,15 +1,16 @@
 -- The choice of a rank: among products, variants and what may be absent, and by parts that are taken from the end.
 use Rattle.std.proofs.Common.{◌≡◌, ◌+◌, ◌-◌, ◌*◌, ◌/◌, ◌%◌, ◌^◌, ◌<◌, ◌≤◌, ℕ, zero, suc, List, [], ◌∷◌, ◌++◌, map, reverse, flat_map, sum_by, Some, None, Bool, true, false, ap, append-nil, append_assoc, arith, drop, get_or, length, refl, subst, sym, ◌∙◌, suc-mul, zero-mul, mul-zero, mul_comm, slice_get, get_or-append-add}
 use Rattle.std.specs.List.{AllByRecursion}
-use Rattle.std.proofs.lemmas.List.{get_or_append_left, get_or-append_right}
+use Rattle.std.proofs.lemmas.List.{get_or_append_left, get_or-append_right, reverse-append}
 use Rattle.std.proofs.lemmas.List.Concat.{flat_map-append}
-use Rattle.std.proofs.lemmas.List.Sums.{sum_by-append, sum_by-cons, get_or-le-sum_by}
+use Rattle.std.proofs.lemmas.List.Sums.{sum_by-append, sum_by-cons, get_or-le-sum_by, sum_by_push}
 use Rattle.std.proofs.lemmas.Nat.{div-add-mod', div_below, mod_below}
 use Rattle.std.proofs.lemmas.Option.{same_Some, slice_get-get_or}
 use Rattle.facet_solver_shape.specs.declared.shape.Field.{Field}
 use Rattle.facet_solver_shape.specs.declared.shape.Variant.{Variant}
 use Rattle.facet_solver_shape.specs.Catalogues.{FieldsBelow, NamesEarlier}
 use Rattle.facet_solver.specs.declared.build.choices.Part.{Part}
+use Rattle.facet_solver.specs.declared.build.choices.Part.TheVariants.{Index}
 use Rattle.facet_solver.specs.Build.{Build, repr_for}
 use Rattle.facet_solver.specs.Representation.{is_walked}
 use Rattle.facet_solver.specs.declared.build.role.Target.{Target}
@@ -188,15 +189,6 @@ module _ (choices : Variant → Choices) where
       ∙ get_or_append_left first (indexed (suc k) choices (drop (i + 1) vs)) [] r (omega (arith, all, long, h))
       ∙ at_map (λ c. k ∷ c) (choices v) r (omega (arith, long, h))
 
-  -- behind them those of the next ones
-  pub at_next : (k : ℕ) (vs : List Variant) (i : ℕ) (v : Variant) (n r : ℕ) → i < length vs → v ≡ get_or vs i v → length (choices v) ≡ n → n ≤ r → choice_at (indexed k choices (drop i vs)) r ≡ choice_at (indexed (suc k) choices (drop (i + 1) vs)) (r - n)
-  at_next k vs i v n r within is long h =
-      let first = map (λ c. k ∷ c) (choices v) in
-      let all : length first ≡ n = length-map' (λ c. k ∷ c) (choices v) ∙ long in
-      ap (λ (cs : Choices). choice_at cs r)
-      (indexed-more choices k vs i v within ∙ ap (λ (u : Variant). map (λ c. k ∷ c) (choices u) ++ indexed (suc k) choices (drop (i + 1) vs)) (sym is))
-      ∙ get_or-append_right first (indexed (suc k) choices (drop (i + 1) vs)) n r [] all h
-
 module _ (build : Build) where
   -- variants whose contents are not walked have a choice each, the index
   at_unwalked : (i : ℕ) (vs : List Variant) (r : ℕ) → r < sum_by (count_variant (count_fields build) build.catalogue false) vs → choice_at (indexed i (choices_of_variant (choices_of_fields build) build.catalogue false) vs) r ≡ (i + r) ∷ []
@@ -216,15 +208,11 @@ module _ (build : Build) where
   pub content_count : (v : Variant) → length (choices_of_variant (choices_of_fields build) build.catalogue true v) ≡ count_content build v
   content_count v = below_count build _
 
-  few_at_variant : (vs : List Variant) (i : ℕ) (v : Variant) (k : ℕ) → i < length vs → v ≡ get_or vs i v → IsRank k (count_variants build true vs) → count_content build v < 2 ^ 64
+  pub few_at_variant : (vs : List Variant) (i : ℕ) (v : Variant) (k : ℕ) → i < length vs → v ≡ get_or vs i v → IsRank k (count_variants build true vs) → count_content build v < 2 ^ 64
   few_at_variant vs i v k within is h =
       let one = get_or-le-sum_by (count_variant (count_fields build) build.catalogue true) vs i v within in
       let same = ap (λ (u : Variant). count_content build u) is in
       omega (arith, one, same, h.1)
-
-  -- so a count that is exact below 2^64 is that of its content
-  pub exact_at_variant : (vs : List Variant) (i : ℕ) (v : Variant) (k n : ℕ) (t : SaturatingCount) → i < length vs → v ≡ get_or vs i v → IsRank k (count_variants build true vs) → CountsTo t (count_content build v) → ((m : ℕ) → CountsTo t m → m < 2 ^ 64 → n ≡ m) → (n ≡ count_content build v) × (count_content build v < 2 ^ 64)
-  exact_at_variant vs i v k n t within is h counts exact = let few = few_at_variant vs i v k within is h in (exact _ counts few, few)
 
 -- ---- parts, one after another
 module _ (build : Build) where

@@ -205,7 +205,7 @@ exactly n k e = go (nat_lt n (2 ^ 64)) refl e
 
 -- ---- a table of counts grows index by index to that of the whole catalogue
 -- past the end there is no entry
-none_past : (cat : List Shape) (i : ℕ) → slice_get cat i ≡ None → length cat ≤ i
+pub none_past : (cat : List Shape) (i : ℕ) → slice_get cat i ≡ None → length cat ≤ i
 none_past [] i e = omega arith
 none_past (s ∷ cat) zero e = absurd (cc)
 none_past (s ∷ cat) (suc i) e = let h = none_past cat i e in omega arith

@@ -24,6 +24,7 @@ pub mod NestedLevels
 pub mod Marks
 pub mod Reached
 pub mod Serving
+pub mod Starts
 pub mod Brought
 pub mod CatchAlls
 pub mod WalkFrames

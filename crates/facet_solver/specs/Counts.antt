@@ -10,6 +10,7 @@ use Rattle.facet_solver_shape.specs.Catalogues.{NamesEarlier}
 use Rattle.facet_solver.specs.declared.build.walker.Walker.{Walker}
 use Rattle.facet_solver.specs.Brings.{AreBrought}
 use Rattle.facet_solver.specs.Reached.{AreTables}
+use Rattle.facet_solver.specs.Starts.{HasWalkedStarts}
 
 -- what a saturating count says of a number without bound: the number, or that it is 2^64 or more
 abbrev pub CountsTo : SaturatingCount → ℕ → Type 0
@@ -40,5 +41,6 @@ pub record AreCounts (build : Build) (counts : List SaturatingCount) : Type 0 wh
 pub record IsReady (walker : Walker) : Type 0 where
   pub checked : NamesEarlier walker.build.shapes.now
   pub counted : AreCounts (build_of walker.build) walker.counts
+  pub starts : HasWalkedStarts (build_of walker.build) walker.starts.by_index.items
   pub brings : AreBrought (build_of walker.build) walker.brings.by_index.items
   pub tables : AreTables (build_of walker.build) walker.tables

@@ -43,6 +43,7 @@ pub mod Told
 pub mod Pairs
 pub mod Found
 pub mod Run
+pub mod Starts
 pub mod Counts
 pub mod Slots
 pub mod IndexEntries

@@ -18,6 +18,7 @@ pub(crate) mod place;
 pub mod representation;
 pub(crate) mod resolve;
 pub(crate) mod role;
+pub(crate) mod starts;
 pub(crate) mod visit;
 pub(crate) mod walk;
 pub(crate) mod walker;

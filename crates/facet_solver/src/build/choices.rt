@@ -6,11 +6,13 @@ ghost use Rattle.facet_solver.specs.ChoiceParts.{Adds, IsRank, StandFor, choice_
 ghost use Rattle.facet_solver.specs.Count as count;
 ghost use Rattle.facet_solver.specs.Counts.{IsReady};
 ghost use Rattle.facet_solver.specs.Listing as listing;
+ghost use Rattle.facet_solver.specs.Starts.{AreStarts, HasStarts};
 ghost use Rattle.facet_solver.specs.Work as work;
 
 use crate::build::brings::Brings;
 use crate::build::content::content_fields;
 use crate::build::role::{Role, role_of};
+use crate::build::starts::last_start;
 use crate::build::walker::Walker;
 use facet_solver_shape::{Field, ShapeId, ShapeKind, Variant};
 use std::alloc::AllocError;
@@ -36,6 +38,7 @@ pub(crate) fn choice_at<'c>(
 ) -> Result<(), AllocError>
     requires ready { IsReady walker.now }
     requires has { root < length walker.now.build.shapes.now }
+    requires starts { HasStarts (build_of walker.now.build) walker.now.starts.by_index.items root }
     requires rank { IsRank rank (count.count_of_root (build_of walker.now.build) root) }
     ensures { let choices = listing.choices_of_root (build_of walker.now.build) root in
         OnOk result (slice_get choices rank ≡ Some choice.new.items) }
@@ -63,6 +66,7 @@ fn push_root<'c>(
 ) -> Result<(), AllocError>
     requires ready { IsReady walker.now }
     requires has { root < length walker.now.build.shapes.now }
+    requires starts { HasStarts (build_of walker.now.build) walker.now.starts.by_index.items root }
     requires rank { IsRank rank (count.count_of_root (build_of walker.now.build) root) }
     requires nothing { parts.old.items ≡ [] }
     ensures { let choices = listing.choices_of_root (build_of walker.now.build) root in
@@ -74,7 +78,10 @@ fn push_root<'c>(
             parts.push(Part::Fields(fields, rank))?;
             Ok(())
         }
-        ShapeKind::Enum { variants } => push_variant(walker, true, variants, rank, parts),
+        ShapeKind::Enum { variants } => {
+            let starts = walker.starts.of(root);
+            push_variant(walker, true, variants, starts, rank, parts)
+        }
         _ => Ok(()),
     }
 }
@@ -149,9 +156,10 @@ fn push_field<'c>(
             parts.push(Part::Fields(fields, rank))?;
             Ok(())
         }
-        Role::Alternatives(_, shape, variants) => {
+        Role::Alternatives(target, shape, variants) => {
             let walked = walker.build.walks_content(shape);
-            push_variant(walker, walked, variants, rank, parts)
+            let starts = walker.starts.of(target.shape);
+            push_variant(walker, walked, variants, starts, rank, parts)
         }
         Role::Regular | Role::CatchAll(_) | Role::Leaf(_) => Ok(()),
     }
@@ -182,16 +190,20 @@ fn push_presence(
     }
 }
 
-/// Adds what the choice of a rank among variants is put together from, whose contents are walked or not.
+/// Adds what the choice of a rank among variants is put together from, whose contents are walked or not. Where they are, the
+/// starts say where the choices of each variant begin.
 fn push_variant<'c>(
     walker: &Walker<'c>,
     walked: bool,
     variants: &'c [Variant],
+    starts: &[u64],
     rank: u64,
     parts: &mut Vec<Part<'c>>,
 ) -> Result<(), AllocError>
     requires ready { IsReady walker.now }
     requires below { VariantsBelow (length walker.now.build.shapes.now) variants.now }
+    requires starts { walked ≡ true
+        → AreStarts (build_of walker.now.build) variants.now starts.now }
     requires rank { IsRank rank
         (count.count_variants (build_of walker.now.build) walked variants.now) }
     ensures { let build = build_of walker.now.build in
@@ -203,7 +215,7 @@ fn push_variant<'c>(
         parts.push(Part::Index(rank as usize))?;
         return Ok(());
     }
-    let (index, fields, rank) = variant_at(walker, variants, rank);
+    let (index, fields, rank) = variant_at(walker, variants, starts, rank);
     parts.push(Part::Index(index))?;
     parts.push(Part::Fields(fields, rank))?;
     Ok(())
@@ -213,10 +225,12 @@ fn push_variant<'c>(
 fn variant_at<'c>(
     walker: &Walker<'c>,
     variants: &'c [Variant],
+    starts: &[u64],
     rank: u64,
 ) -> (usize, &'c [Field], u64)
     requires ready { IsReady walker.now }
     requires below { VariantsBelow (length walker.now.build.shapes.now) variants.now }
+    requires starts { AreStarts (build_of walker.now.build) variants.now starts.now }
     requires rank { IsRank rank
         (count.count_variants (build_of walker.now.build) true variants.now) }
     ensures below { FieldsBelow (length walker.now.build.shapes.now) result.1.now }
@@ -227,14 +241,8 @@ fn variant_at<'c>(
     ensures work { let build = build_of walker.now.build in
         2 + work.work_of_fields build result.1.now ≤ work.work_of_variants build variants.now }
 {
-    let mut left = rank;
-    for (index, variant) in variants.iter().enumerate() {
-        let count = walker.counts.of_content(walker.build, variant).or_largest();
-        if left < count {
-            let fields = content_fields(walker.build.shapes, variant);
-            return (index, fields, left);
-        }
-        left -= count;
-    }
-    unreachable!()
+    // A variant without choices has the start of the next one, so the last start that is not above the rank is the right one.
+    let index = last_start(starts, rank);
+    let fields = content_fields(walker.build.shapes, &variants[index]);
+    (index, fields, rank - starts[index])
 }

@@ -17,6 +17,7 @@ use crate::build::choices::choice_at;
 use crate::build::count::Counts;
 use crate::build::emit::add_pick;
 use crate::build::nested::tables::NestedTables;
+use crate::build::starts::Starts;
 use crate::build::walk::{Cursor, enter_content, next_variant, walk_fields};
 use crate::build::walker::Walker;
 use facet_solver_shape::{
@@ -46,11 +47,13 @@ pub(crate) fn resolutions<'c>(
     let Some(count) = counts.of_root(build, root).exact() else {
         return Err(SchemaError::OutOfMemory);
     };
+    let starts = Starts::new(build, root, &counts)?;
     let brings = BringsTable::new(build)?;
     let tables = NestedTables::new(build, root, steps)?;
     let walker = Walker {
         build,
         counts,
+        starts,
         brings,
         tables,
     };

@@ -9,12 +9,14 @@ use Rattle.facet_solver.specs.declared.build.role.Target.{Target}
 use Rattle.facet_solver.specs.Build.{Catalogue, build_of}
 use Rattle.facet_solver.specs.ChoiceParts.{IsRank}
 use Rattle.facet_solver.specs.Count.{count_variants}
+use Rattle.facet_solver.specs.Starts.{AreStarts}
 use Rattle.facet_solver.specs.Roles.{alternatives, block, may_be_absent, role_of, role_view}
 use Rattle.facet_solver.specs.Work.{work_of_fields, work_of_variants}
 use Rattle.facet_solver.specs.declared.build.choices.Part.TheVariants.{Fields}
 use Rattle.facet_solver.proofs.Listing.{alternatives-below, block-below}
 use Rattle.facet_solver.proofs.Roles.{FieldsBelow-mono, VariantsBelow-mono, plain_role}
 use Rattle.facet_solver.proofs.ChoiceParts.{adds-absent, adds-none, adds-one, adds-present, plain_choice, plain_work, present_is_ranked, variants_choice}
+use Rattle.facet_solver.proofs.Starts.{field_starts}
 use Rattle.facet_solver.proofs.build.choices.push_field.Goals as goal
 
 pub returns-in_default : goal.returns-in_default
@@ -36,15 +38,15 @@ push_variant-requires-clause-below c =
     let cat = c.args.walker.now.build.shapes.now in
     let f = c.args.field.now in
     let vs = c.in-Alternatives.variants in
-    let is = in_hand cat f _ c.in-Alternatives.field-0 c.in-Alternatives.shape vs c.in-Alternatives.is c.role_of-role.ensures in
+    let is = in_hand cat f _ c.in-Alternatives.target c.in-Alternatives.shape vs c.in-Alternatives.is c.role_of-role.ensures in
     VariantsBelow-mono f.shape (length cat) vs.now (omega (arith, c.requires.below))
-    (alternatives-below cat c.requires.ready.checked f c.in-Alternatives.field-0 c.in-Alternatives.shape.now vs.now is)
+    (alternatives-below cat c.requires.ready.checked f c.in-Alternatives.target c.in-Alternatives.shape.now vs.now is)
 
 pub push_variant-requires-clause-rank : goal.push_variant-requires-clause-rank
 push_variant-requires-clause-rank c =
     let build = build_of c.args.walker.now.build in
     let f = c.args.field.now in
-    let t = c.in-Alternatives.field-0 in
+    let t = c.in-Alternatives.target in
     let s = c.in-Alternatives.shape in
     let vs = c.in-Alternatives.variants in
     let is = in_hand build.catalogue f _ t s vs c.in-Alternatives.is c.role_of-role.ensures in
@@ -52,6 +54,17 @@ push_variant-requires-clause-rank c =
     let present = sym c.in-Some.is ∙ c.in_ok-rank.ensures.0 in
     subst (λ (walked : Bool). IsRank c.in-Some.rank (count_variants build walked vs.now)) (sym c.walks_content-walked.ensures)
     (present_is_ranked build f (alternatives t s.now vs.now) is c.may_be_absent.result absent c.args.rank c.requires.rank c.in-Some.rank present)
+
+pub push_variant-requires-clause-starts : goal.push_variant-requires-clause-starts
+push_variant-requires-clause-starts c = λ walked.
+    let build = build_of c.args.walker.now.build in
+    let f = c.args.field.now in
+    let t = c.in-Alternatives.target in
+    let s = c.in-Alternatives.shape in
+    let vs = c.in-Alternatives.variants in
+    let is = in_hand build.catalogue f _ t s vs c.in-Alternatives.is c.role_of-role.ensures in
+    subst (AreStarts build vs.now) (sym c.of-starts.ensures)
+    (field_starts build c.args.walker.now.starts.by_index.items f t s.now vs.now c.requires.ready.starts is (sym c.walks_content-walked.ensures ∙ walked))
 
 pub returns-in_ok-push-in-Block : goal.returns-in_ok-push-in-Block
 returns-in_ok-push-in-Block c =
@@ -73,7 +86,7 @@ pub returns-in-Alternatives : goal.returns-in-Alternatives
 returns-in-Alternatives c =
     let build = build_of c.args.walker.now.build in
     let f = c.args.field.now in
-    let t = c.in-Alternatives.field-0 in
+    let t = c.in-Alternatives.target in
     let s = c.in-Alternatives.shape in
     let vs = c.in-Alternatives.variants in
     let is = in_hand build.catalogue f _ t s vs c.in-Alternatives.is c.role_of-role.ensures in

@@ -1,11 +1,9 @@
-use Rattle.std.proofs.Common.{◌≡◌, ◌∷◌, ◌++◌, ◌∙◌, [], List, ap, length, refl, subst, sym, true}
+use Rattle.std.proofs.Common.{◌≡◌, ◌∷◌, ◌++◌, ◌∙◌, [], List, ap, length, subst, sym, true}
 use Rattle.std.proofs.lemmas.Result.{on_ok_weaker}
-use Rattle.facet_solver_shape.specs.declared.shape.Field.{Field}
-use Rattle.facet_solver_shape.specs.declared.shape.Variant.{Variant}
 use Rattle.facet_solver_shape.specs.Catalogues.{FieldsBelow}
 use Rattle.facet_solver.specs.Build.{build_of}
 use Rattle.facet_solver.specs.ChoiceParts.{IsRank, StandFor, choice_at}
-use Rattle.facet_solver.specs.Count.{count_fields, count_kind, count_variants}
+use Rattle.facet_solver.specs.Count.{count_fields, count_kind}
 use Rattle.facet_solver.specs.Listing.{Choices, choices_of_fields, choices_of_root, choices_of_variants}
 use Rattle.facet_solver.specs.declared.build.choices.Part.{Part}
 use Rattle.facet_solver.specs.declared.build.choices.Part.TheVariants.{Fields}
@@ -13,6 +11,7 @@ use Rattle.facet_solver.proofs.Count.{root-count}
 use Rattle.facet_solver.proofs.Roles.{enum-below, struct-below}
 use Rattle.facet_solver.proofs.Listing.{root-enum, root-other, root-struct}
 use Rattle.facet_solver.proofs.ChoiceParts.{root_alone, stand-none, stand-one, stand_all}
+use Rattle.facet_solver.proofs.Starts.{enum_starts}
 use Rattle.facet_solver.proofs.build.choices.push_root.Goals as goal
 
 pub push_variant-requires-clause-below : goal.push_variant-requires-clause-below
@@ -24,6 +23,11 @@ push_variant-requires-clause-rank c =
     let build = build_of c.args.walker.now.build in
     let count = root-count build c.args.root c.shape-shape.result.now c.shape-shape.ensures.found ∙ ap (count_kind build true) c.in-Enum.is in
     rw c.deref-in-Enum.ensures.value (subst (IsRank c.args.rank) count c.requires.rank)
+
+pub push_variant-requires-clause-starts : goal.push_variant-requires-clause-starts
+push_variant-requires-clause-starts c = λ walked.
+    rw (c.deref-in-Enum.ensures.value, c.of-starts.ensures)
+    (enum_starts (build_of c.args.walker.now.build) c.args.walker.now.starts.by_index.items c.args.root c.shape-shape.result.now c.in-Enum.variants c.requires.starts c.shape-shape.ensures.found c.in-Enum.is)
 
 pub returns-in_ok-push-in-Struct : goal.returns-in_ok-push-in-Struct
 returns-in_ok-push-in-Struct c =

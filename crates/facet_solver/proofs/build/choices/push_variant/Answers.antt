@@ -15,6 +15,9 @@ returns-then-not-walked c =
     (sym (at_index build vs c.args.rank c.args.walked c.if-not-walked.true c.requires.rank))
     (variants_work build c.args.walked vs c.args.rank c.requires.rank)
 
+pub variant_at-index-requires-clause-starts : goal.variant_at-index-requires-clause-starts
+variant_at-index-requires-clause-starts c = c.requires.starts c.if-not-walked.false
+
 pub returns : goal.returns
 returns c =
     let build = build_of c.args.walker.now.build in

@@ -1,78 +1,74 @@
-use Rattle.std.proofs.Common.{◌≡◌, ◌+◌, ◌-◌, ◌<◌, ◌∷◌, ◌∙◌, ℕ, List, ap, arith, drop, get_or, length, refl, subst, sym, true}
-use Rattle.std.proofs.lemmas.List.Sums.{get_or-le-sum_by, sum_by-drop_more}
+use Rattle.std.proofs.Common.{◌≡◌, ◌-◌, ◌∷◌, ◌∙◌, ℕ, List, ap, arith, get_or, length, subst, sym}
+use Rattle.std.proofs.lemmas.List.Sums.{get_or-le-sum_by}
 use Rattle.facet_solver_shape.specs.declared.shape.Field.{Field}
 use Rattle.facet_solver_shape.specs.declared.shape.Variant.{Variant}
-use Rattle.facet_solver_shape.specs.Catalogues.{FieldsBelow, VariantsBelow}
+use Rattle.facet_solver_shape.specs.Catalogues.{FieldsBelow}
 use Rattle.facet_solver.specs.Build.{build_of}
 use Rattle.facet_solver.specs.ChoiceParts.{IsRank, choice_at}
-use Rattle.facet_solver.specs.Count.{count_content, count_fields, count_variant}
-use Rattle.facet_solver.specs.Listing.{choices_of_fields, choices_of_variant, choices_of_variants, indexed}
+use Rattle.facet_solver.specs.Content.{content_of}
+use Rattle.facet_solver.specs.Count.{count_fields}
+use Rattle.facet_solver.specs.Listing.{choices_of_fields}
+use Rattle.facet_solver.specs.Starts.{count_before}
 use Rattle.facet_solver.specs.Work.{work_of_fields, work_of_variant}
 use Rattle.facet_solver.proofs.Roles.{VariantsBelow-at, content_of-below}
-use Rattle.facet_solver.proofs.ChoiceParts.{at_next, at_variant, content_count, exact_at_variant}
+use Rattle.facet_solver.proofs.Starts.{choice_in_content, exact_start, first_start, last_stands, rank_in_content, some_start, starts_rise}
 use Rattle.facet_solver.proofs.build.choices.variant_at.Goals as goal
 
-pub loop-index-init : goal.loop-index-init
-unfolding choices_of_variants
-loop-index-init c = (c.requires.rank.0, refl)
+pub last_start-index-requires-clause-rise : goal.last_start-index-requires-clause-rise
+last_start-index-requires-clause-rise c =
+    starts_rise (build_of c.args.walker.now.build) c.args.variants.now c.args.starts.now c.requires.starts c.args.rank c.requires.rank
 
--- the fields of a variant are of the catalogue
-below : (limit : ℕ) (vs : List Variant) (i : ℕ) (v : Variant) → i < length vs → v ≡ get_or vs i v → VariantsBelow limit vs → FieldsBelow limit v.fields.items
-below limit vs i v within is h = subst (λ (v : Variant). FieldsBelow limit v.fields.items) (sym is) (VariantsBelow-at limit vs i v within h)
+pub last_start-index-requires-clause-some : goal.last_start-index-requires-clause-some
+last_start-index-requires-clause-some c =
+    some_start (build_of c.args.walker.now.build) c.args.variants.now c.args.starts.now c.requires.starts c.args.rank c.requires.rank
 
-pub of_content-requires-clause-below : goal.of_content-requires-clause-below
-of_content-requires-clause-below c =
-    below (length c.args.walker.now.build.shapes.now) c.args.variants.now c.loop-index.index c.index-variants-index.result c.loop-index-test.true c.index-variants-index.is c.requires.below
+pub last_start-index-requires-clause-first : goal.last_start-index-requires-clause-first
+last_start-index-requires-clause-first c =
+    first_start (build_of c.args.walker.now.build) c.args.variants.now c.args.starts.now c.requires.starts c.args.rank c.requires.rank
 
-pub returns-then-left-count-clause-below : goal.returns-then-left-count-clause-below
-returns-then-left-count-clause-below c =
-    let cat = c.args.walker.now.build.shapes.now in
+pub returns-clause-below : goal.returns-clause-below
+returns-clause-below c =
+    let build = build_of c.args.walker.now.build in
+    let cat = build.catalogue in
     let v = c.index-variants-index.result in
+    let stands = last_stands build c.args.variants.now c.args.starts.now c.requires.starts c.args.rank c.requires.rank c.last_start-index.result c.last_start-index.ensures in
+    let own = VariantsBelow-at (length cat) c.args.variants.now c.last_start-index.result v stands.within c.requires.below in
     subst (FieldsBelow (length cat)) (sym c.content_fields-fields.ensures)
-    (content_of-below cat c.requires.ready.checked (length cat) v (below (length cat) c.args.variants.now c.loop-index.index v c.loop-index-test.true c.index-variants-index.is c.requires.below))
+    (content_of-below cat c.requires.ready.checked (length cat) v (subst (λ (v : Variant). FieldsBelow (length cat) v.fields.items) (sym c.index-variants-index.is) own))
 
-pub returns-then-left-count-clause-rank : goal.returns-then-left-count-clause-rank
-returns-then-left-count-clause-rank c =
+pub returns-clause-rank : goal.returns-clause-rank
+returns-clause-rank c =
     let build = build_of c.args.walker.now.build in
-    let known = exact_at_variant build c.args.variants.now c.loop-index.index c.index-variants-index.result c.args.rank _ _ c.loop-index-test.true c.index-variants-index.is c.requires.rank c.of_content.ensures c.or_largest-count.ensures in
-    subst (λ (fs : List Field). IsRank c.loop-index.left (count_fields build fs)) (sym c.content_fields-fields.ensures)
-    (subst (λ (n : ℕ). c.loop-index.left < n) known.0 c.if-left-count.true, known.1)
+    let vs = c.args.variants.now in
+    let starts = c.args.starts.now in
+    let k = c.args.rank in
+    let i = c.last_start-index.result in
+    let stands = last_stands build vs starts c.requires.starts k c.requires.rank i c.last_start-index.ensures in
+    let start : get_or starts i 0 ≡ count_before build vs i = exact_start build vs starts c.requires.starts k c.requires.rank i 0 stands.within in
+    let rank = rank_in_content build vs i k c.index-variants-index.result c.requires.rank stands c.index-variants-index.is in
+    subst (λ (fs : List Field). IsRank (k - get_or starts i 0) (count_fields build fs)) (sym c.content_fields-fields.ensures) (rw start rank)
 
-pub returns-then-left-count-clause-choice : goal.returns-then-left-count-clause-choice
-returns-then-left-count-clause-choice c =
+pub returns-clause-choice : goal.returns-clause-choice
+returns-clause-choice c =
     let build = build_of c.args.walker.now.build in
-    let i = c.loop-index.index in
+    let vs = c.args.variants.now in
+    let starts = c.args.starts.now in
+    let k = c.args.rank in
+    let i = c.last_start-index.result in
     let v = c.index-variants-index.result in
-    let left = c.loop-index.left in
-    let known = exact_at_variant build c.args.variants.now i v c.args.rank _ _ c.loop-index-test.true c.index-variants-index.is c.requires.rank c.of_content.ensures c.or_largest-count.ensures in
-    sym c.loop-index.invariant.1
-    ∙ at_variant (choices_of_variant (choices_of_fields build) build.catalogue true) i c.args.variants.now i v (count_content build v) left c.loop-index-test.true c.index-variants-index.is (content_count build v) (subst (λ (n : ℕ). left < n) known.0 c.if-left-count.true)
-    ∙ ap (λ (fs : List Field). i ∷ choice_at (choices_of_fields build fs) left) (sym c.content_fields-fields.ensures)
+    let stands = last_stands build vs starts c.requires.starts k c.requires.rank i c.last_start-index.ensures in
+    let start : get_or starts i 0 ≡ count_before build vs i = exact_start build vs starts c.requires.starts k c.requires.rank i 0 stands.within in
+    choice_in_content build vs i k v c.requires.rank stands c.index-variants-index.is
+    ∙ ap (λ (n : ℕ). i ∷ choice_at (choices_of_fields build (content_of build.catalogue v).fields) (k - n)) (sym start)
+    ∙ ap (λ (fs : List Field). i ∷ choice_at (choices_of_fields build fs) (k - get_or starts i 0)) (sym c.content_fields-fields.ensures)
 
-pub returns-then-left-count-clause-work : goal.returns-then-left-count-clause-work
-returns-then-left-count-clause-work c =
+pub returns-clause-work : goal.returns-clause-work
+returns-clause-work c =
     let build = build_of c.args.walker.now.build in
+    let vs = c.args.variants.now in
     let work = work_of_variant (work_of_fields build) build.catalogue in
-    let v = c.index-variants-index.result in
-    let one = get_or-le-sum_by work c.args.variants.now c.loop-index.index v c.loop-index-test.true in
+    let stands = last_stands build vs c.args.starts.now c.requires.starts c.args.rank c.requires.rank c.last_start-index.result c.last_start-index.ensures in
+    let one = get_or-le-sum_by work vs c.last_start-index.result c.index-variants-index.result stands.within in
     let same = ap work c.index-variants-index.is in
     let content = ap (work_of_fields build) c.content_fields-fields.ensures in
     omega (arith, one, same, content)
-
-pub loop-index-preserved : goal.loop-index-preserved
-loop-index-preserved c =
-    let build = build_of c.args.walker.now.build in
-    let vs = c.args.variants.now in
-    let i = c.loop-index.index in
-    let v = c.index-variants-index.result in
-    let left = c.loop-index.left in
-    let n = c.or_largest-count.result in
-    let count = count_variant (count_fields build) build.catalogue true in
-    let choices = choices_of_variant (choices_of_fields build) build.catalogue true in
-    let whole = sum_by-drop_more count vs i v c.loop-index-test.true in
-    let same = ap count c.index-variants-index.is in
-    let known = exact_at_variant build vs i v c.args.rank _ _ c.loop-index-test.true c.index-variants-index.is c.requires.rank c.of_content.ensures c.or_largest-count.ensures in
-    let next = at_next choices i vs i v n left c.loop-index-test.true c.index-variants-index.is (content_count build v ∙ sym known.0) c.if-left-count.false in (
-      omega (arith, whole, same, known.0, c.if-left-count.false, c.loop-index.invariant.0),
-      ap (λ (k : ℕ). choice_at (indexed k choices (drop (i + 1) vs)) (left - n)) (omega arith) ∙ sym next ∙ c.loop-index.invariant.1,
-    )
