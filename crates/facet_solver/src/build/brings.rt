@@ -61,7 +61,7 @@ impl BringsTable {
     pub(crate) fn new(build: Build<'_>) -> Result<BringsTable, AllocError>
         ensures { IfOk result (λ table. AreBrought (build_of build.entry) table.by_index.items) }
     {
-        let mut by_index = Vec::new(build.alloc);
+        let mut by_index = Vec::with_capacity(build.alloc, build.shapes.len())?;
         while let Some(shape) = build.shapes.get(ShapeId::new(by_index.len())) {
             let brings = kind_brings(build, &shape.kind, &by_index);
             by_index.push(brings)?;

@@ -52,7 +52,7 @@ impl Counts {
             ≤ steps.old.visits + field_count (take limit build.entry.shapes.now) }
         ensures no_fall { NoCountFalls steps.old steps.new }
     {
-        let mut by_index = Vec::new(build.alloc);
+        let mut by_index = Vec::with_capacity(build.alloc, limit)?;
         while by_index.len() < limit {
             let shape = build.shape(ShapeId::new(by_index.len()));
             let walked = build.walks_content(shape);
