@@ -40,8 +40,7 @@ impl<'t, 'c> NamesLeft<'t, 'c> {
     {
         match self {
             NamesLeft::OfEntry(left) => {
-                let ((name, shapes), rest) = left.split_last()?;
-                *left = rest;
+                let (name, shapes) = left.split_off_last()?;
                 Some((*name, Cow::Borrowed(shapes)))
             }
             NamesLeft::Together(left) => {
