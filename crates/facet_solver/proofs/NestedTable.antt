@@ -227,6 +227,10 @@ pub both_ok : {X E : Type 0} (P Q R : X → Type 0) (r : Result X E) → ((x : X
 both_ok P Q R (Ok x) f p q = f x p q
 both_ok P Q R (Err e) f p q = tt
 
+pub if_ok : {X E : Type 0} (P Q : X → Type 0) (r : Result X E) → ((x : X) → P x → Q x) → IfOk r P → IfOk r Q
+if_ok P Q (Ok x) f p = f x p
+if_ok P Q (Err e) f p = tt
+
 pub all_ok : {X E : Type 0} (P Q R S : X → Type 0) (r : Result X E) → ((x : X) → P x → Q x → R x → S x) → IfOk r P → IfOk r Q → IfOk r R → IfOk r S
 all_ok P Q R S (Ok x) f p q r = f x p q r
 all_ok P Q R S (Err e) f p q r = tt

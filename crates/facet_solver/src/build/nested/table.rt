@@ -220,9 +220,9 @@ impl<'t, 'c> Earlier<'t, 'c> {
         let mut gathered = Vec::with_capacity(self.alloc, fields.len())?;
         if fields.len() == 1 {
             self.add_under_only_field(visited(fields, 0, steps), &mut gathered)?;
-        } else {
-            self.add_through_fields(fields, &mut gathered, steps)?;
+            return FieldsByName::new(self.alloc, gathered);
         }
+        self.add_through_fields(fields, &mut gathered, steps)?;
         FieldsByName::new(self.alloc, gathered)
     }
 
