@@ -19,6 +19,7 @@ pub mod NestedFields
 pub mod Brings
 pub mod NestedSets
 pub mod Nested
+pub mod NestedNames
 pub mod NestedTable
 pub mod NestedLevels
 pub mod Marks

@@ -54,61 +54,6 @@ module _ {X : Type 0} (P : X → Type 0) where
   each_also Q f [] h = tt
   each_also Q f (x ∷ xs) h = (f x h.0, each_also Q f xs h.1)
 
--- ---- a map of names grows
-module _ {K X : Type 0} (paths : K × X → KeyPaths) where
-  -- a value is written that stands for more
-  pub paths-set_value : (test : K → Bool) (es : List (K × X)) (v w : X) (more : KeyPaths) → lookup test es ≡ Some v → ((k : K) → test k ≡ true → paths (k, w) ≡ set.union (paths (k, v)) more)
-      → paths_of_each paths (set_value test es w) ≡ set.union (paths_of_each paths es) more
-  paths-set_value test [] v w more at h = absurd (cc)
-  paths-set_value test (e ∷ es) v w more at h = go (test e.0) refl at (λ later. paths-set_value test es v w more later h)
-    where
-      go : (b : Bool) → test e.0 ≡ b → cond b (Some e.1) (lookup test es) ≡ Some v
-          → (lookup test es ≡ Some v → paths_of_each paths (set_value test es w) ≡ set.union (paths_of_each paths es) more)
-          → paths_of_each paths (cond b ((e.0, w) ∷ es) (e ∷ set_value test es w)) ≡ set.union (set.union (paths e) (paths_of_each paths es)) more
-      go true is at rest =
-          let same : e.1 ≡ v = cc in
-          ap (λ (s : KeyPaths). set.union s (paths_of_each paths es)) (h e.0 is ∙ ap (λ (x : X). set.union (paths (e.0, x)) more) (sym same))
-          ∙ union_swap (paths e) more (paths_of_each paths es)
-      go false is at rest = ap (λ (s : KeyPaths). set.union (paths e) s) (rest at) ∙ union_assoc (paths e) (paths_of_each paths es) more
-
-  -- a new key is put in
-  pub paths-insert_entry : (cmp : K → K → Ordering) (es : List (K × X)) (k : K) (v : X) → lookup (is_at (cmp k)) es ≡ None → paths_of_each paths (insert_entry cmp es k v) ≡ set.union (paths_of_each paths es) (paths (k, v))
-  paths-insert_entry cmp [] k v at = union_comm (paths (k, v)) no_paths
-  paths-insert_entry cmp (e ∷ es) k v at = go (cmp k e.0) at (λ later. paths-insert_entry cmp es k v later)
-    where
-      go : (o : Ordering) → cond (is_eq o) (Some e.1) (lookup (is_at (cmp k)) es) ≡ None
-          → (lookup (is_at (cmp k)) es ≡ None → paths_of_each paths (insert_entry cmp es k v) ≡ set.union (paths_of_each paths es) (paths (k, v)))
-          → paths_of_each paths (match_ordering o ((k, v) ∷ e ∷ es) ((e.0, v) ∷ es) (e ∷ insert_entry cmp es k v)) ≡ set.union (set.union (paths e) (paths_of_each paths es)) (paths (k, v))
-      go Less at rest = union_comm (paths (k, v)) (set.union (paths e) (paths_of_each paths es))
-      go Equal at rest = absurd (cc)
-      go Greater at rest = ap (λ (s : KeyPaths). set.union (paths e) s) (rest at) ∙ union_assoc (paths e) (paths_of_each paths es) (paths (k, v))
-
-module _ {K X : Type 0} (P : X → Type 0) where
-  pub each-set_value : (test : K → Bool) (es : List (K × X)) (w : X) → AllByRecursion (λ e. P e.1) es → P w → AllByRecursion (λ e. P e.1) (set_value test es w)
-  each-set_value test [] w h p = tt
-  each-set_value test (e ∷ es) w h p = go (test e.0) (each-set_value test es w h.1 p)
-    where
-      go : (b : Bool) → AllByRecursion (λ (e : K × X). P e.1) (set_value test es w) → AllByRecursion (λ (e : K × X). P e.1) (cond b ((e.0, w) ∷ es) (e ∷ set_value test es w))
-      go true rest = (p, h.1)
-      go false rest = (h.0, rest)
-
-  pub each-insert_entry : (cmp : K → K → Ordering) (es : List (K × X)) (k : K) (v : X) → AllByRecursion (λ e. P e.1) es → P v → AllByRecursion (λ e. P e.1) (insert_entry cmp es k v)
-  each-insert_entry cmp [] k v h p = (p, tt)
-  each-insert_entry cmp (e ∷ es) k v h p = go (cmp k e.0) (each-insert_entry cmp es k v h.1 p)
-    where
-      go : (o : Ordering) → AllByRecursion (λ (e : K × X). P e.1) (insert_entry cmp es k v) → AllByRecursion (λ (e : K × X). P e.1) (match_ordering o ((k, v) ∷ e ∷ es) ((e.0, v) ∷ es) (e ∷ insert_entry cmp es k v))
-      go Less rest = (p, h)
-      go Equal rest = (p, h.1)
-      go Greater rest = (h.0, rest)
-
-  pub each-lookup : (test : K → Bool) (es : List (K × X)) (v : X) → AllByRecursion (λ e. P e.1) es → lookup test es ≡ Some v → P v
-  each-lookup test [] v h at = absurd (cc)
-  each-lookup test (e ∷ es) v h at = go (test e.0) at (each-lookup test es v h.1)
-    where
-      go : (b : Bool) → cond b (Some e.1) (lookup test es) ≡ Some v → (lookup test es ≡ Some v → P v) → P v
-      go true at rest = let same : e.1 ≡ v = cc in subst P same h.0
-      go false at rest = rest at
-
 -- ---- where names lead
 -- of two that both hold
 pub first_of : (a b : Bool) → (a && b) ≡ true → a ≡ true
@@ -125,7 +70,7 @@ both_of false b e f = e
 
 module _ (p q : ℕ → Bool) (also : (id : ℕ) → p id ≡ true → q id ≡ true) where
   pub leads_also : (fields : FieldsByName) → LeadTo p fields → LeadTo q fields
-  leads_also fields h = each_also _ _ (λ e. each_also _ _ also e.1.items) fields.by_name.entries h
+  leads_also fields h = each_also _ _ (λ e. each_also _ _ also e.1.items) fields.by_name.items h
 
   pub entry_leads_also : (entry : Entry) → EntryLeadsTo p entry → EntryLeadsTo q entry
   entry_leads_also entry h = record { under = leads_also entry.under h.under; variants = each_also (LeadTo p) (LeadTo q) leads_also entry.variants.items h.variants }
@@ -186,49 +131,6 @@ paths-last paths (y ∷ xs) x =
     ∙ ap (λ (ps : KeyPaths). set.union ps (paths_of_each paths xs)) (union_comm (paths x) (paths y))
     ∙ sym (union_assoc (paths y) (paths x) (paths_of_each paths xs))
     ∙ ap (set.union (paths y)) (paths-last paths xs x)
-
--- ---- fields of one more name
-module _ (m n : BTreeMap (Bor Name) (Vec ℕ Global)) (name : Name) (shapes : List ℕ) where
-  abbrev at_name : Bor Name → Bool
-  at_name = is_at (λ k. slice_cmp nat_cmp name k.now)
-
-  abbrev by : BTreeMap (Bor Name) (Vec ℕ Global) → FieldsByName
-  by entries = record { by_name = entries }
-
-  -- more shapes were written behind a name that is there
-  pub written_paths : (under : Under) (v w : Vec ℕ Global) → lookup at_name m.entries ≡ Some v → n.entries ≡ set_value at_name m.entries w
-      → paths_of_each under w.items ≡ set.union (paths_of_each under v.items) (paths_of_each under shapes)
-      → paths_by_name under (by n) ≡ set.union (paths_by_name under (by m)) (named name (paths_of_each under shapes))
-  written_paths under v w at is more =
-      ap (paths_of_each (λ (e : Bor Name × Vec ℕ Global). named e.0.now (paths_of_each under e.1.items))) is
-      ∙ paths-set_value _ at_name m.entries v w (named name (paths_of_each under shapes)) at
-      (λ k same.
-      let named_so : name ≡ k.now = (bytes_eq-Decides name k.now).0 (sym (is_eq-slice_cmp name k.now) ∙ same) in
-      ap (named k.now) more
-      ∙ named-union k.now (paths_of_each under v.items) (paths_of_each under shapes)
-      ∙ ap (λ (q : Name). set.union (named k.now (paths_of_each under v.items)) (named q (paths_of_each under shapes))) (sym named_so))
-
-  pub written_lead : (passes : ℕ → Bool) (v w : Vec ℕ Global) → lookup at_name m.entries ≡ Some v → n.entries ≡ set_value at_name m.entries w
-      → (AllByRecursion (λ id. passes id ≡ true) v.items → AllByRecursion (λ id. passes id ≡ true) w.items)
-      → LeadTo passes (by m) → LeadTo passes (by n)
-  written_lead passes v w at is more h =
-      let P : Vec ℕ Global → Type 0 = λ ids. AllByRecursion (λ id. passes id ≡ true) ids.items in
-      subst (λ (es : List (Bor Name × Vec ℕ Global)). AllByRecursion (λ (e : Bor Name × Vec ℕ Global). P e.1) es) (sym is)
-      (each-set_value P at_name m.entries w h (more (each-lookup P at_name m.entries v h at)))
-
--- a name that is new was put in with its shapes
-module _ (m n : BTreeMap (Bor Name) (Vec ℕ Global)) (name : Bor Name) (w : Vec ℕ Global) (at : lookup (at_name m n name.now w.items) m.entries ≡ None)
-    (is : n.entries ≡ insert_entry (λ (x y : Bor Name). slice_cmp nat_cmp x.now y.now) m.entries name w) where
-  pub put_paths : (under : Under) → paths_by_name under (record { by_name = n }) ≡ set.union (paths_by_name under (record { by_name = m })) (named name.now (paths_of_each under w.items))
-  put_paths under =
-      ap (paths_of_each (λ (e : Bor Name × Vec ℕ Global). named e.0.now (paths_of_each under e.1.items))) is
-      ∙ paths-insert_entry _ (λ (x y : Bor Name). slice_cmp nat_cmp x.now y.now) m.entries name w at
-
-  pub put_lead : (passes : ℕ → Bool) → LeadTo passes (record { by_name = m }) → AllByRecursion (λ id. passes id ≡ true) w.items → LeadTo passes (record { by_name = n })
-  put_lead passes h p =
-      let P : Vec ℕ Global → Type 0 = λ ids. AllByRecursion (λ id. passes id ≡ true) ids.items in
-      subst (λ (es : List (Bor Name × Vec ℕ Global)). AllByRecursion (λ (e : Bor Name × Vec ℕ Global). P e.1) es) (sym is)
-      (each-insert_entry P (λ (x y : Bor Name). slice_cmp nat_cmp x.now y.now) m.entries name w h p)
 
 -- what leads to earlier shapes than one leads to earlier ones than a later one
 pub leads_below : (filled : ℕ → Bool) (id limit : ℕ) → id ≤ limit → (fields : FieldsByName) → LeadTo (λ t. nat_lt t id && filled t) fields → LeadTo (λ t. nat_lt t limit && filled t) fields

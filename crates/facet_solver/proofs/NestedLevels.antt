@@ -17,7 +17,8 @@ use Rattle.facet_solver_shape.specs.Names.{Name, names_of, name_ref_cmp}
 use Rattle.facet_solver_shape.specs.Resolved.{Resolved, with_key_path}
 use Rattle.facet_solver.specs.Nested.{KeyPath, KeyPaths, Under, named, no_paths, paths_of_each, with_paths_behind}
 use Rattle.facet_solver.specs.NestedTable.{LeadEarlier, StandFor, entry_at, is_filled, paths_by_name}
-use Rattle.facet_solver.specs.NestedLevels.{AreRising, Names, NamesLead, names_left, paths_of_levels, paths_of_names}
+use Rattle.facet_solver.specs.NestedLevels.{names_left, paths_of_levels}
+use Rattle.facet_solver.specs.NestedNames.{AreRising, Names, NamesLead, paths_of_names}
 use Rattle.facet_solver.specs.declared.build.nested.names_left.Level.{Level}
 use Rattle.facet_solver.specs.declared.build.nested.table.Entry.{Entry}
 use Rattle.facet_solver.proofs.NestedFields.{below_limit, each-last, each_also, each_push, first_of, limit-last, limit-names, limit-some, limit_of_names, limit_of_shapes, paths-last, second_of}
@@ -58,7 +59,7 @@ module _ (g h : Under) (limit : ℕ) (passes : ℕ → Bool) (agree : (id : ℕ)
 module _ (entries : List (Option Entry)) (earlier : LeadEarlier entries) where
   entry_same : (id : ℕ) (g h : Under) → ((k : ℕ) → k < id → g k ≡ h k) → (o : Option Entry) → entry_at entries id ≡ o → paths_if_any g o ≡ paths_if_any h o
   entry_same id g h agree None at = refl
-  entry_same id g h agree (Some entry) at = names_same g h id (is_filled entries) agree entry.under.by_name.entries (earlier id entry at).under
+  entry_same id g h agree (Some entry) at = names_same g h id (is_filled entries) agree entry.under.by_name.items (earlier id entry at).under
 
   within_same : (n m id : ℕ) → id < n → id < m → entry_paths_within entries n id ≡ entry_paths_within entries m id
   unfolding entry_paths_within

@@ -89,7 +89,7 @@ module _ (prefix : KeyPath) (ps : KeyPaths) (q : KeyPath) where
 
 -- sets that have the same key paths are equal
 module _ (ps qs : KeyPaths) (there : (q : KeyPath) → Has ps q → Has qs q) (back : (q : KeyPath) → Has qs q → Has ps q) where
-  same_paths : ps ≡ qs
+  pub same_paths : ps ≡ qs
   same_paths = set.same_set path_cmp_total path_cmp_same ps qs (λ q. go (set.contains ps q) (set.contains qs q) (there q) (back q))
     where
       go : (a b : Bool) → (a ≡ true → b ≡ true) → (b ≡ true → a ≡ true) → a ≡ b

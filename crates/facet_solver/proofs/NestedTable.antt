@@ -1,5 +1,5 @@
 -- Tables of nested key paths: what is under a shape, from what is under those that its fields name.
-use Rattle.std.proofs.Common.{◌≡◌, ◌⊎◌, inl, inr, map, take, ◌<◌, ◌≤◌, ◌+◌, ℕ, zero, suc, List, [], ◌∷◌, ◌++◌, Option, Some, None, Bool, true, false, sym, refl, ap, ◌∙◌, subst, slice_get, length, get_or, drop, arith}
+use Rattle.std.proofs.Common.{◌≡◌, ◌⊎◌, inl, inr, map, take, ◌<◌, ◌≤◌, ◌+◌, ℕ, zero, suc, List, [], ◌∷◌, ◌++◌, Option, Some, None, Bool, true, false, sym, refl, ap, ◌∙◌, subst, slice_get, length, get_or, drop, arith, Bor}
 use Rattle.std.specs.List.{AllByRecursion}
 use Rattle.std.specs.Prelude.{All, IfOk, IfSome, OnOk, ⊤, Vec, ◌↔◌, if◌then◌else◌, ◌&&◌, is_some, nat_lt, string_bytes, sum_by}
 use Rattle.std.specs.declared.alloc.Global.{Global}
@@ -24,13 +24,14 @@ use Rattle.facet_solver.specs.Content.{is_zero}
 use Rattle.facet_solver.specs.Nested.{KeyPaths, Entered, Under, no_paths, paths_of_each, named, through_field, through_fields_step, under_fields_step, under_kind, has_fields, if_entered, under_shape, entered_view}
 use Rattle.facet_solver.specs.FieldCount.{field_count, fields_of_kind}
 use Rattle.facet_solver.specs.NestedTable.{AreFieldsOf, AreFirstEntries, EntryLeadsTo, FieldAsks, HasMore, IsClosed, IsEntry, IsFilled, IsMade, IsMarked, IsSound, KindAsks, LeadTo, entry_at, entry_if_any, is_filled, paths_by_name, under_of}
+use Rattle.facet_solver.specs.NestedNames.{Names, NamesLead, paths_of_names}
 use Rattle.facet_solver.specs.declared.build.nested.by_name.FieldsByName.{FieldsByName}
 use Rattle.facet_solver.specs.declared.build.nested.table.Earlier.{Earlier}
 use Rattle.facet_solver.specs.declared.build.nested.table.Entry.{Entry}
 use Rattle.facet_solver.proofs.Nested.{kind_at-below, under_shape-step}
 use Rattle.facet_solver.proofs.Outcome.{get_push}
 use Rattle.facet_solver.proofs.Roles.{FieldsBelow-at, VariantsBelow-at}
-use Rattle.facet_solver.proofs.NestedFields.{both_of, entry_leads_also, first_of, leads_also, second_of}
+use Rattle.facet_solver.proofs.NestedFields.{both_of, each_push, entry_leads_also, first_of, leads_also, of_each-push, second_of}
 use Rattle.facet_solver.proofs.NestedSets.{none-union, or-right, union-none, union_assoc}
 
 -- an entry stands for what is under the shape at its index
@@ -81,37 +82,34 @@ module _ (earlier : Earlier) (paths : KeyPaths) where
   abbrev U : Under
   U = under_of earlier
 
-  -- all of no fields and more
-  pub all_fields : (old new : FieldsByName) → paths_by_name U old ≡ no_paths → LeadTo (is_filled earlier.entries.now) old → HasMore earlier paths old new → AreFieldsOf earlier paths new
-  all_fields old new none lead more = record {
-    stand = more.stand ∙ ap (λ (ps : KeyPaths). set.union ps paths) none ∙ none-union paths;
-    lead = more.lead lead;
+  -- all of no names and more, as fields
+  pub all_fields : (old new : Names) (fields : FieldsByName) → old ≡ [] → HasMore earlier paths old new → ((under : Under) → paths_by_name under fields ≡ paths_of_names under new)
+      → ((passes : ℕ → Bool) → NamesLead passes new → LeadTo passes fields) → AreFieldsOf earlier paths fields
+  all_fields old new fields none more stand lead = record {
+    stand = stand U ∙ more.stand ∙ ap (λ (names : Names). set.union (paths_of_names U names) paths) none ∙ none-union paths;
+    lead = lead (is_filled earlier.entries.now) (more.lead (subst (NamesLead (is_filled earlier.entries.now)) (sym none) tt));
   }
 
   pub same_fields : (others : KeyPaths) (fields : FieldsByName) → paths ≡ others → AreFieldsOf earlier paths fields → AreFieldsOf earlier others fields
   same_fields others fields e h = subst (λ (ps : KeyPaths). AreFieldsOf earlier ps fields) e h
 
--- fields that were added and stand for these key paths
-pub more_if_ok : {E : Type 0} (earlier : Earlier) (paths : KeyPaths) (others old new : FieldsByName) (r : Result ⊤ E) → AreFieldsOf earlier paths others
-    → OnOk r ((under : Under) → paths_by_name under new ≡ set.union (paths_by_name under old) (paths_by_name under others))
-    → OnOk r ((passes : ℕ → Bool) → LeadTo passes old → LeadTo passes others → LeadTo passes new) → OnOk r (HasMore earlier paths old new)
+-- copies of fields that were added and stand for these key paths
+pub more_if_ok : {E : Type 0} (earlier : Earlier) (paths : KeyPaths) (others : FieldsByName) (old new : Names) (r : Result ⊤ E) → AreFieldsOf earlier paths others
+    → OnOk r ((under : Under) → paths_of_names under new ≡ set.union (paths_of_names under old) (paths_by_name under others))
+    → OnOk r ((passes : ℕ → Bool) → NamesLead passes old → LeadTo passes others → NamesLead passes new) → OnOk r (HasMore earlier paths old new)
 more_if_ok earlier paths others old new (Ok x) are stand lead = record {
-  stand = stand (under_of earlier) ∙ ap (λ (ps : KeyPaths). set.union (paths_by_name (under_of earlier) old) ps) are.stand;
+  stand = stand (under_of earlier) ∙ ap (λ (ps : KeyPaths). set.union (paths_of_names (under_of earlier) old) ps) are.stand;
   lead = λ h. lead (is_filled earlier.entries.now) h are.lead;
 }
 more_if_ok earlier paths others old new (Err e) are stand lead = tt
 
 -- a name that was added with the shapes behind it
-pub named_if_ok : {E : Type 0} (earlier : Earlier) (name : Name) (shapes : List ℕ) (old new : FieldsByName) (r : Result ⊤ E)
-    → AllByRecursion (λ id. is_filled earlier.entries.now id ≡ true) shapes
-    → OnOk r ((under : Under) → paths_by_name under new ≡ set.union (paths_by_name under old) (named name (paths_of_each under shapes)))
-    → OnOk r ((passes : ℕ → Bool) → LeadTo passes old → AllByRecursion (λ id. passes id ≡ true) shapes → LeadTo passes new)
-    → OnOk r (HasMore earlier (named name (paths_of_each (under_of earlier) shapes)) old new)
-named_if_ok earlier name shapes old new (Ok x) filled stand lead = record {
-  stand = stand (under_of earlier);
-  lead = λ h. lead (is_filled earlier.entries.now) h filled;
+pub one_name_more : (earlier : Earlier) (name : Bor Name) (shapes : Vec ℕ Global) (old new : Names) → new ≡ old ++ (name, shapes) ∷ []
+    → AllByRecursion (λ id. is_filled earlier.entries.now id ≡ true) shapes.items → HasMore earlier (named name.now (paths_of_each (under_of earlier) shapes.items)) old new
+one_name_more earlier name shapes old new is filled = record {
+  stand = ap (paths_of_names (under_of earlier)) is ∙ of_each-push _ old (name, shapes);
+  lead = λ h. subst (NamesLead (is_filled earlier.entries.now)) (sym is) (each_push _ old (name, shapes) h filled);
 }
-named_if_ok earlier name shapes old new (Err e) filled stand lead = tt
 
 -- ---- through fields, one after another
 item_is : {X : Type 0} (xs : List X) (i : ℕ) (x : X) → slice_get xs i ≡ Some x → get_or xs i x ≡ x
@@ -228,6 +226,10 @@ fields_with_earlier (s ∷ cat) (suc i) h =
 pub both_ok : {X E : Type 0} (P Q R : X → Type 0) (r : Result X E) → ((x : X) → P x → Q x → R x) → IfOk r P → IfOk r Q → IfOk r R
 both_ok P Q R (Ok x) f p q = f x p q
 both_ok P Q R (Err e) f p q = tt
+
+pub if_ok : {X E : Type 0} (P Q : X → Type 0) (r : Result X E) → ((x : X) → P x → Q x) → IfOk r P → IfOk r Q
+if_ok P Q (Ok x) f p = f x p
+if_ok P Q (Err e) f p = tt
 
 pub all_ok : {X E : Type 0} (P Q R S : X → Type 0) (r : Result X E) → ((x : X) → P x → Q x → R x → S x) → IfOk r P → IfOk r Q → IfOk r R → IfOk r S
 all_ok P Q R S (Ok x) f p q r = f x p q r

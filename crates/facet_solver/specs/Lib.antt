@@ -4,6 +4,7 @@ pub mod Representation
 pub mod Content
 pub mod Nested
 pub mod FieldCount
+pub mod NestedNames
 pub mod NestedTable
 pub mod NestedLevels
 pub mod Roles

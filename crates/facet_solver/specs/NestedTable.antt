@@ -9,7 +9,8 @@ use Rattle.facet_solver_shape.specs.declared.shape.ShapeKind.TheVariants.{Enum, 
 use Rattle.facet_solver_shape.specs.declared.shape.Variant.{Variant}
 use Rattle.facet_solver_shape.specs.Catalogues.{NamesEarlier}
 use Rattle.facet_solver.specs.Build.{Catalogue, kind_at}
-use Rattle.facet_solver.specs.Nested.{Entered, KeyPaths, Under, entered_view, named, paths_of_each, through_fields, under_kind, under_shape, under_variant}
+use Rattle.facet_solver.specs.Nested.{Entered, KeyPaths, Under, entered_view, through_fields, under_kind, under_shape, under_variant}
+use Rattle.facet_solver.specs.NestedNames.{Names, NamesLead, paths_of_names}
 use Rattle.facet_solver.specs.declared.build.nested.by_name.FieldsByName.{FieldsByName}
 use Rattle.facet_solver.specs.declared.build.nested.table.Earlier.{Earlier}
 use Rattle.facet_solver.specs.declared.build.nested.table.Entry.{Entry}
@@ -62,13 +63,11 @@ IsClosed entered cat marks =
 
 -- the key paths that fields by name stand for, from what is under the shapes behind each name
 abbrev pub paths_by_name : Under → FieldsByName → KeyPaths
-paths_by_name under fields =
-    paths_of_each (λ e. named e.0.now (paths_of_each under e.1.items)) fields.by_name.entries
+paths_by_name under fields = paths_of_names under fields.by_name.items
 
 -- the shapes behind the names pass a test
 abbrev pub LeadTo : (ℕ → Bool) → FieldsByName → Type 0
-LeadTo passes fields = AllByRecursion
-    (λ e. AllByRecursion (λ id. passes id ≡ true) e.1.items) fields.by_name.entries
+LeadTo passes fields = NamesLead passes fields.by_name.items
 
 -- the entry of an index that may be past the end
 abbrev pub entry_if_any : Option (Option Entry) → Option Entry
@@ -126,13 +125,12 @@ pub record IsSound (earlier : Earlier) : Type 0 where
 abbrev pub under_of : Earlier → Under
 under_of earlier = under_shape (entered_view earlier.entered) earlier.shapes.now
 
--- fields by name that also stand for these key paths
-pub record HasMore (earlier : Earlier) (paths : KeyPaths)
-    (old new : FieldsByName) : Type 0 where
-  pub stand : paths_by_name (under_of earlier) new
-      ≡ set.union (paths_by_name (under_of earlier) old) paths
-  pub lead : LeadTo (is_filled earlier.entries.now) old
-      → LeadTo (is_filled earlier.entries.now) new
+-- names that also stand for these key paths
+pub record HasMore (earlier : Earlier) (paths : KeyPaths) (old new : Names) : Type 0 where
+  pub stand : paths_of_names (under_of earlier) new
+      ≡ set.union (paths_of_names (under_of earlier) old) paths
+  pub lead : NamesLead (is_filled earlier.entries.now) old
+      → NamesLead (is_filled earlier.entries.now) new
 
 -- fields by name that stand for these key paths
 pub record AreFieldsOf (earlier : Earlier) (paths : KeyPaths)

@@ -1,71 +1,118 @@
 //! Fields by name: what key paths go through.
-ghost use Rattle.std.specs.Prelude.{◌≡◌, ℕ, Bool, OnOk, true};
+ghost use Rattle.std.specs.Prelude.{◌≡◌, [], ℕ, Bool, IfOk, IsTrue, OnOk, true};
 ghost use Rattle.std.specs.List.{AllByRecursion};
+ghost use Rattle.std.specs.List.Sorted.{IsSortedByKey, IsStrictlySortedBy-prop};
 ghost use Rattle.std.specs.FinSet as set;
-ghost use Rattle.facet_solver.specs.Nested.{Under, named, no_paths, paths_of_each};
-ghost use Rattle.facet_solver.specs.NestedTable.{LeadTo, paths_by_name};
+ghost use Rattle.facet_solver_shape.specs.Names.{name_ref_cmp};
+ghost use Rattle.facet_solver.specs.Nested.{Under, paths_of_each};
+ghost use Rattle.facet_solver.specs.NestedNames.{AreRising, NamesLead, paths_of_names};
 
 use facet_solver_shape::ShapeId;
 use std::alloc::{AllocError, Global};
-use std::collections::BTreeMap;
 
-/// Regular fields by name: behind each name the shapes of these fields that are entered, each once. Where structs are
-/// flattened their fields are taken together, so they are no more than the fields of a catalogue, whatever key paths there
-/// are.
+/// A name of regular fields, and the shapes of these fields that are entered.
+pub(crate) type NamedShapes<'c> = (&'c str, Vec<ShapeId>);
+
+/// Regular fields by name: behind each name the shapes of these fields that are entered, each once. The names rise. Where
+/// structs are flattened their fields are taken together, so they are no more than the fields of a catalogue, whatever key
+/// paths there are.
 #[derive(Drop)]
 pub(crate) struct FieldsByName<'c> {
-    pub(crate) by_name: BTreeMap<&'c str, Vec<ShapeId>>,
+    pub(crate) by_name: Vec<NamedShapes<'c>>,
+    ghost rise: { AreRising by_name.items } by { IsStrictlySortedBy-prop name_ref_cmp _ },
 }
 
 impl<'c> FieldsByName<'c> {
     /// No field.
-    pub(crate) fn new(alloc: Global) -> Self
-        ensures paths { (under : Under) → paths_by_name under result ≡ no_paths }
-        ensures lead { (passes : ℕ → Bool) → LeadTo passes result }
+    pub(crate) fn empty(alloc: Global) -> Self
+        ensures { result.by_name.items ≡ [] }
     {
         FieldsByName {
-            by_name: BTreeMap::new(alloc),
+            by_name: Vec::new(alloc),
         }
     }
 
-    /// Adds fields of one name with the shapes behind it. After an error some of these may have been added.
-    pub(crate) fn add(
-        &mut self,
+    /// Fields that were gathered in any order, where a name may be there more than once.
+    pub(crate) fn new(
         alloc: Global,
-        name: &'c str,
-        shapes: &[ShapeId],
-    ) -> Result<(), AllocError>
-        ensures paths { OnOk result ((under : Under) → paths_by_name under self.new
-            ≡ set.union (paths_by_name under self.old)
-            (named name.now (paths_of_each under shapes.now))) }
-        ensures lead { OnOk result ((passes : ℕ → Bool) → LeadTo passes self.old
-            → AllByRecursion (λ id. passes id ≡ true) shapes.now → LeadTo passes self.new) }
+        gathered: Vec<NamedShapes<'c>>,
+    ) -> Result<FieldsByName<'c>, AllocError>
+        ensures paths { IfOk result (λ fields. (under : Under)
+            → paths_of_names under fields.by_name.items
+            ≡ paths_of_names under gathered.entry.items) }
+        ensures lead { IfOk result (λ fields. (passes : ℕ → Bool)
+            → NamesLead passes gathered.entry.items → NamesLead passes fields.by_name.items) }
     {
-        match self.by_name.get_mut(name) {
-            Some(known) => add_missing(known, shapes)?,
-            None => {
-                self.by_name.insert(name, Vec::from_slice(alloc, shapes)?)?;
-            }
+        if are_rising(&gathered) {
+            return Ok(FieldsByName { by_name: gathered });
         }
-        Ok(())
+        let mut sorted = gathered;
+        sorted.sort_unstable_by_key(|named| named.0);
+        if are_rising(&sorted) {
+            return Ok(FieldsByName { by_name: sorted });
+        }
+        let by_name = joined(alloc, sorted)?;
+        Ok(FieldsByName { by_name })
     }
+}
 
-    /// Adds other fields. After an error some of them may have been added.
-    pub(crate) fn unite(
-        &mut self,
-        alloc: Global,
-        others: &FieldsByName<'c>,
-    ) -> Result<(), AllocError>
-        ensures paths { OnOk result ((under : Under) → paths_by_name under self.new
-            ≡ set.union (paths_by_name under self.old) (paths_by_name under others.now)) }
-        ensures lead { OnOk result ((passes : ℕ → Bool) → LeadTo passes self.old
-            → LeadTo passes others.now → LeadTo passes self.new) }
-    {
-        for (name, shapes) in &others.by_name {
-            self.add(alloc, name, shapes)?;
+/// Whether each name is before the next.
+fn are_rising(names: &[NamedShapes<'_>]) -> bool
+    ensures { IsTrue result → AreRising names.now }
+{
+    for later in 1..names.len() {
+        if names[later - 1].0 >= names[later].0 {
+            return false;
         }
-        Ok(())
     }
+    true
+}
+
+/// Each of the names once, with the shapes of all that are the same, which stand side by side.
+fn joined<'c>(
+    alloc: Global,
+    sorted: Vec<NamedShapes<'c>>,
+) -> Result<Vec<NamedShapes<'c>>, AllocError>
+    requires { IsSortedByKey (λ e. e.0) name_ref_cmp sorted.items }
+    ensures paths { IfOk result (λ joined. (under : Under)
+        → paths_of_names under joined.items ≡ paths_of_names under sorted.entry.items) }
+    ensures lead { IfOk result (λ joined. (passes : ℕ → Bool)
+        → NamesLead passes sorted.entry.items → NamesLead passes joined.items) }
+    ensures rise { IfOk result (λ joined. AreRising joined.items) }
+{
+    let mut joined = Vec::new(alloc);
+    let mut rest = sorted.into_iter();
+    let Some(mut last) = rest.next() else {
+        return Ok(joined);
+    };
+    for named in rest {
+        if named.0 == last.0 {
+            add_missing(&mut last.1, &named.1)?;
+            continue;
+        }
+        joined.push(last)?;
+        last = named;
+    }
+    joined.push(last)?;
+    Ok(joined)
+}
+
+/// Adds copies of fields to those that were gathered. After an error some of them may have been added.
+pub(crate) fn add_copies<'c>(
+    alloc: Global,
+    fields: &FieldsByName<'c>,
+    gathered: &mut Vec<NamedShapes<'c>>,
+) -> Result<(), AllocError>
+    ensures paths { OnOk result ((under : Under) → paths_of_names under gathered.new.items
+        ≡ set.union (paths_of_names under gathered.old.items)
+        (paths_of_names under fields.now.by_name.items)) }
+    ensures lead { OnOk result ((passes : ℕ → Bool) → NamesLead passes gathered.old.items
+        → NamesLead passes fields.now.by_name.items → NamesLead passes gathered.new.items) }
+{
+    for (name, shapes) in &fields.by_name {
+        gathered.push((*name, Vec::from_slice(alloc, shapes)?))?;
+    }
+    Ok(())
 }
 
 /// Adds the shapes that are not known.

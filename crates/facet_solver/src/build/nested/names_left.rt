@@ -1,37 +1,37 @@
 //! The names of fields that are still to be gone through, as key paths are made from name to name.
 ghost use Rattle.std.specs.Prelude.{◌≡◌};
 ghost use Rattle.std.specs.Map.Iter.{TakesLast};
-ghost use Rattle.facet_solver.specs.NestedLevels.{AreRising, names_left, shown};
+ghost use Rattle.facet_solver.specs.NestedLevels.{names_left, shown};
+ghost use Rattle.facet_solver.specs.NestedNames.{AreRising};
 
-use crate::build::nested::by_name::FieldsByName;
+use crate::build::nested::by_name::{FieldsByName, NamedShapes};
 use facet_solver_shape::ShapeId;
 use std::borrow::Cow;
-use std::collections::btree_map::{IntoIter, Iter};
 
 /// The names that are left of fields by name, with the shapes behind each.
 #[derive(Drop)]
 pub(crate) enum NamesLeft<'t, 'c> {
     /// Of the fields of an entry.
-    OfEntry(Iter<'t, &'c str, Vec<ShapeId>>),
+    OfEntry(&'t [NamedShapes<'c>]),
     /// Of the fields of several entries, which were taken together.
-    Together(IntoIter<&'c str, Vec<ShapeId>>),
+    Together(Vec<NamedShapes<'c>>),
 }
 
 impl<'t, 'c> NamesLeft<'t, 'c> {
     /// All names of the fields of an entry.
     pub(crate) fn of_entry(fields: &'t FieldsByName<'c>) -> Self
-        ensures names { names_left result ≡ fields.now.by_name.entries }
+        ensures names { names_left result ≡ fields.now.by_name.items }
         ensures rise { AreRising (names_left result) }
     {
-        NamesLeft::OfEntry(fields.by_name.iter())
+        NamesLeft::OfEntry(fields.by_name.as_slice())
     }
 
     /// All names of fields that were taken together.
     pub(crate) fn together(fields: FieldsByName<'c>) -> Self
-        ensures names { names_left result ≡ fields.entry.by_name.entries }
+        ensures names { names_left result ≡ fields.entry.by_name.items }
         ensures rise { AreRising (names_left result) }
     {
-        NamesLeft::Together(fields.by_name.into_iter())
+        NamesLeft::Together(fields.by_name)
     }
 
     /// Takes the last name, with the shapes behind it.
@@ -39,14 +39,14 @@ impl<'t, 'c> NamesLeft<'t, 'c> {
         ensures { TakesLast shown (names_left self.old) result (names_left self.new) }
     {
         match self {
-            NamesLeft::OfEntry(left) => match left.next_back() {
-                Some((name, shapes)) => Some((*name, Cow::Borrowed(shapes))),
-                None => None,
-            },
-            NamesLeft::Together(left) => match left.next_back() {
-                Some((name, shapes)) => Some((name, Cow::Owned(shapes))),
-                None => None,
-            },
+            NamesLeft::OfEntry(left) => {
+                let (name, shapes) = left.split_off_last()?;
+                Some((*name, Cow::Borrowed(shapes)))
+            }
+            NamesLeft::Together(left) => {
+                let (name, shapes) = left.pop()?;
+                Some((name, Cow::Owned(shapes)))
+            }
         }
     }
 }

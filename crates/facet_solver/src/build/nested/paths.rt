@@ -3,10 +3,11 @@ ghost use Rattle.std.specs.Prelude.{◌≡◌, ◌∷◌, [], map, ◌&&◌, ◌
 ghost use Rattle.std.specs.List.{AllByRecursion};
 ghost use Rattle.facet_solver_shape.specs.Names.{names_of};
 ghost use Rattle.facet_solver.specs.Nested.{Under, named, paths_of_each, with_key_paths, with_paths_behind};
-ghost use Rattle.facet_solver.specs.NestedLevels.{AreRising, NamesLead, names_left, paths_of_names};
+ghost use Rattle.facet_solver.specs.NestedLevels.{names_left};
+ghost use Rattle.facet_solver.specs.NestedNames.{AreRising, NamesLead, paths_of_names};
 ghost use Rattle.facet_solver.specs.NestedTable.{is_filled, LeadEarlier, LeadTo, StandFor, paths_by_name};
 
-use crate::build::nested::by_name::FieldsByName;
+use crate::build::nested::by_name::{FieldsByName, add_copies};
 use crate::build::nested::names_left::{Level, NamesLeft};
 use crate::build::nested::table::NestedTable;
 use facet_solver_shape::{KeyPath, Resolution, ShapeId};
@@ -118,11 +119,11 @@ impl<'c> NestedTable<'c> {
             (limit : ℕ) → AllByRecursion (λ id. id ≤ limit) shapes.now
             → LeadTo (λ t. nat_lt t limit && is_filled self.now.by_index.items t) fields) }
     {
-        let mut fields = FieldsByName::new(alloc);
+        let mut gathered = Vec::new(alloc);
         for shape in shapes {
-            fields.unite(alloc, &self.entry(*shape).under)?;
+            add_copies(alloc, &self.entry(*shape).under, &mut gathered)?;
         }
-        Ok(fields)
+        FieldsByName::new(alloc, gathered)
     }
 }
 

@@ -12,7 +12,7 @@ ghost use Rattle.facet_solver.specs.FieldCount.{field_count, fields_of_kind};
 ghost use Rattle.facet_solver.specs.NestedTable.{AreEntries, AreFieldsOf, FieldAsks, HasMore, entry_at, IsClosed, is_filled, IsFilled, IsMade, IsMarked, IsSound, KindAsks, LeadEarlier, LeadTo, VariantAsks, paths_by_name, under_of};
 
 use crate::build::Build;
-use crate::build::nested::by_name::FieldsByName;
+use crate::build::nested::by_name::{FieldsByName, NamedShapes, add_copies};
 use crate::build::nested::{Entered, has_fields};
 use crate::build::visit::visited;
 use facet_solver_shape::{Field, Shape, ShapeId, ShapeKind, Shapes, Steps, Variant};
@@ -35,7 +35,7 @@ impl<'c> Entry<'c> {
         ensures variants { result.variants.items ≡ [] }
     {
         Entry {
-            under: FieldsByName::new(alloc),
+            under: FieldsByName::empty(alloc),
             variants: Vec::new(alloc),
         }
     }
@@ -159,10 +159,10 @@ impl<'t, 'c> Earlier<'t, 'c> {
         ensures visits { steps.new.visits ≤ steps.old.visits + length fields.now }
         ensures no_fall { NoCountFalls steps.old steps.new }
     {
-        let mut under = FieldsByName::new(self.alloc);
-        self.add_through_fields(fields, &mut under, steps)?;
+        let mut gathered = Vec::with_capacity(self.alloc, fields.len())?;
+        self.add_through_fields(fields, &mut gathered, steps)?;
         Ok(Entry {
-            under,
+            under: FieldsByName::new(self.alloc, gathered)?,
             variants: Vec::new(self.alloc),
         })
     }
@@ -186,15 +186,15 @@ impl<'t, 'c> Earlier<'t, 'c> {
             ≤ steps.old.visits + sum_by (λ v. length v.fields.items) variants.now }
         ensures no_fall { NoCountFalls steps.old steps.new }
     {
-        let mut under = FieldsByName::new(self.alloc);
+        let mut gathered = Vec::new(self.alloc);
         let mut each = Vec::new(self.alloc);
         for variant in variants {
             let fields = self.under_variant(variant, steps)?;
-            under.unite(self.alloc, &fields)?;
+            add_copies(self.alloc, &fields, &mut gathered)?;
             each.push(fields)?;
         }
         Ok(Entry {
-            under,
+            under: FieldsByName::new(self.alloc, gathered)?,
             variants: each,
         })
     }
@@ -216,14 +216,14 @@ impl<'t, 'c> Earlier<'t, 'c> {
             ≤ steps.old.visits + length variant.now.fields.items }
         ensures no_fall { NoCountFalls steps.old steps.new }
     {
-        let mut by_name = FieldsByName::new(self.alloc);
         let fields = variant.fields.as_slice();
+        let mut gathered = Vec::with_capacity(self.alloc, fields.len())?;
         if fields.len() == 1 {
-            self.add_under_only_field(visited(fields, 0, steps), &mut by_name)?;
-            return Ok(by_name);
+            self.add_under_only_field(visited(fields, 0, steps), &mut gathered)?;
+            return FieldsByName::new(self.alloc, gathered);
         }
-        self.add_through_fields(fields, &mut by_name, steps)?;
-        Ok(by_name)
+        self.add_through_fields(fields, &mut gathered, steps)?;
+        FieldsByName::new(self.alloc, gathered)
     }
 
     /// Adds those under a variant by its only field, which stands for its shape where it is named `0` and the shape is
@@ -231,7 +231,7 @@ impl<'t, 'c> Earlier<'t, 'c> {
     fn add_under_only_field(
         self,
         field: &'c Field,
-        by_name: &mut FieldsByName<'c>,
+        gathered: &mut Vec<NamedShapes<'c>>,
     ) -> Result<(), AllocError>
         requires sound { IsSound self }
         requires asked { FieldAsks (IsFilled self.entries.now) (entered_view self.entered)
@@ -240,12 +240,12 @@ impl<'t, 'c> Earlier<'t, 'c> {
             let cat = self.entry.shapes.now in
             let under = under_fields_step entered cat
             (if_entered entered cat) (under_shape entered cat) (field.now ∷ []) in
-            OnOk result (HasMore self.entry under by_name.old by_name.new) }
+            OnOk result (HasMore self.entry under gathered.old.items gathered.new.items) }
     {
         if self.is_entered_by(field) {
-            by_name.unite(self.alloc, self.under(field.shape))
+            add_copies(self.alloc, self.under(field.shape), gathered)
         } else {
-            self.add_through_field(field, by_name)
+            self.add_through_field(field, gathered)
         }
     }
 
@@ -261,7 +261,7 @@ impl<'t, 'c> Earlier<'t, 'c> {
     fn add_through_fields(
         self,
         fields: &'c [Field],
-        by_name: &mut FieldsByName<'c>,
+        gathered: &mut Vec<NamedShapes<'c>>,
         steps: &mut Steps,
     ) -> Result<(), AllocError>
         requires sound { IsSound self }
@@ -270,12 +270,12 @@ impl<'t, 'c> Earlier<'t, 'c> {
         ensures more { let through =
             nested.through_fields (entered_view self.entry.entered)
             self.entry.shapes.now fields.now in
-            OnOk result (HasMore self.entry through by_name.old by_name.new) }
+            OnOk result (HasMore self.entry through gathered.old.items gathered.new.items) }
         ensures visits { steps.new.visits ≤ steps.old.visits + length fields.now }
         ensures no_fall { NoCountFalls steps.old steps.new }
     {
         for index in 0..fields.len() {
-            self.add_through_field(visited(fields, index, steps), by_name)?;
+            self.add_through_field(visited(fields, index, steps), gathered)?;
         }
         Ok(())
     }
@@ -284,7 +284,7 @@ impl<'t, 'c> Earlier<'t, 'c> {
     fn add_through_field(
         self,
         field: &'c Field,
-        by_name: &mut FieldsByName<'c>,
+        gathered: &mut Vec<NamedShapes<'c>>,
     ) -> Result<(), AllocError>
         requires sound { IsSound self }
         requires asked { FieldAsks (IsFilled self.entries.now) (entered_view self.entered)
@@ -292,17 +292,17 @@ impl<'t, 'c> Earlier<'t, 'c> {
         ensures { let through =
             nested.through_field (entered_view self.entry.entered)
             self.entry.shapes.now field.now in
-            OnOk result (HasMore self.entry through by_name.old by_name.new) }
+            OnOk result (HasMore self.entry through gathered.old.items gathered.new.items) }
     {
         if field.flattened {
-            return by_name.unite(self.alloc, self.under(field.shape));
+            return add_copies(self.alloc, self.under(field.shape), gathered);
         }
-        let name = field.effective_name();
+        let mut shapes = Vec::new(self.alloc);
         if self.leads_on(field.shape) {
-            by_name.add(self.alloc, name, &[field.shape])
-        } else {
-            by_name.add(self.alloc, name, &[])
+            shapes.push(field.shape)?;
         }
+        gathered.push((field.effective_name(), shapes))?;
+        Ok(())
     }
 
     /// Whether there may be fields under the shape of a regular field.

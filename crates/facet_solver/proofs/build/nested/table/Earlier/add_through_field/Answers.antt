@@ -1,45 +1,61 @@
-use Rattle.std.proofs.Common.{[], ◌∷◌, ap, sym, ◌∙◌, subst}
-use Rattle.std.specs.Prelude.{OnOk}
+use Rattle.std.proofs.Common.{◌≡◌, [], ◌∷◌, ◌++◌, ap, sym, ◌∙◌, subst, List, ℕ, true}
+use Rattle.std.specs.Prelude.{OnOk, Vec}
+use Rattle.std.specs.List.{AllByRecursion}
+use Rattle.std.specs.declared.alloc.Global.{Global}
 use Rattle.facet_solver_shape.specs.Names.{Name}
-use Rattle.facet_solver.specs.Nested.{KeyPaths, entered_view, has_fields, if_entered, named}
+use Rattle.facet_solver.specs.Nested.{KeyPaths, entered_view, has_fields, if_entered, named, paths_of_each}
 use Rattle.facet_solver.specs.Build.{kind_at}
-use Rattle.facet_solver.specs.NestedTable.{HasMore, IsFilled, under_of}
+use Rattle.facet_solver.specs.NestedTable.{HasMore, IsFilled, is_filled, under_of}
+use Rattle.facet_solver.specs.declared.build.nested.table.Earlier.{Earlier}
 use Rattle.facet_solver.proofs.NestedFields.{first_of}
 use Rattle.facet_solver.proofs.NestedSets.{union-none}
-use Rattle.facet_solver.proofs.NestedTable.{asked_where_entered, more_if_ok, named_if_ok, through_flattened, through_regular, unless_leads_on, when_entered}
+use Rattle.facet_solver.proofs.NestedTable.{asked_where_entered, more_if_ok, one_name_more, through_flattened, through_regular, unless_leads_on, when_entered}
 use Rattle.facet_solver.proofs.build.nested.table.Earlier.add_through_field.Goals as goal
+use Rattle.facet_solver.proofs.build.nested.table.Earlier.add_through_field.Goals.{then-leads_on+in_ok-push, else-leads_on}
 
 pub returns-then-field : goal.returns-then-field
 returns-then-field c =
     let earlier = c.args.self in
     let f = c.args.field.now in
     let through = through_flattened (entered_view earlier.entered) earlier.shapes.now f c.if-field.true in
-    subst (λ (ps : KeyPaths). OnOk c.unite.result (HasMore earlier ps c.args.by_name.now c.unite.new.self))
+    subst (λ (ps : KeyPaths). OnOk c.add_copies.result (HasMore earlier ps c.args.gathered.now.items c.add_copies.new.gathered.items))
     (sym through)
-    (more_if_ok earlier (under_of earlier f.shape) c.under.result.now c.args.by_name.now c.unite.new.self c.unite.result c.under.ensures c.unite.ensures.paths c.unite.ensures.lead)
+    (more_if_ok earlier (under_of earlier f.shape) c.under.result.now c.args.gathered.now.items c.add_copies.new.gathered.items c.add_copies.result c.under.ensures c.add_copies.ensures.paths c.add_copies.ensures.lead)
 
-pub returns-then-leads_on : goal.returns-then-leads_on
-returns-then-leads_on c =
+-- what is behind the name: the shape of the field, if there may be fields under it
+abbrev Behind : Earlier → ℕ → List ℕ → Type 0
+Behind earlier id shapes =
+    (paths_of_each (under_of earlier) shapes ≡ if_entered (entered_view earlier.entered) earlier.shapes.now id)
+    × AllByRecursion (λ t. is_filled earlier.entries.now t ≡ true) shapes
+
+behind : (c : goal.In_ok-push-2) → Behind c.args.self c.args.field.now.shape c.if-leads_on.shapes.items
+behind c =
     let earlier = c.args.self in
     let e = entered_view earlier.entered in
     let cat = earlier.shapes.now in
     let f = c.args.field.now in
-    let entered = first_of (e (kind_at cat f.shape)) (has_fields (kind_at cat f.shape)) (sym c.leads_on.ensures ∙ c.if-leads_on.true) in
-    let asked = asked_where_entered (IsFilled earlier.entries.now) e cat f c.requires.asked entered in
-    subst (λ (ps : KeyPaths). OnOk c.add.result (HasMore earlier ps c.args.by_name.now c.add.new.self))
-    (ap (λ (ps : KeyPaths). named c.effective_name-name.result.now ps) (union-none (under_of earlier f.shape) ∙ sym (when_entered e cat f.shape entered))
-    ∙ ap (λ (n : Name). named n (if_entered e cat f.shape)) c.effective_name-name.ensures
-    ∙ sym (through_regular e cat f c.if-field.false))
-    (named_if_ok earlier c.effective_name-name.result.now (f.shape ∷ []) c.args.by_name.now c.add.new.self c.add.result (asked, tt) c.add.ensures.paths c.add.ensures.lead)
+    let id = f.shape in
+    elim c.if-leads_on.branch [
+      | then-leads_on+in_ok-push w ↦
+          (let entered = first_of (e (kind_at cat id)) (has_fields (kind_at cat id)) (sym c.leads_on.ensures ∙ w.if-leads_on.true) in
+          let asked = asked_where_entered (IsFilled earlier.entries.now) e cat f c.requires.asked entered in
+          let is : c.if-leads_on.shapes.items ≡ id ∷ [] =
+          ap (λ (v : Vec ℕ Global). v.items) w.shapes-is ∙ w.in_ok-push.ensures.items ∙ ap (λ (ids : List ℕ). ids ++ id ∷ []) c.new-shapes.ensures.items in
+          subst (Behind earlier id) (sym is) (union-none (under_of earlier id) ∙ sym (when_entered e cat id entered), (asked, tt)))
+      | else-leads_on w ↦
+          (let is : c.if-leads_on.shapes.items ≡ [] = ap (λ (v : Vec ℕ Global). v.items) w.shapes-is ∙ c.new-shapes.ensures.items in
+          subst (Behind earlier id) (sym is) (sym (unless_leads_on e cat id c.requires.sound.checked (sym c.leads_on.ensures ∙ w.if-leads_on.false)), tt))
+    ]
 
-pub returns-else-leads_on : goal.returns-else-leads_on
-returns-else-leads_on c =
+pub returns : goal.returns
+returns c =
     let earlier = c.args.self in
     let e = entered_view earlier.entered in
     let cat = earlier.shapes.now in
     let f = c.args.field.now in
-    subst (λ (ps : KeyPaths). OnOk c.add-else-leads_on.result (HasMore earlier ps c.args.by_name.now c.add-else-leads_on.new.self))
-    (ap (λ (ps : KeyPaths). named c.effective_name-name.result.now ps) (sym (unless_leads_on e cat f.shape c.requires.sound.checked (sym c.leads_on.ensures ∙ c.if-leads_on.false)))
-    ∙ ap (λ (n : Name). named n (if_entered e cat f.shape)) c.effective_name-name.ensures
+    let name = c.effective_name.result in
+    subst (λ (ps : KeyPaths). HasMore earlier ps c.args.gathered.now.items c.push-2.new.self.items)
+    (ap (named name.now) (behind c).0
+    ∙ ap (λ (n : Name). named n (if_entered e cat f.shape)) c.effective_name.ensures
     ∙ sym (through_regular e cat f c.if-field.false))
-    (named_if_ok earlier c.effective_name-name.result.now [] c.args.by_name.now c.add-else-leads_on.new.self c.add-else-leads_on.result tt c.add-else-leads_on.ensures.paths c.add-else-leads_on.ensures.lead)
+    (one_name_more earlier name c.if-leads_on.shapes c.args.gathered.now.items c.push-2.new.self.items c.in_ok-push-2.ensures.items (behind c).1)

@@ -1,7 +1,8 @@
 use Rattle.std.proofs.Common.{◌+◌, ◌∙◌, ap, arith, drop, sym}
 use Rattle.std.specs.FinSet.{union}
 use Rattle.facet_solver.specs.Nested.{KeyPaths, entered_view, through_field, through_fields}
-use Rattle.facet_solver.specs.NestedTable.{FieldAsks, IsFilled, paths_by_name, under_of}
+use Rattle.facet_solver.specs.NestedNames.{paths_of_names}
+use Rattle.facet_solver.specs.NestedTable.{FieldAsks, IsFilled, under_of}
 use Rattle.facet_solver.proofs.Counted.{no_fall-trans, visited}
 use Rattle.facet_solver.proofs.NestedTable.{all_at, no_more, one_more}
 use Rattle.facet_solver.proofs.build.nested.table.Earlier.add_through_fields.Goals as goal
@@ -19,7 +20,7 @@ loop-index-preserved c =
     let more = c.in_ok-add_through_field.ensures in
     let visits = ap (λ s. s.visits) c.visited.ensures.steps in (
       ap (λ (ps : KeyPaths). union ps (through_fields e cat (drop (i + 1) fs))) more.stand
-          ∙ one_more (through_field e cat) fs i (paths_by_name (under_of c.args.self) c.loop-index.by_name) c.visited.result.now c.visited.ensures.field
+          ∙ one_more (through_field e cat) fs i (paths_of_names (under_of c.args.self) c.loop-index.gathered.items) c.visited.result.now c.visited.ensures.field
           ∙ c.loop-index.invariant.0,
       λ before. more.lead (c.loop-index.invariant.1 before),
       omega (arith, visits, c.loop-index.invariant.2),
@@ -38,7 +39,7 @@ returns-clause-more c =
     let cat = c.args.self.shapes.now in
     record {
       stand =
-          sym (no_more (through_field e cat) c.args.fields.now c.loop-index.index (paths_by_name (under_of c.args.self) c.loop-index.by_name) c.loop-index-test.false)
+          sym (no_more (through_field e cat) c.args.fields.now c.loop-index.index (paths_of_names (under_of c.args.self) c.loop-index.gathered.items) c.loop-index-test.false)
           ∙ c.loop-index.invariant.0;
       lead = c.loop-index.invariant.1;
     }

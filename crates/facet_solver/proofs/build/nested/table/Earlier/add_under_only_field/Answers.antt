@@ -14,9 +14,9 @@ returns-then-is_entered_by c =
     let cat = earlier.shapes.now in
     let f = c.args.field.now in
     let both = sym c.is_entered_by.ensures ∙ c.if-is_entered_by.true in
-    subst (λ (ps : KeyPaths). OnOk c.unite.result (HasMore earlier ps c.args.by_name.now c.unite.new.self))
+    subst (λ (ps : KeyPaths). OnOk c.add_copies.result (HasMore earlier ps c.args.gathered.now.items c.add_copies.new.gathered.items))
     (sym (when_entered e cat f.shape (second_of _ _ both)) ∙ sym (by_shape e cat (if_entered e cat) (under_shape e cat) f both))
-    (more_if_ok earlier (under_of earlier f.shape) c.under.result.now c.args.by_name.now c.unite.new.self c.unite.result c.under.ensures c.unite.ensures.paths c.unite.ensures.lead)
+    (more_if_ok earlier (under_of earlier f.shape) c.under.result.now c.args.gathered.now.items c.add_copies.new.gathered.items c.add_copies.result c.under.ensures c.add_copies.ensures.paths c.add_copies.ensures.lead)
 
 pub returns-else-is_entered_by : goal.returns-else-is_entered_by
 returns-else-is_entered_by c =
@@ -25,6 +25,6 @@ returns-else-is_entered_by c =
     let cat = earlier.shapes.now in
     let f = c.args.field.now in
     let both = sym c.is_entered_by.ensures ∙ c.if-is_entered_by.false in
-    subst (λ (ps : KeyPaths). OnOk c.add_through_field.result (HasMore earlier ps c.args.by_name.now c.add_through_field.new.by_name))
+    subst (λ (ps : KeyPaths). OnOk c.add_through_field.result (HasMore earlier ps c.args.gathered.now.items c.add_through_field.new.gathered.items))
     (sym (union-none (through_field e cat f)) ∙ sym (by_field e cat (if_entered e cat) (under_shape e cat) f both))
     c.add_through_field.ensures

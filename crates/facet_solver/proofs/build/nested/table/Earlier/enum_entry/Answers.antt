@@ -4,7 +4,8 @@ use Rattle.std.specs.List.{AllByRecursion}
 use Rattle.std.proofs.lemmas.List.{map_more}
 use Rattle.std.proofs.lemmas.Option.{slice_get-get_or}
 use Rattle.facet_solver.specs.Nested.{KeyPaths, entered_view, under_variant, under_variants}
-use Rattle.facet_solver.specs.NestedTable.{LeadTo, is_filled, paths_by_name, under_of}
+use Rattle.facet_solver.specs.NestedNames.{Names, NamesLead, paths_of_names}
+use Rattle.facet_solver.specs.NestedTable.{AreFieldsOf, LeadTo, is_filled, paths_by_name, under_of}
 use Rattle.facet_solver.proofs.Counted.{no_fall-refl, no_fall-trans}
 use Rattle.facet_solver.proofs.NestedFields.{each_push}
 use Rattle.facet_solver.proofs.NestedSets.{none-union}
@@ -15,9 +16,9 @@ pub loop-variant-init : goal.loop-variant-init
 loop-variant-init c =
     let under = under_variants (entered_view c.args.self.entered) c.args.self.shapes.now c.args.variants.now in
     let none = c.new-each.ensures.items in (
-      ap (λ (ps : KeyPaths). union ps under) (c.new-under.ensures.paths (under_of c.args.self)) ∙ none-union under,
+      ap (λ (names : Names). union (paths_of_names (under_of c.args.self) names) under) c.new-gathered.ensures.items ∙ none-union under,
       ap (map (paths_by_name (under_of c.args.self))) none,
-      (c.new-under.ensures.lead (is_filled c.args.self.entries.now), subst (AllByRecursion (LeadTo (is_filled c.args.self.entries.now))) (sym none) tt),
+      (subst (NamesLead (is_filled c.args.self.entries.now)) (sym c.new-gathered.ensures.items) tt, subst (AllByRecursion (LeadTo (is_filled c.args.self.entries.now))) (sym none) tt),
       omega arith,
       no_fall-refl c.args.steps.now,
     )
@@ -26,8 +27,8 @@ pub returns-in_err-fields-clause-visits : goal.returns-in_err-fields-clause-visi
 returns-in_err-fields-clause-visits c =
     visits_at_most c.args.variants.now c.loop-variant.variant-index c.variant-item.result _ _ _ c.loop-variant-test.true c.variant-item.is c.loop-variant.invariant.3 c.under_variant.ensures.visits
 
-pub returns-in_err-unite-clause-visits : goal.returns-in_err-unite-clause-visits
-returns-in_err-unite-clause-visits c =
+pub returns-in_err-add_copies-clause-visits : goal.returns-in_err-add_copies-clause-visits
+returns-in_err-add_copies-clause-visits c =
     visits_at_most c.args.variants.now c.loop-variant.variant-index c.variant-item.result _ _ _ c.loop-variant-test.true c.variant-item.is c.loop-variant.invariant.3 c.under_variant.ensures.visits
 
 pub returns-in_err-push-clause-visits : goal.returns-in_err-push-clause-visits
@@ -44,12 +45,12 @@ loop-variant-preserved c =
     let lt = c.loop-variant-test.true in
     let paths = paths_by_name (under_of c.args.self) in
     let filled = is_filled c.args.self.entries.now in
-    let old = paths c.loop-variant.under in
+    let old = paths_of_names (under_of c.args.self) c.loop-variant.gathered.items in
     let fields = c.in_ok-fields.fields in
     let leads = c.loop-variant.invariant.2 in
     let here : slice_get vs i ≡ Some v = slice_get-get_or vs i v lt ∙ ap Some (sym c.variant-item.is) in (
       ap (λ (ps : KeyPaths). union ps (under_variants e cat (drop (i + 1) vs)))
-          (c.in_ok-unite.ensures.paths (under_of c.args.self) ∙ ap (λ (ps : KeyPaths). union old ps) c.in_ok-fields.ensures.fields.stand)
+          (c.in_ok-add_copies.ensures.paths (under_of c.args.self) ∙ ap (λ (ps : KeyPaths). union old ps) c.in_ok-fields.ensures.fields.stand)
           ∙ one_more (under_variant e cat) vs i old v here
           ∙ c.loop-variant.invariant.0,
       ap (map paths) c.in_ok-push.ensures.items
@@ -58,20 +59,26 @@ loop-variant-preserved c =
           ∙ ap (λ (ps : KeyPaths). map (under_variant e cat) (take i vs) ++ ps ∷ []) (c.in_ok-fields.ensures.fields.stand ∙ ap (under_variant e cat) c.variant-item.is)
           ∙ sym (map_more (under_variant e cat) vs i v lt),
       (
-        c.in_ok-unite.ensures.lead filled leads.0 c.in_ok-fields.ensures.fields.lead,
+        c.in_ok-add_copies.ensures.lead filled leads.0 c.in_ok-fields.ensures.fields.lead,
         subst (AllByRecursion (LeadTo filled)) (sym c.in_ok-push.ensures.items) (each_push (LeadTo filled) c.loop-variant.each.items fields leads.1 c.in_ok-fields.ensures.fields.lead),
       ),
       visits_more vs i v _ _ _ lt c.variant-item.is c.loop-variant.invariant.3 c.under_variant.ensures.visits,
       no_fall-trans _ _ _ c.loop-variant.invariant.4 c.under_variant.ensures.no_fall,
     )
 
-pub returns-clause-under : goal.returns-clause-under
-returns-clause-under c =
+-- the fields that were made of all
+under_all : (c : goal.In_ok-new) → AreFieldsOf c.args.self (under_variants (entered_view c.args.self.entered) c.args.self.shapes.now c.args.variants.now) c.in_ok-new.field-0
+under_all c =
     let e = entered_view c.args.self.entered in
     let cat = c.args.self.shapes.now in
+    let under = under_of c.args.self in
     record {
       stand =
-          sym (no_more (under_variant e cat) c.args.variants.now c.loop-variant.variant-index (paths_by_name (under_of c.args.self) c.loop-variant.under) c.loop-variant-test.false)
+          c.in_ok-new.ensures.paths under
+          ∙ sym (no_more (under_variant e cat) c.args.variants.now c.loop-variant.variant-index (paths_of_names under c.loop-variant.gathered.items) c.loop-variant-test.false)
           ∙ c.loop-variant.invariant.0;
-      lead = c.loop-variant.invariant.2.0;
+      lead = c.in_ok-new.ensures.lead (is_filled c.args.self.entries.now) c.loop-variant.invariant.2.0;
     }
+
+pub returns-clause-under : goal.returns-clause-under
+returns-clause-under c = under_all c

@@ -5,4 +5,4 @@ use Rattle.facet_solver.proofs.build.nested.table.Earlier.struct_entry.Goals as 
 pub returns-clause-under : goal.returns-clause-under
 returns-clause-under c =
     let earlier = c.args.self in
-    all_fields earlier _ _ _ (c.new-under.ensures.paths (under_of earlier)) (c.new-under.ensures.lead (is_filled earlier.entries.now)) c.in_ok-add_through_fields.ensures.more
+    all_fields earlier _ _ _ _ c.in_ok-gathered.ensures.items c.in_ok-add_through_fields.ensures.more c.in_ok-new.ensures.paths c.in_ok-new.ensures.lead

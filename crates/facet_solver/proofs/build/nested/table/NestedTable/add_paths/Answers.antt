@@ -9,7 +9,8 @@ use Rattle.std.proofs.lemmas.List.{length_push}
 use Rattle.facet_solver_shape.specs.Names.{Name, names_of}
 use Rattle.facet_solver_shape.specs.Resolved.{with_key_path}
 use Rattle.facet_solver.specs.Nested.{KeyPaths, Under, paths_of_each, with_paths_behind}
-use Rattle.facet_solver.specs.NestedLevels.{AreRising, Names, NamesLead, names_left, paths_of_levels, paths_of_names, shown}
+use Rattle.facet_solver.specs.NestedLevels.{names_left, paths_of_levels, shown}
+use Rattle.facet_solver.specs.NestedNames.{AreRising, Names, NamesLead, paths_of_names}
 use Rattle.facet_solver.specs.NestedTable.{StandFor, is_filled, paths_by_name}
 use Rattle.facet_solver.specs.declared.build.nested.names_left.Level.{Level}
 use Rattle.facet_solver.specs.declared.build.nested.names_left.NamesLeft.{NamesLeft}
@@ -30,9 +31,9 @@ if_none {X} P o is h = subst (λ (q : Option X). IfNone q P) is h
 pub loop-name-init : goal.loop-name-init
 loop-name-init c =
     let entries = c.args.self.now.by_index.items in
-    let limit = limit_of_names c.args.fields.now.by_name.entries in
+    let limit = limit_of_names c.args.fields.now.by_name.items in
     let base = c.args.prefix.now.items in
-    let names : names_left c.of_entry-names.result ≡ c.args.fields.now.by_name.entries = c.of_entry-names.ensures.names in
+    let names : names_left c.of_entry-names.result ≡ c.args.fields.now.by_name.items = c.of_entry-names.ensures.names in
     let none : c.new-outer.result.items ≡ [] = c.new-outer.ensures.items in (
       λ under stand.
           ap (λ (ps : KeyPaths). with_paths_behind c.args.resolution.now (names_of base) ps)
@@ -79,14 +80,14 @@ module _ (c : goal.Joined-shapes-4) where
       ∙ if_some _ c.in_ok-under.field-0 c.in-Some-2.under c.in-Some-2.is c.in_ok-under.ensures.paths under stand
       ∙ ap (paths_of_each under) same_shapes)
 
-  inside : IsInside c.args.self.now.by_index.items (limit_of_names c.args.fields.now.by_name.entries) c.args.prefix.now.items
+  inside : IsInside c.args.self.now.by_index.items (limit_of_names c.args.fields.now.by_name.items) c.args.prefix.now.items
       c.push.new.self.items c.push-in-Some-2.new.self.items (names_left c.loop-name.names) (names_left c.replace-beside.new.dest)
   inside =
       let entries = c.args.self.now.by_index.items in
       let after : c.replace-beside.new.dest ≡ c.in-Some-2.under = c.replace-beside.ensures.after in
       let under = c.in_ok-under.field-0 in
       let is : under ≡ Some c.in-Some-2.under = c.in-Some-2.is in
-      is_inside entries (limit_of_names c.args.fields.now.by_name.entries) c.args.prefix.now.items
+      is_inside entries (limit_of_names c.args.fields.now.by_name.items) c.args.prefix.now.items
       c.loop-name.prefix.items c.push.new.self.items c.loop-name.outer.items c.push-in-Some-2.new.self.items
       level (names_left c.loop-name.names) (names_left c.replace-beside.new.dest) shapes
       c.loop-name.invariant.2 c.loop-name.invariant.3 split c.loop-name.invariant.1 c.in_ok-push.ensures.items c.in_ok-push-2.ensures.items
@@ -100,7 +101,7 @@ pub loop-name-smaller-in-Some-2 : goal.loop-name-smaller-in-Some-2
 loop-name-smaller-in-Some-2 c =
     let entries = c.args.self.now.by_index.items in
     let under = entry_paths entries in
-    steps-less_far (limit_of_names c.args.fields.now.by_name.entries) _ _ _ _
+    steps-less_far (limit_of_names c.args.fields.now.by_name.items) _ _ _ _
     (ap set.len (same_paths c under (entry_paths-stand entries c.requires.earlier)))
     (inside c).less_far
 
@@ -132,11 +133,11 @@ popped xs ys x n e is =
 
 -- the path of a name is added
 module _ (c : goal.After-pop-in-loop-name) where
-  next : IsNext c.args.self.now.by_index.items (limit_of_names c.args.fields.now.by_name.entries) c.args.prefix.now.items c.match-take_last.prefix.items
+  next : IsNext c.args.self.now.by_index.items (limit_of_names c.args.fields.now.by_name.items) c.args.prefix.now.items c.match-take_last.prefix.items
       c.loop-name.outer.items c.match-take_last.outer.items (names_left c.loop-name.names) (names_left c.match-take_last.names)
   next =
       let entries = c.args.self.now.by_index.items in
-      let limit = limit_of_names c.args.fields.now.by_name.entries in
+      let limit = limit_of_names c.args.fields.now.by_name.items in
       let base = c.args.prefix.now.items in
       let before = c.loop-name in
       let now = c.match-take_last in
@@ -169,7 +170,7 @@ module _ (c : goal.After-pop-in-loop-name) where
 
 pub loop-name-smaller : goal.loop-name-smaller
 loop-name-smaller c =
-    next-smaller c.args.self.now.by_index.items (limit_of_names c.args.fields.now.by_name.entries) c.args.prefix.now.items c.match-take_last.prefix.items
+    next-smaller c.args.self.now.by_index.items (limit_of_names c.args.fields.now.by_name.items) c.args.prefix.now.items c.match-take_last.prefix.items
     c.loop-name.outer.items c.match-take_last.outer.items (names_left c.loop-name.names) (names_left c.match-take_last.names) (next c) (entry_paths c.args.self.now.by_index.items)
 
 pub loop-name-preserved : goal.loop-name-preserved
@@ -179,7 +180,7 @@ loop-name-preserved c =
     let prefix = c.match-take_last.prefix in
     let levels = c.match-take_last.outer.items in (
       λ under stand.
-          next-added c.args.self.now.by_index.items (limit_of_names c.args.fields.now.by_name.entries) base prefix.items
+          next-added c.args.self.now.by_index.items (limit_of_names c.args.fields.now.by_name.items) base prefix.items
           c.loop-name.outer.items levels (names_left c.loop-name.names) (names_left c.match-take_last.names) (next c)
           under r c.add_key_path.new.self (with_paths_behind c.args.resolution.now (names_of base) (paths_by_name under c.args.fields.now)) (c.loop-name.invariant.0 under stand)
           (c.in_ok-add_key_path.ensures.ok ∙ ap (λ (ns : List (Bor Name)). with_key_path r (names_of ns)) (c.in_ok-from_slice.ensures.items ∙ c.deref-in-loop-name.ensures.value)),

@@ -1,20 +1,21 @@
-use Rattle.std.proofs.Common.{◌≡◌, ◌+◌, ◌≤◌, Some, ℕ, ap, drop, slice_get, sym, ◌∙◌}
+use Rattle.std.proofs.Common.{◌≡◌, ◌+◌, ◌≤◌, Some, ℕ, ap, drop, slice_get, subst, sym, ◌∙◌}
 use Rattle.std.specs.Prelude.{◌&&◌, nat_lt}
 use Rattle.std.specs.FinSet.{union}
 use Rattle.std.proofs.lemmas.Option.{slice_get-get_or}
 use Rattle.facet_solver.specs.Nested.{KeyPaths, paths_of_each}
-use Rattle.facet_solver.specs.NestedTable.{is_filled, paths_by_name}
+use Rattle.facet_solver.specs.NestedNames.{Names, NamesLead, paths_of_names}
+use Rattle.facet_solver.specs.NestedTable.{is_filled}
 use Rattle.facet_solver.proofs.NestedFields.{each_at, leads_below}
 use Rattle.facet_solver.proofs.NestedSets.{none-union}
-use Rattle.facet_solver.proofs.NestedTable.{no_more, one_more}
+use Rattle.facet_solver.proofs.NestedTable.{if_ok, no_more, one_more}
 use Rattle.facet_solver.proofs.build.nested.table.NestedTable.fields_under.Goals as goal
 
 pub loop-shape-init : goal.loop-shape-init
 loop-shape-init c = (
   λ under stand.
       let all = paths_of_each under c.args.shapes.now in
-      ap (λ (ps : KeyPaths). union ps all) (c.new-fields.ensures.paths under) ∙ none-union all,
-  λ limit below. c.new-fields.ensures.lead _,
+      ap (λ (names : Names). union (paths_of_names under names) all) c.new-gathered.ensures.items ∙ none-union all,
+  λ limit below. subst (NamesLead _) (sym c.new-gathered.ensures.items) tt,
 )
 
 pub loop-shape-preserved : goal.loop-shape-preserved
@@ -26,17 +27,23 @@ loop-shape-preserved c =
     let filled = is_filled c.args.self.now.by_index.items in
     let here : slice_get shapes i ≡ Some id = slice_get-get_or shapes i id c.loop-shape-test.true ∙ ap Some (sym c.shape-item.is) in (
       λ under stand.
-          let old = paths_by_name under c.loop-shape.fields in
+          let old = paths_of_names under c.loop-shape.gathered.items in
           ap (λ (ps : KeyPaths). union ps (paths_of_each under (drop (i + 1) shapes)))
-          (c.in_ok-unite.ensures.paths under ∙ ap (λ (ps : KeyPaths). union old ps) (stand id entry c.entry.ensures))
+          (c.in_ok-add_copies.ensures.paths under ∙ ap (λ (ps : KeyPaths). union old ps) (stand id entry c.entry.ensures))
           ∙ one_more under shapes i old id here
           ∙ c.loop-shape.invariant.0 under stand,
       λ limit below.
-          c.in_ok-unite.ensures.lead (λ t. nat_lt t limit && filled t) (c.loop-shape.invariant.1 limit below)
+          c.in_ok-add_copies.ensures.lead (λ t. nat_lt t limit && filled t) (c.loop-shape.invariant.1 limit below)
           (leads_below filled id limit (each_at (λ (k : ℕ). k ≤ limit) shapes i id below here) entry.under (c.requires.earlier id entry c.entry.ensures).under),
     )
 
 pub returns-clause-paths : goal.returns-clause-paths
-returns-clause-paths c = λ under stand.
-    sym (no_more under c.args.shapes.now c.loop-shape.shape-index (paths_by_name under c.loop-shape.fields) c.loop-shape-test.false)
-    ∙ c.loop-shape.invariant.0 under stand
+returns-clause-paths c = if_ok _ _ c.new.result
+    (λ fields all under stand.
+    all under
+    ∙ sym (no_more under c.args.shapes.now c.loop-shape.shape-index (paths_of_names under c.loop-shape.gathered.items) c.loop-shape-test.false)
+    ∙ c.loop-shape.invariant.0 under stand)
+    c.new.ensures.paths
+
+pub returns-clause-lead : goal.returns-clause-lead
+returns-clause-lead c = if_ok _ _ c.new.result (λ fields all limit below. all _ (c.loop-shape.invariant.1 limit below)) c.new.ensures.lead

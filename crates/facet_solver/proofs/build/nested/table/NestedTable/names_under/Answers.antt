@@ -2,7 +2,7 @@ use Rattle.std.proofs.Common.{◌≡◌, ◌∷◌, [], ◌≤◌, ℕ, Some, ap
 use Rattle.std.specs.Prelude.{◌&&◌}
 use Rattle.std.proofs.lemmas.Option.{slice_get-get_or}
 use Rattle.facet_solver.specs.Nested.{paths_of_each}
-use Rattle.facet_solver.specs.NestedLevels.{NamesLead, paths_of_names}
+use Rattle.facet_solver.specs.NestedNames.{NamesLead, paths_of_names}
 use Rattle.facet_solver.specs.NestedTable.{is_filled}
 use Rattle.facet_solver.proofs.NestedFields.{each_at, leads_below}
 use Rattle.facet_solver.proofs.NestedSets.{union-none}
