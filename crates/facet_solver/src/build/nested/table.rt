@@ -67,7 +67,7 @@ impl<'c> NestedTable<'c> {
             ≤ steps.old.visits + field_count (take (length marks.now) build.entry.shapes.now) }
         ensures no_fall { NoCountFalls steps.old steps.new }
     {
-        let mut by_index = Vec::new(build.alloc);
+        let mut by_index = Vec::with_capacity(build.alloc, marks.len())?;
         while by_index.len() < marks.len() {
             let index = by_index.len();
             let shape = build.shape(ShapeId::new(index));
