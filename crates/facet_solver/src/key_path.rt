@@ -1,4 +1,5 @@
-//! Key paths of a resolution, sought by a path and a key apart, so that the two are never joined in memory.
+//! Key paths of a resolution, sought by a path and a key apart, so that the two are never joined in
+//! memory.
 ghost use Rattle.std.specs.Prelude.{◌≡◌};
 ghost use Rattle.std.specs.List.{list_any};
 ghost use Rattle.facet_solver_shape.specs.Names.{names_of};

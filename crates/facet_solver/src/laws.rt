@@ -1,4 +1,5 @@
-//! Laws of choices, walks, counts, told keys, calls and reports: each is the contract of a function that does nothing.
+//! Laws of choices, walks, counts, told keys, calls and reports: each is the contract of a function
+//! that does nothing.
 ghost use Rattle.std.specs.Prelude.{◌≡◌, ◌≢◌, ◌↔◌, ◌++◌, ◌∷◌, [], ℕ, All, Contains, List, Option, Some, length, map, slice_get, true};
 ghost use Rattle.std.specs.Cmp.Lexicographic.{slice_cmp};
 ghost use Rattle.std.specs.List.{list_any};
@@ -64,14 +65,16 @@ pub fn all_choices_are_counted()
         → ListsChoices build root cs → length cs ≡ count_of_root build root }
 {}
 
-/// The number of resolutions that is told without a schema is that of a schema's resolutions, where that is below 2^64.
+/// The number of resolutions that is told without a schema is that of a schema's resolutions, where
+/// that is below 2^64.
 pub fn resolutions_are_counted()
     ensures { (schema : SchemaView) (answer : Option ℕ) → IsOwnBuild schema
         → IsCountOf schema.build.catalogue schema.root schema.build.representation answer
         → answer ≡ below_2_64 (length schema.resolutions) }
 {}
 
-/// The walk of fields is made of the walks of what is flattened into them: no level of a catalogue lies too deep for it.
+/// The walk of fields is made of the walks of what is flattened into them: no level of a catalogue
+/// lies too deep for it.
 pub fn walks_follow_their_fields()
     ensures { (build : Build) → IsChecked build.catalogue
         → (fields : List Field) (place : Path) (indices : List ℕ)
@@ -92,8 +95,8 @@ pub fn effective_shapes_follow_inner_and_proxy()
         → (id : ℕ) → effective cat id ≡ go_on (effective cat) id (next_inside (slice_get cat id)) }
 {}
 
-/// The five sets of nested key paths are made of one another by the kinds of shapes, and no level of a catalogue lies
-/// too deep for them.
+/// The five sets of nested key paths are made of one another by the kinds of shapes, and no level
+/// of a catalogue lies too deep for them.
 pub fn nested_paths_follow_kinds()
     ensures follow { (cat : Catalogue) → IsChecked cat → FollowsKinds cat }
     ensures ends { (cat : Catalogue) → IsChecked cat → EndsByLength cat }
@@ -109,7 +112,8 @@ pub fn nested_paths_have_no_gaps()
     ensures content { (cat : Catalogue) (v : Variant) → HasNoGaps (content_paths cat v) }
 {}
 
-/// In the flat format the fields of a resolution stand under their names alone, so that no two have one name.
+/// In the flat format the fields of a resolution stand under their names alone, so that no two have
+/// one name.
 pub fn flat_fields_go_by_name()
     ensures { (build : Build) (root : ℕ) (choice : List ℕ) (r : Resolved)
         → build.format ≡ Flat → IsResolution build root choice r → GoesByName r }
@@ -122,16 +126,16 @@ pub fn dom_fields_have_categories()
         → All (λ f. f.category ≢ FlatCategory) (finite.values r.fields) }
 {}
 
-/// Keys that a new solver sees one after another leave the resolutions that have every accepted key: a key is accepted
-/// where some resolution has it and all keys that were accepted before.
+/// Keys that a new solver sees one after another leave the resolutions that have every accepted
+/// key: a key is accepted where some resolution has it and all keys that were accepted before.
 pub fn accepted_keys_decide()
     ensures { (schema : SchemaView) (keys : List Key)
         → (see_keys keys (new_solver schema)).candidates
         ≡ indices_with (accepted_keys schema.resolutions keys) schema }
 {}
 
-/// Where one resolution has each key that a new solver sees and that any resolution has, exactly the resolutions are left
-/// that have all these keys, and it is among them.
+/// Where one resolution has each key that a new solver sees and that any resolution has, exactly
+/// the resolutions are left that have all these keys, and it is among them.
 pub fn known_keys_decide()
     ensures left { (schema : SchemaView) (keys : List Key) (index : ℕ) (r : Resolved)
         → HasAllKnown schema keys index r
@@ -146,16 +150,18 @@ pub fn known_keys_decide()
         ≡ (see_keys others (new_solver schema)).candidates }
 {}
 
-/// A candidate that is viable is what a solver ends with, or it is named: where it alone is viable, `finish` gives its
-/// index, and where several are, its description stands among theirs, at its own place.
+/// A candidate that is viable is what a solver ends with, or it is named: where it alone is viable,
+/// `finish` gives its index, and where several are, its description stands among theirs, at its own
+/// place.
 pub fn viable_candidates_are_named()
     ensures { (s : State) (index : ℕ) (r : Resolved)
         → Contains (viable s) index → slice_get s.schema.resolutions index ≡ Some r
         → EndsWithOrNames s index (description r.picks) }
 {}
 
-/// A resolution that has each key that a new solver sees and that any resolution has, and each of whose required fields one of
-/// these keys matches, is viable, and the solver ends with it or names it.
+/// A resolution that has each key that a new solver sees and that any resolution has, and each of
+/// whose required fields one of these keys matches, is viable, and the solver ends with it or names
+/// it.
 pub fn told_resolutions_are_found()
     ensures viable { (schema : SchemaView) (keys : List Key) (index : ℕ) (r : Resolved)
         → HasAllKnown schema keys index r → is_viable keys r ≡ true
@@ -165,11 +171,12 @@ pub fn told_resolutions_are_found()
         → EndsWithOrNames (see_keys keys (new_solver schema)) index (description r.picks) }
 {}
 
-/// A new solver of a built schema that sees the keys of one choice ends with that choice's index, or names it by its
-/// description at its own place.
+/// A new solver of a built schema that sees the keys of one choice ends with that choice's index,
+/// or names it by its description at its own place.
 ///
-/// The order does not matter, and keys may be repeated or unknown. Each field that the choice requires has to be matched by a
-/// told key, and no told key may be one that another choice has and this one lacks.
+/// The order does not matter, and keys may be repeated or unknown. Each field that the choice
+/// requires has to be matched by a told key, and no told key may be one that another choice has and
+/// this one lacks.
 pub fn told_choices_are_found()
     ensures { (schema : SchemaView) → IsOwnBuild schema
         → (choices : List (List ℕ)) → ListsChoices schema.build schema.root choices
@@ -179,8 +186,8 @@ pub fn told_choices_are_found()
         → EndsWithOrNames (see_keys keys (new_solver schema)) index (description r.picks) }
 {}
 
-/// No call of a solver adds a candidate, no run of calls does, and no call of a probing solver: what is left are some of
-/// the candidates, in their order.
+/// No call of a solver adds a candidate, no run of calls does, and no call of a probing solver:
+/// what is left are some of the candidates, in their order.
 pub fn no_candidate_is_added()
     ensures by_a_call { (call : CallView) (s : State)
         → LeavesSome s.candidates (after_call call s).candidates }
@@ -204,8 +211,9 @@ pub fn keys_mean_fields()
         → has_key key r ≡ list_any (matches key) (finite.values r.fields) }
 {}
 
-/// Two resolutions are both viable after the same keys, told to a new solver, exactly where each has, for every field
-/// that the other one requires, a key that means it. Keys that both have do so, where they meet what both require.
+/// Two resolutions are both viable after the same keys, told to a new solver, exactly where each
+/// has, for every field that the other one requires, a key that means it. Keys that both have do
+/// so, where they meet what both require.
 pub fn shared_keys_leave_both_viable()
     ensures exactly { (schema : SchemaView) (first second : ℕ) (r s : Resolved)
         → slice_get schema.resolutions first ≡ Some r
@@ -220,7 +228,8 @@ pub fn shared_keys_leave_both_viable()
         → LeavesBothViable schema keys first second }
 {}
 
-/// One more key is one more call, one more call is made after the others, and no key changes the schema.
+/// One more key is one more call, one more call is made after the others, and no key changes the
+/// schema.
 pub fn calls_are_made_one_by_one()
     ensures keys { (keys : List Key) (key : Key) (s : State)
         → see_keys (keys ++ (key ∷ [])) s ≡ see_key key (see_keys keys s) }
@@ -237,8 +246,8 @@ pub fn unknown_keys_are_only_seen()
         → passing (has_key key) s ≡ [] → key_result key s ≡ unknown }
 {}
 
-/// The names that tell viable resolutions apart are in byte order and once each, and the fields that a resolution of a choice
-/// lacks rise by their stored keys.
+/// The names that tell viable resolutions apart are in byte order and once each, and the fields
+/// that a resolution of a choice lacks rise by their stored keys.
 pub fn reports_are_in_order()
     ensures disambiguating { (resolutions : List Resolved)
         → IsStrictlySortedBy (slice_cmp nat_cmp) (disambiguating resolutions) }
@@ -253,8 +262,8 @@ pub fn viable_resolutions_lack_nothing()
         → (is_viable seen r ≡ true) ↔ (missing seen r ≡ []) }
 {}
 
-/// In the flat format names alone decide: a resolution is viable, what it lacks, and which names are unknown, by the names of
-/// the seen keys, of whatever kind these are.
+/// In the flat format names alone decide: a resolution is viable, what it lacks, and which names
+/// are unknown, by the names of the seen keys, of whatever kind these are.
 pub fn names_decide_in_the_flat_format()
     ensures viable { (schema : SchemaView) (seen : List Key)
         → IsOwnBuild schema → schema.build.format ≡ Flat

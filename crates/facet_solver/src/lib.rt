@@ -1,4 +1,13 @@
-//! A solver that tells from the keys of a document which variants of flattened and untagged enums it means.
+//! A solver that tells from the keys of a document which variants of flattened and untagged enums
+//! it means.
+//!
+//! 1. [`Shapes::new`] checks the shapes of the types.
+//! 2. A builder, as [`Schema::build`], makes one resolution for each choice of variants.
+//! 3. A [`Solver`] sees the keys of a document and narrows the resolutions. [`Solver::finish`]
+//!    gives the one that is left, or says why there is none.
+//!
+//! [`ProbingSolver`] narrows by key paths alone. The functions in [`laws`] have theorems as
+//! contracts.
 #![tactic(auto)]
 
 mod build;

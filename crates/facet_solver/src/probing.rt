@@ -1,4 +1,5 @@
-//! A solver that goes by key paths alone: it narrows resolutions by the nested keys of a document, and records none.
+//! A solver that goes by key paths alone: it narrows resolutions by the nested keys of a document,
+//! and records none.
 ghost use Rattle.std.specs.Prelude.{◌≡◌, IfOk};
 ghost use Rattle.facet_solver_shape.specs.Names.{names_of};
 ghost use Rattle.facet_solver.specs.Probing.{probe_key, probe_result, probe_result_view, resolutions_of};
@@ -15,7 +16,7 @@ use std::marker::Model;
 pub enum ProbeResult<'s, 'c> {
     /// Several candidates are left.
     KeepGoing,
-    /// One candidate is left.
+    /// Exactly one candidate is left.
     Solved(&'s Resolution<'c>),
     /// No candidate is left.
     NoMatch,
@@ -23,8 +24,8 @@ pub enum ProbeResult<'s, 'c> {
 
 /// Narrows resolutions by the key paths of a document.
 ///
-/// It keeps a list of candidates and no seen keys, so an answer says what key paths a document has, and not whether it
-/// has all that a candidate requires.
+/// It keeps a list of candidates and no seen keys. So an answer says which candidates have the key
+/// paths of a document, and not whether the document has all that a candidate requires.
 #[derive(Drop)]
 pub struct ProbingSolver<'s, 'c> {
     candidates: Vec<&'s Resolution<'c>>,
@@ -47,7 +48,7 @@ impl<'s, 'c> Model for ProbingSolver<'s, 'c> {
 impl<'s, 'c> ProbingSolver<'s, 'c> {
     /// A solver whose candidates are all resolutions of a schema, in order.
     ///
-    /// The only error is refused memory.
+    /// The only error is out of memory.
     pub fn new(alloc: Global, schema: &'s Schema<'c>) -> Result<Self, AllocError>
         ensures { IfOk result (λ solver. solver ≡ schema.now.resolutions) }
     {
@@ -56,7 +57,7 @@ impl<'s, 'c> ProbingSolver<'s, 'c> {
 
     /// A solver whose candidates are some resolutions, in order.
     ///
-    /// The only error is refused memory.
+    /// The only error is out of memory.
     pub fn from_resolutions(
         alloc: Global,
         resolutions: &'s [Resolution<'c>],
@@ -67,10 +68,10 @@ impl<'s, 'c> ProbingSolver<'s, 'c> {
         Ok(ProbingSolver { candidates })
     }
 
-    /// Tells that the document has a key, below the keys of a path: of the candidates those stay that have the whole
-    /// key path, in their order. Where there is none, none stays.
+    /// Says that the document has a key at a path of names. Only the candidates stay that have the
+    /// whole path, in their order. Where none has it, none stays.
     ///
-    /// The answer goes by the number of candidates that are left.
+    /// The answer says how many candidates are left. The call allocates nothing.
     pub fn probe_key(&mut self, path: &[&str], key: &str) -> ProbeResult<'s, 'c>
         ensures answer { probe_result_view result ≡ probe_result self.new }
         ensures narrowed { self.new ≡ probe_key (names_of path.now) key.now self.old }
@@ -86,7 +87,7 @@ impl<'s, 'c> ProbingSolver<'s, 'c> {
         &self.candidates
     }
 
-    /// The answer by the number of candidates that are left, of which it changes none.
+    /// How many candidates are left: the answer that the last `probe_key` gave. It changes nothing.
     pub fn finish(&self) -> ProbeResult<'s, 'c>
         ensures { probe_result_view result ≡ probe_result self.now }
     {
@@ -106,8 +107,8 @@ fn retain_with_key<'s, 'c>(resolutions: &mut Vec<&'s Resolution<'c>>, path: &[&s
     resolutions.retain(|resolution| has_key_at(resolution, path, key));
 }
 
-// Printed as a derived impl would. The derive gets no proof where references lie in a vector, so each is printed by
-// itself.
+// Printed as a derived impl would. The derive gets no proof where references lie in a vector, so
+// each is printed by itself.
 impl fmt::Debug for ProbingSolver<'_, '_> {
     fn fmt<W: fmt::Write>(&self, f: &mut fmt::Formatter<W>) -> fmt::Result {
         f.debug_struct("ProbingSolver")

@@ -25,8 +25,11 @@ use facet_solver_shape::{FieldKey, Resolution, SchemaError, ShapeId, Shapes, Ste
 use std::alloc::{AllocError, Global};
 use std::marker::Model;
 
-/// All resolutions of a type: one for each choice of variants, in order. A flattened field whose shape is an option of a
-/// struct or an enum is a choice too: absent, and then present.
+/// All resolutions of a type: one for each choice of variants, in lexicographic order of the
+/// choices. Earlier fields change slowest, and variants come in the order of declaration.
+///
+/// A flattened field whose shape is an option of a struct or an enum is a choice too: absent, and
+/// then present.
 #[derive(Debug)]
 pub struct Schema<'c> {
     shapes: &'c Shapes,
@@ -55,8 +58,8 @@ impl<'c> Model for Schema<'c> {
         × IsIndexOf (length s.resolutions.items) (fields_of_each s.resolutions.items) s.index };
 }
 
-// Written out: where a block drops a schema at its end, the borrow checker does not cover a derived drop beside a struct of
-// which a field was moved.
+// Written out: where a block drops a schema at its end, the borrow checker does not cover a derived
+// drop beside a struct of which a field was moved.
 impl Drop for Schema<'_> {
     fn drop(self) {
         let Schema {
@@ -75,7 +78,8 @@ impl Drop for Schema<'_> {
 impl<'c> Schema<'c> {
     /// The schema of a root, with the content of each flattened enum among the fields around it.
     ///
-    /// Refused where two fields of one choice have one key, and where memory is refused.
+    /// Errors: `DuplicateField` where two fields of one choice have one stored key, the one emitted
+    /// first first; `OutOfMemory`, also where there are 2^64 choices or more.
     pub fn build(
         alloc: Global,
         shapes: &'c Shapes,
@@ -88,9 +92,10 @@ impl<'c> Schema<'c> {
         Schema::build_with_repr(alloc, shapes, root, EnumRepr::Flattened)
     }
 
-    /// The schema of a root, with each flattened enum in a field named after its variant.
+    /// The schema of a root, with each flattened enum in a field that has the name of its variant.
     ///
-    /// Refused where two fields of one choice have one key, and where memory is refused.
+    /// Errors: `DuplicateField` where two fields of one choice have one stored key, the one emitted
+    /// first first; `OutOfMemory`, also where there are 2^64 choices or more.
     pub fn build_externally_tagged(
         alloc: Global,
         shapes: &'c Shapes,
@@ -107,7 +112,8 @@ impl<'c> Schema<'c> {
 
     /// The schema of a root, with one representation for all flattened enums.
     ///
-    /// Refused where two fields of one choice have one key, and where memory is refused.
+    /// Errors: `DuplicateField` where two fields of one choice have one stored key, the one emitted
+    /// first first; `OutOfMemory`, also where there are 2^64 choices or more.
     pub fn build_with_repr(
         alloc: Global,
         shapes: &'c Shapes,
@@ -130,9 +136,11 @@ impl<'c> Schema<'c> {
         )
     }
 
-    /// The schema of a root, with the representation of each flattened enum that its own attributes ask for.
+    /// The schema of a root, with the representation of each flattened enum that its own attributes
+    /// ask for (`EnumRepr::from_shape`).
     ///
-    /// Refused where two fields of one choice have one key, and where memory is refused.
+    /// Errors: `DuplicateField` where two fields of one choice have one stored key, the one emitted
+    /// first first; `OutOfMemory`, also where there are 2^64 choices or more.
     pub fn build_auto(
         alloc: Global,
         shapes: &'c Shapes,
@@ -145,10 +153,12 @@ impl<'c> Schema<'c> {
         Schema::build_with_format(alloc, shapes, root, Format::Flat)
     }
 
-    /// The schema of a root for documents of attributes and elements, such as XML, with the representation of each
-    /// flattened enum that its own attributes ask for.
+    /// The schema of a root for documents of attributes and elements, such as XML, with the
+    /// representation of each flattened enum that its own attributes ask for
+    /// (`EnumRepr::from_shape`).
     ///
-    /// Refused where two fields of one choice have one key, and where memory is refused.
+    /// Errors: `DuplicateField` where two fields of one choice have one stored key, the one emitted
+    /// first first; `OutOfMemory`, also where there are 2^64 choices or more.
     pub fn build_dom(
         alloc: Global,
         shapes: &'c Shapes,
@@ -161,10 +171,11 @@ impl<'c> Schema<'c> {
         Schema::build_with_format(alloc, shapes, root, Format::Dom)
     }
 
-    /// The schema of a root for documents of a format, with the representation of each flattened enum that its own
-    /// attributes ask for.
+    /// The schema of a root for documents of a format, with the representation of each flattened
+    /// enum that its own attributes ask for (`EnumRepr::from_shape`).
     ///
-    /// Refused where two fields of one choice have one key, and where memory is refused.
+    /// Errors: `DuplicateField` where two fields of one choice have one stored key, the one emitted
+    /// first first; `OutOfMemory`, also where there are 2^64 choices or more.
     pub fn build_with_format(
         alloc: Global,
         shapes: &'c Shapes,
@@ -178,12 +189,15 @@ impl<'c> Schema<'c> {
         Schema::build_counted(alloc, shapes, root, None, format, &mut Steps::new())
     }
 
-    /// The schema of a root for documents of a format, with one representation for all flattened enums, or else that which
-    /// each enum's own attributes ask for.
+    /// The schema of a root for documents of a format, with one representation for all flattened
+    /// enums, or with that which each enum's own attributes ask for, for `None`.
     ///
-    /// Nested key paths visit each field of the catalogue at most twice, by the visits of `steps`, also where the build
-    /// is refused, and each field of the root at least once where it is not. The build is refused where two fields of one
-    /// choice have one key, and where memory is refused.
+    /// Errors: `DuplicateField` where two fields of one choice have one stored key, the one emitted
+    /// first first; `OutOfMemory`, also where there are 2^64 choices or more.
+    ///
+    /// `steps` counts the visits of fields for nested key paths: at most two for each field of the
+    /// catalogue, also on an error. On an `Ok` there is at least one for each field of the root.
+    /// Other reads of fields are not counted.
     pub fn build_counted(
         alloc: Global,
         shapes: &'c Shapes,
@@ -211,10 +225,11 @@ impl<'c> Schema<'c> {
         Schema::of_build(build, root, steps)
     }
 
-    /// The number of resolutions that a schema of the root has, without building one: None from 2^64 on.
+    /// The number of resolutions that a schema of the root has, without building one: `None` from
+    /// 2^64 on.
     ///
-    /// The representation is that of all flattened enums; None leaves it to each enum's own attributes. An error comes
-    /// only where memory is refused.
+    /// The representation is that of all flattened enums; `None` leaves it to each enum's own
+    /// attributes. The number is the same for both formats. The only error is out of memory.
     pub fn resolution_count(
         alloc: Global,
         shapes: &Shapes,
@@ -227,10 +242,11 @@ impl<'c> Schema<'c> {
         Schema::resolution_count_counted(alloc, shapes, root, representation, &mut Steps::new())
     }
 
-    /// The number of resolutions that a schema of the root has, without building one: None from 2^64 on.
+    /// The number of resolutions that a schema of the root has, as [`Schema::resolution_count`]
+    /// says.
     ///
-    /// Each field of the catalogue is visited at most once, by the visits of `steps`, also where memory is refused, which is
-    /// the only error, and each field of the root once where it is not.
+    /// `steps` counts the visits of fields: at most one for each field of the catalogue, also on an
+    /// error. On an `Ok` there is at least one for each field of the root.
     pub fn resolution_count_counted(
         alloc: Global,
         shapes: &Shapes,
@@ -275,7 +291,7 @@ impl<'c> Schema<'c> {
         Schema::indexed(build, root, made)
     }
 
-    // The schema of the resolutions that a build made of a root. The only error is refused memory.
+    // The schema of the resolutions that a build made of a root. The only error is out of memory.
     fn indexed(
         build: Build<'c>,
         root: ShapeId,
@@ -297,7 +313,8 @@ impl<'c> Schema<'c> {
         })
     }
 
-    /// The resolutions, one for each choice of variants, in order.
+    /// The resolutions, one for each choice of variants, in lexicographic order of the choices. The
+    /// index of a resolution is its place here.
     pub fn resolutions(&self) -> &[Resolution<'c>]
         ensures resolutions { result.now ≡ self.now.resolutions }
         ensures built { IsOwnBuild self.now }
@@ -305,8 +322,8 @@ impl<'c> Schema<'c> {
         &self.resolutions
     }
 
-    // The entry of a key: the resolutions that have it, and the shape of the fields that it means, if they agree on it.
-    // There is none where no resolution has it.
+    // The entry of a key: the resolutions that have it, and the shape of the fields that it means,
+    // if they agree on it. There is none where no resolution has it.
     pub(crate) fn look_up(&self, key: FieldKey<'_>) -> Option<&Entry>
         ensures { IsEntryIfAny (length self.now.resolutions)
             (field_at (key_of key.entry) self.now.resolutions) (option_copied result) }
@@ -328,7 +345,8 @@ impl<'c> Schema<'c> {
         self.look_up(key).is_some()
     }
 
-    // The entries of the fields of a name: a resolution has such a field where one of them has the resolution.
+    // The entries of the fields of a name: a resolution has such a field where one of them has the
+    // resolution.
     pub(crate) fn entries_named(&self, alloc: Global, name: &str) -> Result<Vec<&Entry>, AllocError>
         ensures { IfOk result (λ entries. (index : ℕ) → is_held entries.items index
             ≡ passes (has_field_named name.now) self.now.resolutions index) }
@@ -343,7 +361,7 @@ impl<'c> Schema<'c> {
         self.format
     }
 
-    /// The catalogue.
+    /// The catalogue of which the schema was built.
     pub fn shapes(&self) -> &'c Shapes
         ensures { result.now ≡ self.now.build.catalogue }
     {

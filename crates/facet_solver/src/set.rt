@@ -28,7 +28,7 @@ pub(crate) enum Matches {
     Several,
 }
 
-/// Some resolutions of a schema, by their indices, which are below the number of all.
+/// Some resolutions of a schema, by their indices in `Schema::resolutions`.
 #[derive(Debug, Drop)]
 pub struct ResolutionSet {
     bound: usize,
@@ -130,35 +130,35 @@ impl ResolutionSet {
         found
     }
 
-    /// How many there are.
+    /// The number of resolutions in the set.
     pub fn len(&self) -> usize
         ensures { result ≡ length self.now.members }
     {
         count_bits(self.words.as_slice())
     }
 
-    /// Whether there is none.
+    /// Whether the set is empty.
     pub fn is_empty(&self) -> bool
         ensures { IsTrue result ↔ (self.now.members ≡ []) }
     {
         is_clear(self.words.as_slice())
     }
 
-    /// Whether an index is among them.
+    /// Whether the set has an index. It has none that is past the last resolution.
     pub fn contains(&self, index: usize) -> bool
         ensures { result ≡ has self.now.members index }
     {
         is_set(self.words.as_slice(), index)
     }
 
-    /// The least.
+    /// The least index; `None` where the set is empty.
     pub fn first(&self) -> Option<usize>
         ensures { result ≡ slice_get self.now.members 0 }
     {
         self.iter().next()
     }
 
-    /// All of them, rising.
+    /// All indices, rising, each once.
     pub fn iter(&self) -> ResolutionSetIter<'_>
         ensures members { result ≡ self.now.members }
         ensures rising { IsStrictlyIncreasing self.now.members }

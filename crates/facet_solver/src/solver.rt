@@ -65,6 +65,8 @@ impl<'s, 'c, 'a> Model for Solver<'s, 'c, 'a> {
 
 impl<'s, 'c, 'a> Solver<'s, 'c, 'a> {
     /// A solver that has seen no key: all resolutions are candidates.
+    ///
+    /// The only error is out of memory. With 64 resolutions or fewer there is none.
     pub fn new(alloc: Global, schema: &'s Schema<'c>) -> Result<Self, AllocError>
         ensures start { IfOk result (λ solver. solver ≡ new_solver schema.now) }
         ensures inline { length schema.now.resolutions ≤ 64 → IsOk result }
@@ -76,7 +78,8 @@ impl<'s, 'c, 'a> Solver<'s, 'c, 'a> {
         })
     }
 
-    /// The candidates, which are the resolutions that are left, by their indices.
+    /// The candidates, which are the resolutions that are left, by their indices. It allocates
+    /// nothing.
     pub fn candidate_set(&self) -> &ResolutionSet
         ensures members { result.now.members ≡ self.now.candidates }
         ensures bound { result.now.bound ≡ length self.now.schema.resolutions }
@@ -84,14 +87,15 @@ impl<'s, 'c, 'a> Solver<'s, 'c, 'a> {
         &self.candidates
     }
 
-    /// The keys that were seen, in key order.
+    /// The keys that were seen, each once, in key order: flat keys first, then by category, then by
+    /// the bytes of the name.
     pub fn seen_keys(&self) -> &BTreeSet<FieldKey<'a>>
         ensures { map key_of result.now.keys ≡ self.now.seen }
     {
         &self.seen
     }
 
-    /// The candidates with their indices, rising.
+    /// The candidates with their indices, rising. The only error is out of memory.
     pub fn candidates(&self, alloc: Global) -> Result<Vec<ResolutionHandle<'s, 'c>>, AllocError>
         ensures indices { IfOk result (λ handles.
             map index_of handles.items ≡ self.now.candidates) }
@@ -105,12 +109,14 @@ impl<'s, 'c, 'a> Solver<'s, 'c, 'a> {
         Ok(handles)
     }
 
-    /// Sees a key of the document. Of the candidates those stay that have a field that it means; where
-    /// none has one, all stay.
+    /// Sees a key of the document. Only the candidates stay that have a field that it means
+    /// (`FieldInfo::matched_by`). Where none has one, all stay.
     ///
-    /// The answer is `Unknown` where no candidate has the key, and `Solved` where one has it. Else it goes
-    /// by the shapes of the fields that the key means: one shape is `Unambiguous`, more are `Ambiguous`.
-    /// The only error is refused memory; then the candidates and the seen keys are as before.
+    /// The answer is `Unknown` where no candidate has the key, and `Solved` where one has it.
+    /// Otherwise it depends on the shapes of the fields that the key means: one shape is
+    /// `Unambiguous`, more are `Ambiguous`.
+    ///
+    /// The only error is out of memory. The candidates and the seen keys are then as before.
     pub fn see_key(
         &mut self,
         alloc: Global,
@@ -125,12 +131,13 @@ impl<'s, 'c, 'a> Solver<'s, 'c, 'a> {
         self.see_key_counted(alloc, key, &mut Steps::new())
     }
 
-    /// Sees a key as [`Solver::see_key`] does, and counts the words of the index that it reads and its searches of a
-    /// resolution for a field.
+    /// Sees a key as [`Solver::see_key`] does, errors included. `steps` counts the words of the
+    /// index that it reads, and its searches of a resolution for a field.
     ///
-    /// It reads at most two words for each 64 resolutions that are begun, so none where there are none, and searches at
-    /// most each candidate that is left. It searches none where the answer is `Unknown` or `Solved`, nor where the fields
-    /// that the key means in the resolutions of the schema have one shape.
+    /// It reads at most two words for each 64 resolutions or part of 64, so none where there are
+    /// none. It searches at most each candidate that is left. It searches none where the answer is
+    /// `Unknown` or `Solved`, nor where the fields that the key means in the resolutions of the
+    /// schema have one shape.
     pub fn see_key_counted(
         &mut self,
         alloc: Global,
@@ -169,7 +176,8 @@ impl<'s, 'c, 'a> Solver<'s, 'c, 'a> {
         Ok(answer)
     }
 
-    /// Sees an attribute of the document. It is `see_key` of `FieldKey::attribute(name)`, errors included.
+    /// Sees an attribute of the document. It is `see_key` of `FieldKey::attribute(name)`, errors
+    /// included.
     pub fn see_attribute(
         &mut self,
         alloc: Global,
@@ -184,7 +192,8 @@ impl<'s, 'c, 'a> Solver<'s, 'c, 'a> {
         self.see_key(alloc, FieldKey::attribute(name))
     }
 
-    /// Sees a child element of the document. It is `see_key` of `FieldKey::element(name)`, errors included.
+    /// Sees a child element of the document. It is `see_key` of `FieldKey::element(name)`, errors
+    /// included.
     pub fn see_element(
         &mut self,
         alloc: Global,
@@ -199,7 +208,8 @@ impl<'s, 'c, 'a> Solver<'s, 'c, 'a> {
         self.see_key(alloc, FieldKey::element(name))
     }
 
-    /// Sees the text of the document's element. It is `see_key` of `FieldKey::text()`, errors included.
+    /// Sees the text of the document's element. It is `see_key` of `FieldKey::text()`, errors
+    /// included.
     pub fn see_text(&mut self, alloc: Global) -> Result<KeyResult<'s, 'c>, AllocError>
         ensures answer { IfOk result (λ answer.
             key_result_view answer ≡ key_result (dom_key Text []) self.old) }
@@ -210,9 +220,9 @@ impl<'s, 'c, 'a> Solver<'s, 'c, 'a> {
         self.see_key(alloc, FieldKey::text())
     }
 
-    /// Sees a key without narrowing the candidates.
+    /// Marks a key as seen without narrowing the candidates.
     ///
-    /// The only error is refused memory; then the seen keys are as before.
+    /// The only error is out of memory. The seen keys are then as before.
     #[tactic(auto, using(crate::proofs::State::seen_with))]
     pub fn mark_seen(&mut self, key: FieldKey<'a>) -> Result<(), AllocError>
         ensures ok { OnOk result (self.new ≡ state.mark_seen (key_of key.entry) self.old) }
@@ -222,7 +232,7 @@ impl<'s, 'c, 'a> Solver<'s, 'c, 'a> {
         Ok(())
     }
 
-    /// Whether a key of the name was seen, of whatever category.
+    /// Whether a key of the name was seen, of whatever kind.
     pub fn was_field_seen(&self, name: &str) -> bool
         ensures { result ≡ state.was_field_seen name.now self.now }
     {

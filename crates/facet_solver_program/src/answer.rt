@@ -27,9 +27,10 @@ use std::alloc::{AllocError, Global};
 /// The most resolutions that are built.
 const MOST_RESOLUTIONS: u64 = 4096;
 
-/// The answer to the bytes of an input: a status and a text.
+/// The answer to the bytes of an input: a status from 0 to 4, and a text without the line feed at
+/// its end.
 ///
-/// An error comes only where memory is refused.
+/// The only error is out of memory.
 pub fn answer(alloc: Global, bytes: &[u8]) -> Result<(u8, String), AllocError>
     ensures { IfOk result (λ a. IsAnswer bytes.now a.0 (string_bytes a.1)) }
 {

@@ -18,7 +18,7 @@ pub struct Member<'v> {
 
 /// The members of a document, in the lexicographic order of their paths.
 ///
-/// An error comes only where memory is refused.
+/// The only error is out of memory.
 pub fn members<'v>(
     alloc: Global,
     document: &'v Map<String, Value>,

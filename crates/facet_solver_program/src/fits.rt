@@ -9,7 +9,9 @@ use serde_json::{Number, Value};
 
 /// Whether a value fits the shape at an index.
 ///
-/// The shape is followed to its end. At an option null fits, and else what fits the end of the option's inside.
+/// The shape is followed to its end: its effective shape, and then pointers. An option is fitted by
+/// null, and by what fits the end of its inside. No item of a list and no member of an object is
+/// looked at. A shape that the catalogue lacks is fitted by any value.
 pub fn fits(shapes: &Shapes, id: ShapeId, value: &Value) -> bool
     ensures { result ≡ fits.fits shapes.now id (view value.now) }
 {
@@ -47,7 +49,8 @@ fn fits_end(shapes: &Shapes, end: ShapeId, value: &Value) -> bool
     }
 }
 
-// Whether a shape is a metadata container: it is marked as one, and has a field that is no metadata.
+// Whether a shape is a metadata container: it is marked as one, and has a field that is no
+// metadata.
 fn is_metadata_container(shape: &Shape) -> bool
     ensures { result ≡ fits.is_metadata_container shape.now }
 {
@@ -125,7 +128,8 @@ fn whole_number(value: &Value) -> Option<i128>
     value.as_number().and_then(Number::as_i128)
 }
 
-// Whether a whole number is one of a type of numbers. It has at most 64 bits, as all numbers of an input.
+// Whether a whole number is one of a type of numbers. It has at most 64 bits, as all numbers of an
+// input.
 fn is_in_range(scalar: ScalarType, number: i128) -> bool
     ensures { result ≡ fits.is_in_range scalar number }
 {

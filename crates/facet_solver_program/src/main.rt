@@ -1,4 +1,5 @@
-//! Reads a catalogue of shapes and a document in JSON, and prints which variants the document means.
+//! Reads a catalogue of shapes and a document in JSON, and prints which variants the document
+//! means.
 #![tactic(auto)]
 
 mod answer;

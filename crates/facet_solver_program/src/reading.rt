@@ -10,6 +10,8 @@ use serde_json::Value;
 use std::alloc::Global;
 
 /// The value that bytes are, if each of its numbers is a whole one of 64 bits.
+///
+/// Errors: `BadInput` where they are no such JSON, or nest deeper than 127; `OutOfMemory`.
 pub fn read(alloc: Global, bytes: &[u8]) -> Result<Value, DecodeError>
     ensures ok { IfOk result (λ value. (read : Option Data) × IsReading bytes.now read
         × (whole read ≡ Some (view value))) }

@@ -14,7 +14,7 @@ const CHUNK: usize = 4096;
 enum InputError {
     /// A read failed.
     Unread,
-    /// Memory was refused.
+    /// Out of memory.
     OutOfMemory,
 }
 
@@ -24,10 +24,11 @@ impl From<AllocError> for InputError {
     }
 }
 
-/// Reads an input to its end, writes the text of the answer to it and a line feed, and gives the status.
+/// Reads an input to its end, writes the text of the answer to it and a line feed, and gives the
+/// status, from 0 to 5.
 ///
-/// A read that fails is answered by `bad input` and 4, and refused memory by `out of memory` and 5. Where a write fails
-/// the status is 4, and part of the line may have been written.
+/// A read that fails is answered by `bad input` and 4, and out of memory by `out of memory` and 5.
+/// Where a write fails the status is 4, and part of the line may have been written.
 pub fn serve<R: Read, W: Write>(alloc: Global, input: &mut R, output: &mut W) -> u8
     ensures { result ≢ 4 → (text : List ℕ) × IsReply (R.remaining input.old) result text
         × WritesLine (W.contents output.old) (W.contents output.new) text }
@@ -43,7 +44,8 @@ pub fn serve<R: Read, W: Write>(alloc: Global, input: &mut R, output: &mut W) ->
     }
 }
 
-// All bytes of an input. They are read here, and not by `read_to_end`, to tell refused memory from a read that failed.
+// All bytes of an input. They are read here, and not by `read_to_end`, to tell out of memory from a
+// read that failed.
 fn read_all<R: Read>(alloc: Global, input: &mut R) -> Result<Vec<u8>, InputError>
     ensures { IfOk result (λ bytes. IfSome (R.remaining input.old) (λ left. bytes.items ≡ left)) }
 {
@@ -62,7 +64,8 @@ fn read_all<R: Read>(alloc: Global, input: &mut R) -> Result<Vec<u8>, InputError
     Err(InputError::Unread)
 }
 
-// Writes a text and a line feed, and gives the status that goes with the text, or 4 where a write fails.
+// Writes a text and a line feed, and gives the status that goes with the text, or 4 where a write
+// fails.
 fn reply<W: Write>(output: &mut W, status: u8, text: &str) -> u8
     ensures { result ≢ 4 → (result ≡ status)
         × WritesLine (W.contents output.old) (W.contents output.new) text.now }

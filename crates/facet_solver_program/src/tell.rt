@@ -16,11 +16,12 @@ use std::alloc::{AllocError, Global};
 
 /// Tells a solver the members of a document, in the lexicographic order of their paths.
 ///
-/// A key of the document itself is seen, and a text under it is a hint of a variant's name, if the key is a tag. A key
-/// further below is asked for by its path, if some candidate has that. Then, where the value fits some of the shapes that
-/// the candidates have there, but not all, only the candidates stay that have one of those that it fits.
+/// A key of the document itself is seen. A text under it is a hint of a variant's name, if the key
+/// is a tag. A key further below is probed at its path, if some candidate has that. Then, where the
+/// value fits some of the shapes that the candidates have there, but not all, only the candidates
+/// stay that have one that it fits.
 ///
-/// An error comes only where memory is refused.
+/// The only error is out of memory.
 pub fn tell<'v>(
     alloc: Global,
     shapes: &Shapes,
@@ -54,7 +55,8 @@ fn tell_member<'v>(
     }
 }
 
-// Tells a solver a member of the document itself: its key, a text under that, and which shapes the value fits.
+// Tells a solver a member of the document itself: its key, a text under that, and which shapes the
+// value fits.
 fn tell_key<'v>(
     alloc: Global,
     shapes: &Shapes,
@@ -79,7 +81,8 @@ fn tell_text(solver: &mut Solver<'_, '_, '_>, key: &str, value: &Value)
     }
 }
 
-// Tells a solver a member further below: if some candidate has its path, its key, and which shapes the value fits.
+// Tells a solver a member further below: if some candidate has its path, its key, and which shapes
+// the value fits.
 fn tell_path(
     alloc: Global,
     shapes: &Shapes,
@@ -125,7 +128,8 @@ fn any_has_path(candidates: &[ResolutionHandle<'_, '_>], path: &[&str]) -> bool
         .any(|candidate| candidate.resolution().has_key_path(path))
 }
 
-// Tells a solver which of the candidates' shapes at a path a value fits, if it fits some, but not all.
+// Tells a solver which of the candidates' shapes at a path a value fits, if it fits some, but not
+// all.
 fn tell_shapes(
     alloc: Global,
     shapes: &Shapes,

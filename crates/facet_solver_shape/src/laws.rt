@@ -1,4 +1,5 @@
-//! Laws of indices of shapes, paths, keys and fields: each is the contract of a function that does nothing.
+//! Laws of indices of shapes, paths, keys and fields: each is the contract of a function that does
+//! nothing.
 ghost use Rattle.std.specs.Prelude.{◌≡◌, ◌↔◌, ◌<◌, ℕ, List, Bool, Some, All, IsTrue, find};
 ghost use Rattle.std.specs.Cmp.{IsTotalOrder};
 ghost use Rattle.std.specs.Cmp.Lexicographic.{slice_cmp};
@@ -19,8 +20,8 @@ ghost use Rattle.facet_solver_shape.specs.declared.resolution.key.FieldCategory.
 ghost use Rattle.facet_solver_shape.specs.declared.resolution.key.FieldCategory.TheVariants.{Flat};
 ghost use Rattle.facet_solver_shape.specs.declared.resolution.key.FieldKey.{FieldKey as AnyKey};
 
-/// Identifiers of shapes are equal exactly if their indices are, and are ordered and hashed as these are. So equality,
-/// order and hash agree.
+/// Identifiers of shapes are equal exactly if their indices are, and are ordered and hashed as
+/// these are. So equality, order and hash agree.
 pub fn shape_ids_go_by_index()
     ensures equal { (a b : ℕ) → IsTrue ((id_equality.ghosts).eq a b) ↔ (a ≡ b) }
     ensures ordered { (a b : ℕ) → (id_order.ghosts).cmp a b ≡ nat_cmp a b }
@@ -32,11 +33,11 @@ pub fn paths_equal_by_segments()
     ensures { (a b : List Step) → IsTrue (path_eq a b) ↔ (a ≡ b) }
 {}
 
-/// The order of keys agrees with `==` and is total, and has flat keys first, then categories in their
-/// order, then names by their bytes.
+/// The order of keys agrees with `==` and is total, and has flat keys first, then categories in
+/// their order, then names by their bytes.
 ///
-/// `ties_are_eq` says that the order ties exactly the keys that `==` holds equal, and `ties_are_equal`
-/// that these say the same.
+/// `ties_are_eq` says that the order ties exactly the keys that `==` holds equal, and
+/// `ties_are_equal` that these say the same.
 pub fn keys_are_in_order()
     ensures derived { (a b : AnyKey)
         → (derived.ghosts).cmp a b ≡ key_cmp (key_of a) (key_of b) }
@@ -61,8 +62,9 @@ pub fn first_is_least()
         → IsLeastIfAny fields test (find test (finite.values fields)) }
 {}
 
-/// Where all fields are of category Flat, each stands under the flat key of its name, so that no two have
-/// one name, and a name or a key of any kind finds the field under the flat key of its name.
+/// Where all fields are of category Flat, each stands under the flat key of its name, so that no
+/// two have one name, and a name or a key of any kind finds the field under the flat key of its
+/// name.
 pub fn flat_fields_go_by_name()
     ensures alone { (fields : finite.FinMap key_cmp FieldView)
         → All IsStored (finite.entries fields)

@@ -1,4 +1,8 @@
 //! Shapes of types, and what one choice of variants resolves to.
+//!
+//! [`Shapes`] is a checked catalogue of shapes. [`Resolution`] is what a document of one choice
+//! has. [`VariantsByFormat`] groups the variants of an enum by the values that stand for them. The
+//! functions in [`laws`] have theorems as contracts.
 #![tactic(auto)]
 
 pub mod laws;

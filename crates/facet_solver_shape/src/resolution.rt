@@ -29,7 +29,8 @@ use std::marker::Model;
 use std::mem;
 use tables::{CatchAlls, FieldMap, KeyPathSet, NameSet};
 
-/// What one choice of variants resolves to.
+/// What one choice of variants resolves to: the fields of its documents, the names of the required
+/// ones, key paths, the selected variants, and catch-alls.
 #[derive(Debug, Drop)]
 pub struct Resolution<'c> {
     fields: FieldMap<'c>,
@@ -60,7 +61,7 @@ impl<'c> Model for Resolution<'c> {
 }
 
 impl<'c> Resolution<'c> {
-    /// Nothing resolved yet.
+    /// A resolution that has nothing yet. The call allocates nothing.
     pub fn new(alloc: Global) -> Self
         ensures { result ≡ nothing }
     {
@@ -90,49 +91,55 @@ impl<'c> Resolution<'c> {
         self.required.as_set()
     }
 
-    /// The variants that were picked, in order.
+    /// The selected variants, in the order in which they were added. In a schema that is the order
+    /// of the walk: an enum before those in its content, and earlier fields first.
     pub fn variant_selections(&self) -> &[VariantSelection<'c>]
         ensures { map pick_view result.now ≡ self.now.picks }
     {
         &self.picks
     }
 
-    /// The paths of all keys.
+    /// The paths of all keys, by the names from the document down to the key. They are in
+    /// lexicographic order, and names in byte order.
     pub fn known_paths(&self) -> &BTreeSet<KeyPath<'c>>
         ensures { key_paths_view result.now.keys ≡ self.now.key_paths }
     {
         self.key_paths.as_set()
     }
 
-    /// Whether the whole path is that of a key.
+    /// Whether the whole path is that of a key. It allocates nothing.
     pub fn has_key_path(&self, path: &[&str]) -> bool
         ensures { result ≡ set.contains self.now.key_paths (names_of path.now) }
     {
         self.key_paths.contains(path)
     }
 
-    /// The field of least stored key among those that have the name.
+    /// The field of least stored key among those that have the name; `None` where none has it.
     pub fn field_by_name(&self, name: &str) -> Option<&FieldInfo<'c>>
         ensures { option_copied result ≡ field_by_name name.now self.now }
     {
         self.fields.first_named(name)
     }
 
-    /// The field of least stored key among those that the key means.
+    /// The field of least stored key among those that the key means (`FieldInfo::matched_by`);
+    /// `None` where it means none.
     pub fn field_by_key(&self, key: &FieldKey) -> Option<&FieldInfo<'c>>
         ensures { option_copied result ≡ field_by_key (key_of key.now) self.now }
     {
         self.fields.first_matched(key)
     }
 
-    /// The field that takes what no other field of the category takes.
+    /// The field that takes what no other field of the category takes, if there is one.
     pub fn catch_all_map(&self, category: FieldCategory) -> Option<&FieldInfo<'c>>
         ensures { option_copied result ≡ finite.get self.now.catch_alls category }
     {
         self.catch_alls.get(category)
     }
 
-    /// The picks in order, as `Enum::Variant` joined by ` + `; `(no variants)` where there are none.
+    /// The selected variants in order, as `Enum::Variant` joined by ` + `; `(no variants)` where
+    /// there are none.
+    ///
+    /// The only error is out of memory.
     pub fn describe(&self, alloc: Global) -> Result<String, AllocError>
         ensures { IfOk result (λ text. string_bytes text ≡ description self.now.picks) }
     {
@@ -141,8 +148,8 @@ impl<'c> Resolution<'c> {
 
     /// Adds a field under its stored key.
     ///
-    /// A field of a key that is taken is refused, by its name and the two paths, that of the present field
-    /// first. Refused memory is the only other error. After an error the resolution is as it was.
+    /// Errors: `DuplicateField` where the key is taken, with the name and both paths, that of the
+    /// present field first; `OutOfMemory`. After an error the resolution is as it was.
     pub fn add_field(&mut self, info: FieldInfo<'c>) -> Result<(), SchemaError<'c>>
         ensures ok { OnOk result (IsAdded self.old info.entry self.new) }
         ensures refused { IfErr result (IsRefusalOf self.old info.entry) }
@@ -202,7 +209,9 @@ impl<'c> Resolution<'c> {
         Ok(())
     }
 
-    /// Adds the path of a nested key.
+    /// Adds the path of a key. A path that is there already is ignored.
+    ///
+    /// The only error is out of memory. The resolution is then as it was.
     pub fn add_key_path(&mut self, path: KeyPath<'c>) -> Result<(), AllocError>
         ensures ok { OnOk result (self.new ≡ with_key_path self.old (names_of path.entry.items)) }
         ensures err { OnErr result (self.new ≡ self.old) }
@@ -210,7 +219,10 @@ impl<'c> Resolution<'c> {
         self.key_paths.insert(path)
     }
 
-    /// Adds the variant that was picked for an enum.
+    /// Adds the variant that is selected for an enum, after the others. The path is that of the
+    /// enum.
+    ///
+    /// The only error is out of memory. The resolution is then as it was.
     pub fn add_variant_selection(
         &mut self,
         path: FieldPath<'c>,
@@ -233,7 +245,10 @@ impl<'c> Resolution<'c> {
         Ok(())
     }
 
-    /// Sets the field that takes what no other field of the category takes, in place of an earlier one.
+    /// Sets the field that takes what no other field of the category takes. It takes the place of
+    /// an earlier one of the category.
+    ///
+    /// The only error is out of memory. The resolution is then as it was.
     pub fn set_catch_all_map(
         &mut self,
         category: FieldCategory,
@@ -246,11 +261,11 @@ impl<'c> Resolution<'c> {
         self.catch_alls.insert(category, info)
     }
 
-    /// Adds all that another resolution has: its fields, names, key paths and picks after those that are
-    /// here, and its catch-alls in place of those that are here.
+    /// Adds all that another resolution has: its fields, required names and key paths, its
+    /// selections after those that are here, and its catch-alls in place of those that are here.
     ///
-    /// A field of a key that is taken is refused, by its name and the two paths, that of the present field
-    /// first. Refused memory is the only other error. After an error the resolution is as it was.
+    /// Errors: `DuplicateField` where a key is taken, with the name and both paths, that of the
+    /// present field first; `OutOfMemory`. After an error the resolution is as it was.
     pub fn merge(&mut self, other: &Resolution<'c>) -> Result<(), SchemaError<'c>>
         ensures ok { OnOk result (IsMerged self.old other.now self.new) }
         ensures refused { IfErr result (IsMergeRefusalOf self.old other.now) }
@@ -302,7 +317,7 @@ impl<'c> Resolution<'c> {
         Ok(())
     }
 
-    /// Leaves no field and no name required.
+    /// Makes each field optional, so no name is required. All else stays.
     pub fn mark_all_optional(&mut self)
         ensures { IsMadeOptional self.old self.new }
     {

@@ -12,22 +12,23 @@ mod identifier;
 pub use catalogue::{CatalogueError, Shapes};
 pub use identifier::ShapeId;
 
-/// The shape of one type.
+/// The shape of one type. It refers to other shapes by their indices in the catalogue.
 #[derive(Debug, Drop)]
 pub struct Shape {
-    /// What the type is called.
+    /// What the type is called, as `u8`: errors print it, and `specificity_score` goes by it.
     pub type_identifier: String,
     /// What the type is made of.
     pub kind: ShapeKind,
-    /// The shape that a transparent wrapper stands for.
+    /// The shape that a transparent wrapper stands for. It has to be an earlier one.
     pub inner: Option<ShapeId>,
-    /// The shape that the type is read and written as.
+    /// The shape that the type is read and written as. It has to be an earlier one.
     pub proxy: Option<ShapeId>,
     /// Of an enum: the field that holds the variant's name.
     pub tag: Option<String>,
-    /// Of an enum: the field beside the tag that holds the variant's content.
+    /// Of an enum: the field beside the tag that holds the variant's content. Without a tag it does
+    /// not count.
     pub content: Option<String>,
-    /// Of an enum: whether a document has no name of the variant.
+    /// Of an enum: whether a document has no name of the variant. If so, the tag does not count.
     pub untagged: bool,
     /// Of a struct: whether it is one value with fields of metadata beside it.
     pub metadata_container: bool,
@@ -42,27 +43,27 @@ pub enum ShapeKind {
     Struct {
         /// How its fields are written.
         kind: StructKind,
-        /// Its fields, as declared.
+        /// Its fields, in the order of declaration.
         fields: Vec<Field>,
     },
     /// One of several variants.
     Enum {
-        /// Its variants, as declared.
+        /// Its variants, in the order of declaration.
         variants: Vec<Variant>,
     },
-    /// A value that may be absent.
+    /// A value that may be absent. Its shape has to be an earlier one.
     Option(ShapeId),
-    /// A pointer; `None` where it is opaque.
+    /// A pointer to any shape of the catalogue; `None` where it is opaque.
     Pointer(Option<ShapeId>),
-    /// A list that may grow.
+    /// A list that may grow, of any shape of the catalogue.
     List(ShapeId),
-    /// An array.
+    /// An array, of any shape of the catalogue.
     Array(ShapeId),
-    /// A slice.
+    /// A slice, of any shape of the catalogue.
     Slice(ShapeId),
-    /// A set.
+    /// A set, of any shape of the catalogue.
     Set(ShapeId),
-    /// A map, with the shapes of its keys and of its values.
+    /// A map, with the shapes of its keys and of its values: any of the catalogue.
     Map(ShapeId, ShapeId),
     /// A value whose shape only the document tells.
     DynamicValue,
@@ -90,7 +91,7 @@ pub struct Variant {
     pub name: String,
     /// How its fields are written.
     pub kind: StructKind,
-    /// Its fields, as declared.
+    /// Its fields, in the order of declaration.
     pub fields: Vec<Field>,
 }
 
@@ -101,7 +102,7 @@ pub struct Field {
     pub name: String,
     /// The name that it goes by in a document, where that is another.
     pub rename: Option<String>,
-    /// The shape of its value.
+    /// The shape of its value. It has to be an earlier one.
     pub shape: ShapeId,
     /// Whether the fields of its value stand beside it in a document.
     pub flattened: bool,
@@ -178,7 +179,7 @@ pub enum ScalarType {
 }
 
 impl Variant {
-    /// A variant of these fields. It takes no memory.
+    /// A variant of these fields. The call allocates nothing.
     pub fn new(name: String, kind: StructKind, fields: Vec<Field>) -> Self
         ensures { result ≡ record { name = name; kind = kind; fields = fields } }
     {
@@ -187,8 +188,8 @@ impl Variant {
 }
 
 impl Field {
-    /// A field of this name and shape alone: with no other name in a document, not flattened, with no default, no
-    /// metadata and no mark. It takes no memory.
+    /// A field of this name and shape. It has no other name in a document, no default and no mark,
+    /// and is neither flattened nor metadata. The call allocates nothing.
     pub fn new(name: String, shape: ShapeId) -> Self
         ensures { result ≡ record {
           name = name;
@@ -223,8 +224,8 @@ impl Field {
 }
 
 impl Shape {
-    /// A shape of this kind alone: with no inner shape and no proxy, no tag and no content, neither untagged nor a
-    /// metadata container. It takes no memory.
+    /// A shape of this kind. It has no inner shape, no proxy, no tag and no content, and is neither
+    /// untagged nor a metadata container. The call allocates nothing.
     pub fn new(type_identifier: String, kind: ShapeKind) -> Self
         ensures { result ≡ record {
           type_identifier = type_identifier;
@@ -249,7 +250,7 @@ impl Shape {
         }
     }
 
-    /// The field that holds the name of an enum's variant, if there is one.
+    /// The name of the field that holds the name of an enum's variant, if there is one.
     pub fn get_tag_attr(&self) -> Option<&str>
         ensures { option_map (λ t. t.now) result ≡ optional_name self.now.tag }
     {
@@ -259,7 +260,7 @@ impl Shape {
         }
     }
 
-    /// The field that holds the content of an enum's variant, if there is one.
+    /// The name of the field that holds the content of an enum's variant, if there is one.
     pub fn get_content_attr(&self) -> Option<&str>
         ensures { option_map (λ t. t.now) result ≡ optional_name self.now.content }
     {

@@ -8,11 +8,11 @@ use count::Count;
 use std::fmt;
 use std::marker::Model;
 
-/// Counts the steps of a call: words of an index that were read, searches of a resolution for a field, and visits of a
-/// field.
+/// Counts the work of a call: words of an index that were read, searches of a resolution for a
+/// field, and visits of a field.
 ///
-/// The counts are whole numbers without bound that contracts alone see. When a program runs there are none: a `Steps`
-/// takes no memory and no time, and nothing can be read from it.
+/// The counts are whole numbers without bound that contracts alone see. When a program runs there
+/// are none: a `Steps` takes no memory and no time, and nothing can be read from it.
 #[derive(Drop)]
 pub struct Steps {
     words: Count,
@@ -40,7 +40,7 @@ impl fmt::Debug for Steps {
 }
 
 impl Steps {
-    /// No step was made.
+    /// Counts that are 0.
     pub fn new() -> Steps
         ensures { result ≡ record { words = 0; searches = 0; visits = 0 } }
     {
@@ -51,21 +51,21 @@ impl Steps {
         }
     }
 
-    /// A word of an index was read.
+    /// Counts a word of an index that was read.
     pub fn word(&mut self)
         ensures { self.new ≡ record self.old { words = self.old.words + 1 } }
     {
         self.words.one();
     }
 
-    /// A resolution was searched for a field.
+    /// Counts a search of a resolution for a field.
     pub fn search(&mut self)
         ensures { self.new ≡ record self.old { searches = self.old.searches + 1 } }
     {
         self.searches.one();
     }
 
-    /// A field was visited.
+    /// Counts a visit of a field.
     pub fn visit(&mut self)
         ensures { self.new ≡ record self.old { visits = self.old.visits + 1 } }
     {

@@ -1,6 +1,7 @@
 //! The answer to a line: the words of its call, as they are read, and the text that is told.
 //!
-//! What stands in the way of an answer is noted in it, so that nothing that reads words or tells has to say so itself.
+//! What stands in the way of an answer is noted in it, so that nothing that reads words or tells
+//! has to say so itself.
 
 use crate::marks;
 use facet_solver::{Resolution, ShapeId};
@@ -130,7 +131,8 @@ impl<'t> Answer<'t> {
         self.note(Outcome::Unread);
     }
 
-    /// Notes that a call which was refused memory left something else than it found, or had no need of memory.
+    /// Notes that a call which was refused memory left something else than it found, or had no need
+    /// of memory.
     pub fn broken(&mut self) {
         self.note(Outcome::Broken);
     }
@@ -230,7 +232,8 @@ impl<'t> Answer<'t> {
         self.error = self.take();
     }
 
-    /// Tells the text of the last error, each line behind a bar and a blank. An empty line is a bar alone.
+    /// Tells the text of the last error, each line behind a bar and a blank. An empty line is a bar
+    /// alone.
     pub fn add_error(&mut self) {
         let error = mem::replace(&mut self.error, String::new(self.alloc));
         for line in error.as_str().split('\n') {

@@ -11,7 +11,8 @@ use facet_solver::{
 use std::alloc::{AllocError, Global};
 use std::mem;
 
-/// A path that grows, the resolution that calls are about, the one that it may be merged with, and the lists of an error.
+/// A path that grows, the resolution that calls are about, the one that it may be merged with, and
+/// the lists of an error.
 #[derive(Drop)]
 pub struct Hand<'c> {
     catalogue: Catalogue<'c>,
@@ -45,8 +46,8 @@ impl<'c> Hand<'c> {
         }
     }
 
-    // Makes a call, and compares its answer with what is wanted. Where it is refused memory it has to change nothing, and is
-    // made again.
+    // Makes a call, and compares its answer with what is wanted. Where it is refused memory it has
+    // to change nothing, and is made again.
     fn make<'t: 'c>(&mut self, line: Line<'t>, answer: &mut Answer<'t>) {
         answer.begin(line);
         self.add_state(answer);
@@ -81,7 +82,8 @@ impl<'c> Hand<'c> {
         }
     }
 
-    // Answers a call that needs no words, or one that is about the path, or that reads the resolution.
+    // Answers a call that needs no words, or one that is about the path, or that reads the
+    // resolution.
     fn other_answer<'t: 'c>(&mut self, call: &str, answer: &mut Answer<'t>) {
         match call {
             "mark_all_optional" => {

@@ -1,4 +1,5 @@
-//! Uses of the library, each a function that a reader can take over, with a contract that says what its user wants to know.
+//! Uses of the library, each a function that a reader can take over, with a contract that says what
+//! its user wants to know.
 
 pub mod ambiguity_table;
 pub mod ambiguous_pairs;

@@ -1,5 +1,5 @@
-//! How long values live. Each function compiles only where the library gives what it gives as long a life as stands here, and
-//! takes names and lists that live no longer than the call.
+//! How long values live. Each function compiles only where the library gives what it gives as long
+//! a life as stands here, and takes names and lists that live no longer than the call.
 
 use facet_solver::{
     FieldCategory, FieldInfo, FieldKey, KeyResult, ProbeResult, ProbingSolver, Resolution,
@@ -8,7 +8,8 @@ use facet_solver::{
 };
 use std::alloc::{AllocError, Global};
 
-// A key may live shorter than the schema and its catalogue. What it tells, also at a path, outlives it and the solver.
+// A key may live shorter than the schema and its catalogue. What it tells, also at a path, outlives
+// it and the solver.
 fn answers<'s, 'c, 'd>(
     alloc: Global,
     solver: &mut Solver<'s, 'c, 'd>,
@@ -75,7 +76,8 @@ fn probed_candidates<'p, 's, 'c>(solver: &'p ProbingSolver<'s, 'c>) -> &'p [&'s 
     solver.candidates()
 }
 
-// What a key that is probed tells outlives the probing solver and the path, and so does what the end tells.
+// What a key that is probed tells outlives the probing solver and the path, and so does what the
+// end tells.
 fn probed<'s, 'c>(
     solver: &mut ProbingSolver<'s, 'c>,
     path: &[&str],
@@ -92,7 +94,8 @@ fn pairs<'c>(
     variants.tuple_variants_with_arity(alloc, 2)
 }
 
-// A field is found by a key that lives shorter. Its name, and that of a catch-all, outlives its resolution.
+// A field is found by a key that lives shorter. Its name, and that of a catch-all, outlives its
+// resolution.
 fn name_of<'c>(resolution: &Resolution<'c>, key: &FieldKey<'_>) -> Option<&'c str> {
     let field = match resolution.field_by_key(key) {
         Some(field) => field,

@@ -1,8 +1,8 @@
-//! Runs the transcripts in the files that its arguments name, and, for the argument `in_code`, the checks that only code can
-//! make.
+//! Runs the transcripts in the files that its arguments name, and, for the argument `in_code`, the
+//! checks that only code can make.
 //!
-//! What it prints is the same where one request for memory is refused, whichever it is: what was refused is made again, and
-//! before that what was to change is compared with what it was.
+//! What it prints is the same where one request for memory is refused, whichever it is: what was
+//! refused is made again, and before that what was to change is compared with what it was.
 #![tactic(auto)]
 
 mod answer;

@@ -1,7 +1,8 @@
 //! Marks, by which the guard of the sweep (`sweep/guard.c`) knows where the tests stand.
 //!
-//! A mark is a request for memory of a size that nothing else asks for, given back at once. The guard has the same sizes.
-//! Where there is no guard a mark does nothing, and whether it is refused does not matter.
+//! A mark is a request for memory of a size that nothing else asks for, given back at once. The
+//! guard has the same sizes. Where there is no guard a mark does nothing, and whether it is refused
+//! does not matter.
 
 use std::alloc::{AllocError, Global};
 

@@ -19,7 +19,8 @@ pub struct Step<'t> {
     shapes: Vec<ShapeId>,
 }
 
-/// The steps of all runs. A solver keeps what it is given in a run, so they are read before there is one.
+/// The steps of all runs. A solver keeps what it is given in a run, so they are read before there
+/// is one.
 pub fn steps<'t>(
     catalogue: Catalogue<'_>,
     calls: &[Line<'t>],

@@ -59,8 +59,8 @@ impl<'s, 'c, 't: 's> Session<'s, 'c, 't> {
         }
     }
 
-    // Makes a call, and compares its answer with what is wanted. Where it is refused memory it has to change nothing, and is
-    // made again.
+    // Makes a call, and compares its answer with what is wanted. Where it is refused memory it has
+    // to change nothing, and is made again.
     fn make(&mut self, line: Line<'t>, answer: &mut Answer<'t>) {
         answer.begin(line);
         self.add_state(answer);
@@ -74,7 +74,8 @@ impl<'s, 'c, 't: 's> Session<'s, 'c, 't> {
         answer.compare();
     }
 
-    // Tells all that calls change of the solver that is told keys: its candidates, and the keys that it has seen.
+    // Tells all that calls change of the solver that is told keys: its candidates, and the keys
+    // that it has seen.
     fn add_state(&self, answer: &mut Answer<'_>) {
         self.add_candidate_set(answer);
         self.add_seen(answer);
@@ -317,8 +318,8 @@ impl<'s, 'c, 't: 's> Session<'s, 'c, 't> {
         }
     }
 
-    // Finishes, and starts a new solver. Where memory is refused it is tried again on a solver that was told the same, and
-    // there was need of memory only if not one resolution is viable.
+    // Finishes, and starts a new solver. Where memory is refused it is tried again on a solver that
+    // was told the same, and there was need of memory only if not one resolution is viable.
     fn finish(&mut self, answer: &mut Answer<'t>) {
         self.error = None;
         self.finish_once(answer);
@@ -378,7 +379,8 @@ impl<'s, 'c, 't: 's> Session<'s, 'c, 't> {
         answer.add("ok");
     }
 
-    // Where a run was refused memory behind its first calls, the solver is as one that made these, and goes on from there.
+    // Where a run was refused memory behind its first calls, the solver is as one that made these,
+    // and goes on from there.
     fn run_rest(&mut self, calls: &[Call<'s>], made: usize, answer: &mut Answer<'t>) {
         let Some((first, rest)) = calls.split_at_checked(made) else {
             answer.broken();

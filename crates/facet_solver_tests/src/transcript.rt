@@ -13,8 +13,8 @@ use std::alloc::AllocError;
 /// What the first line of a transcript begins with, before its name.
 pub const HEAD: &str = "transcript ";
 
-/// The lines of a file. Empty lines and those that begin with `#` say nothing, and of a text that is wanted only the first
-/// line is one.
+/// The lines of a file. Empty lines and those that begin with `#` say nothing, and of a text that
+/// is wanted only the first line is one.
 pub fn lines<'t>(file: &'t str, answer: &mut Answer<'t>) -> Vec<Line<'t>> {
     let mut lines = Vec::new(answer.alloc);
     let mut rest = file;
@@ -39,7 +39,8 @@ fn says_something(text: &str) -> bool {
     !text.is_empty() && !text.starts_with('#')
 }
 
-/// The lines of a transcript among these, which begin behind its head and go on to the end of the file.
+/// The lines of a transcript among these, which begin behind its head and go on to the end of the
+/// file.
 pub fn of_one<'l, 't>(lines: &'l [Line<'t>]) -> &'l [Line<'t>] {
     for index in 0..lines.len() {
         if lines[index].text.starts_with(HEAD) {
@@ -49,8 +50,8 @@ pub fn of_one<'l, 't>(lines: &'l [Line<'t>]) -> &'l [Line<'t>] {
     lines
 }
 
-/// Makes the calls of a transcript, and compares what they answer with what is wanted. It is made twice where memory is
-/// refused.
+/// Makes the calls of a transcript, and compares what they answer with what is wanted. It is made
+/// twice where memory is refused.
 pub fn run<'t>(lines: &[Line<'t>], answer: &mut Answer<'t>) {
     run_once(lines, answer);
     if answer.begins_again() {
@@ -186,7 +187,8 @@ fn on_steps<'s, 'c, 't: 's>(
     }
 }
 
-// The calls on what is made by hand, whose fields stand for the first field of the type that is named.
+// The calls on what is made by hand, whose fields stand for the first field of the type that is
+// named.
 fn by_hand<'t>(catalogue: Catalogue<'_>, calls: &[Line<'t>], answer: &mut Answer<'t>) {
     match catalogue.first_field(answer) {
         Some(field) => on_field(catalogue, field, calls, answer),

@@ -99,7 +99,8 @@ impl<'t> Answer<'t> {
         self.meaning(&CATEGORIES, word, FieldCategory::Flat)
     }
 
-    /// The next word, which is read as a path: the names between its dots. `<root>` is the path without names.
+    /// The next word, which is read as a path: the names between its dots. `<root>` is the path
+    /// without names.
     pub fn read_path(&mut self) -> &'t str {
         self.path.clear();
         let word = self.word();

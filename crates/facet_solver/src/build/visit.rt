@@ -3,7 +3,9 @@ ghost use Rattle.std.specs.Prelude.{◌≡◌, ◌+◌, ◌<◌, Some, length, s
 
 use facet_solver_shape::{Field, Steps};
 
-/// The field at an index. The passes that make tables read fields by this call alone, which counts them.
+/// The field at an index, counted as a visit. Three passes read fields by this call alone: the count
+/// of choices, the marking of a root, and the tables of nested key paths. The others read fields
+/// without it, as the pass for what structs bring.
 pub(crate) fn visited<'c>(fields: &'c [Field], index: usize, steps: &mut Steps) -> &'c Field
     requires { index < length fields.now }
     ensures field { slice_get fields.now index ≡ Some result.now }

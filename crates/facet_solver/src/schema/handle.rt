@@ -7,7 +7,7 @@ use facet_solver_shape::Resolution;
 
 /// A resolution of a schema, with its index.
 ///
-/// Two handles are equal where their indices are, also those of two schemas.
+/// Two handles are equal exactly if their indices are, also those of two schemas.
 #[derive(Clone, Copy, Debug)]
 pub struct ResolutionHandle<'s, 'c> {
     index: usize,
@@ -47,7 +47,7 @@ impl<'s, 'c> ResolutionHandle<'s, 'c> {
         }
     }
 
-    /// The index of the resolution among those of its schema.
+    /// The index of the resolution in `Schema::resolutions`, from 0.
     pub fn index(&self) -> usize
         ensures { result ≡ index_of self.now }
     {

@@ -27,7 +27,8 @@ const CATEGORIES: [FieldCategory; 6] = [
     FieldCategory::Elements,
 ];
 
-/// A field of a resolution: the index of the resolution, how many resolutions there are, and the shape of the field.
+/// A field of a resolution: the index of the resolution, how many resolutions there are, and the
+/// shape of the field.
 #[derive(Clone, Copy)]
 struct Occurrence {
     index: usize,
@@ -261,8 +262,8 @@ impl<'c> Index<'c> {
         }
     }
 
-    /// The entry of a key in a format: the resolutions that have the key, and the shape of the fields that it means, if they
-    /// agree on it. There is none where no resolution has the key.
+    /// The entry of a key in a format: the resolutions that have the key, and the shape of the
+    /// fields that it means, if they agree on it. There is none where no resolution has the key.
     pub(crate) fn look_up(&self, format: Format, key: FieldKey<'_>) -> Option<&Entry>
         ensures { (resolutions : List Resolved) → AreOfFormat format resolutions
             → IsIndexOf (length resolutions) (fields_of_each resolutions) self.now
@@ -272,7 +273,8 @@ impl<'c> Index<'c> {
         self.entry_at(format, key)
     }
 
-    /// The entries of the fields of a name: a resolution has such a field where one of them has the resolution.
+    /// The entries of the fields of a name: a resolution has such a field where one of them has the
+    /// resolution.
     pub(crate) fn entries_named(&self, alloc: Global, name: &str) -> Result<Vec<&Entry>, AllocError>
         ensures { IfOk result (λ entries. (resolutions : List Resolved)
             → IsIndexOf (length resolutions) (fields_of_each resolutions) self.now

@@ -102,7 +102,8 @@ pub(crate) fn next_bit(words: &[u64], from: usize) -> Option<usize>
     None
 }
 
-/// The bits of a word, which stand for the indices from one on, that meet a condition. It is asked of set bits alone.
+/// The bits of a word, which stand for the indices from one on, that meet a condition. It is asked
+/// of set bits alone.
 pub(crate) fn kept_bits<C: Condition>(word: u64, first: usize, condition: &C) -> u64
     requires { first + 63 < 2 ^ 64 }
     ensures { KeepsBits (λ bit. C.holds condition.now (first + bit)) word result }
@@ -131,7 +132,8 @@ pub(crate) fn retain_bits<C: Condition>(words: &mut [u64], condition: &C)
     }
 }
 
-/// The least index from one on whose bit is set in the word of a place, where the index lies in it or ends it.
+/// The least index from one on whose bit is set in the word of a place, where the index lies in it
+/// or ends it.
 pub(crate) fn next_in_word(word: u64, place: usize, from: usize) -> Option<usize>
     requires fits { (place + 1) * 64 ≤ 2 ^ 64 }
     requires above { place * 64 ≤ from }
@@ -160,7 +162,8 @@ pub(crate) fn read_word(words: &[u64], place: usize, steps: &mut Steps) -> u64
     words[place]
 }
 
-/// The first place from one on whose words share a bit, and what they share. It reads the other words up to there.
+/// The first place from one on whose words share a bit, and what they share. It reads the other
+/// words up to there.
 pub(crate) fn next_shared(
     words: &[u64],
     others: &[u64],

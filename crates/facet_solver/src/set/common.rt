@@ -8,7 +8,8 @@ use crate::set::bits::{next_in_word, next_shared, read_word};
 use facet_solver_shape::Steps;
 use std::marker::Model;
 
-/// The indices that two sets share and that are still to come, rising. Each word of the sets is read once.
+/// The indices that two sets share and that are still to come, rising. Each word of the sets is
+/// read once.
 #[derive(Debug, Drop)]
 pub(crate) struct CommonIter<'s> {
     words: &'s [u64],

@@ -4,7 +4,7 @@ ghost use Rattle.std.specs.Iterator.{YieldsFirst, item_count};
 use crate::set::bits::next_bit;
 use std::marker::Model;
 
-/// The members of a set that are still to come, rising.
+/// The indices of a set that are still to come, rising.
 #[derive(Debug, Drop)]
 pub struct ResolutionSetIter<'s> {
     pub(super) words: &'s [u64],

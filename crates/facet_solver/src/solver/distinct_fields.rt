@@ -35,8 +35,8 @@ impl<'s, 'c> KeySearch<'s, 'c, '_> {
     }
 }
 
-/// Of the fields that a key means at two indices and those after them, the first of each shape, with the score of the
-/// shape.
+/// Of the fields that a key means at two indices and those after them, the first of each shape,
+/// with the score of the shape.
 pub(crate) fn distinct_fields<'s, 'c>(
     alloc: Global,
     search: &KeySearch<'s, 'c, '_>,

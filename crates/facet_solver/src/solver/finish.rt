@@ -16,10 +16,11 @@ use crate::solver::report::Report;
 use std::alloc::Global;
 
 impl<'s, 'c, 'a> Solver<'s, 'c, 'a> {
-    /// The one candidate of which a seen key matches each required field.
+    /// The one candidate that is viable: a seen key matches each of its required fields.
     ///
-    /// The error is `NoMatch` where there is none, and `Ambiguous` where there are several, each with all its
-    /// lists. It is `OutOfMemory` where memory for these is refused; an answer without error takes none.
+    /// Errors: `NoMatch` where no candidate is viable; `Ambiguous` where several are; `OutOfMemory`
+    /// where there is no memory for the lists of these. An `Ok` allocates nothing, so it does not
+    /// run out of memory.
     pub fn finish(self, alloc: Global) -> Result<ResolutionHandle<'s, 'c>, SolverError<'c>>
         ensures one { IsOk result ↔ (length (viable self.entry) ≡ 1) }
         ensures index { IfOk result (λ handle. viable self.entry ≡ index_of handle ∷ []) }

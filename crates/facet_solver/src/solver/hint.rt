@@ -10,8 +10,9 @@ use crate::solver::conditions::PicksVariant;
 use crate::solver::conditions::tag_field::HasTagField;
 
 impl Solver<'_, '_, '_> {
-    /// Takes the hint that the document means a variant of the name, of whichever enum: of the
-    /// candidates those stay that picked such a variant. Where none did, all stay and the answer is false.
+    /// Takes the hint that the document means a variant of the name, of whichever enum. Only the
+    /// candidates stay that selected such a variant, and the answer is true. Where none did, all
+    /// stay and the answer is false. The call allocates nothing.
     pub fn hint_variant(&mut self, name: &str) -> bool
         ensures picked { IsTrue result ↔ (passing (picks_variant name.now) self.old ≢ []) }
         ensures narrowed { self.new ≡ state.hint_variant name.now self.old }
@@ -22,8 +23,9 @@ impl Solver<'_, '_, '_> {
 
     /// Takes the hint that the document has the name of a variant under the tag.
     ///
-    /// It is [`Solver::hint_variant`] if some candidate has a field of the tag's name whose shape has that tag and no
-    /// content beside it. Else all candidates stay and the answer is false.
+    /// It is [`Solver::hint_variant`] if some candidate has a field of the tag's name whose shape
+    /// has that tag and no content name. Otherwise all candidates stay and the answer is false. The
+    /// call allocates nothing.
     pub fn hint_variant_for_tag(&mut self, tag: &str, variant_name: &str) -> bool
         ensures picked { IsTrue result
             ↔ (passing (has_tag_field self.old.schema.build.catalogue tag.now) self.old ≢ [])

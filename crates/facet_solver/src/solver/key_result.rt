@@ -26,12 +26,13 @@ pub enum KeyResult<'s, 'c> {
         /// That shape.
         shape: ShapeId,
     },
-    /// The value of the key has one of several shapes.
+    /// The value of the key has one of several shapes, depending on the candidate.
     Ambiguous {
-        /// The first field of each shape, in the order of the candidates, with the score of the shape.
+        /// The first field of each shape, in the order of the candidates, with the score of the
+        /// shape (`specificity_score`).
         fields: Vec<(&'s FieldInfo<'c>, u64)>,
     },
-    /// One candidate has the key.
+    /// Exactly one candidate has the key.
     Solved(ResolutionHandle<'s, 'c>),
     /// No candidate has a field that the key means.
     Unknown,
@@ -108,8 +109,8 @@ pub(crate) fn key_result<'s, 'c>(
     Ok(KeyResult::of_fields(fields))
 }
 
-// Printed as a derived impl would. The derive gets no proof where references lie in pairs in a vector, so each pair is
-// printed by itself.
+// Printed as a derived impl would. The derive gets no proof where references lie in pairs in a
+// vector, so each pair is printed by itself.
 impl fmt::Debug for KeyResult<'_, '_> {
     fn fmt<W: fmt::Write>(&self, f: &mut fmt::Formatter<W>) -> fmt::Result {
         match self {

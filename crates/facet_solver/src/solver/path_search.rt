@@ -61,8 +61,8 @@ impl PathSearch<'_, '_, '_> {
         })
     }
 
-    // Adds the shape of the resolution at an index, if that has the whole path and the shape is new, with the field of
-    // the first name and the score.
+    // Adds the shape of the resolution at an index, if that has the whole path and the shape is
+    // new, with the field of the first name and the score.
     fn add_if_new<'s, 'c>(
         &self,
         shapes: &mut Vec<ShapeId>,
@@ -83,7 +83,8 @@ impl PathSearch<'_, '_, '_> {
         let Some(found) = self.field_on_path_at(schema, index) else {
             return Ok(());
         };
-        // Taken apart on a line of its own: a proof follows no part of a pair in a pattern to the calls below.
+        // Taken apart on a line of its own: a proof follows no part of a pair in a pattern to the
+        // calls below.
         let (field, shape) = found;
         if !is_among(shapes, shape) && self.is_at(schema, index) {
             shapes.push(shape)?;
@@ -103,7 +104,8 @@ impl PathSearch<'_, '_, '_> {
         }
     }
 
-    // Where the resolution at an index has a shape at the path: the field of the first name, with that shape.
+    // Where the resolution at an index has a shape at the path: the field of the first name, with
+    // that shape.
     fn field_on_path_at<'s, 'c>(
         &self,
         schema: &'s Schema<'c>,

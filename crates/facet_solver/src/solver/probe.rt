@@ -14,15 +14,16 @@ use crate::solver::path_search::PathSearch;
 use std::alloc::{AllocError, Global};
 
 impl<'s, 'c> Solver<'s, 'c, '_> {
-    /// Asks for a key at a path of names: of the candidates those stay that have the whole path of the key.
-    /// Where there is none, none stays. No key is seen by it.
+    /// Says that the document has a key at a path of names. Only the candidates stay that have the
+    /// whole path: the path and then the key. Where none has it, none stays. No key is marked as
+    /// seen.
     ///
-    /// The answer is `Unknown` where none is left, and `Solved` where one is left. Else it goes by the shapes of
-    /// the candidates at the whole path: none is `Unknown`, one is `Unambiguous`, more are `Ambiguous`, which
-    /// gives for each shape the field of the first name in the first candidate that has it, and the score of the
-    /// shape.
+    /// The answer is `Unknown` where none is left, and `Solved` where one is left. Otherwise it
+    /// depends on the shapes of the candidates at the whole path: none is `Unknown`, one is
+    /// `Unambiguous`, more are `Ambiguous`. That has for each shape its score, and the field of the
+    /// first name in the first candidate with this shape.
     ///
-    /// The only error is refused memory; then the candidates are as before.
+    /// The only error is out of memory. The candidates are then as before.
     pub fn probe_key(
         &mut self,
         alloc: Global,

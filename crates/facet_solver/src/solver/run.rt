@@ -23,15 +23,16 @@ pub enum Call<'a> {
     ProbeKey(&'a [&'a str], &'a str),
     /// A variant is hinted: `Solver::hint_variant`.
     HintVariant(&'a str),
-    /// A variant is hinted by the name under a tag, which comes first: `Solver::hint_variant_for_tag`.
+    /// A variant is hinted by the name under a tag, which comes first:
+    /// `Solver::hint_variant_for_tag`.
     HintVariantForTag(&'a str, &'a str),
 }
 
 impl<'s, 'c, 'a> Solver<'s, 'c, 'a> {
-    /// Makes calls in their order, and leaves their answers out.
+    /// Makes calls in their order, and drops their answers.
     ///
-    /// The only error is refused memory, and tells how many calls were made: the call at that index was refused and
-    /// changed nothing, and none after it was made.
+    /// The only error is out of memory. It has the number of calls that were made. The call at that
+    /// index ran out of memory and changed nothing, and none after it was made.
     #[tactic(auto, using(crate::proofs::Run::after_calls_more, crate::proofs::Run::found_from, crate::proofs::Run::found_of_all, crate::proofs::Run::built_in))]
     pub fn run(&mut self, alloc: Global, calls: &[Call<'a>]) -> Result<(), usize>
         ensures ok { OnOk result (self.new ≡ after_calls (call_views calls.now) self.old) }

@@ -14,10 +14,10 @@ use facet_solver_shape::{FieldInfo, ShapeId};
 use std::alloc::{AllocError, Global};
 
 impl<'s, 'c> Solver<'s, 'c, '_> {
-    /// Says that a value fits any of the fields: of the candidates those stay that have a field with the shape
-    /// of one of them. Where there is none, none stays.
+    /// Says that a value fits any of the fields. Only the candidates stay that have a field with
+    /// the shape of one of them. Where none has one, none stays.
     ///
-    /// The answer goes by the number of candidates that are left.
+    /// The answer says how many candidates are left. The call allocates nothing.
     pub fn satisfy(&mut self, fields: &[&FieldInfo<'_>]) -> SatisfyResult<'s, 'c>
         ensures answer { satisfy_result_view result ≡ satisfy_result self.new }
         ensures handle { HoldsHandleOf self.old.schema result }
@@ -27,10 +27,10 @@ impl<'s, 'c> Solver<'s, 'c, '_> {
         self.satisfy_result()
     }
 
-    /// Says that a value fits any of the shapes: of the candidates those stay that have a field of one of
-    /// them. Where there is none, none stays.
+    /// Says that a value fits any of the shapes. Only the candidates stay that have a field of one
+    /// of them. Where none has one, none stays.
     ///
-    /// The answer goes by the number of candidates that are left.
+    /// The answer says how many candidates are left. The call allocates nothing.
     pub fn satisfy_shapes(&mut self, shapes: &[ShapeId]) -> SatisfyResult<'s, 'c>
         ensures answer { satisfy_result_view result ≡ satisfy_result self.new }
         ensures handle { HoldsHandleOf self.old.schema result }
@@ -40,11 +40,11 @@ impl<'s, 'c> Solver<'s, 'c, '_> {
         self.satisfy_result()
     }
 
-    /// Says that the value at a path of names fits any of the shapes: of the candidates those stay whose shape
-    /// at the path is one of them. Where there is none, none stays.
+    /// Says that the value at a path of names fits any of the shapes. Only the candidates stay
+    /// whose shape at the path is one of them. Where there is none, none stays.
     ///
-    /// A candidate has no shape at the empty path, nor where the path leads through anything but structs. The
-    /// answer goes by the number of candidates that are left.
+    /// A candidate has no shape at the empty path, nor where the path leads through anything but
+    /// structs. The answer says how many candidates are left. The call allocates nothing.
     pub fn satisfy_at_path(&mut self, path: &[&str], shapes: &[ShapeId]) -> SatisfyResult<'s, 'c>
         ensures answer { satisfy_result_view result ≡ satisfy_result self.new }
         ensures handle { HoldsHandleOf self.old.schema result }
@@ -61,8 +61,9 @@ impl<'s, 'c> Solver<'s, 'c, '_> {
     }
 
     /// The shapes of the candidates at a path of names, each once, in the order of the candidates.
+    /// It is empty where no candidate has a shape there.
     ///
-    /// The only error is refused memory.
+    /// The only error is out of memory.
     pub fn get_shapes_at_path(
         &self,
         alloc: Global,

@@ -6,7 +6,7 @@ use crate::schema::handle::ResolutionHandle;
 pub enum SatisfyResult<'s, 'c> {
     /// Several candidates are left.
     Continue,
-    /// One candidate is left.
+    /// Exactly one candidate is left.
     Solved(ResolutionHandle<'s, 'c>),
     /// No candidate is left.
     NoMatch,

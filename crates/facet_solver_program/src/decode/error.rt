@@ -1,13 +1,14 @@
-//! Why an input has no meaning.
+//! Why a value is no input.
 
 use std::alloc::{AllocError, AllocFailed};
 
 /// Why a value is not decoded.
 #[derive(Clone, Copy, Debug, PartialEq, Eq)]
 pub enum DecodeError {
-    /// A member is missing, of another type, or outside its list.
+    /// A member is missing, or of another type, or its number is out of range, or its word is not
+    /// in its list.
     BadInput,
-    /// Memory was refused.
+    /// Out of memory.
     OutOfMemory,
 }
 

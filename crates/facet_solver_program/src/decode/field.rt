@@ -12,7 +12,7 @@ use facet_solver::{DomMark, Field, StructKind, Variant};
 use serde_json::Value;
 use std::alloc::Global;
 
-/// The field that a value is.
+/// The field that a value is. Errors: `BadInput` where it is none; `OutOfMemory`.
 pub fn field(alloc: Global, value: &Value) -> Result<Field, DecodeError>
     ensures ok { IfOk result (λ field. catalogue.field (view value.now) ≡ Some (field_view field)) }
     ensures bad { IsErrOf result DecodeError.BadInput → catalogue.field (view value.now) ≡ None }
@@ -28,7 +28,8 @@ pub fn field(alloc: Global, value: &Value) -> Result<Field, DecodeError>
     })
 }
 
-/// The fields that a value lists, none where it lists none.
+/// The fields that a value lists under `fields`, in order; none where the key is absent. Errors:
+/// `BadInput` where one is no field; `OutOfMemory`.
 pub fn fields_at(alloc: Global, value: &Value) -> Result<Vec<Field>, DecodeError>
     ensures ok { IfOk result (λ fields.
         catalogue.fields_at (view value.now) ≡ Some (map field_view fields.items)) }
@@ -52,7 +53,7 @@ fn fields(alloc: Global, items: &[Value]) -> Result<Vec<Field>, DecodeError>
     Ok(fields)
 }
 
-/// The variant that a value is.
+/// The variant that a value is. Errors: `BadInput` where it is none; `OutOfMemory`.
 pub fn variant(alloc: Global, value: &Value) -> Result<Variant, DecodeError>
     ensures ok { IfOk result (λ variant.
         catalogue.variant (view value.now) ≡ Some (variant_view variant)) }
@@ -80,7 +81,8 @@ fn mark_at(value: &Value) -> Result<DomMark, DecodeError>
     }
 }
 
-/// How fields are written, by the word under a key.
+/// How fields are written, by the word under a key; by name where the key is absent. The only error
+/// is `BadInput`, where the word is not in its list.
 pub fn struct_kind_at(value: &Value, key: &str) -> Result<StructKind, DecodeError>
     ensures ok { IfOk result (λ kind.
         catalogue.struct_kind_at key.now (view value.now) ≡ Some kind) }

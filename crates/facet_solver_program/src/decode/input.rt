@@ -16,9 +16,9 @@ use std::alloc::Global;
 /// What an input says.
 #[derive(Drop)]
 pub struct Input<'v> {
-    /// The catalogue, which is not checked.
+    /// The shapes, which are not checked.
     pub shapes: Vec<Shape>,
-    /// The shape to be resolved, which the catalogue may lack.
+    /// The index of the document's shape, which the shapes may lack.
     pub root: ShapeId,
     /// How flattened enums are written.
     pub builder: Builder,
@@ -26,7 +26,7 @@ pub struct Input<'v> {
     pub document: &'v Map<String, Value>,
 }
 
-/// The input that a value is.
+/// The input that a value is. Errors: `BadInput` where it is none; `OutOfMemory`.
 pub fn decode<'v>(alloc: Global, value: &'v Value) -> Result<Input<'v>, DecodeError>
     ensures ok { IfOk result (λ i. input.decode (view value.now) ≡ Some (input_view i)) }
     ensures bad { IsErrOf result DecodeError.BadInput → input.decode (view value.now) ≡ None }
@@ -51,7 +51,7 @@ fn shapes_at(alloc: Global, value: &Value) -> Result<Vec<Shape>, DecodeError>
     }
 }
 
-// The builder that an input names.
+// The builder that an input asks for.
 fn builder_at(value: &Value) -> Result<Builder, DecodeError>
     ensures ok { IfOk result (λ builder. input.builder_at (view value.now) ≡ Some builder) }
     ensures bad { IsErrOf result DecodeError.BadInput → input.builder_at (view value.now) ≡ None }

@@ -9,10 +9,10 @@ use facet_solver::ShapeId;
 use serde_json::Value;
 use std::alloc::Global;
 
-/// The highest index of a shape that an input may name.
+/// The highest index of a shape that an input may have.
 const LAST_INDEX: u64 = 4_294_967_295;
 
-/// The text under a key.
+/// The text under a key. Errors: `BadInput` where there is none; `OutOfMemory`.
 pub fn text_at(alloc: Global, value: &Value, key: &str) -> Result<String, DecodeError>
     ensures ok { IfOk result (λ text.
         members.text_at key.now (view value.now) ≡ Some (string_bytes text)) }
@@ -23,7 +23,8 @@ pub fn text_at(alloc: Global, value: &Value, key: &str) -> Result<String, Decode
     Ok(String::from_str(alloc, text)?)
 }
 
-/// The text under a key, as it stands in the value.
+/// The text under a key, as it stands in the value. The only error is `BadInput`, where there is
+/// none.
 pub fn word_at<'v>(value: &'v Value, key: &str) -> Result<&'v str, DecodeError>
     ensures ok { IfOk result (λ text. members.text_at key.now (view value.now) ≡ Some text.now) }
     ensures bad { IsErrOf result DecodeError.BadInput
@@ -35,7 +36,8 @@ pub fn word_at<'v>(value: &'v Value, key: &str) -> Result<&'v str, DecodeError>
         .ok_or(DecodeError::BadInput)
 }
 
-/// The text under a key, or none where the key is absent.
+/// The text under a key, or `None` where the key is absent. Errors: `BadInput` where the value is
+/// no text; `OutOfMemory`.
 pub fn optional_text_at(
     alloc: Global,
     value: &Value,
@@ -67,7 +69,8 @@ fn as_index(value: &Value) -> Result<ShapeId, DecodeError>
     }
 }
 
-/// The index of a shape under a key.
+/// The index of a shape under a key. The only error is `BadInput`, where there is no whole number
+/// up to [`LAST_INDEX`].
 pub fn index_at(value: &Value, key: &str) -> Result<ShapeId, DecodeError>
     ensures ok { IfOk result (λ index.
         members.index_at key.now (view value.now) ≡ Some index) }
@@ -80,7 +83,8 @@ pub fn index_at(value: &Value, key: &str) -> Result<ShapeId, DecodeError>
     }
 }
 
-/// The index of a shape under a key, or none where the key is absent.
+/// The index of a shape under a key, or `None` where the key is absent. The only error is
+/// `BadInput`, where the value is no whole number up to [`LAST_INDEX`].
 pub fn optional_index_at(value: &Value, key: &str) -> Result<Option<ShapeId>, DecodeError>
     ensures ok { IfOk result (λ index.
         members.optional_index_at key.now (view value.now) ≡ Some index) }
@@ -93,7 +97,8 @@ pub fn optional_index_at(value: &Value, key: &str) -> Result<Option<ShapeId>, De
     }
 }
 
-/// The truth value under a key, or `false` where the key is absent.
+/// The truth value under a key, or `false` where the key is absent. The only error is `BadInput`,
+/// where the value is no truth value.
 pub fn flag_at(value: &Value, key: &str) -> Result<bool, DecodeError>
     ensures ok { IfOk result (λ flag. members.flag_at key.now (view value.now) ≡ Some flag) }
     ensures bad { IsErrOf result DecodeError.BadInput
@@ -105,7 +110,8 @@ pub fn flag_at(value: &Value, key: &str) -> Result<bool, DecodeError>
     }
 }
 
-/// The items of the list under a key, or none where the key is absent.
+/// The items of the list under a key, in order, or no items where the key is absent. The only error
+/// is `BadInput`, where the value is no list.
 pub fn items_at<'v>(value: &'v Value, key: &str) -> Result<&'v [Value], DecodeError>
     ensures ok { IfOk result (λ items.
         members.items_at key.now (view value.now) ≡ Some (items_view items.now)) }

@@ -15,7 +15,7 @@ use facet_solver::{ScalarType, Shape, ShapeKind, Variant};
 use serde_json::Value;
 use std::alloc::Global;
 
-/// The shapes that items are.
+/// The shapes that items are, in order. Errors: `BadInput` where one is no shape; `OutOfMemory`.
 pub fn shapes(alloc: Global, items: &[Value]) -> Result<Vec<Shape>, DecodeError>
     ensures ok { IfOk result (λ shapes.
         each catalogue.shape (items_view items.now) ≡ Some (map shape_view shapes.items)) }

@@ -1,4 +1,4 @@
-//! Words of the input, each for one value of a list.
+//! Words of the input, each for one value of a list. Another word is `None`.
 ghost use Rattle.std.specs.Prelude.{◌≡◌};
 ghost use Rattle.facet_solver_program.specs.Words as words;
 
@@ -68,7 +68,7 @@ pub enum Builder {
     Flattened,
     /// As their own attributes ask for.
     Auto,
-    /// Each in a field named after its variant.
+    /// Each in a field that has the name of its variant.
     External,
 }
 

@@ -8,24 +8,28 @@ use std::alloc::{AllocError, AllocFailed};
 use std::error::Error;
 use std::fmt;
 
-/// Two fields of one stored key: their name, and where each stands, that of the first that came first.
+/// A duplicate key: two fields of one stored key.
 #[derive(Debug, Drop)]
 pub struct DuplicateFieldError<'c> {
+    /// The name of both fields in a document.
     pub field_name: &'c str,
+    /// Where the field that came first stands in the type.
     pub first_path: FieldPath<'c>,
+    /// Where the other one stands.
     pub second_path: FieldPath<'c>,
 }
 
 /// Why no schema, or no larger resolution, could be made.
 ///
-/// A duplicate prints as `Duplicate field name 'NAME' from different sources: FIRST vs SECOND. This usually means a
-/// parent struct and a flattened struct both define a field with the same name.`, on one line, with the name and the
-/// texts of both paths. Refused memory prints as `out of memory`.
+/// A duplicate key prints as `Duplicate field name 'NAME' from different sources: FIRST vs SECOND.
+/// This usually means a parent struct and a flattened struct both define a field with the same
+/// name.`, on one line, with the name and the texts of both paths. Out of memory prints as
+/// `out of memory`.
 #[derive(Debug, Drop)]
 pub enum SchemaError<'c> {
-    /// Two fields have one stored key.
+    /// A duplicate key: two fields have one stored key.
     DuplicateField(DuplicateFieldError<'c>),
-    /// Memory was refused.
+    /// Out of memory.
     OutOfMemory,
 }
 

@@ -10,7 +10,7 @@ use crate::shape::{Field, ShapeId};
 use std::alloc::{AllocError, Global};
 use std::marker::Model;
 
-/// The names from the root to a nested key.
+/// The names from the document down to a key, the name of the key last.
 pub type KeyPath<'c> = Vec<&'c str>;
 
 /// A field that a document may give a value to.
@@ -26,7 +26,7 @@ pub struct FieldInfo<'c> {
     pub value_shape: ShapeId,
     /// The field that was declared.
     pub field: &'c Field,
-    /// What gives it its value.
+    /// What in a document gives it its value.
     pub category: FieldCategory,
 }
 
@@ -48,7 +48,7 @@ impl<'c> Model for FieldInfo<'c> {
     } };
 }
 
-/// A variant that was picked for an enum.
+/// The variant that is selected for an enum.
 #[derive(Debug, Drop)]
 pub struct VariantSelection<'c> {
     /// Where the enum stands in the type.
@@ -60,8 +60,8 @@ pub struct VariantSelection<'c> {
 }
 
 impl<'c> FieldInfo<'c> {
-    // The stored key, under which a resolution keeps the field: that of its name alone for a field of
-    // category Flat, else that of its name in its category.
+    // The stored key, under which a resolution keeps the field: that of its name alone for a field
+    // of category Flat, else that of its name in its category.
     pub(crate) fn key(&self) -> FieldKey<'c>
         ensures { key_of result ≡ key_of_field self.now }
     {
@@ -73,8 +73,9 @@ impl<'c> FieldInfo<'c> {
 
     /// Whether a key of a document means the field.
     ///
-    /// A field of category Flat goes by its name, whatever the kind of the key. Of the others, a flat key means an element of
-    /// its name, and a DOM key a field of its category and its name; without a name, it means any text, tag or elements.
+    /// A field of category Flat is meant by a key of its name, of whatever kind. Of the other
+    /// categories, a flat key means an element of its name. A DOM key means a field of its category
+    /// and its name, and without a name any text, any tag or any elements of its category.
     pub fn matched_by(&self, key: &FieldKey) -> bool
         ensures { result ≡ matches (key_of key.now) self.now }
     {

@@ -6,7 +6,7 @@ ghost use Rattle.facet_solver_shape.specs.Fields.{takes_any_name};
 /// What kind of thing in a document gives a field its value.
 #[derive(Clone, Copy, PartialEq, Eq, PartialOrd, Ord, Debug)]
 pub enum FieldCategory {
-    /// A member of a format in which all members are alike.
+    /// A member in a format where all members are alike, as JSON.
     Flat,
     /// An attribute of an element.
     Attribute,
@@ -72,7 +72,7 @@ impl<'a> FieldKey<'a> {
         FieldKey::Dom(FieldCategory::Text, "")
     }
 
-    /// The key of an element's own name, without a name.
+    /// The key of an element's own name. As a key it has no name.
     pub fn tag() -> Self
         ensures { key_of result ≡ dom_key FieldCategory.Tag [] }
     {
@@ -86,7 +86,7 @@ impl<'a> FieldKey<'a> {
         FieldKey::Dom(FieldCategory::Elements, "")
     }
 
-    /// The name of the key, whatever its kind.
+    /// The name of the key, of whatever kind; empty where it has none.
     pub fn name(&self) -> &'a str
         ensures { result.now ≡ (key_of self.now).name }
     {

@@ -9,19 +9,20 @@ use std::alloc::{AllocError, Global};
 use std::fmt;
 use std::marker::Model;
 
-/// One step of a path.
+/// One segment of a path.
 #[derive(Clone, Copy, PartialEq, Eq, Debug)]
 pub enum PathSegment<'c> {
     /// Into the field of that name.
     Field(&'c str),
-    /// Into a field and a variant of its enum.
+    /// Into a variant of an enum: the field that has the enum, and the variant. For an enum that is
+    /// the root, the name of the field is empty.
     Variant(&'c str, &'c str),
 }
 
-/// Where a field or an enum stands: the steps from the root.
+/// Where a field or an enum stands in the type: the segments from the root.
 ///
-/// Two paths are equal exactly if their segments are. A path prints as its segments joined by `.`, and that
-/// of the root as `<root>`.
+/// Two paths are equal exactly if their segments are. A path prints as its segments joined by `.`,
+/// where a variant is `field::Variant`. The path of the root prints as `<root>`.
 #[derive(Debug, Drop)]
 pub struct FieldPath<'c> {
     segments: Vec<PathSegment<'c>>,
@@ -60,7 +61,7 @@ impl<'c> From<Vec<PathSegment<'c>>> for FieldPath<'c> {
 }
 
 impl<'c> FieldPath<'c> {
-    /// The path of the root, which has no segments.
+    /// The path of the root, which has no segments. The call allocates nothing.
     pub fn empty(alloc: Global) -> Self
         ensures { result ≡ [] }
     {
@@ -69,14 +70,15 @@ impl<'c> FieldPath<'c> {
         }
     }
 
-    /// This path with the segment of a field after it.
+    /// This path with the segment of a field after it. The only error is out of memory.
     pub fn push_field(&self, alloc: Global, name: &'c str) -> Result<Self, AllocError>
         ensures { IfOk result (λ path. path ≡ self.now ++ by_field name.now ∷ []) }
     {
         self.pushed(alloc, PathSegment::Field(name))
     }
 
-    /// This path with the segment of a variant of a field after it.
+    /// This path with the segment of a variant of a field's enum after it. The only error is out of
+    /// memory.
     pub fn push_variant(
         &self,
         alloc: Global,
@@ -106,7 +108,8 @@ impl<'c> FieldPath<'c> {
         Ok(FieldPath { segments })
     }
 
-    /// The path without its last segment; of the empty path, the empty path.
+    /// The path without its last segment; of the empty path, the empty path. The only error is out
+    /// of memory.
     pub fn parent(&self, alloc: Global) -> Result<Self, AllocError>
         ensures { IfOk result (λ path. path ≡ take (length self.now - 1) self.now) }
     {
@@ -115,14 +118,14 @@ impl<'c> FieldPath<'c> {
         Ok(FieldPath { segments })
     }
 
-    /// How many segments the path has.
+    /// The number of segments, which is 0 for the root.
     pub fn depth(&self) -> usize
         ensures { result ≡ length self.now }
     {
         self.segments.len()
     }
 
-    /// The last segment, if there is one.
+    /// The last segment; `None` for the root.
     pub fn last(&self) -> Option<&PathSegment<'c>>
         ensures { option_map (λ s. step_of s.now) result
             ≡ slice_get self.now (length self.now - 1) }

@@ -11,16 +11,16 @@ use std::error::Error;
 use std::fmt;
 use std::marker::Model;
 
-/// Why a list of shapes is no catalogue. Each refusal holds the index of its shape.
+/// Why a list of shapes is no catalogue: a fault, with the index of the shape that has it.
 #[derive(Clone, Copy, PartialEq, Eq, Debug)]
 pub enum CatalogueError {
-    /// The shape names an index that isn't below the number of shapes.
+    /// The shape refers to an index that isn't below the number of shapes.
     OutOfRange {
         /// The index of the shape.
         shape: usize,
     },
-    /// The shape names by a field, a variant's field, an option's inside, `inner` or `proxy` an
-    /// index of the catalogue that isn't below its own.
+    /// By a field, a variant's field, an option's inside, `inner` or `proxy`, the shape refers to
+    /// an index of the catalogue that isn't below its own.
     NotEarlier {
         /// The index of the shape.
         shape: usize,
@@ -57,7 +57,7 @@ impl CatalogueError {
         }
     }
 
-    /// The number of the refusal, from 1 to 5 in the order of the variants.
+    /// The number of the fault, from 1 to 5 in the order of the variants.
     pub fn number(&self) -> u8
         ensures { result ≡ number_of self.now }
     {
@@ -84,7 +84,7 @@ impl CatalogueError {
     }
 }
 
-/// A refusal prints its shape's index, what is wrong and its number, as in
+/// The text has the shape's index, what is wrong and the number of the fault, as in
 /// `the shape at index 3 has two variants of one name (refusal 5)`.
 impl fmt::Display for CatalogueError {
     ghost output = { λ e. Some (refusal_text e) };
@@ -120,8 +120,8 @@ impl Model for Shapes {
 impl Shapes {
     /// The catalogue of a list of shapes, if no shape has a fault.
     ///
-    /// Otherwise the first index with a fault is given, with its fault of lowest number, and the
-    /// list is dropped. No memory is taken.
+    /// The error is the fault at the lowest index, and of those there the one of lowest number. The
+    /// list is then dropped. The call allocates nothing.
     pub fn new(shapes: Vec<Shape>) -> Result<Shapes, CatalogueError>
         ensures accepted { IsOk result ↔ IsChecked shapes.items }
         ensures same { IfOk result (λ made. made ≡ shapes.items) }
@@ -146,7 +146,7 @@ impl Shapes {
         self.shapes.len()
     }
 
-    /// The shape at an index, if the catalogue has the index.
+    /// The shape at an index; `None` where the catalogue lacks the index.
     pub fn get(&self, id: ShapeId) -> Option<&Shape>
         ensures entry { option_copied result ≡ slice_get self.now id }
         ensures earlier { IfSome result (λ s. IsEarlierThan id s.now) }
@@ -155,7 +155,7 @@ impl Shapes {
         self.shapes.get(id.index())
     }
 
-    /// Whether the catalogue has an index.
+    /// Whether the catalogue has an index: it is below the number of shapes.
     pub fn has(&self, id: ShapeId) -> bool
         ensures value { IsTrue result ↔ (id < length self.now) }
         ensures checked { IsChecked self.now }
@@ -163,7 +163,8 @@ impl Shapes {
         id.index() < self.len()
     }
 
-    /// The effective shape: that which `inner`, and else `proxy`, lead to, and so on to the end.
+    /// The effective shape: `inner`, or else `proxy`, is followed from shape to shape to the end.
+    /// An index that the catalogue lacks is its own effective shape.
     pub fn effective(&self, id: ShapeId) -> ShapeId
         ensures { result ≡ effective self.now id }
     {
@@ -177,7 +178,8 @@ impl Shapes {
         id
     }
 
-    /// The end of a shape: pointers are followed, and an opaque one is an end.
+    /// The end of a shape: pointers are followed. An opaque pointer is an end, and so is an index
+    /// that the catalogue lacks.
     pub fn end_of(&self, id: ShapeId) -> ShapeId
         ensures value { result ≡ end_of self.now id }
         ensures is_end { IsEndOf self.now id result }

@@ -3,7 +3,7 @@ ghost use Rattle.std.specs.Prelude.{◌≡◌};
 
 use std::marker::Model;
 
-/// The index of a shape in its catalogue.
+/// The index of a shape in its catalogue, from 0.
 #[derive(Clone, Copy, PartialEq, Eq, PartialOrd, Ord, Hash, Debug)]
 pub struct ShapeId {
     index: usize,
@@ -20,14 +20,15 @@ impl Model for ShapeId {
 }
 
 impl ShapeId {
-    /// The identifier of the shape at an index.
+    /// The identifier of the shape at an index. Any index will do: `Shapes::has` says whether a
+    /// catalogue has it.
     pub fn new(index: usize) -> Self
         ensures { result ≡ index }
     {
         ShapeId { index }
     }
 
-    /// The index of the shape.
+    /// The index of the shape, from 0.
     pub fn index(self) -> usize
         ensures { result ≡ self }
     {

@@ -5,7 +5,8 @@ ghost use Rattle.std.specs.Borrow.{ftrue};
 use std::marker::{Model, PhantomData};
 
 /// A whole number without bound. It takes no memory.
-// No code reads or writes the number. Its proofs by hand, those of `new` and `one`, are all that can set it.
+// No code reads or writes the number. Its proofs by hand, those of `new` and `one`, are all that
+// can set it.
 #[derive(Drop)]
 pub(crate) struct Count {
     marker: PhantomData<u8>,

@@ -16,13 +16,13 @@ use std::alloc::{AllocError, Global};
 pub struct VariantsByFormat<'c> {
     /// Scalars, each with the shape of its value.
     pub scalar_variants: Vec<(&'c Variant, ShapeId)>,
-    /// The scalars that end at a bool.
+    /// The scalars that are a bool, once pointers are followed. So with the next three.
     pub bool_variants: Vec<(&'c Variant, ShapeId)>,
-    /// The scalars that end at a whole number.
+    /// The scalars that are a whole number.
     pub int_variants: Vec<(&'c Variant, ShapeId)>,
-    /// The scalars that end at a float.
+    /// The scalars that are a float.
     pub float_variants: Vec<(&'c Variant, ShapeId)>,
-    /// The scalars that end at a text or a char.
+    /// The scalars that are a text or a char.
     pub string_variants: Vec<(&'c Variant, ShapeId)>,
     /// Sequences, each with its number of elements, or with 0 where any number will do.
     pub tuple_variants: Vec<(&'c Variant, usize)>,
@@ -37,7 +37,7 @@ pub struct VariantsByFormat<'c> {
 impl<'c> VariantsByFormat<'c> {
     /// The variants of an enum, grouped; `None` where the shape is no enum of the catalogue.
     ///
-    /// An error comes only where memory is refused.
+    /// The only error is out of memory.
     pub fn from_shape(
         alloc: Global,
         shapes: &'c Shapes,
@@ -60,9 +60,10 @@ impl<'c> VariantsByFormat<'c> {
         }
     }
 
-    /// The variants that stand in the tuple list with this number, in order.
+    /// The variants that stand in the tuple list with this number, in the order of declaration. For
+    /// 0 these are those without fields and those of any length.
     ///
-    /// An error comes only where memory is refused.
+    /// The only error is out of memory.
     pub fn tuple_variants_with_arity(
         &self,
         alloc: Global,

@@ -48,10 +48,10 @@ pub enum VariantFormat {
 }
 
 impl VariantFormat {
-    /// The format of a variant whose fields have shapes of the catalogue.
+    /// The format of a variant, whose fields have shapes of the catalogue.
     ///
     /// A field that is a metadata container counts as what it contains; a pointer to one does not.
-    /// A field whose shape the catalogue has not counts as one that holds anything else.
+    /// A field whose shape the catalogue lacks counts as one that holds anything else.
     #[tactic(auto, unfolding(crate::specs::Formats::format_of))]
     pub fn from_variant(shapes: &Shapes, variant: &Variant) -> Self
         ensures { result ≡ format_of shapes.now variant.now }

@@ -5,9 +5,10 @@ ghost use Rattle.facet_solver_shape.specs.Scores.{score_of};
 
 use crate::shape::Shape;
 
-/// How specific a shape is, by its type identifier: the smaller, the more.
+/// How specific a shape is, by its type identifier: the lower the score, the more specific.
 ///
-/// A number's score is its width in bits, 64 for `usize` and `isize`; any other shape has 1000.
+/// A number's score is its width in bits, from 8 to 128, and 64 for `usize` and `isize`. Any other
+/// shape has 1000.
 pub fn specificity_score(shape: &Shape) -> u64
     ensures { result ≡ score_of (string_bytes shape.now.type_identifier) }
 {

@@ -18,7 +18,7 @@ const HEAD: &str =
 pub enum NoTable<'c> {
     /// It has more choices than asked for, and so many; `None` where these are 2^64 or more.
     TooMany(Option<u64>),
-    /// It has no schema: two fields of one choice have one key, or memory was refused.
+    /// It has no schema: a duplicate key, or out of memory.
     Schema(SchemaError<'c>),
 }
 

@@ -27,9 +27,9 @@ pub struct AmbiguousPair<'c> {
 
 /// The pairs of resolutions that some keys, told to a new solver, leave both viable.
 ///
-/// Where there is none, no document that is told by keys is ambiguous. The pairs rise by their second index, then by
-/// their first. Each two resolutions are compared, so the time grows with the square of their number. An error says
-/// that memory was refused.
+/// Where there is none, no document is ambiguous, if a solver sees its keys and nothing else. The
+/// pairs rise by their second index, then by their first. Each two resolutions are compared, so the
+/// time grows with the square of their number. The only error is out of memory.
 pub fn ambiguous_pairs<'c>(
     alloc: Global,
     schema: &Schema<'c>,
@@ -93,7 +93,8 @@ fn pair_of<'c>(
     }))
 }
 
-// Adds a key, which the other resolution has, for each field that one requires and no key meets, until there is none.
+// Adds a key, which the other resolution has, for each field that one requires and no key meets,
+// until there is none.
 fn add_keys<'c>(
     required_by: &Resolution<'c>,
     other: &Resolution<'c>,
@@ -139,7 +140,8 @@ fn key_for<'c>(field: &FieldInfo<'c>, resolution: &Resolution<'c>) -> Option<Fie
     None
 }
 
-// The keys that may mean a field of a name: a key without a name means a text, a tag, or all elements.
+// The keys that may mean a field of a name: a key without a name means a text, a tag, or all
+// elements.
 fn keys_for<'c>(name: &'c str) -> [FieldKey<'c>; 10]
     ensures { keys_of result ≡ keys_for name.now }
 {

@@ -48,7 +48,7 @@ pub enum Mismatch<'r, 'c, 'd> {
     },
     /// No member stands for this field, which is required.
     Missing(&'r FieldInfo<'c>),
-    /// Memory was refused.
+    /// Out of memory.
     OutOfMemory,
 }
 
@@ -78,10 +78,10 @@ impl<'r, 'c, 'd, T: Drop> From<AllocFailed<T>> for Mismatch<'r, 'c, 'd> {
 /// A member stands for the field that its key means (`Resolution::field_by_key`). One whose key
 /// means none goes to the rest, so no member is lost. Members are told by their indices.
 ///
-/// The first member that neither a field nor a catch-all takes is refused as `Unknown`. Where there
-/// is none, the first field in key order that is not well is refused: as `Repeated` where several
-/// members stand for it, and as `Missing` where it is required and none does. Refused memory is
-/// the only other error, and may come before any of these.
+/// Errors: `Unknown` for the first member that neither a field nor a catch-all takes. Where there
+/// is none, `Repeated` or `Missing` for the first field in key order that has such a fault: several
+/// members stand for it, or it is required and none does. `OutOfMemory` may come before any of
+/// these.
 ///
 /// It compares each member with each field, so it takes the product of their numbers.
 pub fn choice_to_values<'r, 'c, 'd>(

@@ -27,8 +27,8 @@ pub enum Part<'d> {
 /// The choice that the parts of an element mean.
 ///
 /// Where they are the keys of one choice the answer has its index, or the error is `Ambiguous` and
-/// lists its description, or memory was refused. An attribute never stands for an element of its
-/// name.
+/// lists its description, or it is a duplicate key of the schema, or out of memory. An attribute
+/// never stands for an element of its name.
 pub fn element_to_choice<'c>(
     alloc: Global,
     shapes: &'c Shapes,

@@ -1,5 +1,5 @@
-//! From keys to a choice: the schema of a type is built, a solver is told the keys of a document, and
-//! its end is the answer.
+//! From keys to a choice: the schema of a type is built, a solver is told the keys of a document,
+//! and its end is the answer.
 ghost use Rattle.std.specs.Prelude.{◌≡◌, ◌<◌, Some, length};
 ghost use Rattle.facet_solver.specs.Representation.{flattened};
 ghost use Rattle.facet_solver.specs.Schema.{flat_build};
@@ -64,9 +64,9 @@ impl<'c> From<AllocError> for NoChoice<'c> {
 
 /// The choice that the keys of a document mean, in a type whose enums are flattened.
 ///
-/// Where they are the keys of one choice, in whatever order, repeated, or with unknown ones among
-/// them, the answer has the index of that choice, or the error is `Ambiguous` and lists its
-/// description, or memory was refused.
+/// They may be the keys of one choice, in any order, repeated, or with unknown ones among them.
+/// Then the answer has the index of that choice, or the error is `Ambiguous` and lists its
+/// description, or it is a duplicate key of the schema, or out of memory.
 pub fn keys_to_choice<'c>(
     alloc: Global,
     shapes: &'c Shapes,
@@ -99,8 +99,8 @@ pub fn choice_in_schema<'s, 'c>(
     ensures found { FindsInSchema schema.now (keys_of keys.now) result }
     ensures verdict { IsVerdict (see_keys (keys_of keys.now) (new_solver schema.now)) result }
 {
-    // What is known of told keys, of calls, and of the schema: the clauses that the contract follows
-    // from, beside that of `finish`.
+    // What is known of told keys, of calls, and of the schema: the clauses that the contract
+    // follows from, beside that of `finish`.
     told_choices_are_found();
     calls_are_made_one_by_one();
     let _ = schema.resolutions();

@@ -1,4 +1,5 @@
-//! A configuration loader: the text under a tag names the variant, and a key that the variant does not have is an error.
+//! A configuration loader: the text under a tag is the name of the variant, and a key that the
+//! variant does not have is an error.
 ghost use Rattle.std.specs.Prelude.{◌≡◌, ◌++◌, IfOk, List, OnOk};
 ghost use Rattle.std.specs.List.{list_any};
 ghost use Rattle.facet_solver.specs.Names.{Name, name_eq, names_of};
@@ -15,7 +16,7 @@ pub enum Refused<'c, 'd> {
     UnknownVariant(Vec<&'c str>),
     /// The variant that was found has no field of this key.
     UnknownKey(FieldKey<'d>),
-    /// A field is missing, or several variants fit, or memory was refused.
+    /// A field is missing, or several variants fit, or out of memory.
     Solver(SolverError<'c>),
 }
 

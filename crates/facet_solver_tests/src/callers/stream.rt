@@ -38,7 +38,7 @@ pub enum Event<'d, 'v> {
 pub enum Refusal {
     /// No such event can stand there.
     Misplaced,
-    /// Memory was refused.
+    /// Out of memory.
     OutOfMemory,
 }
 
@@ -59,7 +59,7 @@ pub enum Unread<'c> {
     Misplaced(usize),
     /// The document has not ended.
     Unfinished,
-    /// The document fits no resolution, or several, or memory was refused.
+    /// The document fits no resolution, or several, or out of memory.
     Solver(SolverError<'c>),
 }
 
@@ -275,7 +275,7 @@ impl<'s, 'c, 'd> Model for Reader<'s, 'c, 'd> {
 impl<'s, 'c, 'd> Reader<'s, 'c, 'd> {
     /// A reader that has read nothing.
     ///
-    /// The only error is refused memory.
+    /// The only error is out of memory.
     pub fn new(alloc: Global, schema: &'s Schema<'c>) -> Result<Self, AllocError>
         ensures { IfOk result
             (λ reader. reader ≡ record { state = new_solver schema.now; place = beginning }) }
@@ -288,11 +288,11 @@ impl<'s, 'c, 'd> Reader<'s, 'c, 'd> {
     /// Reads an event.
     ///
     /// A key of the first level is seen, and one below it is probed at the path of the keys above
-    /// it. A scalar says which shapes fit at its path. What lies in a list tells nothing.
+    /// it. A scalar says which shapes fit at its path. What lies in a list is ignored.
     ///
     /// The error is `Misplaced` where no such event can stand there: first comes the begin of an
     /// object, in an object a key or its end, behind a key its value, and in a list a value or its
-    /// end. It is `OutOfMemory` where memory is refused. After an error the reader is as it was.
+    /// end. The other error is `OutOfMemory`. After an error the reader is as it was.
     pub fn event(&mut self, alloc: Global, event: Event<'d, '_>) -> Result<(), Refusal>
         ensures ok { OnOk result (self.new ≡ read event.entry self.old) }
         ensures err { OnErr result (self.new ≡ self.old) }
@@ -338,8 +338,8 @@ impl<'s, 'c, 'd> Reader<'s, 'c, 'd> {
 
     /// The resolution that the document means.
     ///
-    /// The error is `Unfinished` where the document has not ended, and else that of the solver: it
-    /// fits no resolution, or several, or memory was refused.
+    /// Errors: `Unfinished` where the document has not ended; otherwise that of the solver: it fits
+    /// no resolution, or several, or out of memory.
     pub fn finish(self, alloc: Global) -> Result<ResolutionHandle<'s, 'c>, Unread<'c>>
         ensures { Ends self.entry result }
     {
@@ -353,7 +353,8 @@ impl<'s, 'c, 'd> Reader<'s, 'c, 'd> {
 /// The resolution that the events of a document mean.
 ///
 /// The error is `Misplaced` with the index of the first event that can't stand where it comes, and
-/// else as that of `Reader::finish`. Neither it nor `Unfinished` comes for the events of a document.
+/// else as that of `Reader::finish`. Neither it nor `Unfinished` comes for the events of a
+/// document.
 #[tactic(auto, using(crate::proofs::Stream::reading_more, crate::proofs::Stream::placed_more, crate::proofs::Stream::streams_all, crate::proofs::WholeDocuments::reads_documents))]
 pub fn stream<'s, 'c>(
     alloc: Global,

@@ -46,7 +46,7 @@ pub enum ValueKind {
 /// those of one score in the order of declaration. So `Box<u8>`, which is no number's name, comes
 /// behind `u128`. Whether a number is in the range of its type is for the reader to see.
 ///
-/// An error comes only where memory is refused.
+/// The only error is out of memory.
 pub fn variants_for<'c>(
     alloc: Global,
     shapes: &'c Shapes,

@@ -7,7 +7,8 @@ use crate::solver::conditions::Test;
 use facet_solver_shape::{FieldInfo, FieldKey, Resolution, Shape, Shapes};
 use std::collections::BTreeMap;
 
-/// Whether a resolution has a field of a name whose shape has that name as its tag, and no content beside it.
+/// Whether a resolution has a field of a name whose shape has that name as its tag, and no content
+/// beside it.
 #[derive(Clone, Copy)]
 pub(crate) struct HasTagField<'c, 't> {
     pub(crate) shapes: &'c Shapes,

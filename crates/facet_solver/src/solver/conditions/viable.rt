@@ -32,8 +32,8 @@ fn is_viable(seen: &BTreeSet<FieldKey<'_>>, resolution: &Resolution<'_>) -> bool
     are_met(seen, resolution.fields())
 }
 
-// Fields rise as keys do, so most find their key where the one before them found its own: no memory is taken, and most seen
-// keys are passed once.
+// Fields rise as keys do, so most find their key where the one before them found its own: no memory
+// is taken, and most seen keys are passed once.
 fn are_met(seen: &BTreeSet<FieldKey<'_>>, fields: &BTreeMap<FieldKey<'_>, FieldInfo<'_>>) -> bool
     ensures { result
         ≡ list_all (λ e. failure.is_met (map key_of seen.now.keys) e.1) fields.now.entries }
@@ -48,8 +48,8 @@ fn are_met(seen: &BTreeSet<FieldKey<'_>>, fields: &BTreeMap<FieldKey<'_>, FieldI
     true
 }
 
-// Whether the seen keys meet a field: its own key is sought behind those that were passed before, and so is the flat key of
-// an element. Where none is there, all are asked.
+// Whether the seen keys meet a field: its own key is sought behind those that were passed before,
+// and so is the flat key of an element. Where none is there, all are asked.
 fn is_met(
     seen: &BTreeSet<FieldKey<'_>>,
     own: &mut Cursor<'_, '_>,
@@ -95,7 +95,8 @@ impl<'k, 'a> Cursor<'k, 'a> {
         }
     }
 
-    // Passes the keys before the one that is sought, up to one that matches the field, and says whether there is one.
+    // Passes the keys before the one that is sought, up to one that matches the field, and says
+    // whether there is one.
     fn finds(&mut self, sought: FieldKey<'_>, field: &FieldInfo<'_>) -> bool
         ensures found { IsTrue result
             → list_any (λ k. matches (key_of k) field.now) (left self.old) ≡ true }

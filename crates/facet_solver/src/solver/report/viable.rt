@@ -58,7 +58,8 @@ pub(crate) fn descriptions(
 
 /// The names that some but not all of the resolutions at some indices have, in byte order.
 ///
-/// Each name is sought in the schema's index once, and then asked of the resolutions in turn, up to the first that lacks it.
+/// Each name is sought in the schema's index once, and then asked of the resolutions in turn, up to
+/// the first that lacks it.
 pub(crate) fn disambiguating(
     alloc: Global,
     schema: &Schema<'_>,
