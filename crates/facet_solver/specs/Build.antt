@@ -1,5 +1,5 @@
--- What a build goes by: a catalogue, which is a list of shapes, each named by its index, and its
--- rules.
+-- What a build is given: a catalogue, which is a list of shapes, and its rules. A shape is referred
+-- to by its index.
 use Rattle.std.specs.Prelude.{ℕ, List, [], Option, Some, None, slice_get, string_bytes}
 use Rattle.std.specs.Option.{option_map_or, unwrap_or}
 use Rattle.facet_solver_shape.specs.declared.shape.Shape.{Shape}

@@ -1,4 +1,4 @@
--- What `finish` answers where a state comes to a resolution.
+-- What `finish` answers where a state ends with a resolution or lists it.
 use Rattle.std.specs.Prelude.{◌≡◌, ◌≢◌, ℕ, List, Result, Ok, Err, Some, length, map, slice_get, string_bytes}
 use Rattle.facet_solver_shape.specs.Names.{Name}
 use Rattle.facet_solver.specs.declared.error.SolverError.{SolverError}

@@ -1,4 +1,4 @@
--- The shapes that JSON says.
+-- The shapes that a JSON value stands for.
 use Rattle.std.specs.Prelude.{ℕ, Option, Some, codes, [], ◌∷◌, List, option_map}
 use Rattle.serde_json.specs.Data.{Data}
 use Rattle.serde_json.specs.Find.{get, as_str}

@@ -1,4 +1,4 @@
--- The input that JSON says.
+-- The input that a JSON value stands for.
 use Rattle.std.specs.Prelude.{ℕ, List, Option, Some, codes, map}
 use Rattle.serde_json.specs.Data.{Data, Members}
 use Rattle.serde_json.specs.Find.{get, as_str, as_array, as_object}

@@ -1,4 +1,5 @@
--- What makes a list of shapes a catalogue: what its shapes name, and the faults that they may have.
+-- What makes a list of shapes a catalogue: what its shapes refer to, and the faults that they may
+-- have.
 use Rattle.std.specs.Prelude.{◌≡◌, ℕ, ◌<◌, List, [], ◌∷◌, ◌++◌, map, ⊤, Some, slice_get, Any, ◌≤◌, ◌⊎◌, length, IsSomeAnd, codes}
 use Rattle.std.specs.Option.{option_to_list, IfSome}
 use Rattle.std.specs.List.{flat_map}

@@ -1,4 +1,4 @@
--- What one choice of variants resolves to, with no word of where its names lie.
+-- A resolution: what one choice of variants resolves to. Its names are lists of bytes.
 use Rattle.std.specs.Prelude.{if◌then◌else◌, ◌≡◌, ◌↔◌, ℕ, List, [], ◌∷◌, ◌++◌, true, Some, None, IsSome, IsSomeAnd, codes, find, map, ⊤, Option, Vec}
 use Rattle.std.specs.Option.{option_or, option_map}
 use Rattle.std.specs.Ordering.{nat_cmp}
