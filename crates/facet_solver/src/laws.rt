@@ -65,16 +65,16 @@ pub fn all_choices_are_counted()
         → ListsChoices build root cs → length cs ≡ count_of_root build root }
 {}
 
-/// `Schema::resolution_count` gives the number of resolutions of a schema of the same catalogue, root
-/// and representation, or `None` where that is 2^64 or more.
+/// `Schema::resolution_count` gives the number of resolutions of a schema of the same catalogue,
+/// root and representation, or `None` where that is 2^64 or more.
 pub fn resolutions_are_counted()
     ensures { (schema : SchemaView) (answer : Option ℕ) → IsOwnBuild schema
         → IsCountOf schema.build.catalogue schema.root schema.build.representation answer
         → answer ≡ below_2_64 (length schema.resolutions) }
 {}
 
-/// The walk of fields is made of the walks of what is flattened into them, however deep the catalogue
-/// is.
+/// The walk of fields is made of the walks of what is flattened into them, however deep the
+/// catalogue is.
 pub fn walks_follow_their_fields()
     ensures { (build : Build) → IsChecked build.catalogue
         → (fields : List Field) (place : Path) (indices : List ℕ)
@@ -96,8 +96,8 @@ pub fn effective_shapes_follow_inner_and_proxy()
         → (id : ℕ) → effective cat id ≡ go_on (effective cat) id (next_inside (slice_get cat id)) }
 {}
 
-/// The five sets of nested key paths are made of one another by the kinds of shapes, however deep the
-/// catalogue is.
+/// The five sets of nested key paths are made of one another by the kinds of shapes, however deep
+/// the catalogue is.
 pub fn nested_paths_follow_kinds()
     ensures follow { (cat : Catalogue) → IsChecked cat → FollowsKinds cat }
     ensures ends { (cat : Catalogue) → IsChecked cat → EndsByLength cat }
@@ -127,17 +127,17 @@ pub fn dom_fields_have_categories()
         → All (λ f. f.category ≢ FlatCategory) (finite.values r.fields) }
 {}
 
-/// Keys that a new solver sees one after another leave the resolutions that have every accepted key.
-/// A key is accepted where some resolution has it and all keys that were accepted before.
+/// Keys that a new solver sees one after another leave the resolutions that have every accepted
+/// key. A key is accepted where some resolution has it and all keys that were accepted before.
 pub fn accepted_keys_decide()
     ensures { (schema : SchemaView) (keys : List Key)
         → (see_keys keys (new_solver schema)).candidates
         ≡ indices_with (accepted_keys schema.resolutions keys) schema }
 {}
 
-/// The known keys are those of the keys that some resolution has. Where one resolution has all known
-/// keys that a new solver sees, exactly the resolutions are left that have them all. So that one is
-/// among them. The order of the keys does not matter.
+/// The known keys are those of the keys that some resolution has. Where one resolution has all
+/// known keys that a new solver sees, exactly the resolutions are left that have them all. So that
+/// one is among them. The order of the keys does not matter.
 pub fn known_keys_decide()
     ensures left { (schema : SchemaView) (keys : List Key) (index : ℕ) (r : Resolved)
         → HasAllKnown schema keys index r
@@ -152,16 +152,16 @@ pub fn known_keys_decide()
         ≡ (see_keys others (new_solver schema)).candidates }
 {}
 
-/// `finish` gives or lists each viable candidate. Where it alone is viable, `finish` gives its index.
-/// Where several are, its description stands among theirs, at its own place.
+/// `finish` gives or lists each viable candidate. Where it alone is viable, `finish` gives its
+/// index. Where several are, its description stands among theirs, at its own place.
 pub fn viable_candidates_are_named()
     ensures { (s : State) (index : ℕ) (r : Resolved)
         → Contains (viable s) index → slice_get s.schema.resolutions index ≡ Some r
         → EndsWithOrNames s index (description r.picks) }
 {}
 
-/// A resolution may have all known keys that a new solver sees, and each of its required fields may
-/// be matched by one of the keys. Then it is viable, and the solver ends with it or lists it.
+/// If a resolution has all known keys that a new solver sees, and one of the keys matches each of
+/// its required fields, then it is viable, and the solver ends with it or lists it.
 pub fn told_resolutions_are_found()
     ensures viable { (schema : SchemaView) (keys : List Key) (index : ℕ) (r : Resolved)
         → HasAllKnown schema keys index r → is_viable keys r ≡ true
@@ -171,8 +171,8 @@ pub fn told_resolutions_are_found()
         → EndsWithOrNames (see_keys keys (new_solver schema)) index (description r.picks) }
 {}
 
-/// A new solver of a built schema that sees the keys of one choice ends with that choice's index, or
-/// lists its description at its own place.
+/// A new solver of a built schema that sees the keys of one choice ends with that choice's index,
+/// or lists its description at its own place.
 ///
 /// The order does not matter, and keys may be repeated or unknown. Each field that the choice
 /// requires has to be matched by a told key, and no told key may be one that another choice has and
@@ -211,9 +211,9 @@ pub fn keys_mean_fields()
         → has_key key r ≡ list_any (matches key) (finite.values r.fields) }
 {}
 
-/// There are keys that leave two resolutions both viable exactly where each resolution has, for every
-/// field that the other one requires, a key that means it. Keys that both have leave both viable,
-/// where they match every field that either requires.
+/// There are keys that leave two resolutions both viable exactly where each resolution has, for
+/// every field that the other one requires, a key that means it. Keys that both have leave both
+/// viable, where they match every field that either requires.
 pub fn shared_keys_leave_both_viable()
     ensures exactly { (schema : SchemaView) (first second : ℕ) (r s : Resolved)
         → slice_get schema.resolutions first ≡ Some r
@@ -228,8 +228,8 @@ pub fn shared_keys_leave_both_viable()
         → LeavesBothViable schema keys first second }
 {}
 
-/// To see one more key is to make one more call. One more call of a run is made after the others. No
-/// key changes the schema.
+/// To see one more key is to make one more call. One more call of a run is made after the others.
+/// No key changes the schema.
 pub fn calls_are_made_one_by_one()
     ensures keys { (keys : List Key) (key : Key) (s : State)
         → see_keys (keys ++ (key ∷ [])) s ≡ see_key key (see_keys keys s) }
@@ -262,8 +262,8 @@ pub fn viable_resolutions_lack_nothing()
         → (is_viable seen r ≡ true) ↔ (missing seen r ≡ []) }
 {}
 
-/// In the flat format the names of the seen keys alone decide, of whatever kind the keys are: whether
-/// a resolution is viable, what it lacks, and which names are unknown.
+/// In the flat format the names of the seen keys alone decide, of whatever kind the keys are:
+/// whether a resolution is viable, what it lacks, and which names are unknown.
 pub fn names_decide_in_the_flat_format()
     ensures viable { (schema : SchemaView) (seen : List Key)
         → IsOwnBuild schema → schema.build.format ≡ Flat
