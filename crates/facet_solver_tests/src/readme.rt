@@ -8,7 +8,7 @@ use facet_solver::{
 };
 use std::alloc::{AllocError, Global};
 
-// The shapes of `Message`. A shape names others by index, and stands after those that it names.
+// The shapes of `Message`. A shape refers to others by index, and stands after them.
 fn shapes(alloc: Global) -> Result<Vec<Shape>, AllocError>
     ensures { IfOk result (λ shapes. length shapes.items ≡ 3) }
 {
