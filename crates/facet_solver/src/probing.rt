@@ -87,7 +87,7 @@ impl<'s, 'c> ProbingSolver<'s, 'c> {
         &self.candidates
     }
 
-    /// How many candidates are left: the answer that the last `probe_key` gave. It changes nothing.
+    /// Says how many candidates are left, as `probe_key` does. It changes nothing.
     pub fn finish(&self) -> ProbeResult<'s, 'c>
         ensures { probe_result_view result ≡ probe_result self.now }
     {
