@@ -68,6 +68,7 @@ impl Attributes<'_> {
 }
 
 impl<'t> Types<'t> {
+    /// No types yet.
     pub fn new(alloc: Global) -> Self {
         Types {
             names: Vec::new(alloc),
