@@ -3,7 +3,6 @@ ghost use Rattle.std.specs.Prelude.{◌≡◌, ◌+◌, ◌<◌, ℕ, IfOk, List
 ghost use Rattle.std.specs.List.{filter_map};
 ghost use Rattle.std.specs.Option.{option_copied};
 ghost use Rattle.facet_solver_shape.specs.Keys.{key_of};
-ghost use Rattle.facet_solver_shape.specs.Fields.{takes_any_name};
 ghost use Rattle.facet_solver_shape.specs.Names.{Name, name_eq};
 ghost use Rattle.facet_solver_shape.specs.Resolved.{Resolved};
 ghost use Rattle.facet_solver.specs.IndexEntries.{HasBound, added, category_of, entry_at, entry_in, entry_of_one, holds, is_held, named_entry, with_occurrence};
@@ -136,7 +135,7 @@ impl<'c> CategoryIndex<'c> {
             else entry_in self.old name)) }
     {
         add_named(&mut self.named, alloc, field.serialized_name, at)?;
-        if takes_any_name(field.category) {
+        if field.category.takes_any_name() {
             self.add_to_all(alloc, at)?;
         }
         Ok(())
@@ -151,16 +150,6 @@ pub(crate) fn holds(entry: Option<&Entry>, index: usize) -> bool
         Some(entry) => entry.set.contains(index),
         None => false,
     }
-}
-
-/// Whether a DOM key without a name means every field of the category.
-pub(crate) fn takes_any_name(category: FieldCategory) -> bool
-    ensures { result ≡ takes_any_name category }
-{
-    matches!(
-        category,
-        FieldCategory::Text | FieldCategory::Tag | FieldCategory::Elements
-    )
 }
 
 // Adds a resolution to the entry of a name.
@@ -307,7 +296,7 @@ impl<'c> Index<'c> {
             (Format::Dom, FieldKey::Flat(name)) => self.elements.entry_of(name),
             (Format::Dom, FieldKey::Dom(category, name)) => {
                 let entries = self.of_category(category);
-                if name.is_empty() && takes_any_name(category) {
+                if name.is_empty() && category.takes_any_name() {
                     entries.entry_of_all()
                 } else {
                     entries.entry_of(name)

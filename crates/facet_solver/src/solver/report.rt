@@ -17,7 +17,6 @@ pub(crate) mod viable;
 use crate::error::{CandidateFailure, MissingFieldInfo, SolverError};
 use crate::schema::Schema;
 use crate::set::ResolutionSet;
-use crate::solver::conditions::viable::IsViable;
 use facet_solver_shape::{FieldKey, Resolution};
 use failure::{failures_at, missing_fields};
 use names::{AnyKey, IsUnknown, names_where};

@@ -16,13 +16,26 @@ pub(crate) fn describe_picks(
     let Some((first, rest)) = picks.split_first() else {
         return String::from_str(alloc, "(no variants)");
     };
-    let mut text = String::new(alloc);
+    let mut text = String::with_capacity(alloc, room(picks))?;
     push_pick(&mut text, first)?;
     for pick in rest {
         text.push_str(" + ")?;
         push_pick(&mut text, pick)?;
     }
     Ok(text)
+}
+
+// The bytes that the text of the picks takes, so that it is allocated once; a hint alone, and so
+// with no contract: a string with less room grows.
+fn room(picks: &[VariantSelection]) -> usize {
+    let mut bytes: usize = 0;
+    for pick in picks {
+        let names = pick.enum_name.len().saturating_add(pick.variant_name.len());
+        bytes = bytes
+            .saturating_add(names)
+            .saturating_add("::".len() + " + ".len());
+    }
+    bytes
 }
 
 fn push_pick(text: &mut String, pick: &VariantSelection) -> Result<(), AllocError>

@@ -21,8 +21,8 @@ pub enum FieldCategory {
 }
 
 impl FieldCategory {
-    // Whether a DOM key without a name means every field of the category.
-    pub(crate) fn takes_any_name(self) -> bool
+    /// Whether a DOM key without a name means every field of the category.
+    pub fn takes_any_name(self) -> bool
         ensures { result ≡ takes_any_name self }
     {
         matches!(

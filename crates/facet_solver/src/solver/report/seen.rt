@@ -5,7 +5,6 @@ ghost use Rattle.facet_solver_shape.specs.Resolved.{names_view};
 ghost use Rattle.facet_solver.specs.Failure.{is_met};
 ghost use Rattle.facet_solver.specs.SeenNames.{AreSeenNames, may_match, names_for, of_category};
 
-use crate::schema::index::takes_any_name;
 use facet_solver_shape::{FieldCategory, FieldInfo, FieldKey};
 use std::alloc::{AllocError, Global};
 use std::collections::BTreeSet;
@@ -59,7 +58,7 @@ impl<'a> SeenNames<'a> {
         if names.contains(field.serialized_name) {
             return true;
         }
-        takes_any_name(field.category) && names.contains("")
+        field.category.takes_any_name() && names.contains("")
     }
 }
 

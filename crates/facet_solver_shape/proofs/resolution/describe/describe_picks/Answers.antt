@@ -11,6 +11,6 @@ returns c =
     let rest = c.in-Some.rest.now in
     c.loop-pick.invariant
     ∙ (λ i. (c.in_ok-push_pick.ensures i) ++ flat_map (λ p. codes " + " ++ pick_text (pick_view p)) (take_all c.loop-pick.pick-index rest c.loop-pick-test.false i))
-    ∙ ap (λ bs. (bs ++ pick_text (pick_view first)) ++ flat_map (λ p. codes " + " ++ pick_text (pick_view p)) rest) c.new-text.ensures.bytes
+    ∙ ap (λ bs. (bs ++ pick_text (pick_view first)) ++ flat_map (λ p. codes " + " ++ pick_text (pick_view p)) rest) c.in_ok-text.ensures.bytes
     ∙ text_of_picks first rest
     ∙ ap (λ ps. description (map pick_view ps)) (sym c.in-Some.ensures.cases.0)
