@@ -8,7 +8,7 @@ use Rattle.std.specs.Ordering.{nat_cmp}
 use Rattle.std.proofs.lemmas.Bool.Decides.{Decides-eqb}
 use Rattle.std.proofs.lemmas.Cmp.{tied_itself, nat_cmp_total}
 use Rattle.std.proofs.lemmas.List.Elements.{recursion_from_All}
-use Rattle.std.proofs.Math.Bool.{or-false, or-true}
+use Rattle.std.proofs.Math.Bool.{and-false, and-true, or-false, or-true}
 use Rattle.facet_solver_shape.specs.declared.resolution.key.FieldCategory.{FieldCategory}
 use Rattle.facet_solver_shape.specs.declared.resolution.key.FieldCategory.TheVariants.{Flat as FlatCategory, Attribute, Element, Text, Tag, Elements}
 use Rattle.facet_solver_shape.specs.Keys.{Key, category_index}
@@ -31,31 +31,11 @@ same_category c d e =
 -- what a flat key means of fields that have a category
 means_flat : (asked name : Name) (c : FieldCategory) → c ≢ FlatCategory → means None asked c name ≡ (category_eq Element c && name_eq asked name)
 means_flat asked name FlatCategory is = absurd (is refl)
-means_flat asked name Element is = swapped (name_eq asked name)
-  where
-    swapped : (b : Bool) → (b && true) ≡ b
-    swapped true = refl
-    swapped false = refl
-means_flat asked name Attribute is = dropped (name_eq asked name)
-  where
-    dropped : (b : Bool) → (b && false) ≡ false
-    dropped true = refl
-    dropped false = refl
-means_flat asked name Text is = dropped (name_eq asked name)
-  where
-    dropped : (b : Bool) → (b && false) ≡ false
-    dropped true = refl
-    dropped false = refl
-means_flat asked name Tag is = dropped (name_eq asked name)
-  where
-    dropped : (b : Bool) → (b && false) ≡ false
-    dropped true = refl
-    dropped false = refl
-means_flat asked name Elements is = dropped (name_eq asked name)
-  where
-    dropped : (b : Bool) → (b && false) ≡ false
-    dropped true = refl
-    dropped false = refl
+means_flat asked name Element is = and-true (name_eq asked name)
+means_flat asked name Attribute is = and-false (name_eq asked name)
+means_flat asked name Text is = and-false (name_eq asked name)
+means_flat asked name Tag is = and-false (name_eq asked name)
+means_flat asked name Elements is = and-false (name_eq asked name)
 
 -- and what a DOM key means of them
 means_dom : (d : FieldCategory) (asked name : Name) (c : FieldCategory) → c ≢ FlatCategory
