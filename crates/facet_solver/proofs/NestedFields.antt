@@ -1,43 +1,23 @@
 -- Fields by name: which key paths they stand for as they grow, and where they lead.
-use Rattle.std.proofs.Common.{◌≡◌, ℕ, zero, suc, ◌≤◌, ◌<◌, List, [], ◌∷◌, ◌++◌, Some, None, Bool, true, false, cond, refl, sym, ap, ◌∙◌, subst, nat_eq, slice_get, length, arith, max, Bor}
-use Rattle.std.specs.Prelude.{◌&&◌, ◌||◌, Vec, nat_lt}
-use Rattle.std.specs.BTreeMap.{BTreeMap, insert_entry, is_at}
-use Rattle.std.specs.Cmp.Lexicographic.{slice_cmp}
+use Rattle.std.proofs.Common.{◌≡◌, ℕ, zero, suc, ◌≤◌, ◌<◌, List, [], ◌∷◌, ◌++◌, Some, Bool, true, false, refl, sym, ap, ◌∙◌, subst, slice_get, length, arith, max, Bor}
+use Rattle.std.specs.Prelude.{◌&&◌, nat_lt}
 use Rattle.std.specs.FinSet as set
-use Rattle.std.specs.List.{AllByRecursion, list_any}
-use Rattle.std.specs.Map.{lookup, set_value}
-use Rattle.std.specs.Ordering.{is_eq, match_ordering, nat_cmp}
-use Rattle.std.specs.declared.alloc.Global.{Global}
-use Rattle.std.specs.declared.cmp.Ordering.{Ordering}
-use Rattle.std.specs.declared.cmp.Ordering.TheVariants.{Less, Equal, Greater}
-use Rattle.std.proofs.lemmas.Bool.{eqb-true, lt-ltb, ltb-true}
-use Rattle.std.proofs.lemmas.Map.Text.{is_eq-slice_cmp}
-use Rattle.std.proofs.lemmas.Slice.Eq.{bytes_eq-Decides}
+use Rattle.std.specs.List.{AllByRecursion}
+use Rattle.std.proofs.lemmas.Bool.{lt-ltb, ltb-true}
 use Rattle.facet_solver_shape.specs.Names.{Name}
-use Rattle.facet_solver.specs.Nested.{KeyPath, KeyPaths, Under, named, no_paths, paths_of_each}
-use Rattle.facet_solver.specs.NestedTable.{EntryLeadsTo, LeadTo, paths_by_name}
+use Rattle.facet_solver.specs.Nested.{KeyPaths, no_paths, paths_of_each}
+use Rattle.facet_solver.specs.NestedTable.{EntryLeadsTo, LeadTo}
 use Rattle.facet_solver.specs.declared.build.nested.by_name.FieldsByName.{FieldsByName}
 use Rattle.facet_solver.specs.declared.build.nested.table.Entry.{Entry}
-use Rattle.facet_solver.proofs.NestedSets.{Has, Has-left, Has-right, named-union, union_assoc, union_comm, union_swap, union_within}
+use Rattle.facet_solver.specs.NestedNames.{shapes_behind}
+use Rattle.facet_solver.specs.declared.build.nested.shapes_behind.ShapesBehind.{ShapesBehind}
+use Rattle.facet_solver.proofs.NestedSets.{union_assoc, union_comm}
 
 -- ---- the shapes behind a name
 module _ {X : Type 0} (paths : X → KeyPaths) where
   pub of_each-push : (xs : List X) (x : X) → paths_of_each paths (xs ++ x ∷ []) ≡ set.union (paths_of_each paths xs) (paths x)
   of_each-push [] x = union_comm (paths x) no_paths
   of_each-push (y ∷ xs) x = ap (λ (s : KeyPaths). set.union (paths y) s) (of_each-push xs x) ∙ union_assoc (paths y) (paths_of_each paths xs) (paths x)
-
-module _ (under : Under) (id : ℕ) where
-  in_each : (ids : List ℕ) → list_any (λ y. nat_eq y id) ids ≡ true → (q : KeyPath) → Has (under id) q → Has (paths_of_each under ids) q
-  in_each [] e q h = absurd (cc)
-  in_each (k ∷ ids) e q h = go (nat_eq k id) refl e (λ later. in_each ids later q h)
-    where
-      go : (b : Bool) → nat_eq k id ≡ b → (b || list_any (λ y. nat_eq y id) ids) ≡ true → (list_any (λ y. nat_eq y id) ids ≡ true → Has (paths_of_each under ids) q) → Has (set.union (under k) (paths_of_each under ids)) q
-      go true is e rest = Has-left (under k) (paths_of_each under ids) q (subst (λ (i : ℕ). Has (under i) q) (sym (eqb-true k id is)) h)
-      go false is e rest = Has-right (under k) (paths_of_each under ids) q (rest e)
-
-  -- a shape that is known adds nothing
-  pub of_each-known : (ids : List ℕ) → list_any (λ y. nat_eq y id) ids ≡ true → set.union (paths_of_each under ids) (under id) ≡ paths_of_each under ids
-  of_each-known ids e = union_within (paths_of_each under ids) (under id) (in_each ids e)
 
 -- ---- what all have, each has
 module _ {X : Type 0} (P : X → Type 0) where
@@ -70,7 +50,7 @@ both_of false b e f = e
 
 module _ (p q : ℕ → Bool) (also : (id : ℕ) → p id ≡ true → q id ≡ true) where
   pub leads_also : (fields : FieldsByName) → LeadTo p fields → LeadTo q fields
-  leads_also fields h = each_also _ _ (λ e. each_also _ _ also e.1.items) fields.by_name.items h
+  leads_also fields h = each_also _ _ (λ e. each_also _ _ also (shapes_behind e.1)) fields.by_name.items h
 
   pub entry_leads_also : (entry : Entry) → EntryLeadsTo p entry → EntryLeadsTo q entry
   entry_leads_also entry h = record { under = leads_also entry.under h.under; variants = each_also (LeadTo p) (LeadTo q) leads_also entry.variants.items h.variants }
@@ -80,9 +60,9 @@ unfoldable pub limit_of_shapes : List ℕ → ℕ
 limit_of_shapes [] = 0
 limit_of_shapes (id ∷ ids) = max (suc id) (limit_of_shapes ids)
 
-unfoldable pub limit_of_names : List (Bor Name × Vec ℕ Global) → ℕ
+unfoldable pub limit_of_names : List (Bor Name × ShapesBehind) → ℕ
 limit_of_names [] = 0
-limit_of_names (e ∷ es) = max (limit_of_shapes e.1.items) (limit_of_names es)
+limit_of_names (e ∷ es) = max (limit_of_shapes (shapes_behind e.1)) (limit_of_names es)
 
 pub below_limit : (ids : List ℕ) (limit : ℕ) → limit_of_shapes ids ≤ suc limit → AllByRecursion (λ id. id ≤ limit) ids
 unfolding limit_of_shapes
@@ -103,15 +83,15 @@ module _ (limit : ℕ) (passes : ℕ → Bool) where
       let below = ltb-true id limit (first_of (nat_lt id limit) (passes id) h.0) in
       omega (arith, rest, below)
 
-  pub limit-names : (es : List (Bor Name × Vec ℕ Global)) → AllByRecursion (λ e. AllByRecursion (λ t. (nat_lt t limit && passes t) ≡ true) e.1.items) es → limit_of_names es ≤ limit
+  pub limit-names : (es : List (Bor Name × ShapesBehind)) → AllByRecursion (λ e. AllByRecursion (λ t. (nat_lt t limit && passes t) ≡ true) (shapes_behind e.1)) es → limit_of_names es ≤ limit
   unfolding limit_of_names
   limit-names [] h = omega arith
   limit-names (e ∷ es) h =
-      let first = limit-shapes e.1.items h.0 in
+      let first = limit-shapes (shapes_behind e.1) h.0 in
       let rest = limit-names es h.1 in
       omega (arith, first, rest)
 
-pub limit-last : (es : List (Bor Name × Vec ℕ Global)) (e : Bor Name × Vec ℕ Global) (limit : ℕ) → limit_of_names (es ++ e ∷ []) ≤ limit → (limit_of_shapes e.1.items ≤ limit) × (limit_of_names es ≤ limit)
+pub limit-last : (es : List (Bor Name × ShapesBehind)) (e : Bor Name × ShapesBehind) (limit : ℕ) → limit_of_names (es ++ e ∷ []) ≤ limit → (limit_of_shapes (shapes_behind e.1) ≤ limit) × (limit_of_names es ≤ limit)
 unfolding limit_of_names
 limit-last [] e limit h = (omega arith, omega arith)
 limit-last (d ∷ es) e limit h =

@@ -1,12 +1,11 @@
 -- Walks over nested key paths, level by level: which paths are left, and how many.
 use Rattle.std.proofs.Common.{◌≡◌, inl, inr, ℕ, zero, suc, ◌≤◌, ◌<◌, ◌+◌, ◌-◌, ◌*◌, List, [], ◌∷◌, ◌++◌, Option, Some, None, Bool, true, false, refl, sym, ap, ◌∙◌, subst, length, map, arith, append_assoc, Bor}
-use Rattle.std.specs.Prelude.{◌&&◌, Vec, nat_lt}
+use Rattle.std.specs.Prelude.{◌&&◌, nat_lt}
 use Rattle.std.specs.Cmp.Lexicographic.{slice_cmp}
 use Rattle.std.specs.FinSet as set
 use Rattle.std.specs.List.{AllByRecursion}
 use Rattle.std.specs.List.Sorted.{IsStrictlySortedBy}
 use Rattle.std.specs.Ordering.{is_eq, nat_cmp}
-use Rattle.std.specs.declared.alloc.Global.{Global}
 use Rattle.std.specs.declared.cmp.Ordering.{Ordering}
 use Rattle.std.specs.declared.cmp.Ordering.TheVariants.{Less}
 use Rattle.std.proofs.lemmas.Bool.{ltb-true}
@@ -18,15 +17,16 @@ use Rattle.facet_solver_shape.specs.Resolved.{Resolved, with_key_path}
 use Rattle.facet_solver.specs.Nested.{KeyPath, KeyPaths, Under, named, no_paths, paths_of_each, with_paths_behind}
 use Rattle.facet_solver.specs.NestedTable.{LeadEarlier, StandFor, entry_at, is_filled, paths_by_name}
 use Rattle.facet_solver.specs.NestedLevels.{names_left, paths_of_levels}
-use Rattle.facet_solver.specs.NestedNames.{AreRising, Names, NamesLead, paths_of_names}
+use Rattle.facet_solver.specs.NestedNames.{AreRising, Names, NamesLead, paths_of_names, shapes_behind}
 use Rattle.facet_solver.specs.declared.build.nested.names_left.Level.{Level}
 use Rattle.facet_solver.specs.declared.build.nested.table.Entry.{Entry}
+use Rattle.facet_solver.specs.declared.build.nested.shapes_behind.ShapesBehind.{ShapesBehind}
 use Rattle.facet_solver.proofs.NestedFields.{below_limit, each-last, each_also, each_push, first_of, limit-last, limit-names, limit-some, limit_of_names, limit_of_shapes, paths-last, second_of}
 use Rattle.facet_solver.proofs.NestedSets.{behind-insert, Has, Has-named_from, Has-none, Has-union, insert-union, len-more, name-union, named-insert}
 
 -- a name with the shapes behind it
 abbrev Item : Type 0
-Item = Bor Name × Vec ℕ Global
+Item = Bor Name × ShapesBehind
 
 -- ---- the paths under the shapes of a table
 -- what an entry stands for, if there is one
@@ -53,8 +53,8 @@ module _ (g h : Under) (limit : ℕ) (passes : ℕ → Bool) (agree : (id : ℕ)
   names_same : (names : Names) → NamesLead (λ t. nat_lt t limit && passes t) names → paths_of_names g names ≡ paths_of_names h names
   names_same [] lead = refl
   names_same (e ∷ es) lead =
-      ap (λ (ps : KeyPaths). set.union (named e.0.now ps) (paths_of_names g es)) (each_same e.1.items lead.0)
-      ∙ ap (set.union (named e.0.now (paths_of_each h e.1.items))) (names_same es lead.1)
+      ap (λ (ps : KeyPaths). set.union (named e.0.now ps) (paths_of_names g es)) (each_same (shapes_behind e.1) lead.0)
+      ∙ ap (set.union (named e.0.now (paths_of_each h (shapes_behind e.1)))) (names_same es lead.1)
 
 module _ (entries : List (Option Entry)) (earlier : LeadEarlier entries) where
   entry_same : (id : ℕ) (g h : Under) → ((k : ℕ) → k < id → g k ≡ h k) → (o : Option Entry) → entry_at entries id ≡ o → paths_if_any g o ≡ paths_if_any h o
@@ -159,23 +159,23 @@ module _ (under : Under) where
       ∙ insert-union (named l.name.now inside) beside (l.name.now ∷ path)
 
   -- a name is gone into
-  pub gone_into : (old_levels levels : List Level) (level : Level) (old_names names : Names) (shapes : Vec ℕ Global)
-      → levels ≡ old_levels ++ level ∷ [] → old_names ≡ names_left level.beside ++ (level.name, shapes) ∷ [] → paths_of_names under names ≡ paths_of_each under shapes.items
+  pub gone_into : (old_levels levels : List Level) (level : Level) (old_names names : Names) (shapes : ShapesBehind)
+      → levels ≡ old_levels ++ level ∷ [] → old_names ≡ names_left level.beside ++ (level.name, shapes) ∷ [] → paths_of_names under names ≡ paths_of_each under (shapes_behind shapes)
       → paths_of_levels under levels (paths_of_names under names) ≡ paths_of_levels under old_levels (paths_of_names under old_names)
   gone_into old_levels levels level old_names names shapes more is inside =
       let beside = names_left level.beside in
       ap (λ (ls : List Level). paths_of_levels under ls (paths_of_names under names)) more
       ∙ levels-push old_levels level (paths_of_names under names)
       ∙ ap (λ (ps : KeyPaths). paths_of_levels under old_levels (set.union (named level.name.now ps) (paths_of_names under beside))) inside
-      ∙ ap (paths_of_levels under old_levels) (paths-last (λ (e : Item). named e.0.now (paths_of_each under e.1.items)) beside (level.name, shapes))
+      ∙ ap (paths_of_levels under old_levels) (paths-last (λ (e : Item). named e.0.now (paths_of_each under (shapes_behind e.1))) beside (level.name, shapes))
       ∙ ap (λ (ns : Names). paths_of_levels under old_levels (paths_of_names under ns)) (sym is)
 
   -- a name that leads nowhere is taken
-  pub taken : (levels : List Level) (names : Names) (e : Item) → e.1.items ≡ []
+  pub taken : (levels : List Level) (names : Names) (e : Item) → (shapes_behind e.1) ≡ []
       → paths_of_levels under levels (paths_of_names under (names ++ e ∷ [])) ≡ set.insert (paths_of_levels under levels (paths_of_names under names)) (names_of (level_names levels) ++ e.0.now ∷ [])
   taken levels names e none =
       let others = paths_of_names under names in
-      ap (paths_of_levels under levels) (sym (paths-last (λ (d : Item). named d.0.now (paths_of_each under d.1.items)) names e))
+      ap (paths_of_levels under levels) (sym (paths-last (λ (d : Item). named d.0.now (paths_of_each under (shapes_behind d.1))) names e))
       ∙ ap (λ (ids : List ℕ). paths_of_levels under levels (set.union (named e.0.now (paths_of_each under ids)) others)) none
       ∙ levels-name levels e.0.now others
 
@@ -187,8 +187,8 @@ module _ (under : Under) where
   -- a name that is absent leads no path
   no_path : (name : Name) (names : Names) → IsAbsent name names → (q : KeyPath) → Has (paths_of_names under names) (name ∷ q) → ⊥
   no_path name [] absent q h = Has-none (name ∷ q) h
-  no_path name (e ∷ es) absent q h = elim (Has-union (named e.0.now (paths_of_each under e.1.items)) (paths_of_names under es) (name ∷ q) h) [
-    | inl here ↦ (elim (Has-named_from e.0.now (paths_of_each under e.1.items) (name ∷ q) here) [
+  no_path name (e ∷ es) absent q h = elim (Has-union (named e.0.now (paths_of_each under (shapes_behind e.1))) (paths_of_names under es) (name ∷ q) h) [
+    | inl here ↦ (elim (Has-named_from e.0.now (paths_of_each under (shapes_behind e.1)) (name ∷ q) here) [
       | inl same ↦ absent.0 (sym (head_same same))
       | inr deeper ↦ absent.0 (head_same deeper.2)
     ])
@@ -247,17 +247,17 @@ pub record IsInside (entries : List (Option Entry)) (limit : ℕ) (base prefix :
   pub levels_open : AllByRecursion (IsOpen entries limit) levels
   pub less_far : limit_of_names names < limit_of_names old_names
 
-module _ (entries : List (Option Entry)) (limit : ℕ) (base old_prefix prefix : List (Bor Name)) (old_levels levels : List Level) (level : Level) (old_names names : Names) (shapes : Vec ℕ Global)
+module _ (entries : List (Option Entry)) (limit : ℕ) (base old_prefix prefix : List (Bor Name)) (old_levels levels : List Level) (level : Level) (old_names names : Names) (shapes : ShapesBehind)
     (opened : AreOpen entries limit old_names) (levels_open : AllByRecursion (IsOpen entries limit) old_levels) (is : old_names ≡ names_left level.beside ++ (level.name, shapes) ∷ []) where
-  pub is_inside : old_prefix ≡ base ++ level_names old_levels → prefix ≡ old_prefix ++ level.name ∷ [] → levels ≡ old_levels ++ level ∷ [] → 0 < length shapes.items
-      → ((top : ℕ) → AllByRecursion (λ id. id ≤ top) shapes.items → NamesLead (λ t. nat_lt t top && is_filled entries t) names) → AreRising names
+  pub is_inside : old_prefix ≡ base ++ level_names old_levels → prefix ≡ old_prefix ++ level.name ∷ [] → levels ≡ old_levels ++ level ∷ [] → 0 < length (shapes_behind shapes)
+      → ((top : ℕ) → AllByRecursion (λ id. id ≤ top) (shapes_behind shapes) → NamesLead (λ t. nat_lt t top && is_filled entries t) names) → AreRising names
       → IsInside entries limit base prefix levels old_names names
   is_inside stands pushed more some leads rise =
       let beside = names_left level.beside in
       let opened_so = subst (AreOpen entries limit) is opened in
-      let far = limit-some shapes.items some in
-      let top = limit_of_shapes shapes.items - 1 in
-      let lead = leads top (below_limit shapes.items top (omega (arith, far))) in
+      let far = limit-some (shapes_behind shapes) some in
+      let top = limit_of_shapes (shapes_behind shapes) - 1 in
+      let lead = leads top (below_limit (shapes_behind shapes) top (omega (arith, far))) in
       let lower = limit-names top (is_filled entries) names lead in
       let last = limit-last beside (level.name, shapes) (limit_of_names old_names) (subst (λ (ns : Names). limit_of_names ns ≤ limit_of_names old_names) is (omega arith)) in
       let here = last.0 in
@@ -270,7 +270,7 @@ module _ (entries : List (Option Entry)) (limit : ℕ) (base old_prefix prefix :
             ∙ ap (λ (ns : List (Bor Name)). base ++ ns) (sym (map-append (λ (l : Level). l.name) old_levels (level ∷ [])))
             ∙ ap (λ (ls : List Level). base ++ level_names ls) (sym more);
         opened = record {
-          lead = each_also _ _ (λ e. each_also _ _ (λ t h. second_of (nat_lt t top) (is_filled entries t) h) e.1.items) names lead;
+          lead = each_also _ _ (λ e. each_also _ _ (λ t h. second_of (nat_lt t top) (is_filled entries t) h) (shapes_behind e.1)) names lead;
           within = omega (arith, far, lower, here, all);
           rise = rise;
         };
@@ -303,7 +303,7 @@ module _ (entries : List (Option Entry)) (limit : ℕ) (base : List (Bor Name)) 
   -- a name that leads nowhere
   pub next_taken : (old_prefix prefix : List (Bor Name)) (old_levels levels : List Level) (old_names names : Names) (e : Item)
       → old_prefix ≡ base ++ level_names old_levels → AreOpen entries limit old_names → AllByRecursion (IsOpen entries limit) old_levels
-      → prefix ≡ old_prefix ++ e.0 ∷ [] → levels ≡ old_levels → old_names ≡ names ++ e ∷ [] → e.1.items ≡ []
+      → prefix ≡ old_prefix ++ e.0 ∷ [] → levels ≡ old_levels → old_names ≡ names ++ e ∷ [] → (shapes_behind e.1) ≡ []
       → IsNext entries limit base prefix old_levels levels old_names names
   next_taken old_prefix prefix old_levels levels old_names names e stands opened levels_open pushed same is none =
       let opened_so = subst (AreOpen entries limit) is opened in

@@ -24,10 +24,11 @@ use Rattle.facet_solver.specs.Content.{is_zero}
 use Rattle.facet_solver.specs.Nested.{KeyPaths, Entered, Under, no_paths, paths_of_each, named, through_field, through_fields_step, under_fields_step, under_kind, has_fields, if_entered, under_shape, entered_view}
 use Rattle.facet_solver.specs.FieldCount.{field_count, fields_of_kind}
 use Rattle.facet_solver.specs.NestedTable.{AreFieldsOf, AreFirstEntries, EntryLeadsTo, FieldAsks, HasMore, IsClosed, IsEntry, IsFilled, IsMade, IsMarked, IsSound, KindAsks, LeadTo, entry_at, entry_if_any, is_filled, paths_by_name, under_of}
-use Rattle.facet_solver.specs.NestedNames.{Names, NamesLead, paths_of_names}
+use Rattle.facet_solver.specs.NestedNames.{Names, NamesLead, paths_of_names, shapes_behind}
 use Rattle.facet_solver.specs.declared.build.nested.by_name.FieldsByName.{FieldsByName}
 use Rattle.facet_solver.specs.declared.build.nested.table.Earlier.{Earlier}
 use Rattle.facet_solver.specs.declared.build.nested.table.Entry.{Entry}
+use Rattle.facet_solver.specs.declared.build.nested.shapes_behind.ShapesBehind.{ShapesBehind}
 use Rattle.facet_solver.proofs.Nested.{kind_at-below, under_shape-step}
 use Rattle.facet_solver.proofs.Outcome.{get_push}
 use Rattle.facet_solver.proofs.Roles.{FieldsBelow-at, VariantsBelow-at}
@@ -104,8 +105,8 @@ more_if_ok earlier paths others old new (Ok x) are stand lead = record {
 more_if_ok earlier paths others old new (Err e) are stand lead = tt
 
 -- a name that was added with the shapes behind it
-pub one_name_more : (earlier : Earlier) (name : Bor Name) (shapes : Vec ℕ Global) (old new : Names) → new ≡ old ++ (name, shapes) ∷ []
-    → AllByRecursion (λ id. is_filled earlier.entries.now id ≡ true) shapes.items → HasMore earlier (named name.now (paths_of_each (under_of earlier) shapes.items)) old new
+pub one_name_more : (earlier : Earlier) (name : Bor Name) (shapes : ShapesBehind) (old new : Names) → new ≡ old ++ (name, shapes) ∷ []
+    → AllByRecursion (λ id. is_filled earlier.entries.now id ≡ true) (shapes_behind shapes) → HasMore earlier (named name.now (paths_of_each (under_of earlier) (shapes_behind shapes))) old new
 one_name_more earlier name shapes old new is filled = record {
   stand = ap (paths_of_names (under_of earlier)) is ∙ of_each-push _ old (name, shapes);
   lead = λ h. subst (NamesLead (is_filled earlier.entries.now)) (sym is) (each_push _ old (name, shapes) h filled);

@@ -1,10 +1,9 @@
 -- The names that a walk over nested key paths has left, level by level. Only private contracts and
 -- proofs speak of them.
 use denote.Bor.{Bor}
-use Rattle.std.specs.Prelude.{ℕ, List, [], ◌∷◌, Vec}
+use Rattle.std.specs.Prelude.{List, [], ◌∷◌}
 use Rattle.std.specs.Cow.{cow_value}
 use Rattle.std.specs.FinSet as set
-use Rattle.std.specs.declared.alloc.Global.{Global}
 use Rattle.std.specs.declared.borrow.Cow.{Cow}
 use Rattle.facet_solver_shape.specs.Names.{Name}
 use Rattle.facet_solver.specs.Nested.{KeyPaths, Under, named}
@@ -12,9 +11,10 @@ use Rattle.facet_solver.specs.NestedNames.{Names, paths_of_names}
 use Rattle.facet_solver.specs.declared.build.nested.names_left.Level.{Level}
 use Rattle.facet_solver.specs.declared.build.nested.names_left.NamesLeft.{NamesLeft}
 use Rattle.facet_solver.specs.declared.build.nested.names_left.NamesLeft.TheVariants.{OfEntry, Together}
+use Rattle.facet_solver.specs.declared.build.nested.shapes_behind.ShapesBehind.{ShapesBehind}
 
 -- a name with the shapes behind it, which are borrowed or owned
-abbrev pub shown : Bor Name × Cow (Vec ℕ Global) → Bor Name × Vec ℕ Global
+abbrev pub shown : Bor Name × Cow ShapesBehind → Bor Name × ShapesBehind
 shown e = (e.0, cow_value e.1)
 
 -- the names that are left

@@ -9,6 +9,7 @@ pub(crate) mod marks;
 pub(crate) mod names_left;
 pub(crate) mod paths;
 pub(crate) mod reached;
+pub(crate) mod shapes_behind;
 pub(crate) mod table;
 pub(crate) mod tables;
 

@@ -1,17 +1,16 @@
 //! Fields by name: what key paths go through.
 ghost use Rattle.std.specs.Prelude.{◌≡◌, [], ℕ, Bool, IfOk, IsTrue, OnOk, true};
-ghost use Rattle.std.specs.List.{AllByRecursion};
 ghost use Rattle.std.specs.List.Sorted.{IsSortedByKey, IsStrictlySortedBy-prop};
 ghost use Rattle.std.specs.FinSet as set;
 ghost use Rattle.facet_solver_shape.specs.Names.{name_ref_cmp};
-ghost use Rattle.facet_solver.specs.Nested.{Under, paths_of_each};
+ghost use Rattle.facet_solver.specs.Nested.{Under};
 ghost use Rattle.facet_solver.specs.NestedNames.{AreRising, NamesLead, paths_of_names};
 
-use facet_solver_shape::ShapeId;
+use crate::build::nested::shapes_behind::ShapesBehind;
 use std::alloc::{AllocError, Global};
 
 /// A name of regular fields, and the shapes of these fields that are entered.
-pub(crate) type NamedShapes<'c> = (&'c str, Vec<ShapeId>);
+pub(crate) type NamedShapes<'c> = (&'c str, ShapesBehind);
 
 /// Regular fields by name: behind each name the shapes of these fields that are entered, each once. The names rise. Where
 /// structs are flattened their fields are taken together, so they are no more than the fields of a catalogue, whatever key
@@ -87,12 +86,14 @@ fn joined<'c>(
     };
     for named in rest {
         if named.0 == last.0 {
-            add_missing(&mut last.1, &named.1)?;
+            last.1.add(alloc, named.1.as_slice())?;
             continue;
         }
+        last.1.drop_repeats();
         joined.push(last)?;
         last = named;
     }
+    last.1.drop_repeats();
     joined.push(last)?;
     Ok(joined)
 }
@@ -110,24 +111,7 @@ pub(crate) fn add_copies<'c>(
         → NamesLead passes fields.now.by_name.items → NamesLead passes gathered.new.items) }
 {
     for (name, shapes) in &fields.by_name {
-        gathered.push((*name, Vec::from_slice(alloc, shapes)?))?;
-    }
-    Ok(())
-}
-
-/// Adds the shapes that are not known.
-fn add_missing(known: &mut Vec<ShapeId>, shapes: &[ShapeId]) -> Result<(), AllocError>
-    ensures paths { OnOk result ((under : Under) → paths_of_each under known.new.items
-        ≡ set.union (paths_of_each under known.old.items) (paths_of_each under shapes.now)) }
-    ensures lead { OnOk result ((passes : ℕ → Bool)
-        → AllByRecursion (λ id. passes id ≡ true) known.old.items
-        → AllByRecursion (λ id. passes id ≡ true) shapes.now
-        → AllByRecursion (λ id. passes id ≡ true) known.new.items) }
-{
-    for shape in shapes {
-        if !known.contains(shape) {
-            known.push(*shape)?;
-        }
+        gathered.push((*name, shapes.copied(alloc)?))?;
     }
     Ok(())
 }

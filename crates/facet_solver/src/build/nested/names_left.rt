@@ -5,7 +5,7 @@ ghost use Rattle.facet_solver.specs.NestedLevels.{names_left, shown};
 ghost use Rattle.facet_solver.specs.NestedNames.{AreRising};
 
 use crate::build::nested::by_name::{FieldsByName, NamedShapes};
-use facet_solver_shape::ShapeId;
+use crate::build::nested::shapes_behind::ShapesBehind;
 use std::borrow::Cow;
 
 /// The names that are left of fields by name, with the shapes behind each.
@@ -35,7 +35,7 @@ impl<'t, 'c> NamesLeft<'t, 'c> {
     }
 
     /// Takes the last name, with the shapes behind it.
-    pub(crate) fn take_last(&mut self) -> Option<(&'c str, Cow<'t, Vec<ShapeId>>)>
+    pub(crate) fn take_last(&mut self) -> Option<(&'c str, Cow<'t, ShapesBehind>)>
         ensures { TakesLast shown (names_left self.old) result (names_left self.new) }
     {
         match self {

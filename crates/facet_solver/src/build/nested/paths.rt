@@ -57,7 +57,7 @@ impl<'c> NestedTable<'c> {
         loop {
             if let Some((name, shapes)) = names.take_last() {
                 prefix.push(name)?;
-                if let Some(under) = self.names_under(alloc, &shapes)? {
+                if let Some(under) = self.names_under(alloc, shapes.as_slice())? {
                     let beside = mem::replace(&mut names, under);
                     outer.push(Level { name, beside })?;
                     continue;

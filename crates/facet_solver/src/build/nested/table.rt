@@ -13,6 +13,7 @@ ghost use Rattle.facet_solver.specs.NestedTable.{AreEntries, AreFieldsOf, FieldA
 
 use crate::build::Build;
 use crate::build::nested::by_name::{FieldsByName, NamedShapes, add_copies};
+use crate::build::nested::shapes_behind::ShapesBehind;
 use crate::build::nested::{Entered, has_fields};
 use crate::build::visit::visited;
 use facet_solver_shape::{Field, Shape, ShapeId, ShapeKind, Shapes, Steps, Variant};
@@ -297,10 +298,11 @@ impl<'t, 'c> Earlier<'t, 'c> {
         if field.flattened {
             return add_copies(self.alloc, self.under(field.shape), gathered);
         }
-        let mut shapes = Vec::new(self.alloc);
-        if self.leads_on(field.shape) {
-            shapes.push(field.shape)?;
-        }
+        let shapes = if self.leads_on(field.shape) {
+            ShapesBehind::One(field.shape)
+        } else {
+            ShapesBehind::Nothing
+        };
         gathered.push((field.effective_name(), shapes))?;
         Ok(())
     }

@@ -1,12 +1,11 @@
-use Rattle.std.proofs.Common.{◌≡◌, ◌+◌, ◌∷◌, ◌++◌, [], List, ℕ, Bool, Bor, Some, true, ap, sym, ◌∙◌, subst, drop, refl, slice_get}
-use Rattle.std.specs.Prelude.{Vec}
+use Rattle.std.proofs.Common.{◌≡◌, ◌+◌, List, ℕ, Bor, Some, true, ap, sym, ◌∙◌, subst, drop, refl, slice_get}
 use Rattle.std.specs.FinSet.{union}
 use Rattle.std.specs.List.{AllByRecursion}
-use Rattle.std.specs.declared.alloc.Global.{Global}
 use Rattle.std.proofs.lemmas.Option.{slice_get-get_or}
 use Rattle.facet_solver_shape.specs.Names.{Name}
 use Rattle.facet_solver.specs.Nested.{KeyPaths, named, paths_of_each}
-use Rattle.facet_solver.specs.NestedNames.{Names, NamesLead, paths_of_names}
+use Rattle.facet_solver.specs.NestedNames.{Names, NamesLead, paths_of_names, shapes_behind}
+use Rattle.facet_solver.specs.declared.build.nested.shapes_behind.ShapesBehind.{ShapesBehind}
 use Rattle.facet_solver.proofs.NestedFields.{each_at, each_push, of_each-push}
 use Rattle.facet_solver.proofs.NestedTable.{no_more, one_more}
 use Rattle.facet_solver.proofs.build.nested.by_name.add_copies.Goals as goal
@@ -20,15 +19,15 @@ loop-name-preserved c =
     let i = c.loop-name.name-index in
     let e = c.loop-name-item.result in
     let old = c.loop-name.gathered.items in
-    let copy : Bor Name × Vec ℕ Global = (e.0, c.in_ok-from_slice.field-0) in
-    let same : copy.1.items ≡ e.1.items = c.in_ok-from_slice.ensures.items ∙ c.deref.ensures.value in
+    let copy : Bor Name × ShapesBehind = (e.0, c.in_ok-copied.field-0) in
+    let same : shapes_behind copy.1 ≡ shapes_behind e.1 = c.in_ok-copied.ensures in
     let here : slice_get names i ≡ Some e = slice_get-get_or names i e c.loop-name-test.true ∙ ap Some (sym c.loop-name-item.is) in (
       λ under.
           ap (λ (ps : KeyPaths). union ps (paths_of_names under (drop (i + 1) names)))
           (ap (paths_of_names under) c.in_ok-push.ensures.items
           ∙ of_each-push _ old copy
           ∙ ap (λ (ids : List ℕ). union (paths_of_names under old) (named e.0.now (paths_of_each under ids))) same)
-          ∙ one_more (λ (e : Bor Name × Vec ℕ Global). named e.0.now (paths_of_each under e.1.items)) names i (paths_of_names under old) e here
+          ∙ one_more (λ (e : Bor Name × ShapesBehind). named e.0.now (paths_of_each under (shapes_behind e.1))) names i (paths_of_names under old) e here
           ∙ c.loop-name.invariant.0 under,
       λ passes before lead.
           subst (NamesLead passes) (sym c.in_ok-push.ensures.items)
@@ -38,7 +37,7 @@ loop-name-preserved c =
 
 pub returns-clause-paths : goal.returns-clause-paths
 returns-clause-paths c = λ under.
-    sym (no_more (λ (e : Bor Name × Vec ℕ Global). named e.0.now (paths_of_each under e.1.items)) c.deref-name-items.result.now c.loop-name.name-index (paths_of_names under c.loop-name.gathered.items) c.loop-name-test.false)
+    sym (no_more (λ (e : Bor Name × ShapesBehind). named e.0.now (paths_of_each under (shapes_behind e.1))) c.deref-name-items.result.now c.loop-name.name-index (paths_of_names under c.loop-name.gathered.items) c.loop-name-test.false)
     ∙ c.loop-name.invariant.0 under
     ∙ ap (λ (names : Names). union (paths_of_names under c.args.gathered.now.items) (paths_of_names under names)) c.deref-name-items.ensures.value
 

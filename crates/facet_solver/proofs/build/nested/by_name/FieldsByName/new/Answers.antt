@@ -1,8 +1,7 @@
-use Rattle.std.proofs.Common.{◌∙◌, ℕ, Bor, rules}
-use Rattle.std.specs.Prelude.{Vec}
-use Rattle.std.specs.declared.alloc.Global.{Global}
+use Rattle.std.proofs.Common.{◌∙◌, Bor, rules}
 use Rattle.std.proofs.lemmas.Fn.{always_returns_same}
 use Rattle.facet_solver_shape.specs.Names.{Name}
+use Rattle.facet_solver.specs.declared.build.nested.shapes_behind.ShapesBehind.{ShapesBehind}
 use Rattle.facet_solver.proofs.NestedNames.{each_permuted, paths-permutation}
 use Rattle.facet_solver.proofs.build.nested.by_name.FieldsByName.new.Goals as goal
 
@@ -14,7 +13,7 @@ returns-then-are_rising-2-clause-lead c = λ passes lead. each_permuted _ _ _ c.
 
 pub joined-requires : goal.joined-requires
 joined-requires c =
-    c.sort_unstable_by_key.ensures.sorted (λ (e : Bor Name × Vec ℕ Global). e.0) (always_returns_same _ _ _ (λ a r q k. search rules))
+    c.sort_unstable_by_key.ensures.sorted (λ (e : Bor Name × ShapesBehind). e.0) (always_returns_same _ _ _ (λ a r q k. search rules))
 
 pub returns-clause-paths : goal.returns-clause-paths
 returns-clause-paths c = λ under. c.in_ok-by_name.ensures.paths under ∙ paths-permutation _ _ _ c.sort_unstable_by_key.ensures.permutation

@@ -1,17 +1,17 @@
-use Rattle.std.proofs.Common.{◌≡◌, [], ◌∷◌, ◌++◌, ap, sym, ◌∙◌, subst, List, ℕ, true}
-use Rattle.std.specs.Prelude.{OnOk, Vec}
+use Rattle.std.proofs.Common.{◌≡◌, [], ◌∷◌, ap, sym, ◌∙◌, subst, List, ℕ, true}
+use Rattle.std.specs.Prelude.{OnOk}
 use Rattle.std.specs.List.{AllByRecursion}
-use Rattle.std.specs.declared.alloc.Global.{Global}
 use Rattle.facet_solver_shape.specs.Names.{Name}
 use Rattle.facet_solver.specs.Nested.{KeyPaths, entered_view, has_fields, if_entered, named, paths_of_each}
 use Rattle.facet_solver.specs.Build.{kind_at}
+use Rattle.facet_solver.specs.NestedNames.{shapes_behind}
 use Rattle.facet_solver.specs.NestedTable.{HasMore, IsFilled, is_filled, under_of}
 use Rattle.facet_solver.specs.declared.build.nested.table.Earlier.{Earlier}
 use Rattle.facet_solver.proofs.NestedFields.{first_of}
 use Rattle.facet_solver.proofs.NestedSets.{union-none}
 use Rattle.facet_solver.proofs.NestedTable.{asked_where_entered, more_if_ok, one_name_more, through_flattened, through_regular, unless_leads_on, when_entered}
 use Rattle.facet_solver.proofs.build.nested.table.Earlier.add_through_field.Goals as goal
-use Rattle.facet_solver.proofs.build.nested.table.Earlier.add_through_field.Goals.{then-leads_on+in_ok-push, else-leads_on}
+use Rattle.facet_solver.proofs.build.nested.table.Earlier.add_through_field.Goals.{then-leads_on, else-leads_on}
 
 pub returns-then-field : goal.returns-then-field
 returns-then-field c =
@@ -28,7 +28,7 @@ Behind earlier id shapes =
     (paths_of_each (under_of earlier) shapes ≡ if_entered (entered_view earlier.entered) earlier.shapes.now id)
     × AllByRecursion (λ t. is_filled earlier.entries.now t ≡ true) shapes
 
-behind : (c : goal.In_ok-push-2) → Behind c.args.self c.args.field.now.shape c.if-leads_on.shapes.items
+behind : (c : goal.In_ok-push) → Behind c.args.self c.args.field.now.shape (shapes_behind c.if-leads_on.shapes)
 behind c =
     let earlier = c.args.self in
     let e = entered_view earlier.entered in
@@ -36,14 +36,13 @@ behind c =
     let f = c.args.field.now in
     let id = f.shape in
     elim c.if-leads_on.branch [
-      | then-leads_on+in_ok-push w ↦
+      | then-leads_on w ↦
           (let entered = first_of (e (kind_at cat id)) (has_fields (kind_at cat id)) (sym c.leads_on.ensures ∙ w.if-leads_on.true) in
           let asked = asked_where_entered (IsFilled earlier.entries.now) e cat f c.requires.asked entered in
-          let is : c.if-leads_on.shapes.items ≡ id ∷ [] =
-          ap (λ (v : Vec ℕ Global). v.items) w.shapes-is ∙ w.in_ok-push.ensures.items ∙ ap (λ (ids : List ℕ). ids ++ id ∷ []) c.new-shapes.ensures.items in
+          let is : shapes_behind c.if-leads_on.shapes ≡ id ∷ [] = ap shapes_behind w.shapes-is in
           subst (Behind earlier id) (sym is) (union-none (under_of earlier id) ∙ sym (when_entered e cat id entered), (asked, tt)))
       | else-leads_on w ↦
-          (let is : c.if-leads_on.shapes.items ≡ [] = ap (λ (v : Vec ℕ Global). v.items) w.shapes-is ∙ c.new-shapes.ensures.items in
+          (let is : shapes_behind c.if-leads_on.shapes ≡ [] = ap shapes_behind w.shapes-is in
           subst (Behind earlier id) (sym is) (sym (unless_leads_on e cat id c.requires.sound.checked (sym c.leads_on.ensures ∙ w.if-leads_on.false)), tt))
     ]
 
@@ -54,8 +53,8 @@ returns c =
     let cat = earlier.shapes.now in
     let f = c.args.field.now in
     let name = c.effective_name.result in
-    subst (λ (ps : KeyPaths). HasMore earlier ps c.args.gathered.now.items c.push-2.new.self.items)
+    subst (λ (ps : KeyPaths). HasMore earlier ps c.args.gathered.now.items c.push.new.self.items)
     (ap (named name.now) (behind c).0
     ∙ ap (λ (n : Name). named n (if_entered e cat f.shape)) c.effective_name.ensures
     ∙ sym (through_regular e cat f c.if-field.false))
-    (one_name_more earlier name c.if-leads_on.shapes c.args.gathered.now.items c.push-2.new.self.items c.in_ok-push-2.ensures.items (behind c).1)
+    (one_name_more earlier name c.if-leads_on.shapes c.args.gathered.now.items c.push.new.self.items c.in_ok-push.ensures.items (behind c).1)

@@ -10,16 +10,17 @@ use Rattle.facet_solver_shape.specs.Names.{Name, names_of}
 use Rattle.facet_solver_shape.specs.Resolved.{with_key_path}
 use Rattle.facet_solver.specs.Nested.{KeyPaths, Under, paths_of_each, with_paths_behind}
 use Rattle.facet_solver.specs.NestedLevels.{names_left, paths_of_levels, shown}
-use Rattle.facet_solver.specs.NestedNames.{AreRising, Names, NamesLead, paths_of_names}
+use Rattle.facet_solver.specs.NestedNames.{AreRising, Names, NamesLead, paths_of_names, shapes_behind}
 use Rattle.facet_solver.specs.NestedTable.{StandFor, is_filled, paths_by_name}
 use Rattle.facet_solver.specs.declared.build.nested.names_left.Level.{Level}
 use Rattle.facet_solver.specs.declared.build.nested.names_left.NamesLeft.{NamesLeft}
+use Rattle.facet_solver.specs.declared.build.nested.shapes_behind.ShapesBehind.{ShapesBehind}
 use Rattle.facet_solver.proofs.NestedFields.{each-last, limit_of_names}
 use Rattle.facet_solver.proofs.NestedLevels.{AreOpen, IsInside, IsNext, IsOpen, entry_paths, entry_paths-stand, gone_into, is_inside, level_names, next-added, next-smaller, next_ended, next_taken, no_levels, steps-less_far}
 use Rattle.facet_solver.proofs.NestedSets.{behind-none}
 use Rattle.facet_solver.proofs.NestedTable.{no_items}
 use Rattle.facet_solver.proofs.build.nested.table.NestedTable.add_paths.Goals as goal
-use Rattle.facet_solver.proofs.build.nested.table.NestedTable.add_paths.Goals.{in-Some+in_ok-push+in_ok-under+in_default-2+in-Owned-1, in-Some+in_ok-push+in_ok-under+in_default-2+in-Borrowed-1, in_default+in-Some-pop}
+use Rattle.facet_solver.proofs.build.nested.table.NestedTable.add_paths.Goals.{in-Some+in_ok-push+in_ok-under+in_default-2+in-Owned+in-Nothing-1, in-Some+in_ok-push+in_ok-under+in_default-2+in-Owned+in-Several-1, in-Some+in_ok-push+in_ok-under+in_default-2+in-Borrowed-1, in_default+in-Some-pop}
 
 -- what is said of an option, where it is known
 if_some : {X : Type 0} (P : X → Type 0) (o : Option X) (x : X) → o ≡ Some x → IfSome o P → P x
@@ -52,23 +53,23 @@ names_under-requires-clause-filled c =
     let filled = is_filled c.args.self.now.by_index.items in
     let rest = names_left c.take_last.new.self in
     let last = shown (c.in-Some.name, c.in-Some.shapes) in
-    let parts = each-last (λ (e : Bor Name × Vec ℕ Global). AllByRecursion (λ id. filled id ≡ true) e.1.items) rest last (subst (NamesLead filled) c.in-Some.ensures c.loop-name.invariant.2.lead) in
-    let same = c.deref-in-Some.ensures.value ∙ ap (λ (v : Vec ℕ Global). v.items) c.deref.ensures in
+    let parts = each-last (λ (e : Bor Name × ShapesBehind). AllByRecursion (λ id. filled id ≡ true) (shapes_behind e.1)) rest last (subst (NamesLead filled) c.in-Some.ensures c.loop-name.invariant.2.lead) in
+    let same = c.as_slice.ensures ∙ ap shapes_behind c.deref.ensures in
     subst (AllByRecursion (λ (id : ℕ). filled id ≡ true)) (sym same) parts.0
 
 -- a name is gone into
-module _ (c : goal.Joined-shapes-4) where
+module _ (c : goal.Joined-shapes-7) where
   abbrev level : Level
   level = record { name = c.in-Some.name; beside = c.replace-beside.result }
 
-  abbrev shapes : Vec ℕ Global
+  abbrev shapes : ShapesBehind
   shapes = cow_value c.in-Some.shapes
 
   split : names_left c.loop-name.names ≡ names_left c.replace-beside.result ++ (c.in-Some.name, shapes) ∷ []
   split = c.in-Some.ensures ∙ ap (λ (left : NamesLeft). names_left left ++ (c.in-Some.name, shapes) ∷ []) (sym c.replace-beside.ensures.value)
 
-  same_shapes : c.deref-in-Some.result.now ≡ shapes.items
-  same_shapes = c.deref-in-Some.ensures.value ∙ ap (λ (v : Vec ℕ Global). v.items) c.deref.ensures
+  same_shapes : c.as_slice.result.now ≡ shapes_behind shapes
+  same_shapes = c.as_slice.ensures ∙ ap shapes_behind c.deref.ensures
 
   same_paths : (under : Under) → StandFor under c.args.self.now.by_index.items
       → paths_of_levels under c.push-in-Some-2.new.self.items (paths_of_names under (names_left c.replace-beside.new.dest))
@@ -142,9 +143,18 @@ module _ (c : goal.After-pop-in-loop-name) where
       let before = c.loop-name in
       let now = c.match-take_last in
       elim c.match-take_last.branch [
-        | in-Some+in_ok-push+in_ok-under+in_default-2+in-Owned-1 w ↦
+        | in-Some+in_ok-push+in_ok-under+in_default-2+in-Owned+in-Nothing-1 w ↦
             (let last = shown (w.in-Some.name, w.in-Some.shapes) in
-            let shapes = w.deref-in-Some.ensures.value ∙ ap (λ (v : Vec ℕ Global). v.items) w.deref.ensures in
+            let shapes = w.as_slice.ensures ∙ ap shapes_behind w.deref.ensures in
+            next_taken entries limit base before.prefix.items now.prefix.items before.outer.items now.outer.items (names_left before.names) (names_left now.names) last
+            before.invariant.1 before.invariant.2 before.invariant.3
+            (ap (λ (path : Vec (Bor Name) Global). path.items) w.prefix-is ∙ w.in_ok-push.ensures.items)
+            (ap (λ (levels : Vec Level Global). levels.items) w.outer-is)
+            (w.in-Some.ensures ∙ ap (λ (left : NamesLeft). names_left left ++ last ∷ []) (sym w.names-is))
+            (sym shapes ∙ if_none _ w.in_ok-under.field-0 w.in_default-2.is w.in_ok-under.ensures.none))
+        | in-Some+in_ok-push+in_ok-under+in_default-2+in-Owned+in-Several-1 w ↦
+            (let last = shown (w.in-Some.name, w.in-Some.shapes) in
+            let shapes = w.as_slice.ensures ∙ ap shapes_behind w.deref.ensures in
             next_taken entries limit base before.prefix.items now.prefix.items before.outer.items now.outer.items (names_left before.names) (names_left now.names) last
             before.invariant.1 before.invariant.2 before.invariant.3
             (ap (λ (path : Vec (Bor Name) Global). path.items) w.prefix-is ∙ w.in_ok-push.ensures.items)
@@ -153,7 +163,7 @@ module _ (c : goal.After-pop-in-loop-name) where
             (sym shapes ∙ if_none _ w.in_ok-under.field-0 w.in_default-2.is w.in_ok-under.ensures.none))
         | in-Some+in_ok-push+in_ok-under+in_default-2+in-Borrowed-1 w ↦
             (let last = shown (w.in-Some.name, w.in-Some.shapes) in
-            let shapes = w.deref-in-Some.ensures.value ∙ ap (λ (v : Vec ℕ Global). v.items) w.deref.ensures in
+            let shapes = w.as_slice.ensures ∙ ap shapes_behind w.deref.ensures in
             next_taken entries limit base before.prefix.items now.prefix.items before.outer.items now.outer.items (names_left before.names) (names_left now.names) last
             before.invariant.1 before.invariant.2 before.invariant.3
             (ap (λ (path : Vec (Bor Name) Global). path.items) w.prefix-is ∙ w.in_ok-push.ensures.items)
