@@ -1,7 +1,7 @@
 -- The number of choices: it is the length of their list, it follows the fields, and a table holds it.
 use Rattle.facet_solver.specs.Build.{Build, repr_for, Catalogue, kind_of}
 use Rattle.std.proofs.Common.{◌≡◌, ℕ, zero, suc, ◌+◌, ◌*◌, List, [], ◌∷◌, ◌++◌, map, Option, Some, None, Bool, true, false, sym, refl, ap, ◌∙◌, slice_get, length, length-append, ◌⊎◌, inl, inr, ◌<◌, ◌≤◌, subst, arith, get_or, take, add-one}
-use Rattle.std.specs.Prelude.{sum_by, IsSome, if◌then◌else◌, ◌^◌, nat_lt}
+use Rattle.std.specs.Prelude.{Vec, sum_by, IsSome, if◌then◌else◌, ◌^◌, nat_lt}
 use Rattle.std.proofs.Common.{ltb-true}
 use Rattle.std.proofs.lemmas.Option.{same_Some}
 use Rattle.std.proofs.lemmas.List.Sums.{sum_by-cons}
@@ -24,6 +24,7 @@ use Rattle.std.proofs.lemmas.List.{length_push, take_all}
 use Rattle.facet_solver.specs.declared.build.count.saturating.SaturatingCount.{SaturatingCount}
 use Rattle.facet_solver.specs.Counts.{CountsTo, count_at, AreFirstCounts}
 use Rattle.std.specs.Option.{option_map_or}
+use Rattle.std.specs.declared.alloc.Global.{Global}
 use Rattle.std.proofs.lemmas.Option.{slice_get-get_or}
 use Rattle.facet_solver.specs.declared.build.count.saturating.SaturatingCount.TheVariants.{Exact}
 use Rattle.facet_solver.specs.declared.build.role.Target.{Target}
@@ -313,6 +314,15 @@ module _ (build : Build) (root : ℕ) where
   -- which is that of its shape, an enum's contents walked
   pub root-count : (s : Shape) → slice_get build.catalogue root ≡ Some s → count_of_root build root ≡ count_kind build true s.kind
   root-count s here = by_shape (Some s) here
+
+-- the choices of a root that is no enum are those at its index
+pub root_counted : (build : Build) (s : Shape) (root : ℕ) → slice_get build.catalogue root ≡ Some s → ((vs : Vec Variant Global) → s.kind ≡ Enum vs → ⊥) → count_at build root ≡ count_of_root build root
+root_counted build s root here other = at_index build s root here ∙ by_kind s.kind (is_walked (repr_for build s)) other ∙ sym (root-count build root s here)
+  where
+    by_kind : (k : ShapeKind) (walked : Bool) → ((vs : Vec Variant Global) → k ≡ Enum vs → ⊥) → count_kind build walked k ≡ count_kind build true k
+    by_kind (Enum vs) walked h = absurd (h vs refl)
+    by_kind (Struct kind fs) walked h = refl
+    by_kind _ walked h = refl
 
 -- ---- the content of a variant with an only field
 module _ (build : Build) (checked : NamesEarlier build.catalogue) where

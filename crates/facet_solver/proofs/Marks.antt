@@ -1,5 +1,5 @@
 -- Marks of shapes: more of them keep what is asked answered.
-use Rattle.std.proofs.Common.{◌≡◌, ◌<◌, ◌≤◌, ◌+◌, inl, inr, ℕ, zero, suc, List, [], ◌∷◌, Bool, Some, true, false, refl, ap, ◌∙◌, sym, subst, slice_get, length, get_or, set, length-set, arith}
+use Rattle.std.proofs.Common.{◌≡◌, ◌<◌, ◌≤◌, ◌+◌, inl, inr, ℕ, zero, suc, List, [], ◌∷◌, ◌++◌, Bool, Some, true, false, refl, ap, ◌∙◌, sym, subst, slice_get, length, get_or, set, length-set, arith}
 use Rattle.std.specs.Prelude.{replicate}
 use Rattle.std.proofs.lemmas.Bool.{cases_eq, cases_lt}
 use Rattle.std.proofs.lemmas.List.{get_or_default}
@@ -65,8 +65,25 @@ not_in_none zero id m = cc
 not_in_none (suc n) zero m = cc
 not_in_none (suc n) (suc id) m = not_in_none n id m
 
-pub among-none : (n : ℕ) (ms others : List Bool) → ms ≡ replicate n false → MarksAmong ms others
-among-none n ms others none id m = absurd (not_in_none n id (subst (λ (ms : List Bool). IsMarked ms id) none m))
+-- no mark is made
+abbrev pub NoMark : List Bool → Type 0
+NoMark ms = (id : ℕ) → IsMarked ms id → ⊥
+
+pub none_marked : (n : ℕ) (ms : List Bool) → ms ≡ replicate n false → NoMark ms
+none_marked n ms none id m = not_in_none n id (subst (λ (ms : List Bool). IsMarked ms id) none m)
+
+-- nor in a part
+pub none_before : (front back : List Bool) → NoMark (front ++ back) → NoMark front
+none_before [] back h id m = cc
+none_before (x ∷ front) back h zero m = h zero m
+none_before (x ∷ front) back h (suc id) m = none_before front back (λ i. h (suc i)) id m
+
+pub none_behind : (front back : List Bool) → NoMark (front ++ back) → NoMark back
+none_behind [] back h = h
+none_behind (x ∷ front) back h = none_behind front back (λ i. h (suc i))
+
+pub among-none : (ms others : List Bool) → NoMark ms → MarksAmong ms others
+among-none ms others none id m = absurd (none id m)
 
 -- the mark of a shape
 pub mark_at : (ms : List Bool) (i : ℕ) (b : Bool) → i < length ms → get_or ms i false ≡ b → slice_get ms i ≡ Some b

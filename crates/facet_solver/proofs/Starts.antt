@@ -7,8 +7,7 @@ use Rattle.std.specs.declared.alloc.Global.{Global}
 use Rattle.std.proofs.lemmas.Bool.{cases_lt, leb-false, leb-true}
 use Rattle.std.proofs.lemmas.List.{length_push, take_all}
 use Rattle.std.proofs.lemmas.List.Sums.{sum_by-cons, sum_by-take-le, sum_by_more}
-use Rattle.std.specs.Option.{option_map_or}
-use Rattle.std.proofs.lemmas.Option.{slice_get-get_or, slice_get_cases, slice_get_within}
+use Rattle.std.proofs.lemmas.Option.{slice_get-get_or, slice_get_within}
 use Rattle.facet_solver_shape.specs.declared.shape.Field.{Field}
 use Rattle.facet_solver_shape.specs.declared.shape.Shape.{Shape}
 use Rattle.facet_solver_shape.specs.declared.shape.ShapeKind.{ShapeKind}
@@ -22,7 +21,7 @@ use Rattle.facet_solver.specs.Counts.{CountsTo}
 use Rattle.facet_solver.specs.Listing.{Choices, choices_of_fields, choices_of_variant, choices_of_variants, indexed}
 use Rattle.facet_solver.specs.Representation.{is_walked}
 use Rattle.facet_solver.specs.Roles.{alternatives, role_of}
-use Rattle.facet_solver.specs.Starts.{AreStarts, AreStartsOf, HasStarts, HasWalkedStarts, IsLastStart, count_before, starts_at}
+use Rattle.facet_solver.specs.Starts.{AreStarts, AreStartsOf, HasStarts, HasWalkedStarts, IsLastStart, IsMoreStarts, count_before, starts_at}
 use Rattle.facet_solver.specs.declared.build.count.saturating.SaturatingCount.{SaturatingCount}
 use Rattle.facet_solver.specs.declared.build.role.Target.{Target}
 use Rattle.facet_solver.proofs.ChoiceParts.{at_variant, content_count, few_at_variant}
@@ -176,38 +175,70 @@ module _ (build : Build) (vs : List Variant) where
   pub all_starts : (n : ℕ) (starts : List ℕ) → length vs ≤ n → AreFirstStarts build vs n starts → AreStarts build vs starts
   all_starts n starts past first = record { all = omega (arith, first.all, first.within); each = first.each }
 
--- ---- a table of starts, shape by shape
-pub record AreFirstTables (build : Build) (root : ℕ) (table : List (Vec ℕ Global)) : Type 0 where
-  pub within : length table ≤ length build.catalogue
-  pub each : (id : ℕ) (starts : Vec ℕ Global) (s : Shape) → slice_get table id ≡ Some starts → slice_get build.catalogue id ≡ Some s → (id ≡ root) ⊎ (is_walked (repr_for build s) ≡ true) → AreStartsOf build s.kind starts.items
+-- ---- a table of starts, enum by enum
+pub past_end : (table : List (Vec ℕ Global)) (id : ℕ) → length table ≤ id → starts_at table id ≡ []
+past_end [] id h = refl
+past_end (t ∷ table) zero h = absurd (omega arith)
+past_end (t ∷ table) (suc id) h = past_end table id (omega arith)
+
+pub before_last : (table : List (Vec ℕ Global)) (t : Vec ℕ Global) (id : ℕ) → id < length table → starts_at (table ++ t ∷ []) id ≡ starts_at table id
+before_last [] t id h = absurd (omega arith)
+before_last (u ∷ table) t zero h = refl
+before_last (u ∷ table) t (suc id) h = before_last table t id (omega arith)
+
+at_last : (table : List (Vec ℕ Global)) (t : Vec ℕ Global) → starts_at (table ++ t ∷ []) (length table) ≡ t.items
+at_last [] t = refl
+at_last (u ∷ table) t = at_last table t
+
+pub with_none : (table : List (Vec ℕ Global)) (t : Vec ℕ Global) (id : ℕ) → t.items ≡ [] → starts_at (table ++ t ∷ []) id ≡ starts_at table id
+with_none [] t zero e = e
+with_none [] t (suc id) e = refl
+with_none (u ∷ table) t zero e = refl
+with_none (u ∷ table) t (suc id) e = with_none table t id e
+
+-- a table that only got empty entries gets one behind them
+pub pushed_at : (old table : List (Vec ℕ Global)) (t : Vec ℕ Global) (index : ℕ) → length table ≡ index → ((id : ℕ) → starts_at table id ≡ starts_at old id) → IsMoreStarts index t.items old (table ++ t ∷ [])
+pushed_at old table t index at same = record {
+  ends = let longer = length_push table t in omega (arith, longer, at);
+  earlier = λ id lt. before_last table t id (omega (arith, lt, at)) ∙ same id;
+  here = subst (λ (i : ℕ). starts_at (table ++ t ∷ []) i ≡ t.items) at (at_last table t);
+}
+
+-- the starts of those that were asked for among the first shapes
+pub record AreFirstTables (build : Build) (root n : ℕ) (table : List (Vec ℕ Global)) : Type 0 where
+  pub ends : length table ≤ n
+  pub each : (id : ℕ) (s : Shape) → id < n → slice_get build.catalogue id ≡ Some s → (id ≡ root) ⊎ (is_walked (repr_for build s) ≡ true) → AreStartsOf build s.kind (starts_at table id)
 
 module _ (build : Build) (root : ℕ) where
-  pub no_table : AreFirstTables build root []
-  no_table = record { within = omega arith; each = λ id starts s e here asked. absurd (cc) }
+  pub no_table : AreFirstTables build root 0 []
+  no_table = record { ends = omega arith; each = λ id s lt here asked. absurd (omega (arith, lt)) }
 
-  pub one_more_table : (table : List (Vec ℕ Global)) (starts : Vec ℕ Global) (s : Shape) (asked : Bool) → length table < length build.catalogue → slice_get build.catalogue (length table) ≡ Some s → AreFirstTables build root table → (length table ≡ root → asked ≡ true) → (is_walked (repr_for build s) ≡ true → asked ≡ true)
-      → (asked ≡ true → AreStartsOf build s.kind starts.items) → AreFirstTables build root (table ++ starts ∷ [])
-  one_more_table table starts s asked lt here first by_root by_walk has = record {
-    within = let longer = length_push table starts in omega (arith, longer);
-    each = λ id t r e at of. entry id t r at of (get_push table starts t id e);
-  }
-    where
-      entry : (id : ℕ) (t : Vec ℕ Global) (r : Shape) → slice_get build.catalogue id ≡ Some r → (id ≡ root) ⊎ (is_walked (repr_for build r) ≡ true) → (slice_get table id ≡ Some t) ⊎ ((id ≡ length table) × (starts ≡ t)) → AreStartsOf build r.kind t.items
-      entry id t r at of (inl before) = first.each id t r before at of
-      entry id t r at of (inr last) =
-          let same : s ≡ r = (let both : Some s ≡ Some r = sym here ∙ ap (slice_get build.catalogue) (sym last.0) ∙ at in cc) in
-          let is_asked : asked ≡ true = elim of [
-            | inl e ↦ by_root (sym last.0 ∙ e)
-            | inr e ↦ by_walk (subst (λ (u : Shape). is_walked (repr_for build u) ≡ true) (sym same) e)
-          ] in
-          subst (λ (u : Shape). AreStartsOf build u.kind t.items) same (subst (λ (u : Vec ℕ Global). AreStartsOf build s.kind u.items) last.1 (has is_asked))
+  module _ (n : ℕ) (old new : List (Vec ℕ Global)) (starts : List ℕ) (s : Shape) (asked : Bool) (here : slice_get build.catalogue n ≡ Some s) (first : AreFirstTables build root n old) where
+    pub one_more_table : IsMoreStarts n starts old new → (n ≡ root → asked ≡ true) → (is_walked (repr_for build s) ≡ true → asked ≡ true) → (asked ≡ true → AreStartsOf build s.kind starts) → AreFirstTables build root (n + 1) new
+    one_more_table more by_root by_walk has = record {
+      ends = more.ends;
+      each = λ id r lt at of. entry id r at of (cases_lt id n) lt;
+    }
+      where
+        entry : (id : ℕ) (r : Shape) → slice_get build.catalogue id ≡ Some r → (id ≡ root) ⊎ (is_walked (repr_for build r) ≡ true) → (id < n) ⊎ (n ≤ id) → id < n + 1 → AreStartsOf build r.kind (starts_at new id)
+        entry id r at of (inl before) lt = subst (AreStartsOf build r.kind) (sym (more.earlier id before)) (first.each id r before at of)
+        entry id r at of (inr past) lt =
+            let last : id ≡ n = omega (arith, past, lt) in
+            let same : s ≡ r = (let both : Some s ≡ Some r = sym here ∙ ap (slice_get build.catalogue) (sym last) ∙ at in cc) in
+            let is_asked : asked ≡ true = elim of [
+              | inl e ↦ by_root (sym last ∙ e)
+              | inr e ↦ by_walk (subst (λ (u : Shape). is_walked (repr_for build u) ≡ true) (sym same) e)
+            ] in
+            subst (λ (u : Shape). AreStartsOf build u.kind (starts_at new id)) same
+            (subst (AreStartsOf build s.kind) (sym (ap (starts_at new) last ∙ more.here)) (has is_asked))
 
-  module _ (table : List (Vec ℕ Global)) (first : AreFirstTables build root table) (all : length build.catalogue ≤ length table) where
+  -- where nothing is added there are none
+  pub none_added : (n : ℕ) (table : List (Vec ℕ Global)) → length table ≤ n → IsMoreStarts n [] table table
+  none_added n table ends = record { ends = omega (arith, ends); earlier = λ id lt. refl; here = past_end table n ends }
+
+  module _ (n : ℕ) (table : List (Vec ℕ Global)) (first : AreFirstTables build root n table) (all : length build.catalogue ≤ n) where
     asked_starts : (id : ℕ) (s : Shape) → slice_get build.catalogue id ≡ Some s → (id ≡ root) ⊎ (is_walked (repr_for build s) ≡ true) → AreStartsOf build s.kind (starts_at table id)
-    asked_starts id s here asked = elim (slice_get_cases table id).1 [
-      | inl at ↦ subst (λ (o : Option (Vec ℕ Global)). AreStartsOf build s.kind (option_map_or (λ (starts : Vec ℕ Global). starts.items) o [])) (sym at.2) (first.each id at.0 s at.2 here asked)
-      | inr past ↦ (let lt = slice_get_within build.catalogue id s here in absurd (omega (arith, lt, past.0)))
-    ]
+    asked_starts id s here asked = let lt = slice_get_within build.catalogue id s here in first.each id s (omega (arith, lt, all)) here asked
 
     pub walked_starts : HasWalkedStarts build table
     walked_starts id s here walked =

@@ -1,6 +1,6 @@
 -- Where the choices of variants begin among those of their enum, and a table of that by index.
 -- Only private contracts and proofs speak of it.
-use Rattle.std.specs.Prelude.{◌≡◌, ◌<◌, ◌≤◌, ◌^◌, ⊤, ℕ, List, [], Some, Vec, get_or, length, slice_get, take, true}
+use Rattle.std.specs.Prelude.{◌≡◌, ◌+◌, ◌<◌, ◌≤◌, ◌^◌, ⊤, ℕ, List, [], Option, Some, Vec, get_or, length, slice_get, take, true}
 use Rattle.std.specs.Option.{option_map_or}
 use Rattle.std.specs.declared.alloc.Global.{Global}
 use Rattle.facet_solver_shape.specs.declared.shape.Shape.{Shape}
@@ -26,9 +26,19 @@ abbrev pub AreStartsOf : Build → ShapeKind → List ℕ → Type 0
 AreStartsOf build (Enum variants) starts = AreStarts build variants.items starts
 AreStartsOf build _ starts = ⊤
 
+-- starts that may be absent; then there are none
+abbrev pub starts_or_none : Option (Vec ℕ Global) → List ℕ
+starts_or_none starts = option_map_or (λ (some : Vec ℕ Global). some.items) starts []
+
 -- what a table has at an index
 abbrev pub starts_at : List (Vec ℕ Global) → ℕ → List ℕ
-starts_at table id = option_map_or (λ (starts : Vec ℕ Global). starts.items) (slice_get table id) []
+starts_at table id = starts_or_none (slice_get table id)
+
+-- a table also has these starts at an index, where it ends
+pub record IsMoreStarts (index : ℕ) (starts : List ℕ) (old new : List (Vec ℕ Global)) : Type 0 where
+  pub ends : length new ≤ index + 1
+  pub earlier : (id : ℕ) → id < index → starts_at new id ≡ starts_at old id
+  pub here : starts_at new index ≡ starts
 
 -- a table has the starts of the shape at an index
 abbrev pub HasStarts : Build → List (Vec ℕ Global) → ℕ → Type 0

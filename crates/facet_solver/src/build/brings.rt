@@ -1,16 +1,17 @@
 //! What structs bring where they are flattened, found once for each struct. So a struct is not gone through again and again
 //! whose fields emit nothing that stays, however often it is flattened.
-ghost use Rattle.std.specs.Prelude.{◌≡◌, IfOk};
+ghost use Rattle.std.specs.Prelude.{◌≡◌, ◌<◌, ◌≤◌, IfOk, length};
 ghost use Rattle.facet_solver.specs.Brings as brings;
 ghost use Rattle.facet_solver.specs.Brings.{AreBrought};
-ghost use Rattle.facet_solver.specs.Build.{build_of};
+ghost use Rattle.facet_solver.specs.Build.{build_of, kind_at};
+ghost use Rattle.facet_solver.specs.Nested.{structs_alone};
 
 pub(crate) mod categories;
 
 use crate::build::Build;
 use crate::build::role::{Role, role_of};
 use categories::Categories;
-use facet_solver_shape::{Field, FieldCategory, ShapeId, ShapeKind};
+use facet_solver_shape::{Field, FieldCategory, ShapeId, ShapeKind, Shapes};
 use std::alloc::AllocError;
 
 /// What the walk of a struct's fields brings.
@@ -50,19 +51,23 @@ impl Brings {
     }
 }
 
-/// What each struct of a catalogue brings, by index.
+/// What each struct before a root brings, by index.
 #[derive(Drop)]
 pub(crate) struct BringsTable {
     by_index: Vec<Brings>,
 }
 
 impl BringsTable {
-    /// Finds them in order: the fields of a struct name earlier shapes.
-    pub(crate) fn new(build: Build<'_>) -> Result<BringsTable, AllocError>
+    /// Finds them in order: the fields of a struct name earlier shapes. The table ends with the last struct before the root,
+    /// since what a root flattens stands before it. Where there is none, it takes no memory.
+    pub(crate) fn new(build: Build<'_>, root: ShapeId) -> Result<BringsTable, AllocError>
+        requires { root < length build.shapes.now }
         ensures { IfOk result (λ table. AreBrought (build_of build.entry) table.by_index.items) }
     {
-        let mut by_index = Vec::with_capacity(build.alloc, build.shapes.len())?;
-        while let Some(shape) = build.shapes.get(ShapeId::new(by_index.len())) {
+        let end = end_of_structs(build.shapes, root);
+        let mut by_index = Vec::with_capacity(build.alloc, end)?;
+        while by_index.len() < end {
+            let shape = build.shape(ShapeId::new(by_index.len()));
             let brings = kind_brings(build, &shape.kind, &by_index);
             by_index.push(brings)?;
         }
@@ -82,6 +87,26 @@ impl BringsTable {
             ≡ brings.field_brings self.now.by_index.items (build_of build.entry) field.now }
     {
         field_brings(build, field, &self.by_index)
+    }
+}
+
+/// The index behind the last struct that stands before a root.
+fn end_of_structs(shapes: &Shapes, root: ShapeId) -> usize
+    ensures { result ≤ root }
+{
+    let mut end = root.index();
+    while end > 0 && !is_struct(shapes, ShapeId::new(end - 1)) {
+        end -= 1;
+    }
+    end
+}
+
+fn is_struct(shapes: &Shapes, id: ShapeId) -> bool
+    ensures { result ≡ structs_alone (kind_at shapes.now id) }
+{
+    match shapes.get(id) {
+        Some(shape) => matches!(shape.kind, ShapeKind::Struct { .. }),
+        None => false,
     }
 }
 

@@ -14,7 +14,7 @@ pub(crate) mod table;
 use crate::build::Build;
 use crate::build::count::saturating::SaturatingCount;
 use crate::build::count::table::{count_content, count_field, count_shape};
-use facet_solver_shape::{Field, ShapeId, Steps, Variant};
+use facet_solver_shape::{Field, ShapeId, ShapeKind, Steps, Variant};
 use std::alloc::AllocError;
 use std::marker::Model;
 
@@ -81,20 +81,18 @@ impl Counts {
         count_content(build, self.by_index.as_slice(), variant, &mut Steps::new())
     }
 
-    /// The choices of a root.
+    /// The choices of a root. An enum's are counted anew, for the contents of a root are walked; any other shape's are known.
     pub(crate) fn of_root(&self, build: Build, root: ShapeId) -> SaturatingCount
         requires has { root < length build.shapes.now }
         requires counted { AreCounts (build_of build) self.now }
         ensures { CountsTo result (count.count_of_root (build_of build.entry) root) }
     {
         let shape = build.shape(root);
-        count_shape(
-            build,
-            self.by_index.as_slice(),
-            shape,
-            true,
-            &mut Steps::new(),
-        )
+        let counts = self.by_index.as_slice();
+        match &shape.kind {
+            ShapeKind::Enum { .. } => count_shape(build, counts, shape, true, &mut Steps::new()),
+            _ => counts[root.index()],
+        }
     }
 }
 

@@ -48,7 +48,7 @@ pub(crate) fn resolutions<'c>(
         return Err(SchemaError::OutOfMemory);
     };
     let starts = Starts::new(build, root, &counts)?;
-    let brings = BringsTable::new(build)?;
+    let brings = BringsTable::new(build, root)?;
     let tables = NestedTables::new(build, root, steps)?;
     let walker = Walker {
         build,

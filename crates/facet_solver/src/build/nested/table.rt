@@ -50,7 +50,7 @@ pub(crate) struct NestedTable<'c> {
 
 impl<'c> NestedTable<'c> {
     /// Makes the entries of the marked shapes in order, as far as the marks go. Each is made from earlier ones, for what a
-    /// marked shape asks for is marked. No other shape gets an entry.
+    /// marked shape asks for is marked. No other shape gets an entry, and where none is marked the table takes no memory.
     pub(crate) fn new(
         build: Build<'c>,
         entered: Entered,
@@ -68,6 +68,11 @@ impl<'c> NestedTable<'c> {
             ≤ steps.old.visits + field_count (take (length marks.now) build.entry.shapes.now) }
         ensures no_fall { NoCountFalls steps.old steps.new }
     {
+        if !marks.contains(&true) {
+            return Ok(NestedTable {
+                by_index: Vec::new(build.alloc),
+            });
+        }
         let mut by_index = Vec::with_capacity(build.alloc, marks.len())?;
         while by_index.len() < marks.len() {
             let index = by_index.len();

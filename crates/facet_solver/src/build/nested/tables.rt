@@ -26,7 +26,8 @@ pub(crate) struct NestedTables<'c> {
 }
 
 impl<'c> NestedTables<'c> {
-    /// Makes both tables for a root. What a root leads to stands before it, and there they end.
+    /// Makes both tables for a root. What a root leads to stands before it, and there they end. Their marks and those of the
+    /// walked shapes lie in one piece of memory, side by side.
     pub(crate) fn new(
         build: Build<'c>,
         root: ShapeId,
@@ -45,13 +46,14 @@ impl<'c> NestedTables<'c> {
         ensures no_fall { NoCountFalls steps.old steps.new }
     {
         let count = root.index();
-        let mut walked = vec![in build.alloc; false; count]?;
-        let mut structs = vec![in build.alloc; false; count]?;
-        let mut apart = vec![in build.alloc; false; count]?;
-        mark_reached(build, root, &mut walked, &mut structs, &mut apart, steps);
+        let room = count.checked_mul(3).ok_or(AllocError)?;
+        let mut marks = vec![in build.alloc; false; room]?;
+        let (walked, others) = marks.split_at_mut(count);
+        let (structs, apart) = others.split_at_mut(count);
+        mark_reached(build, root, walked, structs, apart, steps);
         Ok(NestedTables {
-            structs: NestedTable::new(build, Entered::StructsAlone, &structs, steps)?,
-            contents: NestedTable::new(build, Entered::EveryKind, &apart, steps)?,
+            structs: NestedTable::new(build, Entered::StructsAlone, structs, steps)?,
+            contents: NestedTable::new(build, Entered::EveryKind, apart, steps)?,
         })
     }
 

@@ -4,8 +4,9 @@ use Rattle.facet_solver.proofs.Brings.{AreFirstBrought}
 use Rattle.facet_solver.proofs.build.brings.BringsTable.new.Given as goal
 
 -- the entries so far
-abbrev pub invariant-loop-shape : goal.invariant-loop-shape
-invariant-loop-shape l = AreFirstBrought (build_of l.build) l.by_index.items
+abbrev pub invariant-loop-build : goal.invariant-loop-build
+invariant-loop-build l =
+    AreFirstBrought (build_of l.build) l.by_index.items
 
-abbrev pub decreases-loop-shape : goal.decreases-loop-shape
-decreases-loop-shape l = length l.build.shapes.now - length l.by_index.items
+abbrev pub decreases-loop-build : goal.decreases-loop-build
+decreases-loop-build l = l.end - length l.by_index.items
