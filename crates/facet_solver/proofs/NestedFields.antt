@@ -18,7 +18,7 @@ use Rattle.facet_solver.specs.Nested.{KeyPath, KeyPaths, Under, named, no_paths,
 use Rattle.facet_solver.specs.NestedTable.{EntryLeadsTo, LeadTo, paths_by_name}
 use Rattle.facet_solver.specs.declared.build.nested.by_name.FieldsByName.{FieldsByName}
 use Rattle.facet_solver.specs.declared.build.nested.table.Entry.{Entry}
-use Rattle.facet_solver.proofs.NestedSets.{Has, Has-left, Has-right, named-union, union_assoc, union_comm, union_swap, union_within}
+use Rattle.facet_solver.proofs.NestedSets.{Has, Has-left, Has-right, named-union, union_assoc, union_comm, union_within}
 
 -- ---- the shapes behind a name
 module _ {X : Type 0} (paths : X → KeyPaths) where

@@ -152,9 +152,6 @@ pub record AreFirstStarts (build : Build) (vs : List Variant) (n : ℕ) (starts 
   pub each : (i start : ℕ) → slice_get starts i ≡ Some start → count_before build vs i < 2 ^ 64 → start ≡ count_before build vs i
 
 module _ (build : Build) (vs : List Variant) where
-  pub no_start : AreFirstStarts build vs 0 []
-  no_start = record { all = refl; within = omega arith; each = λ i start e few. absurd (cc) }
-
   pub one_more_start : (n start : ℕ) (starts : List ℕ) → n < length vs → AreFirstStarts build vs n starts → (count_before build vs n < 2 ^ 64 → start ≡ count_before build vs n) → AreFirstStarts build vs (n + 1) (starts ++ start ∷ [])
   one_more_start n start starts lt first is = record {
     all = let longer = length_push starts start in omega (arith, longer, first.all);
@@ -182,9 +179,6 @@ pub record AreFirstTables (build : Build) (root : ℕ) (table : List (Vec ℕ Gl
   pub each : (id : ℕ) (starts : Vec ℕ Global) (s : Shape) → slice_get table id ≡ Some starts → slice_get build.catalogue id ≡ Some s → (id ≡ root) ⊎ (is_walked (repr_for build s) ≡ true) → AreStartsOf build s.kind starts.items
 
 module _ (build : Build) (root : ℕ) where
-  pub no_table : AreFirstTables build root []
-  no_table = record { within = omega arith; each = λ id starts s e here asked. absurd (cc) }
-
   pub one_more_table : (table : List (Vec ℕ Global)) (starts : Vec ℕ Global) (s : Shape) (asked : Bool) → length table < length build.catalogue → slice_get build.catalogue (length table) ≡ Some s → AreFirstTables build root table → (length table ≡ root → asked ≡ true) → (is_walked (repr_for build s) ≡ true → asked ≡ true)
       → (asked ≡ true → AreStartsOf build s.kind starts.items) → AreFirstTables build root (table ++ starts ∷ [])
   one_more_table table starts s asked lt here first by_root by_walk has = record {
