@@ -1,16 +1,15 @@
 -- The choice of a rank: among products, variants and what may be absent, and by parts that are taken from the end.
 use Rattle.std.proofs.Common.{◌≡◌, ◌+◌, ◌-◌, ◌*◌, ◌/◌, ◌%◌, ◌^◌, ◌<◌, ◌≤◌, ℕ, zero, suc, List, [], ◌∷◌, ◌++◌, map, reverse, flat_map, sum_by, Some, None, Bool, true, false, ap, append-nil, append_assoc, arith, drop, get_or, length, refl, subst, sym, ◌∙◌, suc-mul, zero-mul, mul-zero, mul_comm, slice_get, get_or-append-add}
 use Rattle.std.specs.List.{AllByRecursion}
-use Rattle.std.proofs.lemmas.List.{get_or_append_left, get_or-append_right, reverse-append}
+use Rattle.std.proofs.lemmas.List.{get_or_append_left}
 use Rattle.std.proofs.lemmas.List.Concat.{flat_map-append}
-use Rattle.std.proofs.lemmas.List.Sums.{sum_by-append, sum_by-cons, get_or-le-sum_by, sum_by_push}
+use Rattle.std.proofs.lemmas.List.Sums.{sum_by-append, sum_by-cons, get_or-le-sum_by}
 use Rattle.std.proofs.lemmas.Nat.{div-add-mod', div_below, mod_below}
 use Rattle.std.proofs.lemmas.Option.{same_Some, slice_get-get_or}
 use Rattle.facet_solver_shape.specs.declared.shape.Field.{Field}
 use Rattle.facet_solver_shape.specs.declared.shape.Variant.{Variant}
 use Rattle.facet_solver_shape.specs.Catalogues.{FieldsBelow, NamesEarlier}
 use Rattle.facet_solver.specs.declared.build.choices.Part.{Part}
-use Rattle.facet_solver.specs.declared.build.choices.Part.TheVariants.{Index}
 use Rattle.facet_solver.specs.Build.{Build, repr_for}
 use Rattle.facet_solver.specs.Representation.{is_walked}
 use Rattle.facet_solver.specs.declared.build.role.Target.{Target}
@@ -394,14 +393,6 @@ module _ (build : Build) where
         stand = record { are = are.0; stand = refl };
         all = sym (append_assoc before (indices_of build p) (reverse out)) ∙ ap (λ (c : List ℕ). c ++ reverse out) rest ∙ h.all;
       }
-
-  -- fields are put in parts
-  pub fields_in : (old new : List Part) (p : Part) (out choice : List ℕ) (n : ℕ) → Adds build old new (indices_of build p) n → IsLast old p out choice → IsUnderWay build new out choice
-  fields_in old new p out choice n added h = record {
-    rest = h.before ++ indices_of build p;
-    stand = subst (λ (ps : List Part). StandFor build ps (h.before ++ indices_of build p)) (sym added.is) (stand-then build old added.added h.before (indices_of build p) h.stand added.stand);
-    all = append_assoc h.before (indices_of build p) (reverse out) ∙ h.all;
-  }
 
   -- nothing is left
   pub all_out : (parts : List Part) (out choice : List ℕ) → length parts ≡ 0 → IsUnderWay build parts out choice → reverse out ≡ choice

@@ -4,7 +4,6 @@ pub mod Count
 pub mod Content
 pub mod Roles
 pub mod WalkSteps
-pub mod Weights
 pub mod IndexSet
 pub mod Words
 pub mod Verdict

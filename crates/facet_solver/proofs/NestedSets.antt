@@ -1,5 +1,5 @@
 -- Sets of key paths: what is in them, and what a resolution with more of them is.
-use Rattle.std.proofs.Common.{◌≡◌, ◌⊎◌, inl, inr, ◌||◌, ◌+◌, cond, List, [], ◌∷◌, ◌++◌, map, refl, ap, sym, ◌∙◌, subst, append_assoc, Bool, true, false}
+use Rattle.std.proofs.Common.{◌≡◌, ◌⊎◌, inl, inr, ◌||◌, ◌+◌, cond, List, [], ◌∷◌, ◌++◌, map, refl, ap, sym, ◌∙◌, subst, Bool, true, false}
 use Rattle.std.specs.List.{list_any}
 use Rattle.std.specs.Ordering.{nat_cmp, eq_by_cmp}
 use Rattle.std.specs.Cmp.Lexicographic.{slice_cmp}
@@ -115,10 +115,6 @@ union_comm ps qs = same_paths _ _
     (λ q h. elim (Has-union ps qs q h) [ inl a ↦ Has-right qs ps q a | inr b ↦ Has-left qs ps q b ])
     (λ q h. elim (Has-union qs ps q h) [ inl a ↦ Has-right ps qs q a | inr b ↦ Has-left ps qs q b ])
 
--- two sets are added in either order
-pub union_swap : (ps qs rs : KeyPaths) → set.union (set.union ps qs) rs ≡ set.union (set.union ps rs) qs
-union_swap ps qs rs = sym (union_assoc ps qs rs) ∙ ap (λ (s : KeyPaths). set.union ps s) (union_comm qs rs) ∙ union_assoc ps rs qs
-
 -- a set that is there already adds nothing
 pub union_within : (ps qs : KeyPaths) → ((q : KeyPath) → Has qs q → Has ps q) → set.union ps qs ≡ ps
 union_within ps qs within = same_paths _ _
@@ -164,20 +160,6 @@ pub behind_prefix-none : (prefix : KeyPath) → behind_prefix prefix no_paths �
 behind_prefix-none prefix = same_paths _ _
     (λ q h. let r = Has-behind_from prefix no_paths q h in Has-none r.0 r.1)
     (λ q h. Has-none q h)
-
-behind_prefix-union : (prefix : KeyPath) (ps qs : KeyPaths) → behind_prefix prefix (set.union ps qs) ≡ set.union (behind_prefix prefix ps) (behind_prefix prefix qs)
-behind_prefix-union prefix ps qs = same_paths _ _
-    (λ q h.
-    let r = Has-behind_from prefix (set.union ps qs) q h in
-    subst (Has (set.union (behind_prefix prefix ps) (behind_prefix prefix qs))) r.2
-    (elim (Has-union ps qs r.0 r.1) [
-      | inl a ↦ Has-left (behind_prefix prefix ps) (behind_prefix prefix qs) (prefix ++ r.0) (Has-behind prefix ps r.0 a)
-      | inr b ↦ Has-right (behind_prefix prefix ps) (behind_prefix prefix qs) (prefix ++ r.0) (Has-behind prefix qs r.0 b)
-    ]))
-    (λ q h. elim (Has-union (behind_prefix prefix ps) (behind_prefix prefix qs) q h) [
-      | inl a ↦ (let r = Has-behind_from prefix ps q a in subst (Has (behind_prefix prefix (set.union ps qs))) r.2 (Has-behind prefix (set.union ps qs) r.0 (Has-left ps qs r.0 r.1)))
-      | inr b ↦ (let r = Has-behind_from prefix qs q b in subst (Has (behind_prefix prefix (set.union ps qs))) r.2 (Has-behind prefix (set.union ps qs) r.0 (Has-right ps qs r.0 r.1)))
-    ])
 
 behind_prefix-insert : (prefix : KeyPath) (ps : KeyPaths) (p : KeyPath) → behind_prefix prefix (set.insert ps p) ≡ set.insert (behind_prefix prefix ps) (prefix ++ p)
 behind_prefix-insert prefix ps p =
@@ -268,35 +250,8 @@ named-union name ps qs =
       ])
     ])
 
--- a prefix with one more name
-behind_prefix-named : (prefix : KeyPath) (name : Name) (ps : KeyPaths) → behind_prefix prefix (named name ps) ≡ set.insert (behind_prefix (prefix ++ name ∷ []) ps) (prefix ++ name ∷ [])
-behind_prefix-named prefix name ps = same_paths _ _
-    (λ q h.
-    let longer = behind_prefix (prefix ++ name ∷ []) ps in
-    let path = prefix ++ name ∷ [] in
-    let r = Has-behind_from prefix (named name ps) q h in
-    subst (Has (set.insert longer path)) r.2
-    (elim (Has-insert (behind_prefix (name ∷ []) ps) (name ∷ []) r.0 r.1) [
-      | inl same ↦ subst (λ (x : KeyPath). Has (set.insert longer path) (prefix ++ x)) (sym same) (Has-itself longer path)
-      | inr deeper ↦
-          (let s = Has-behind_from (name ∷ []) ps r.0 deeper in
-          Has-other longer path (prefix ++ r.0)
-          (subst (Has longer) (append_assoc prefix (name ∷ []) s.0 ∙ ap (λ (x : KeyPath). prefix ++ x) s.2) (Has-behind path ps s.0 s.1)))
-    ]))
-    (λ q h. elim (Has-insert (behind_prefix (prefix ++ name ∷ []) ps) (prefix ++ name ∷ []) q h) [
-      | inl same ↦ subst (Has (behind_prefix prefix (named name ps))) (sym same) (Has-behind prefix (named name ps) (name ∷ []) (Has-itself (behind_prefix (name ∷ []) ps) (name ∷ [])))
-      | inr deeper ↦
-          (let r = Has-behind_from (prefix ++ name ∷ []) ps q deeper in
-          subst (Has (behind_prefix prefix (named name ps))) (sym (append_assoc prefix (name ∷ []) r.0) ∙ r.2)
-          (Has-behind prefix (named name ps) (name ∷ r.0) (Has-other (behind_prefix (name ∷ []) ps) (name ∷ []) (name ∷ r.0) (Has-behind (name ∷ []) ps r.0 r.1))))
-    ])
-
 -- a resolution with more key paths
 module _ (r : Resolved) where
-  with_key_paths-union : (ps qs : KeyPaths) → with_key_paths r (set.union ps qs) ≡ with_key_paths (with_key_paths r ps) qs
-  unfolding with_key_paths
-  with_key_paths-union ps qs = ap (λ (s : KeyPaths). record r { key_paths = s }) (union_assoc r.key_paths ps qs)
-
   with_key_paths-none : with_key_paths r no_paths ≡ r
   unfolding with_key_paths
   with_key_paths-none = ap (λ (s : KeyPaths). record r { key_paths = s }) (union-none r.key_paths)
@@ -309,18 +264,8 @@ module _ (r : Resolved) where
     pub behind-none : with_paths_behind r prefix no_paths ≡ r
     behind-none = ap (with_key_paths r) (behind_prefix-none prefix) ∙ with_key_paths-none
 
-    pub behind-union : (ps qs : KeyPaths) → with_paths_behind r prefix (set.union ps qs) ≡ with_paths_behind (with_paths_behind r prefix ps) prefix qs
-    behind-union ps qs = ap (with_key_paths r) (behind_prefix-union prefix ps qs) ∙ with_key_paths-union (behind_prefix prefix ps) (behind_prefix prefix qs)
-
     pub behind-insert : (ps : KeyPaths) (p : KeyPath) → with_paths_behind r prefix (set.insert ps p) ≡ with_paths_behind (with_key_path r (prefix ++ p)) prefix ps
     behind-insert ps p = ap (with_key_paths r) (behind_prefix-insert prefix ps p) ∙ with_key_paths-insert (behind_prefix prefix ps) (prefix ++ p)
-
-    -- a name after what is behind it
-    pub behind-named_last : (name : Name) (ps : KeyPaths) → with_paths_behind r prefix (named name ps) ≡ with_key_path (with_paths_behind r (prefix ++ name ∷ []) ps) (prefix ++ name ∷ [])
-    unfolding with_key_paths
-    behind-named_last name ps =
-        ap (with_key_paths r) (behind_prefix-named prefix name ps)
-        ∙ ap (λ (s : KeyPaths). record r { key_paths = s }) (union-insert_last r.key_paths (behind_prefix (prefix ++ name ∷ []) ps) (prefix ++ name ∷ []))
 
 -- a name alone
 pub with-name : (r : Resolved) (name : Name) → with_key_paths r (named name no_paths) ≡ with_key_path r (name ∷ [])

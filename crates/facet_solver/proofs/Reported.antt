@@ -1,5 +1,5 @@
 -- What a report says of the number of viable candidates.
-use Rattle.std.proofs.Common.{◌≡◌, ◌<◌, ℕ, List, [], ◌∷◌, Some, length, refl, arith}
+use Rattle.std.proofs.Common.{◌≡◌, [], Some, refl}
 use Rattle.facet_solver.specs.IndexSet.{HowMany, no_index, one_index, several_indices, how_many}
 use Rattle.facet_solver.specs.Report.{NoMatchView, no_match}
 use Rattle.facet_solver.specs.State.{State}
@@ -14,8 +14,3 @@ none_viable s v is = none_of_none (viable s) (go (how_many (viable s)) is)
     go no_index e = refl
     go (one_index i) e = cc
     go several_indices e = cc
-
-more : (xs : List ℕ) → how_many xs ≡ several_indices → 1 < length xs
-more [] e = cc
-more (i ∷ []) e = cc
-more (i ∷ j ∷ rest) e = omega arith

@@ -175,10 +175,6 @@ unfoldable pub limit_of : List Field → ℕ
 limit_of [] = 0
 limit_of (f ∷ fs) = max (suc f.shape) (limit_of fs)
 
-unfoldable pub limit_of_variants : List Variant → ℕ
-limit_of_variants [] = 0
-limit_of_variants (v ∷ vs) = max (limit_of v.fields.items) (limit_of_variants vs)
-
 pub limit_of-le : (limit : ℕ) (fs : List Field) → FieldsBelow limit fs → limit_of fs ≤ limit
 unfolding limit_of
 limit_of-le limit [] h = omega arith

@@ -210,11 +210,6 @@ module _ (build : Build) (chosen : Chosen) (place : Path) (ns : List ℕ) where
             ∙ ap (λ (o : Outcome). Some (o, ns)) (take_all-nil t)
         go false alone = then-alone alone
 
-    pub inside-some : (inside : Path) → inside ≡ variant_path place chosen → is_walked (repr_for build chosen.shape) ≡ true
-        → IsSome (walk_variant build chosen place ns) → IsSome (walk_content build chosen.variant inside ns)
-    inside-some inside is_inside walked h =
-        some-effect t _ (subst (λ (e : Option (Outcome × List ℕ)). IsSome e) (then-inside inside is_inside walked) (effect-some r _ h))
-
   pub stops-chosen : (r : Resolved) (err : schema.SchemaError) → IsSome (walk_variant build chosen place ns) → ErrorOf (take_all r (emit_variant build chosen place)) err → StopsBy (effect r (walk_variant build chosen place ns)) err
   stops-chosen r err h k =
       let a = chosen-announced build chosen place ns in

@@ -1,5 +1,5 @@
 -- The loop of the walk: what lies on its stack has the effect of the whole walk.
-use Rattle.std.proofs.Common.{◌≡◌, ℕ, suc, ◌+◌, ◌<◌, ◌≤◌, List, [], ◌∷◌, ◌++◌, Option, Some, None, sym, refl, ap, ◌∙◌, subst, length, take, reverse, append_assoc, append-nil, arith, true, IsSome, slice_get, take-take, take_all, length-take}
+use Rattle.std.proofs.Common.{◌≡◌, ℕ, suc, ◌+◌, ◌<◌, ◌≤◌, List, [], ◌∷◌, ◌++◌, Option, Some, None, sym, refl, ap, ◌∙◌, subst, length, take, reverse, append_assoc, append-nil, arith, true, IsSome, take-take, take_all, length-take}
 use Rattle.std.specs.Prelude.{IfSome, IsErrAnd, OnOk, Result, Ok, Err}
 use Rattle.std.proofs.Math.Seq.{take-append_seam}
 use Rattle.std.proofs.lemmas.List.{reverse-append, take-append-le}
@@ -10,30 +10,29 @@ use Rattle.facet_solver_shape.specs.Catalogues.{FieldsBelow, KindBelow, NamesEar
 use Rattle.facet_solver_shape.specs.Resolved.{Resolved}
 use Rattle.facet_solver_shape.specs.declared.resolution.error.SchemaError.{SchemaError}
 use Rattle.facet_solver_shape.specs.declared.shape.Field.{Field}
-use Rattle.facet_solver_shape.specs.declared.shape.ShapeKind.{ShapeKind}
 use Rattle.facet_solver.specs.declared.build.nested.tables.NestedTables.{NestedTables}
 use Rattle.facet_solver.specs.declared.build.place.Chosen as code
 use Rattle.facet_solver.specs.declared.build.role.Target.{Target}
 use Rattle.facet_solver.specs.declared.build.walk.Frame.{Frame}
 use Rattle.facet_solver.specs.declared.build.walk.Further.{Further}
-use Rattle.facet_solver.specs.Build.{Build, kind_of, repr_for}
+use Rattle.facet_solver.specs.Build.{Build, repr_for}
 use Rattle.facet_solver.specs.Content.{content_of}
 use Rattle.facet_solver.specs.Emissions.{Emission}
 use Rattle.facet_solver.specs.Outcome.{Outcome, StopsBy, effect, resolved}
 use Rattle.facet_solver.specs.Place.{Path}
-use Rattle.facet_solver.specs.NestedTable.{variants_of}
 use Rattle.facet_solver.specs.Reached.{IsChosen, ServesEnum, ServesField, ServesFields}
 use Rattle.facet_solver.specs.Representation.{is_walked}
 use Rattle.facet_solver.specs.Roles.{block, role_of}
 use Rattle.facet_solver.specs.Walk.{Walked, and_then, put_before, walk_field, walk_fields, walk_fields_step}
+use Rattle.facet_solver.specs.Work.{work_of_field, work_of_fields, work_of_role, work_of_variant}
 use Rattle.facet_solver.specs.WalkFrames.{AreFrames, IsInside, IsReached, Leads, LeadsBelow, walk_frames, walk_inside}
 use Rattle.facet_solver.proofs.Outcome.{effect-then, take_all-nil}
 use Rattle.facet_solver.proofs.Listing.{block-below}
 use Rattle.facet_solver.proofs.Roles.{FieldsBelow-mono, content_of-below}
-use Rattle.facet_solver.proofs.Serving.{block_served, content_served, field_served, role_of-target, variant_served}
+use Rattle.facet_solver.proofs.Serving.{block_served, content_served, field_served, variant_served}
 use Rattle.facet_solver.proofs.Walk.{VariantsBelow-get, effect-some, first-some, some-effect, stops-and_then}
 use Rattle.facet_solver.proofs.WalkSteps.{walk-is_step}
-use Rattle.facet_solver.proofs.Weights.{content-counted, struct-counted, variant-counted, weight_of_fields, weight-first, weight-inside}
+use Rattle.facet_solver.proofs.Work.{work_of_fields-first}
 
 -- ---- one part after another
 put_before-nil : (w : Walked) → put_before [] w ≡ w
@@ -223,7 +222,7 @@ module _ (build : Build) (checked : NamesEarlier build.catalogue) (tables : Nest
               ap (λ (p : Path). effect s (and_then (walk_fields build fs.now p rest) (λ last. walk_frames build next (rest_frame ∷ outer) last))) (take_all (length next) next (omega arith))
               ∙ left-of (Some fs.now) rest (subst (λ (o : Option (Bor (List Field))). effect r (walk_field build f here ns) ≡ effect s (walk_inside build (option_copied o) next rest)) e leads)
 
-          pub some-are : IsReached build tables f.shape fs.now → AreFrames build tables (length next) (inner ∷ rest_frame ∷ outer)
+          pub some-are : IsReached build tables f.shape (work_of_field build f) fs.now → AreFrames build tables (length next) (inner ∷ rest_frame ∷ outer)
           some-are reached = (
             omega arith,
             (
@@ -232,39 +231,37 @@ module _ (build : Build) (checked : NamesEarlier build.catalogue) (tables : Nest
             ),
           )
 
--- ---- what frames weigh, by which the loop ends
+-- ---- how much there is to do for frames, by which the loop ends
 unfoldable pub work_of_frames : Build → List Frame → ℕ
 work_of_frames build [] = 0
 work_of_frames build (frame ∷ frames) =
-    (weight_of_fields build.catalogue frame.fields.now + 1) + work_of_frames build frames
+    (work_of_fields build frame.fields.now + 1) + work_of_frames build frames
 
 module _ (build : Build) (frame : Frame) (outer : List Frame) where
   pub work-over : work_of_frames build outer < work_of_frames build (frame ∷ outer)
   unfolding work_of_frames
   work-over = omega arith
 
-  module _ (f : Field) (behind : Bor (List Field)) (is : frame.fields.now ≡ f ∷ behind.now) where
-    same-work : weight_of_fields build.catalogue frame.fields.now ≡ weight_of_fields build.catalogue (f ∷ behind.now)
-    same-work = ap (weight_of_fields build.catalogue) is
+  module _ (f : Field) (behind : Bor (List Field)) (is : frame.fields.now ≡ f ∷ behind.now) (checked : NamesEarlier build.catalogue) (below : FieldsBelow (length build.catalogue) frame.fields.now) where
+    whole-work : work_of_fields build frame.fields.now ≡ 1 + work_of_field build f + work_of_fields build behind.now
+    whole-work = ap (work_of_fields build) is ∙ work_of_fields-first build checked f behind.now (subst (FieldsBelow (length build.catalogue)) is below)
 
     pub work-none : work_of_frames build (record { fields = behind; depth = frame.depth } ∷ outer) < work_of_frames build (frame ∷ outer)
     unfolding work_of_frames
-    work-none = let less = weight-first build.catalogue f behind.now in omega (arith, less, same-work)
+    work-none = omega (arith, whole-work)
 
-    pub work-some : (tables : NestedTables) (inner : Frame) → IsReached build tables f.shape inner.fields.now → work_of_frames build (inner ∷ record { fields = behind; depth = frame.depth } ∷ outer) < work_of_frames build (frame ∷ outer)
+    pub work-some : (tables : NestedTables) (inner : Frame) → IsReached build tables f.shape (work_of_field build f) inner.fields.now → work_of_frames build (inner ∷ record { fields = behind; depth = frame.depth } ∷ outer) < work_of_frames build (frame ∷ outer)
     unfolding work_of_frames
-    work-some tables inner reached =
-        let less = weight-inside build.catalogue f behind.now inner.fields.now reached.below reached.counted in
-        omega (arith, less, same-work)
+    work-some tables inner reached = omega (arith, whole-work, reached.less)
 
--- ---- what is left to walk may name more
-pub leads_below-mono : (build : Build) (tables : NestedTables) (m n : ℕ) (result : Result Further SchemaError) → m ≤ n → LeadsBelow build tables m result → LeadsBelow build tables n result
-leads_below-mono build tables m n (Err err) le h = tt
-leads_below-mono build tables m n (Ok further) le h = go (option_copied further.inside) h
+-- ---- what is left to walk may name more, and be more work
+pub leads_below-mono : (build : Build) (tables : NestedTables) (m n v w : ℕ) (result : Result Further SchemaError) → m ≤ n → v ≤ w → LeadsBelow build tables m v result → LeadsBelow build tables n w result
+leads_below-mono build tables m n v w (Err err) le more h = tt
+leads_below-mono build tables m n v w (Ok further) le more h = go (option_copied further.inside) h
   where
-    go : (o : Option (List Field)) → IfSome o (IsReached build tables m) → IfSome o (IsReached build tables n)
+    go : (o : Option (List Field)) → IfSome o (IsReached build tables m v) → IfSome o (IsReached build tables n w)
     go None h = tt
-    go (Some fs) h = record { below = FieldsBelow-mono m n fs le h.below; served = h.served; counted = h.counted }
+    go (Some fs) h = record { below = FieldsBelow-mono m n fs le h.below; served = h.served; less = omega (arith, more, h.less) }
 
 -- a place lies in itself, and in each on the way to it
 pub inside-same : (place : Path) → IsInside place place
@@ -279,28 +276,27 @@ inside-then outer middle more place inside e =
     ∙ take-append-le (length outer) middle more (length-inside outer middle inside)
     ∙ inside
 
--- ---- what a field leads to is of the catalogue
+-- ---- what a field leads to is less work
 module _ (build : Build) (checked : NamesEarlier build.catalogue) (tables : NestedTables) where
   -- the fields of a flattened struct
-  pub block-reached : (f : Field) (target : Target) (fs : List Field) → block target fs ≡ role_of build.catalogue f → ServesField build tables f → IsReached build tables f.shape fs
+  pub block-reached : (f : Field) (target : Target) (fs : List Field) → block target fs ≡ role_of build.catalogue f → ServesField build tables f → IsReached build tables f.shape (work_of_field build f) fs
   block-reached f target fs e serves = record {
     below = block-below build.catalogue checked f target fs e;
     served = block_served build tables f serves target fs e;
-    counted = struct-counted build.catalogue target.shape fs (role_of-target build.catalogue f (block target fs) e);
+    less = let whole : 2 + work_of_fields build fs ≡ work_of_field build f = ap (work_of_role (work_of_fields build) build) e in omega (arith, whole);
   }
 
   -- the content of a chosen variant, where it is walked
   pub chosen-reached : (chosen : code.Chosen) → IsChosen build.catalogue chosen → ServesEnum build tables chosen.target.shape → is_walked (repr_for build chosen.shape.now) ≡ true
-      → IsReached build tables chosen.target.shape (content_of build.catalogue chosen.variant.now).fields
+      → IsReached build tables chosen.target.shape (work_of_variant (work_of_fields build) build.catalogue chosen.variant.now) (content_of build.catalogue chosen.variant.now).fields
   chosen-reached chosen is serves walked =
       let id = chosen.target.shape in
       let v = chosen.variant.now in
       let earlier = subst (KindBelow id) is.kind (checked id chosen.shape.now is.shape).kind in
-      let found = ap (λ (k : ShapeKind). slice_get (variants_of k) chosen.index) (ap kind_of is.shape ∙ is.kind) ∙ is.variant in
       record {
         below = content_of-below build.catalogue checked id v (VariantsBelow-get id is.variants.items chosen.index v is.variant earlier);
         served = content_served build tables v (variant_served build tables chosen is serves walked);
-        counted = content-counted build.catalogue v (variant-counted build.catalogue id chosen.index v found);
+        less = omega arith;
       }
 
 -- ---- the exits of one step
@@ -318,9 +314,9 @@ pub ok-exit : {X E : Type 0} (result : Result X E) (err : E) (P : Type 0) → Is
 ok-exit (Ok x) err P h = absurd h
 ok-exit (Err e) err P h = tt
 
-pub leads_below-exit : (build : Build) (tables : NestedTables) (limit : ℕ) (result : Result Further SchemaError) (err : SchemaError) → IsErrAnd result (λ x. x ≡ err) → LeadsBelow build tables limit result
-leads_below-exit build tables limit (Ok further) err h = absurd h
-leads_below-exit build tables limit (Err e) err h = tt
+pub leads_below-exit : (build : Build) (tables : NestedTables) (limit work : ℕ) (result : Result Further SchemaError) (err : SchemaError) → IsErrAnd result (λ x. x ≡ err) → LeadsBelow build tables limit work result
+leads_below-exit build tables limit work (Ok further) err h = absurd h
+leads_below-exit build tables limit work (Err e) err h = tt
 
 -- ---- the stack as it lies: the top last
 pub stack-pushed : (items old : List Frame) (frame : Frame) → items ≡ old ++ frame ∷ [] → reverse items ≡ frame ∷ reverse old

@@ -1,8 +1,12 @@
 -- The work below fields does not depend on the levels that are left, and grows field by field.
-use Rattle.std.proofs.Common.{◌≡◌, ◌+◌, ◌<◌, ℕ, suc, List, [], ◌∷◌, ◌++◌, ap, arith, length, refl, subst, sym, ◌∙◌}
+use Rattle.std.proofs.Common.{◌≡◌, ◌+◌, ◌<◌, ◌≤◌, ℕ, suc, List, [], ◌∷◌, ◌++◌, Some, ap, arith, length, refl, slice_get, subst, sum_by, sym, ◌∙◌}
+use Rattle.std.proofs.lemmas.List.Sums.{get_or-le-sum_by}
+use Rattle.std.proofs.lemmas.Option.{get_or_from_slice_get, slice_get_within}
 use Rattle.facet_solver_shape.specs.declared.shape.Field.{Field}
+use Rattle.facet_solver_shape.specs.declared.shape.Shape.{Shape}
 use Rattle.facet_solver_shape.specs.declared.shape.Variant.{Variant}
 use Rattle.facet_solver_shape.specs.Catalogues.{FieldsBelow, NamesEarlier}
+use Rattle.facet_solver.specs.declared.build.role.Target.{Target}
 use Rattle.facet_solver.specs.Build.{Build}
 use Rattle.facet_solver.specs.Content.{content_of}
 use Rattle.facet_solver.specs.Roles.{Role, regular, block, alternatives, catch_all, leaf, role_of}
@@ -56,3 +60,19 @@ module _ (build : Build) (checked : NamesEarlier build.catalogue) where
       work_of_fields-step (fs ++ f ∷ []) b
       ∙ step-last (work_of_fields build) fs f
       ∙ ap (λ (n : ℕ). n + (1 + work_of_field build f)) (sym (work_of_fields-step fs (FieldsBelow-last (length build.catalogue) fs f b).0))
+
+  -- the first field does too
+  pub work_of_fields-first : (f : Field) (fs : List Field) → FieldsBelow (length build.catalogue) (f ∷ fs) → work_of_fields build (f ∷ fs) ≡ 1 + work_of_field build f + work_of_fields build fs
+  unfolding work_of_fields_step
+  work_of_fields-first f fs b =
+      work_of_fields-step (f ∷ fs) b
+      ∙ ap (λ (n : ℕ). 1 + work_of_field build f + n) (sym (work_of_fields-step fs b.1))
+
+-- a variant's work is a part of that of its field
+pub work_of_variant-le : (build : Build) (f : Field) (target : Target) (s : Shape) (vs : List Variant) (i : ℕ) (v : Variant) → alternatives target s vs ≡ role_of build.catalogue f → slice_get vs i ≡ Some v → work_of_variant (work_of_fields build) build.catalogue v ≤ work_of_field build f
+work_of_variant-le build f target s vs i v is at =
+    let work = work_of_variant (work_of_fields build) build.catalogue in
+    let one = get_or-le-sum_by work vs i v (slice_get_within vs i v at) in
+    let same = ap work (get_or_from_slice_get vs i v v at) in
+    let whole : 1 + sum_by work vs ≡ work_of_field build f = ap (work_of_role (work_of_fields build) build) is in
+    omega (arith, one, same, whole)

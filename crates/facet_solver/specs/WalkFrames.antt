@@ -1,6 +1,6 @@
 -- The walk as a loop: what one field leaves to walk, and the fields that lie on a stack. Only
 -- private contracts and proofs speak of it.
-use Rattle.std.specs.Prelude.{⊤, ℕ, List, [], ◌∷◌, ◌≤◌, ◌≡◌, Option, Some, None, IfOk, IfSome, MatchResult, Result, length, take}
+use Rattle.std.specs.Prelude.{⊤, ℕ, List, [], ◌∷◌, ◌<◌, ◌≤◌, ◌≡◌, Option, Some, None, IfOk, IfSome, MatchResult, Result, length, take}
 use Rattle.std.specs.Option.{option_copied}
 use Rattle.facet_solver_shape.specs.declared.shape.Field.{Field}
 use Rattle.facet_solver_shape.specs.declared.resolution.error.SchemaError.{SchemaError}
@@ -10,11 +10,11 @@ use Rattle.facet_solver.specs.declared.build.nested.tables.NestedTables.{NestedT
 use Rattle.facet_solver.specs.declared.build.walk.Frame.{Frame}
 use Rattle.facet_solver.specs.declared.build.walk.Further.{Further}
 use Rattle.facet_solver.specs.Build.{Build}
-use Rattle.facet_solver.specs.FieldCount.{field_count}
 use Rattle.facet_solver.specs.Outcome.{Outcome, StopsBy, effect}
 use Rattle.facet_solver.specs.Place.{Path}
 use Rattle.facet_solver.specs.Reached.{ServesFields}
 use Rattle.facet_solver.specs.Walk.{Walking, and_then, walk_fields}
+use Rattle.facet_solver.specs.Work.{work_of_fields}
 
 -- the walk of fields inside a field, if there are any
 abbrev pub walk_inside : Build → Option (List Field) → Path → Walking
@@ -41,17 +41,19 @@ Leads build e result place r =
 abbrev pub IsInside : Path → Path → Type 0
 IsInside outer place = take (length outer) place ≡ outer
 
--- fields of the catalogue that name shapes below a limit, with the tables that their walk asks for
-pub record IsReached (build : Build) (tables : NestedTables) (limit : ℕ) (fs : List Field) : Type 0 where
+-- fields that name shapes below a limit, with less work than an amount, and with the tables that
+-- their walk asks for
+pub record IsReached (build : Build) (tables : NestedTables) (limit work : ℕ) (fs : List Field)
+    : Type 0 where
   pub below : FieldsBelow limit fs
   pub served : ServesFields build tables fs
-  pub counted : length fs ≤ field_count build.catalogue
+  pub less : work_of_fields build fs < work
 
--- what is left to walk names shapes below a limit
-abbrev pub LeadsBelow : Build → NestedTables → ℕ → Result Further SchemaError → Type 0
-LeadsBelow build tables limit result =
+-- what is left to walk names shapes below a limit, and is less work than an amount
+abbrev pub LeadsBelow : Build → NestedTables → ℕ → ℕ → Result Further SchemaError → Type 0
+LeadsBelow build tables limit work result =
     IfOk result
-    (λ further. IfSome (option_copied further.inside) (IsReached build tables limit))
+    (λ further. IfSome (option_copied further.inside) (IsReached build tables limit work))
 
 -- frames that can be walked, each on the way to the one above it
 abbrev pub AreFrames : Build → NestedTables → ℕ → List Frame → Type 0

@@ -62,14 +62,6 @@ still_met keys others keeps (f ∷ fs) h =
     let each = and_parts (is_met keys f) (list_all (is_met keys) fs) h in
     and_from (is_met others f) (list_all (is_met others) fs) (one_still_met keys others keeps f each.0) (still_met keys others keeps fs each.1)
 
--- a field that is not met is required
-unmet_required : (keys : List Key) (f : FieldView) → is_met keys f ≡ false → f.is_required ≡ true
-unmet_required keys f h = go f.is_required h
-  where
-    go : (b : Bool) → (not b || list_any (λ key. matches key f) keys) ≡ false → b ≡ true
-    go true h = refl
-    go false h = absurd (false≢true (sym h))
-
 -- ---- keys for required fields, under way: some fields are left
 pub record UnderWay (r s : Resolved) (before keys : List Key) (rest : List FieldView) : Type 0 where
   pub of_first : has_keys before r ≡ true → has_keys keys r ≡ true
@@ -83,17 +75,6 @@ module _ (r s : Resolved) (before : List Key) where
   module _ (keys : List Key) (f : FieldView) (rest : List FieldView) (so_far : UnderWay r s before keys (f ∷ rest)) where
     own_rest : (key : Key) → list_any (matches key) rest ≡ true → has_key key r ≡ true
     own_rest key h = so_far.own key (or_right (matches key f) (list_any (matches key) rest) h)
-
-    -- a field that is met needs no key
-    pub passed : is_met keys f ≡ true → UnderWay r s before keys rest
-    passed is = record {
-      of_first = so_far.of_first;
-      of_second = so_far.of_second;
-      keeps = so_far.keeps;
-      own = own_rest;
-      required = λ h. (so_far.required h).1;
-      met = λ later keeps h. so_far.met later keeps (and_from (is_met later f) (list_all (is_met later) rest) (one_still_met keys later keeps f is) h);
-    }
 
     -- another one has a key that both have
     pub given : (key : Key) → matches key f ≡ true → has_key key s ≡ true → UnderWay r s before (keys ++ key ∷ []) rest
@@ -110,10 +91,6 @@ module _ (r s : Resolved) (before : List Key) where
               (and_from (is_met later f) (list_all (is_met later) rest)
               (or_right (not f.is_required) (list_any (λ k. matches k f) later) (keeps (λ k. matches k f) (last_any (λ k. matches k f) keys key means))) h);
         }
-
-    -- and without one the two have none for all
-    pub stopped : is_met keys f ≡ false → ¬ HasKeyFor s f → ¬ HasKeysRequiredBy r s
-    stopped unmet none all = none ((so_far.required all).0 (unmet_required keys f unmet))
 
   pub finished : (keys : List Key) → UnderWay r s before keys [] → MeetsMore r s before keys
   finished keys done = record {

@@ -1,5 +1,5 @@
 //! The choice of a rank among those of a root, as a list of indices.
-ghost use Rattle.std.specs.Prelude.{◌≡◌, ◌+◌, ◌<◌, ◌≤◌, ◌∷◌, Some, length, slice_get, sum_by, true, [], IfOk, OnOk, ◌++◌};
+ghost use Rattle.std.specs.Prelude.{◌≡◌, ◌+◌, ◌<◌, ◌≤◌, ◌∷◌, Some, length, slice_get, true, [], IfOk, OnOk, ◌++◌};
 ghost use Rattle.facet_solver_shape.specs.Catalogues.{FieldsBelow, VariantsBelow};
 ghost use Rattle.facet_solver.specs.Build.{build_of};
 ghost use Rattle.facet_solver.specs.ChoiceParts.{Adds, IsRank, StandFor, choice_at, presence, present_rank};
@@ -69,8 +69,9 @@ fn push_root<'c>(
     requires starts { HasStarts (build_of walker.now.build) walker.now.starts.by_index.items root }
     requires rank { IsRank rank (count.count_of_root (build_of walker.now.build) root) }
     requires nothing { parts.old.items ≡ [] }
-    ensures { let choices = listing.choices_of_root (build_of walker.now.build) root in
-        OnOk result (StandFor (build_of walker.now.build) parts.new.items (choice_at choices rank)) }
+    ensures { let build = build_of walker.now.build in
+        let choice = choice_at (listing.choices_of_root build root) rank in
+        OnOk result (StandFor build parts.new.items choice) }
 {
     let shape = walker.build.shape(root);
     match &shape.kind {

@@ -8,9 +8,10 @@ ghost use Rattle.facet_solver.specs.Build.{build_of};
 ghost use Rattle.facet_solver.specs.Place.{chosen_of};
 ghost use Rattle.facet_solver.specs.Walk as walk;
 ghost use Rattle.facet_solver.specs.Walk.{Walking};
-ghost use Rattle.facet_solver.specs.WalkFrames.{IsReached, IsInside, Leads, LeadsBelow};
+ghost use Rattle.facet_solver.specs.WalkFrames.{IsInside, Leads, LeadsBelow};
 ghost use Rattle.facet_solver.specs.Counts.{IsReady};
-ghost use Rattle.facet_solver.specs.Reached.{IsChosen, ServesEnum, ServesField, ServesFields, ServesVariant};
+ghost use Rattle.facet_solver.specs.Reached.{IsChosen, ServesEnum, ServesField, ServesFields};
+ghost use Rattle.facet_solver.specs.Work.{work_of_field, work_of_fields, work_of_variant};
 
 use crate::build::brings::Brings;
 use crate::build::catch_alls::set_catch_alls;
@@ -145,8 +146,8 @@ fn walk_field<'c, 'n>(
         Leads (build_of walker.now.build) (effect resolution.old walked) result
         place.new resolution.new }
     ensures place { OnOk result (IsInside place.old place.new) }
-    ensures inside { LeadsBelow (build_of walker.now.build) walker.now.tables
-        field.now.shape result }
+    ensures inside { let build = build_of walker.now.build in
+        LeadsBelow build walker.now.tables field.now.shape (work_of_field build field.now) result }
 {
     let role = role_of(walker.build.shapes, field);
     let (is_present, indices) = presence(role.may_be_absent(), indices);
@@ -209,8 +210,9 @@ fn walk_variant<'c, 'n>(
         Leads (build_of walker.now.build) (effect resolution.old walked) result
         place.new resolution.new }
     ensures place { OnOk result (IsInside place.old place.new) }
-    ensures inside { LeadsBelow (build_of walker.now.build) walker.now.tables
-        chosen.now.target.shape result }
+    ensures inside { let build = build_of walker.now.build in
+        LeadsBelow build walker.now.tables chosen.now.target.shape
+        (work_of_variant (work_of_fields build) build.catalogue chosen.now.variant.now) result }
 {
     emit_variant(walker, chosen, place, resolution)?;
     if chosen.variant.fields.is_empty() || !walker.build.walks_content(chosen.shape) {

@@ -5,7 +5,6 @@ ghost use Rattle.facet_solver.specs.KeyResult.{HoldsHandleOf, key_result_view};
 ghost use Rattle.facet_solver.specs.Probe as probe;
 ghost use Rattle.facet_solver.specs.Probe.{probe_result};
 
-use crate::schema::Schema;
 use crate::schema::handle::ResolutionHandle;
 use crate::set::Matches;
 use crate::solver::Solver;

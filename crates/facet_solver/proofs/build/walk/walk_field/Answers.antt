@@ -6,6 +6,7 @@ use Rattle.facet_solver.specs.Outcome.{effect}
 use Rattle.facet_solver.specs.Place.{Path}
 use Rattle.facet_solver.specs.Roles.{alternatives, block, may_be_absent, role_of, role_view}
 use Rattle.facet_solver.specs.Walk.{Walked, walk_fields}
+use Rattle.facet_solver.specs.Work.{work_of_field}
 use Rattle.facet_solver.proofs.CatchAlls.{fields_walked, struct-alone}
 use Rattle.facet_solver.proofs.Listing.{block-below}
 use Rattle.facet_solver.proofs.Outcome.{take_all-nil}
@@ -13,6 +14,7 @@ use Rattle.facet_solver.proofs.Roles.{FieldsBelow-mono, plain_role, target_in_ha
 use Rattle.facet_solver.proofs.Serving.{enum_served, role_of-target}
 use Rattle.facet_solver.proofs.Walk.{at-alternatives, at-block, at-plain, by_presence, choose-is, emit-done, has_choice, has_presence, stops-emit, when-absent, when-present}
 use Rattle.facet_solver.proofs.WalkFrames.{block-reached, inside-append, inside-same, leads-exit, leads-nothing, leads_below-exit, leads_below-mono, ok-exit}
+use Rattle.facet_solver.proofs.Work.{work_of_variant-le}
 use Rattle.facet_solver.proofs.build.walk.walk_field.Goals as goal
 
 pub presence-is_present-requires : goal.presence-is_present-requires
@@ -159,8 +161,9 @@ returns-in-Alternatives-clause-inside c =
     let vs = c.in-Alternatives.variants.now in
     let is : alternatives target s vs ≡ role_of build.catalogue f = sym (ap role_view c.in-Alternatives.is) ∙ c.role_of-role.ensures in
     let hand = target_in_hand build.catalogue f c.role_of-role.result target c.role_of-role.ensures (inr (c.in-Alternatives.shape, c.in-Alternatives.variants, c.in-Alternatives.is)) in
-    leads_below-mono build c.args.walker.now.tables target.shape f.shape c.walk_variant.result
+    leads_below-mono build c.args.walker.now.tables target.shape f.shape _ (work_of_field build f) c.walk_variant.result
     (target_in_role-le build.catalogue c.requires.ready.checked f target hand)
+    (work_of_variant-le build f target s vs _ c.next_variant.result.0.now is c.next_variant.ensures.variant)
     c.walk_variant.ensures.inside
 
 pub returns-in_default-clause-leads : goal.returns-in_default-clause-leads
@@ -208,7 +211,7 @@ returns-in_err-emit_plain-in-Regular-clause-place c =
 
 pub returns-in_err-emit_plain-in-Regular-clause-inside : goal.returns-in_err-emit_plain-in-Regular-clause-inside
 returns-in_err-emit_plain-in-Regular-clause-inside c =
-    leads_below-exit (build_of c.args.walker.now.build) c.args.walker.now.tables c.args.field.now.shape c.from_residual-in_err-emit_plain-in-Regular.result _ c.from_residual-in_err-emit_plain-in-Regular.ensures.1
+    leads_below-exit (build_of c.args.walker.now.build) c.args.walker.now.tables c.args.field.now.shape _ c.from_residual-in_err-emit_plain-in-Regular.result _ c.from_residual-in_err-emit_plain-in-Regular.ensures.1
 
 pub returns-in_ok-emit_plain-in-Regular-clause-leads : goal.returns-in_ok-emit_plain-in-Regular-clause-leads
 returns-in_ok-emit_plain-in-Regular-clause-leads c =

@@ -10,6 +10,7 @@ use Rattle.facet_solver.specs.Outcome.{StopsBy, effect}
 use Rattle.facet_solver.specs.Place.{Path}
 use Rattle.facet_solver.specs.Walk.{walk_field, walk_fields}
 use Rattle.facet_solver.specs.WalkFrames.{AreFrames, IsInside, IsReached, walk_frames, walk_inside}
+use Rattle.facet_solver.specs.Work.{work_of_field}
 use Rattle.facet_solver.proofs.Walk.{walks-exit}
 use Rattle.facet_solver.proofs.WalkFrames.{frames-start, none-are, none-left, over-are, over-left, some-are, some-left, stack-popped, stack-pushed, turn-served, turn-stops, turn-walked, walk-done, walk-start, work-none, work-over, work-some, work_of_frames}
 use Rattle.facet_solver.proofs.build.walk.walk_fields.Goals as goal
@@ -123,6 +124,7 @@ loop-frame-smaller-in-Continue-branch-4 c =
     let frame = c.in-Some.frame in
     let outer = reverse c.pop.new.self.items in
     let popped : reverse c.loop-frame.frames.items ≡ frame ∷ outer = stack-popped c.loop-frame.frames.items c.pop.new.self.items c.pop.result frame c.pop.ensures.items c.in-Some.is in
+    let below = (subst (AreFrames build tables (length c.loop-frame.place)) popped c.loop-frame.invariant.0).1.0 in
     let f = c.in-Some-split_first.field.now in
     let behind = c.in-Some-split_first.behind in
     let is = c.in-Some-split_first.ensures.cases.0 in
@@ -130,14 +132,14 @@ loop-frame-smaller-in-Continue-branch-4 c =
     let pushed : reverse c.push-in-Some.new.self.items ≡ rest_frame ∷ outer = stack-pushed c.push-in-Some.new.self.items c.pop.new.self.items rest_frame c.in_ok-push-2.ensures.items in
     let fs = c.in-Some-inside.fields in
     let inner : Frame = record { fields = fs; depth = length c.walk_field.new.place } in
-    let reached : IsReached build tables f.shape fs.now = subst (λ (o : Option (Bor (List Field))). IfSome (option_copied o) (IsReached build tables f.shape)) c.in-Some-inside.is c.in_ok-further.ensures.inside in
+    let reached : IsReached build tables f.shape (work_of_field build f) fs.now = subst (λ (o : Option (Bor (List Field))). IfSome (option_copied o) (IsReached build tables f.shape (work_of_field build f))) c.in-Some-inside.is c.in_ok-further.ensures.inside in
     let stack : reverse c.push-in-Some-inside.new.self.items ≡ inner ∷ rest_frame ∷ outer =
     stack-pushed c.push-in-Some-inside.new.self.items c.push-in-Some.new.self.items (record { fields = fs; depth = c.depth-in-Some-inside.result }) c.in_ok-push-3.ensures.items
     ∙ ap (λ (d : ℕ). record { fields = fs; depth = d } ∷ reverse c.push-in-Some.new.self.items) c.depth-in-Some-inside.ensures
     ∙ ap (λ (frames : List Frame). inner ∷ frames) pushed in
     subst (λ (frames : List Frame). work_of_frames build frames < work_of_frames build (reverse c.loop-frame.frames.items)) (sym stack)
     (subst (λ (frames : List Frame). work_of_frames build (inner ∷ rest_frame ∷ outer) < work_of_frames build frames) (sym popped)
-    (work-some build frame outer f behind is tables inner reached))
+    (work-some build frame outer f behind is c.requires.ready.checked below tables inner reached))
 
 pub loop-frame-preserved-in-Continue-branch-4 : goal.loop-frame-preserved-in-Continue-branch-4
 loop-frame-preserved-in-Continue-branch-4 c =
@@ -160,7 +162,7 @@ loop-frame-preserved-in-Continue-branch-4 c =
     let pushed : reverse c.push-in-Some.new.self.items ≡ rest_frame ∷ outer = stack-pushed c.push-in-Some.new.self.items c.pop.new.self.items rest_frame c.in_ok-push-2.ensures.items in
     let fs = c.in-Some-inside.fields in
     let inner : Frame = record { fields = fs; depth = length c.walk_field.new.place } in
-    let reached : IsReached build tables f.shape fs.now = subst (λ (o : Option (Bor (List Field))). IfSome (option_copied o) (IsReached build tables f.shape)) c.in-Some-inside.is c.in_ok-further.ensures.inside in
+    let reached : IsReached build tables f.shape (work_of_field build f) fs.now = subst (λ (o : Option (Bor (List Field))). IfSome (option_copied o) (IsReached build tables f.shape (work_of_field build f))) c.in-Some-inside.is c.in_ok-further.ensures.inside in
     let stack : reverse c.push-in-Some-inside.new.self.items ≡ inner ∷ rest_frame ∷ outer =
     stack-pushed c.push-in-Some-inside.new.self.items c.push-in-Some.new.self.items (record { fields = fs; depth = c.depth-in-Some-inside.result }) c.in_ok-push-3.ensures.items
     ∙ ap (λ (d : ℕ). record { fields = fs; depth = d } ∷ reverse c.push-in-Some.new.self.items) c.depth-in-Some-inside.ensures
@@ -183,6 +185,7 @@ loop-frame-smaller c =
     let frame = c.in-Some.frame in
     let outer = reverse c.pop.new.self.items in
     let popped : reverse c.loop-frame.frames.items ≡ frame ∷ outer = stack-popped c.loop-frame.frames.items c.pop.new.self.items c.pop.result frame c.pop.ensures.items c.in-Some.is in
+    let below = (subst (AreFrames build tables (length c.loop-frame.place)) popped c.loop-frame.invariant.0).1.0 in
     let f = c.in-Some-split_first.field.now in
     let behind = c.in-Some-split_first.behind in
     let is = c.in-Some-split_first.ensures.cases.0 in
@@ -190,7 +193,7 @@ loop-frame-smaller c =
     let pushed : reverse c.push-in-Some.new.self.items ≡ rest_frame ∷ outer = stack-pushed c.push-in-Some.new.self.items c.pop.new.self.items rest_frame c.in_ok-push-2.ensures.items in
     subst (λ (frames : List Frame). work_of_frames build frames < work_of_frames build (reverse c.loop-frame.frames.items)) (sym pushed)
     (subst (λ (frames : List Frame). work_of_frames build (rest_frame ∷ outer) < work_of_frames build frames) (sym popped)
-    (work-none build frame outer f behind is))
+    (work-none build frame outer f behind is c.requires.ready.checked below))
 
 pub loop-frame-preserved : goal.loop-frame-preserved
 loop-frame-preserved c =

@@ -1,13 +1,13 @@
-use Rattle.std.proofs.Common.{◌≡◌, List, length, ap, sym, ◌∙◌, subst}
+use Rattle.std.proofs.Common.{ap, sym, ◌∙◌, subst}
 use Rattle.std.proofs.lemmas.Bool.{eqb-true}
 use Rattle.std.proofs.lemmas.List.{nil_from_length}
-use Rattle.facet_solver_shape.specs.declared.shape.Field.{Field}
 use Rattle.facet_solver.specs.Build.{build_of}
 use Rattle.facet_solver.specs.Outcome.{effect}
 use Rattle.facet_solver.specs.Place.{chosen_of}
 use Rattle.facet_solver.proofs.Walk.{content-at, stops-chosen, then-alone, then-inside, then-nothing}
 use Rattle.facet_solver.proofs.WalkFrames.{chosen-reached, leads-exit, leads-nothing}
 use Rattle.facet_solver.specs.WalkFrames.{IsReached}
+use Rattle.facet_solver.specs.Work.{work_of_fields, work_of_variant}
 use Rattle.facet_solver.proofs.build.walk.walk_variant.Goals as goal
 use Rattle.facet_solver.proofs.build.walk.walk_variant.Goals.{then-is_empty-via-then-is_empty, then-is_empty-via-else-is_empty+then-not-walks_content}
 
@@ -47,4 +47,4 @@ returns-clause-inside c =
     let build = build_of c.args.walker.now.build in
     let walked = sym c.walks_content.ensures ∙ c.if-not-walks_content.false in
     let reached = chosen-reached build c.requires.ready.checked c.args.walker.now.tables c.args.chosen.now c.requires.chosen c.requires.serves walked in
-    subst (λ (fs : List Field). IsReached build c.args.walker.now.tables c.args.chosen.now.target.shape fs) (sym c.in_ok-fields.ensures.fields) reached
+    subst (IsReached build c.args.walker.now.tables c.args.chosen.now.target.shape (work_of_variant (work_of_fields build) build.catalogue c.args.chosen.now.variant.now)) (sym c.in_ok-fields.ensures.fields) reached
