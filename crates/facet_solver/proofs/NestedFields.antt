@@ -9,13 +9,9 @@ use Rattle.facet_solver.specs.Nested.{KeyPaths, no_paths, paths_of_each}
 use Rattle.facet_solver.specs.NestedTable.{EntryLeadsTo, LeadTo}
 use Rattle.facet_solver.specs.declared.build.nested.by_name.FieldsByName.{FieldsByName}
 use Rattle.facet_solver.specs.declared.build.nested.table.Entry.{Entry}
-<<<<<<< HEAD
 use Rattle.facet_solver.specs.NestedNames.{shapes_behind}
 use Rattle.facet_solver.specs.declared.build.nested.shapes_behind.ShapesBehind.{ShapesBehind}
 use Rattle.facet_solver.proofs.NestedSets.{union_assoc, union_comm}
-=======
-use Rattle.facet_solver.proofs.NestedSets.{Has, Has-left, Has-right, named-union, union_assoc, union_comm, union_within}
->>>>>>> 7c0362d2185b7a2d150d3d43ea6f6cd232495778
 
 -- ---- the shapes behind a name
 module _ {X : Type 0} (paths : X → KeyPaths) where

@@ -207,7 +207,6 @@ pub record AreFirstTables (build : Build) (root n : ℕ) (table : List (Vec ℕ 
   pub each : (id : ℕ) (s : Shape) → id < n → slice_get build.catalogue id ≡ Some s → (id ≡ root) ⊎ (is_walked (repr_for build s) ≡ true) → AreStartsOf build s.kind (starts_at table id)
 
 module _ (build : Build) (root : ℕ) where
-<<<<<<< HEAD
   pub no_table : AreFirstTables build root 0 []
   no_table = record { ends = omega arith; each = λ id s lt here asked. absurd (omega (arith, lt)) }
 
@@ -229,24 +228,6 @@ module _ (build : Build) (root : ℕ) where
             ] in
             subst (λ (u : Shape). AreStartsOf build u.kind (starts_at new id)) same
             (subst (AreStartsOf build s.kind) (sym (ap (starts_at new) last ∙ more.here)) (has is_asked))
-=======
-  pub one_more_table : (table : List (Vec ℕ Global)) (starts : Vec ℕ Global) (s : Shape) (asked : Bool) → length table < length build.catalogue → slice_get build.catalogue (length table) ≡ Some s → AreFirstTables build root table → (length table ≡ root → asked ≡ true) → (is_walked (repr_for build s) ≡ true → asked ≡ true)
-      → (asked ≡ true → AreStartsOf build s.kind starts.items) → AreFirstTables build root (table ++ starts ∷ [])
-  one_more_table table starts s asked lt here first by_root by_walk has = record {
-    within = let longer = length_push table starts in omega (arith, longer);
-    each = λ id t r e at of. entry id t r at of (get_push table starts t id e);
-  }
-    where
-      entry : (id : ℕ) (t : Vec ℕ Global) (r : Shape) → slice_get build.catalogue id ≡ Some r → (id ≡ root) ⊎ (is_walked (repr_for build r) ≡ true) → (slice_get table id ≡ Some t) ⊎ ((id ≡ length table) × (starts ≡ t)) → AreStartsOf build r.kind t.items
-      entry id t r at of (inl before) = first.each id t r before at of
-      entry id t r at of (inr last) =
-          let same : s ≡ r = (let both : Some s ≡ Some r = sym here ∙ ap (slice_get build.catalogue) (sym last.0) ∙ at in cc) in
-          let is_asked : asked ≡ true = elim of [
-            | inl e ↦ by_root (sym last.0 ∙ e)
-            | inr e ↦ by_walk (subst (λ (u : Shape). is_walked (repr_for build u) ≡ true) (sym same) e)
-          ] in
-          subst (λ (u : Shape). AreStartsOf build u.kind t.items) same (subst (λ (u : Vec ℕ Global). AreStartsOf build s.kind u.items) last.1 (has is_asked))
->>>>>>> 7c0362d2185b7a2d150d3d43ea6f6cd232495778
 
   -- where nothing is added there are none
   pub none_added : (n : ℕ) (table : List (Vec ℕ Global)) → length table ≤ n → IsMoreStarts n [] table table
