@@ -1,4 +1,4 @@
-use Rattle.std.proofs.Common.{◌≡◌, ◌∙◌, ap, arith, length, subst, sym}
+use Rattle.std.proofs.Common.{◌∙◌, ap, arith, length, subst, sym}
 use Rattle.facet_solver.specs.Build.{build_of}
 use Rattle.facet_solver.specs.Counts.{AreFirstCounts, CountsTo, count_at}
 use Rattle.facet_solver.proofs.Count.{entry_counted, root-count, root_counted}
