@@ -8,12 +8,12 @@ use Rattle.facet_solver_shape.specs.declared.shape.ShapeKind.TheVariants.{Struct
 use Rattle.facet_solver_shape.specs.declared.shape.Field.{Field}
 use Rattle.facet_solver_shape.specs.declared.shape.Variant.{Variant}
 use Rattle.facet_solver.specs.Place.{at_root, choosing, variant_path, Path}
-use Rattle.facet_solver.specs.Emissions.{emit_variant, pick_of, Emission}
+use Rattle.facet_solver.specs.Emissions.{emit_variant, selection_of, Emission}
 use Rattle.facet_solver.specs.Walk.{Walk, emit, walk_variant_step, walk_content_step, walk_present, walk_role, walk_fields_step, walk_within, walk_fields, walk_root, walk_root_shape, walk_root_kind, walk_root_variant, walk_content}
 use Rattle.facet_solver.specs.Representation.{is_walked}
 use Rattle.facet_solver.specs.Roles.{Role, regular, block, alternatives, catch_all, leaf, role_of, may_be_absent}
 use Rattle.facet_solver.specs.Listing.{Choices, no_choice, product, indexed, choices_of_variant, choices_of_present, choices_of_optional, choices_of_role, choices_of_fields_step, choices_within, choices_of_fields, choices_of_root, choices_of_root_shape, choices_of_root_kind}
-use Rattle.facet_solver.specs.Choice.{ListsChoices, Emits, IsChoice, IsResolution, Enumerates, HasNoClash, IsClash, resolution_of}
+use Rattle.facet_solver.specs.Choice.{ListsChoices, Emits, IsChoice, IsResolution, Enumerates, HasNoDuplicates, IsChoiceDuplicate, resolution_from}
 use Rattle.facet_solver.proofs.Listing.{In, In-append, In-map_from, In-product_from, IsExact, IsExact-none, IsExact-emit, IsExact-put_before, IsExact-and_then, IsExact-choose, IsExact-optional}
 use Rattle.std.specs.Cmp.Lexicographic.{slice_cmp}
 use Rattle.std.specs.Ordering.{nat_cmp, ordering_then, ordering_reverse}
@@ -72,7 +72,7 @@ module _ (build : Build) where
 
   exact_root_variant : (s : Shape) (v : Variant) → IsExact (λ ns. walk_root_variant build s v ns) (choices_of_variant (choices_of_fields build) build.catalogue true v)
   unfolding walk_root_variant walk_content
-  exact_root_variant s v = IsExact-put_before (pick_of s v [] ∷ []) _ _ (exact_below _ _)
+  exact_root_variant s v = IsExact-put_before (selection_of s v [] ∷ []) _ _ (exact_below _ _)
 
   exact_root_kind : (s : Shape) (k : ShapeKind) → IsExact (λ ns. walk_root_kind build s k ns) (choices_of_root_kind build k)
   exact_root_kind s (Struct kind fs) = exact_below fs.items at_root
@@ -267,7 +267,8 @@ choices_listed build root =
       in_order = sorted_from_rising _ (rise_root build root);
     }
 
--- ---- what an enumeration says further: no choice clashes, none begins another, and the list is the only one
+-- ---- what an enumeration says further: no choice has duplicate keys, none begins another, and the
+-- list is the only one
 module _ (build : Build) (root : ℕ) where
   resolution_at : (cs : List (List ℕ)) (rs : List Resolved) (c : List ℕ) → AllZip (IsResolution build root) cs rs → In c cs → (r : Resolved) × IsResolution build root c r
   resolution_at [] rs c h i = absurd i
@@ -275,14 +276,14 @@ module _ (build : Build) (root : ℕ) where
   resolution_at (b ∷ cs) (r ∷ rs) c h (inl e) = (r, subst (λ (d : List ℕ). IsResolution build root d r) e h.0)
   resolution_at (b ∷ cs) (r ∷ rs) c h (inr i) = resolution_at cs rs c h.1 i
 
-  -- a successful enumeration excludes every clash of a choice
-  pub no_choice-clashes : (rs : List Resolved) → Enumerates build root rs → (c : List ℕ) (es : List Emission) → Emits build root c es → HasNoClash es
-  no_choice-clashes rs h c es e =
+  -- a successful enumeration excludes every duplicate key of a choice
+  pub no_choice-duplicates : (rs : List Resolved) → Enumerates build root rs → (c : List ℕ) (es : List Emission) → Emits build root c es → HasNoDuplicates es
+  no_choice-duplicates rs h c es e =
       let i = In_from_contains c h.choices (h.listed.complete c (es, e)) in
       let r = resolution_at h.choices rs c h.resolved i in
       let f : Some (r.1.emissions, []) ≡ Some (es, []) = sym r.1.emitted ∙ e in
       let p : (r.1.emissions, []) ≡ (es, []) = cc in
-      subst HasNoClash (ap (λ (w : List Emission × List ℕ). w.0) p) r.1.no_clash
+      subst HasNoDuplicates (ap (λ (w : List Emission × List ℕ). w.0) p) r.1.no_duplicates
 
   -- no choice begins another
   pub no_choice-begins : (c d : List ℕ) → IsChoice build root c → IsChoice build root (c ++ d) → d ≡ []
@@ -364,7 +365,7 @@ pub resolution-one : (build : Build) (root : ℕ) (c : List ℕ) (r s : Resolved
 resolution-one build root c r s h k =
     let f : Some (h.emissions, []) ≡ Some (k.emissions, []) = sym h.emitted ∙ k.emitted in
     let p : (h.emissions, []) ≡ (k.emissions, []) = cc in
-    h.put_together ∙ ap (λ (w : List Emission × List ℕ). resolution_of w.0) p ∙ sym k.put_together
+    h.put_together ∙ ap (λ (w : List Emission × List ℕ). resolution_from w.0) p ∙ sym k.put_together
 
 resolutions-one : (build : Build) (root : ℕ) (cs : List (List ℕ)) (rs ss : List Resolved) → AllZip (IsResolution build root) cs rs → AllZip (IsResolution build root) cs ss → rs ≡ ss
 resolutions-one build root [] [] [] h k = refl
@@ -382,9 +383,9 @@ one_enumeration build root rs ss h k =
     resolutions-one build root h.choices rs ss h.resolved
     (subst (λ (cs : List (List ℕ)). AllZip (IsResolution build root) cs ss) (sym (one_list build root h.choices k.choices h.listed k.listed)) k.resolved)
 
--- a list of resolutions and a clash exclude each other
-pub no_clash : (build : Build) (root : ℕ) (rs : List Resolved) → Enumerates build root rs → (name : Name) (first second : Path) → ¬ IsClash build root name first second
-no_clash build root rs h name first second k = no_choice-clashes build root rs h k.choice k.emissions k.emitted k.first k.second k.clash
+-- a list of resolutions and a duplicate key exclude each other
+pub no_duplicates : (build : Build) (root : ℕ) (rs : List Resolved) → Enumerates build root rs → (name : Name) (first second : Path) → ¬ IsChoiceDuplicate build root name first second
+no_duplicates build root rs h name first second k = no_choice-duplicates build root rs h k.choice k.emissions k.emitted k.first k.second k.duplicates
 
 -- the list of all choices is as long as their number
 pub choices-counted : (build : Build) (root : ℕ) (cs : List (List ℕ)) → ListsChoices build root cs → length cs ≡ count_of_root build root

@@ -1,4 +1,5 @@
--- The choice of a rank: among products, variants and what may be absent, and by parts that are taken from the end.
+-- The choice of a rank: among products, variants and what may be absent, and by parts that are
+-- taken from the end.
 use Rattle.std.proofs.Common.{◌≡◌, ◌+◌, ◌-◌, ◌*◌, ◌/◌, ◌%◌, ◌^◌, ◌<◌, ◌≤◌, ℕ, zero, suc, List, [], ◌∷◌, ◌++◌, map, reverse, flat_map, sum_by, Some, None, Bool, true, false, ap, append-nil, append_assoc, arith, drop, get_or, length, refl, subst, sym, ◌∙◌, suc-mul, zero-mul, mul-zero, mul_comm, slice_get, get_or-append-add}
 use Rattle.std.specs.List.{AllByRecursion}
 use Rattle.std.proofs.lemmas.List.{get_or_append_left}
@@ -357,7 +358,8 @@ module _ (build : Build) (root : ℕ) (k : ℕ) (rank : IsRank k (count_of_root 
   pub root_choice : (c : List ℕ) → c ≡ choice_at (choices_of_root build root) k → slice_get (choices_of_root build root) k ≡ Some c
   root_choice c e = slice_get-get_or (choices_of_root build root) k [] root_rank ∙ ap Some (sym e)
 
--- ---- a choice is put together from the end: what the parts stand for, and then the indices that came out, last first
+-- ---- a choice is put together from the end: what the parts stand for, and then the indices that
+-- came out, last first
 pub record IsUnderWay (build : Build) (parts : List Part) (out choice : List ℕ) : Type 0 where
   pub rest : List ℕ
   pub stand : StandFor build parts rest

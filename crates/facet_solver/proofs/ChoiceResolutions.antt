@@ -9,12 +9,12 @@ use Rattle.facet_solver_shape.specs.declared.resolution.error.SchemaError.TheVar
 use Rattle.facet_solver.specs.Walk.{walk_root}
 use Rattle.facet_solver_shape.specs.Resolved.{Resolved, nothing}
 use Rattle.facet_solver.specs.Outcome.{Duplicate, Outcome, resolved, duplicate, take_all, effect, StopsBy, duplicate_view}
-use Rattle.facet_solver.specs.Choice.{IsChoice, IsResolution, IsClash, IsRefusal}
+use Rattle.facet_solver.specs.Choice.{IsChoice, IsResolution, IsChoiceDuplicate, IsRefusal}
 use Rattle.facet_solver.specs.Count.{count_of_root}
 use Rattle.facet_solver.specs.Listing.{choices_of_root}
 use Rattle.facet_solver.proofs.Choice.{choices_listed}
 use Rattle.facet_solver.proofs.Count.{root_count}
-use Rattle.facet_solver.proofs.Outcome.{built, clashing}
+use Rattle.facet_solver.proofs.Outcome.{built, has_duplicates}
 use Rattle.std.specs.List.{AllZip}
 
 -- ---- one resolution for each choice, one by one
@@ -29,19 +29,19 @@ module _ (build : Build) (root : ℕ) where
       let f : Some (take_all nothing h.0, []) ≡ Some (resolved r, rest) = sym (ap (effect nothing) h.1) ∙ e in
       let p : (take_all nothing h.0, []) ≡ (resolved r, rest) = cc in
       let b = built h.0 r (ap (λ (x : Outcome × List ℕ). x.0) p) in
-      record { emissions = h.0; emitted = h.1; put_together = b.is; no_clash = b.free }
+      record { emissions = h.0; emitted = h.1; put_together = b.is; no_duplicates = b.free }
 
-  -- and where it stops, a clash
-  pub clash-is : (c rest : List ℕ) (d : Duplicate) → IsChoice build root c → effect nothing (walk_root build root c) ≡ Some (duplicate d, rest) → IsClash build root d.name d.first_path d.second_path
-  clash-is c rest d h e =
+  -- and where it stops, a duplicate key
+  pub duplicate-is : (c rest : List ℕ) (d : Duplicate) → IsChoice build root c → effect nothing (walk_root build root c) ≡ Some (duplicate d, rest) → IsChoiceDuplicate build root d.name d.first_path d.second_path
+  duplicate-is c rest d h e =
       let f : Some (take_all nothing h.0, []) ≡ Some (duplicate d, rest) = sym (ap (effect nothing) h.1) ∙ e in
       let p : (take_all nothing h.0, []) ≡ (duplicate d, rest) = cc in
-      let b = clashing h.0 d (ap (λ (x : Outcome × List ℕ). x.0) p) in
-      record { choice = c; emissions = h.0; emitted = h.1; first = b.first; second = b.second; clash = b.clash; same_name = ap (λ (d : Duplicate). d.name) b.names; first_is = ap (λ (d : Duplicate). d.first_path) b.names; second_is = ap (λ (d : Duplicate). d.second_path) b.names }
+      let b = has_duplicates h.0 d (ap (λ (x : Outcome × List ℕ). x.0) p) in
+      record { choice = c; emissions = h.0; emitted = h.1; first = b.first; second = b.second; duplicates = b.duplicates; same_name = ap (λ (d : Duplicate). d.name) b.names; first_is = ap (λ (d : Duplicate). d.first_path) b.names; second_is = ap (λ (d : Duplicate). d.second_path) b.names }
 
-  pub stops-clash : (c : List ℕ) (err : schema.SchemaError) → IsChoice build root c → StopsBy (effect nothing (walk_root build root c)) err → IsRefusal build root err
-  stops-clash c (DuplicateField d) h s = clash-is c s.0 (duplicate_view d) h s.1
-  stops-clash c OutOfMemory h s = tt
+  pub stops-duplicate : (c : List ℕ) (err : schema.SchemaError) → IsChoice build root c → StopsBy (effect nothing (walk_root build root c)) err → IsRefusal build root err
+  stops-duplicate c (DuplicateField d) h s = duplicate-is c s.0 (duplicate_view d) h s.1
+  stops-duplicate c OutOfMemory h s = tt
 
   resolves-push : (cs : List (List ℕ)) (rs : List Resolved) (c : List ℕ) (r : Resolved) → AllZip (IsResolution build root) cs rs → IsResolution build root c r → AllZip (IsResolution build root) (cs ++ c ∷ []) (rs ++ r ∷ [])
   resolves-push [] [] c r h i = (i, tt)

@@ -1,4 +1,5 @@
--- The number of choices: it is the length of their list, it follows the fields, and a table holds it.
+-- The number of choices: it is the length of their list, it follows the fields, and a table holds
+-- it.
 use Rattle.facet_solver.specs.Build.{Build, repr_for, Catalogue, kind_of}
 use Rattle.std.proofs.Common.{◌≡◌, ℕ, zero, suc, ◌+◌, ◌*◌, List, [], ◌∷◌, ◌++◌, map, Option, Some, None, Bool, true, false, sym, refl, ap, ◌∙◌, slice_get, length, length-append, ◌⊎◌, inl, inr, ◌<◌, ◌≤◌, subst, arith, get_or, take, add-one}
 use Rattle.std.specs.Prelude.{Vec, sum_by, IsSome, if◌then◌else◌, ◌^◌, nat_lt}

@@ -10,7 +10,7 @@ use Rattle.facet_solver_shape.specs.Fields.{FieldView, entry_view, matches}
 use Rattle.facet_solver_shape.specs.Keys.{Key, key_cmp, key_of}
 use Rattle.facet_solver_shape.proofs.Lists.{list_any-map}
 use Rattle.facet_solver.specs.Failure.{is_met}
-use Rattle.facet_solver.specs.SeenNames.{IsEndOf, keys_from}
+use Rattle.facet_solver.specs.SeenNames.{IsSuffixOf, keys_from}
 
 -- what a cursor goes on to
 pub keys_on : (next : Option (Bor FieldKey)) (before after : List FieldKey)
@@ -19,12 +19,12 @@ keys_on None before after h = h.1 ∙ sym h.0
 keys_on (Some k) before after h = sym h
 
 -- an end of an end
-pub end_of_end : (keys behind all : List FieldKey) → IsEndOf keys behind → IsEndOf behind all → IsEndOf keys all
+pub end_of_end : (keys behind all : List FieldKey) → IsSuffixOf keys behind → IsSuffixOf behind all → IsSuffixOf keys all
 end_of_end keys behind all inner outer =
     (outer.0 ++ inner.0, append_assoc outer.0 inner.0 keys ∙ ap (λ ks. outer.0 ++ ks) inner.1 ∙ outer.1)
 
 -- a field that one of the last seen keys matches is met
-pub met_behind : (keys seen : List FieldKey) (f : FieldView) → IsEndOf keys seen → list_any (λ k. matches (key_of k) f) keys ≡ true → true ≡ is_met (map key_of seen) f
+pub met_behind : (keys seen : List FieldKey) (f : FieldView) → IsSuffixOf keys seen → list_any (λ k. matches (key_of k) f) keys ≡ true → true ≡ is_met (map key_of seen) f
 met_behind keys seen f end found =
     let some : list_any (λ (k : FieldKey). matches (key_of k) f) seen ≡ true =
     ap (list_any (λ (k : FieldKey). matches (key_of k) f)) (sym end.1)

@@ -35,7 +35,8 @@ module _ (repr : Repr) (build : Build) (chosen : Chosen) (place : Path) where
   unfolding emit_selector_by
   selector-adjacent tag content e = ap (λ (repr : Repr). emit_selector_by repr build chosen place) (sym e)
 
--- the selector of a variant whose name holds the content, and then the key paths of the name and behind it
+-- the selector of a variant whose name holds the content, and then the key paths of the name and
+-- behind it
 pub selector-external : (build : Build) (chosen : Chosen) (place : Path) (name : Name) → name ≡ string_bytes chosen.variant.name → emit_selector_by externally_tagged build chosen place
     ≡ a_field (selector_field build name chosen place) ∷ some_key_paths (named name (content_paths build.catalogue chosen.variant)) ∷ []
 unfolding emit_selector_by selector_field field_and_paths

@@ -1,4 +1,5 @@
--- Texts that are stated where names are ASCII, and texts of lists that are written one element after another.
+-- Texts that are stated where names are ASCII, and texts of lists that are written one element
+-- after another.
 use Rattle.std.proofs.Common.{◌≡◌, ℕ, zero, suc, ◌<◌, Bool, true, false, cond, List, [], ◌∷◌, ◌++◌, length, get_or, take, ◌+◌, Option, Some, None, refl, sym, ◌∙◌, ap, arith, map, codes}
 use Rattle.std.specs.declared.fmt.Error.{Error}
 use Rattle.std.specs.declared.fmt.Formatter.{Formatter}

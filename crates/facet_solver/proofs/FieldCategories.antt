@@ -29,10 +29,10 @@ use Rattle.facet_solver.specs.Representation.{category_of_mark, Repr, flattened,
 use Rattle.facet_solver.specs.Content.{content_of}
 use Rattle.facet_solver.specs.Roles.{Role, regular, block, alternatives, catch_all, leaf, role_of, may_be_absent}
 use Rattle.facet_solver.specs.Nested.{with_key_paths}
-use Rattle.facet_solver.specs.Emissions.{Emission, a_field, some_key_paths, a_pick, a_catch_all, field_and_paths, pick_of, regular_field, leaf_field, selector_field, emit_regular, emit_catch_all, emit_leaf, emit_selector_by, emit_variant, emit_plain}
+use Rattle.facet_solver.specs.Emissions.{Emission, a_field, some_key_paths, a_selection, a_catch_all, field_and_paths, selection_of, regular_field, leaf_field, selector_field, emit_regular, emit_catch_all, emit_leaf, emit_selector_by, emit_variant, emit_plain}
 use Rattle.facet_solver.specs.Place.{Chosen, at_root, at_root_variant, choosing, field_path, variant_path, Path}
 use Rattle.facet_solver.specs.Walk.{Walked, Walk, put_before, and_then, emit, choose, at_chosen, walk_variant_step, walk_content_step, Walking, walk_present, walk_optional, walk_role, walk_fields_step, walk_within, walk_fields, walk_root, walk_root_shape, walk_root_kind, walk_root_variant, walk_content}
-use Rattle.facet_solver.specs.Choice.{with_emission, resolution_of, IsResolution, GoesByName}
+use Rattle.facet_solver.specs.Choice.{with_emission, resolution_from, IsResolution, GoesByName}
 use Rattle.facet_solver.specs.Indexed.{AreOfFormat, HasFormat, IsOfFormat}
 use Rattle.facet_solver.specs.Schema.{IsBuilt, SchemaView}
 
@@ -59,7 +59,7 @@ module _ (P : FieldCategory → Type 0) where
   AllHave [] = Unit {0}
   AllHave (a_field f ∷ es) = P f.category × AllHave es
   AllHave (some_key_paths p ∷ es) = AllHave es
-  AllHave (a_pick p ∷ es) = AllHave es
+  AllHave (a_selection p ∷ es) = AllHave es
   AllHave (a_catch_all f ∷ es) = AllHave es
 
   AllHave-append : (es fs : List Emission) → AllHave es → AllHave fs → AllHave (es ++ fs)
@@ -67,7 +67,7 @@ module _ (P : FieldCategory → Type 0) where
   AllHave-append [] fs h k = k
   AllHave-append (a_field f ∷ es) fs h k = (h.0, AllHave-append es fs h.1 k)
   AllHave-append (some_key_paths p ∷ es) fs h k = AllHave-append es fs h k
-  AllHave-append (a_pick p ∷ es) fs h k = AllHave-append es fs h k
+  AllHave-append (a_selection p ∷ es) fs h k = AllHave-append es fs h k
   AllHave-append (a_catch_all f ∷ es) fs h k = AllHave-append es fs h k
 
   -- what was walked emits such fields
@@ -173,7 +173,7 @@ module _ (P : FieldCategory → Type 0) where
 
     having-root_variant : (s : Shape) (v : Variant) (ns : List ℕ) → EmitsHaving (walk_root_variant build s v ns)
     unfolding walk_root_variant AllHave
-    having-root_variant s v ns = having-put_before (pick_of s v [] ∷ []) (walk_content build v (at_root_variant v) ns) tt (having-inside v (at_root_variant v) ns)
+    having-root_variant s v ns = having-put_before (selection_of s v [] ∷ []) (walk_content build v (at_root_variant v) ns) tt (having-inside v (at_root_variant v) ns)
 
     having-kind : (s : Shape) (k : ShapeKind) (ns : List ℕ) → EmitsHaving (walk_root_kind build s k ns)
     unfolding EmitsHaving AllHave
@@ -213,7 +213,7 @@ module _ (P : FieldCategory → Type 0) where
               )
           go false tie found = h k g found
   kept-having r (some_key_paths p ∷ es) h has = kept-having (with_emission r (some_key_paths p)) es h has
-  kept-having r (a_pick p ∷ es) h has = kept-having (with_emission r (a_pick p)) es h has
+  kept-having r (a_selection p ∷ es) h has = kept-having (with_emission r (a_selection p)) es h has
   kept-having r (a_catch_all f ∷ es) h has = kept-having (with_emission r (a_catch_all f)) es h has
 
   nothing-having : StandsHaving nothing
@@ -221,7 +221,7 @@ module _ (P : FieldCategory → Type 0) where
   nothing-having k f found = absurd (let none = finite.get-empty {X = FieldView} key_cmp k in cc)
 
   resolution-having : (build : Build) (root : ℕ) (c : List ℕ) (r : Resolved) → HasCategories P build.format → IsResolution build root c r → StandsHaving r
-  unfolding resolution_of
+  unfolding resolution_from
   resolution-having build root c r has h =
       subst StandsHaving (sym h.put_together) (kept-having nothing h.emissions nothing-having (having-emitted build has root c h.emissions [] h.emitted))
 

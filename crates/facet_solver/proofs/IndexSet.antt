@@ -8,7 +8,7 @@ use Rattle.std.proofs.lemmas.List.Filters.{length-filter_both}
 use Rattle.std.proofs.lemmas.List.Folds.{list_any_none}
 use Rattle.std.proofs.lemmas.List.FromFn.{get_or-range_with_len, length-range_with_len}
 use Rattle.std.proofs.lemmas.List.Kept.{IsStrictlyIncreasing-filter}
-use Rattle.facet_solver.specs.IndexSet.{has, upto, no_index, one_index, how_many}
+use Rattle.facet_solver.specs.IndexSet.{has_index, upto, no_index, one_index, how_many}
 pub use Rattle.facet_solver.specs.SharedBits.{IsNext}
 
 -- ---- the indices of a range that pass a test
@@ -60,7 +60,7 @@ filter_next p a (suc n) k m next e =
     ]
 
 -- an index outside the range
-pub has_outside : (p : ℕ → Bool) (a n i : ℕ) → (i < a) ⊎ (a + n ≤ i) → has (filter p (range_with_len a n)) i ≡ false
+pub has_outside : (p : ℕ → Bool) (a n i : ℕ) → (i < a) ⊎ (a + n ≤ i) → has_index (filter p (range_with_len a n)) i ≡ false
 has_outside p a n i out =
     list_any_none (λ j. nat_eq j i) (filter p (range_with_len a n))
     (All-filter p (λ j. nat_eq j i ≡ false) (range_with_len a n)
@@ -70,26 +70,26 @@ has_outside p a n i out =
     (ne_eqb (a + k) i (λ e. elim out [ inl low ↦ omega arith | inr high ↦ omega arith ]))))
 
 -- and one inside it
-pub has_inside : (p : ℕ → Bool) (a n i : ℕ) → a ≤ i → i < a + n → has (filter p (range_with_len a n)) i ≡ p i
+pub has_inside : (p : ℕ → Bool) (a n i : ℕ) → a ≤ i → i < a + n → has_index (filter p (range_with_len a n)) i ≡ p i
 has_inside p a zero i low high = absurd (omega arith)
 has_inside p a (suc n) i low high =
     elim (cases_eq a i) [
       | inl same ↦
           rw (sym same)
-          (elim (p a) as (λ b. has (cond b (a ∷ filter p (range_with_len (a + 1) n)) (filter p (range_with_len (a + 1) n))) a ≡ b) [
+          (elim (p a) as (λ b. has_index (cond b (a ∷ filter p (range_with_len (a + 1) n)) (filter p (range_with_len (a + 1) n))) a ≡ b) [
             | true ↦ rw (eq-eqb a a refl) refl
             | false ↦ has_outside p (a + 1) n a (inl (omega arith))
           ])
       | inr other ↦
-          let later : has (filter p (range_with_len (a + 1) n)) i ≡ p i = has_inside p (a + 1) n i (omega arith) (omega arith) in
-          elim (p a) as (λ b. has (cond b (a ∷ filter p (range_with_len (a + 1) n)) (filter p (range_with_len (a + 1) n))) i ≡ p i) [
+          let later : has_index (filter p (range_with_len (a + 1) n)) i ≡ p i = has_inside p (a + 1) n i (omega arith) (omega arith) in
+          elim (p a) as (λ b. has_index (cond b (a ∷ filter p (range_with_len (a + 1) n)) (filter p (range_with_len (a + 1) n))) i ≡ p i) [
             | true ↦ rw (ne_eqb a i other) later
             | false ↦ later
           ]
     ]
 
 -- where none passes from the bound on
-pub has_passing : (p : ℕ → Bool) (n i : ℕ) → ((j : ℕ) → n ≤ j → p j ≡ false) → has (filter p (upto n)) i ≡ p i
+pub has_passing : (p : ℕ → Bool) (n i : ℕ) → ((j : ℕ) → n ≤ j → p j ≡ false) → has_index (filter p (upto n)) i ≡ p i
 has_passing p n i clear =
     elim (cases_lt i n) [
       | inl low ↦ has_inside p 0 n i (omega arith) (omega arith)

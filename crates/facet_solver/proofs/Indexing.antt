@@ -8,9 +8,9 @@ use Rattle.std.proofs.lemmas.Bool.Decides.{Decides-eqb}
 use Rattle.std.proofs.lemmas.List.Folds.{find-append}
 use Rattle.facet_solver_shape.proofs.Resolved.{or_none}
 use Rattle.facet_solver_shape.specs.Fields.{FieldView}
-use Rattle.facet_solver.specs.IndexSet.{IndexSet, has, upto}
+use Rattle.facet_solver.specs.IndexSet.{IndexSet, has_index, upto}
 use Rattle.facet_solver.specs.IndexEntries.{added, agreed, entry_at, entry_of_one, with_number, with_occurrence}
-use Rattle.facet_solver.specs.Indexed.{Meant, AgreesOn, Differs, IsEntry, IsEntryIfAny, IsIndexOf, first_passing}
+use Rattle.facet_solver.specs.Indexed.{Meant, AgreesOn, Differs, IsIndexEntry, IsEntryIfAny, IsIndexOf, first_passing}
 use Rattle.facet_solver.specs.Slots.{Slot, is_at}
 use Rattle.facet_solver.specs.declared.schema.index.Entry.{Entry}
 use Rattle.facet_solver.specs.declared.schema.index.Index.{Index}
@@ -109,7 +109,7 @@ set_more : (bound : ℕ) (meant : Meant) (i : ℕ) (f : FieldView) → meant i �
     → with_number (below bound (filter (λ k. is_some (meant k)) (upto bound))) i ≡ below bound (filter (λ k. is_some (more meant i true f k)) (upto bound))
 set_more bound meant i f none =
     let members : List ℕ = filter (λ k. is_some (meant k)) (upto bound) in
-    ap (below bound) (filter_same (λ k. nat_eq k i || has members k) (λ k. is_some (more meant i true f k)) 0 bound
+    ap (below bound) (filter_same (λ k. nat_eq k i || has_index members k) (λ k. is_some (more meant i true f k)) 0 bound
     (λ k low high. ap (λ b. nat_eq k i || b) (has_inside (λ j. is_some (meant j)) 0 bound k low high) ∙ more_members meant i f none k))
 
 -- the shape after it
@@ -145,7 +145,7 @@ shape_more meant i f none (Some shape) one = go (nat_eq shape f.shape) refl
     }
 
 -- the first entry of a slot
-entry_first : (bound : ℕ) (meant : Meant) (i : ℕ) (f : FieldView) → ((k : ℕ) → meant k ≡ None) → IsEntry bound (more meant i true f) (entry_of_one (record { index = i; bound = bound; shape = f.shape }))
+entry_first : (bound : ℕ) (meant : Meant) (i : ℕ) (f : FieldView) → ((k : ℕ) → meant k ≡ None) → IsIndexEntry bound (more meant i true f) (entry_of_one (record { index = i; bound = bound; shape = f.shape }))
 entry_first bound meant i f none = record {
   set = ap (λ s. with_number s i) (sym nothing) ∙ set_more bound meant i f (none i);
   shape = record {
@@ -167,19 +167,19 @@ entry_first bound meant i f none = record {
     nothing = ap (below bound) (filter_none (λ k. is_some (meant k)) 0 bound (λ k low high. ap is_some (none k)))
 
 -- an entry with one resolution more
-entry_more : (bound : ℕ) (meant : Meant) (i : ℕ) (f : FieldView) (entry : Entry) → i < bound → IsEntry bound meant entry
-    → IsEntry bound (more meant i true f) (with_occurrence entry (record { index = i; bound = bound; shape = f.shape }))
+entry_more : (bound : ℕ) (meant : Meant) (i : ℕ) (f : FieldView) (entry : Entry) → i < bound → IsIndexEntry bound meant entry
+    → IsIndexEntry bound (more meant i true f) (with_occurrence entry (record { index = i; bound = bound; shape = f.shape }))
 entry_more bound meant i f entry within is = go (meant i) refl
   where
-    known : has entry.set.members i ≡ is_some (meant i)
-    known = ap (λ (s : IndexSet). has s.members i) is.set ∙ has_inside (λ j. is_some (meant j)) 0 bound i (omega arith) (omega arith)
+    known : has_index entry.set.members i ≡ is_some (meant i)
+    known = ap (λ (s : IndexSet). has_index s.members i) is.set ∙ has_inside (λ j. is_some (meant j)) 0 bound i (omega arith) (omega arith)
 
-    go : (o : Option FieldView) → meant i ≡ o → IsEntry bound (more meant i true f) (with_occurrence entry (record { index = i; bound = bound; shape = f.shape }))
+    go : (o : Option FieldView) → meant i ≡ o → IsIndexEntry bound (more meant i true f) (with_occurrence entry (record { index = i; bound = bound; shape = f.shape }))
     go (Some g) here =
-        let member : has entry.set.members i ≡ true = known ∙ ap is_some here in
-        rw member (subst (λ m. IsEntry bound m entry) (λ j k. sym (more_known meant i f g here k) j) is)
+        let member : has_index entry.set.members i ≡ true = known ∙ ap is_some here in
+        rw member (subst (λ m. IsIndexEntry bound m entry) (λ j k. sym (more_known meant i f g here k) j) is)
     go None here =
-        let absent : has entry.set.members i ≡ false = known ∙ ap is_some here in
+        let absent : has_index entry.set.members i ≡ false = known ∙ ap is_some here in
         rw absent (record {
           set = ap (λ s. with_number s i) is.set ∙ set_more bound meant i f here;
           shape = shape_more meant i f here entry.shape is.shape;

@@ -12,10 +12,10 @@ use Rattle.facet_solver_shape.specs.contracts.resolution.key.FieldKeyOrd.TheImpl
 use Rattle.facet_solver_shape.specs.declared.resolution.key.FieldKey.{FieldKey}
 use Rattle.facet_solver_shape.specs.Fields.{FieldView}
 use Rattle.facet_solver_shape.specs.Resolved.{Resolved, field_by_key}
-use Rattle.facet_solver.specs.IndexSet.{HowMany, no_index, one_index, several_indices, how_many, IndexSet, has}
-use Rattle.facet_solver.specs.Indexed.{AgreesOn, Differs, IsEntry}
+use Rattle.facet_solver.specs.IndexSet.{HowMany, no_index, one_index, several_indices, how_many, IndexSet, has_index}
+use Rattle.facet_solver.specs.Indexed.{AgreesOn, Differs, IsIndexEntry}
 use Rattle.facet_solver.specs.FirstOfEach.{first_of_each}
-use Rattle.facet_solver.specs.KeyResult.{HaveShape, unambiguous, unknown, by_number, distinct_fields, fields_by_key, key_result, of_fields, with_score}
+use Rattle.facet_solver.specs.KeyResult.{HaveShape, unambiguous, unknown, solved_or, distinct_fields, fields_by_key, key_result, of_fields, with_score}
 use Rattle.facet_solver.specs.Resolutions.{field_at, has_key, passes}
 use Rattle.facet_solver.specs.Schema.{SchemaView}
 use Rattle.facet_solver.specs.State.{State, or_all, passing, see_key}
@@ -29,12 +29,12 @@ absent_past : (key : Key) (rs : List Resolved) (i : ℕ) → length rs ≤ i →
 absent_past key rs i past = ap (λ o. is_some (option_and_then (field_by_key key) o)) (slice_get_past rs i past)
 
 -- the members of an entry are the resolutions in which a field is meant
-pub members_mean : (key : Key) (rs : List Resolved) (entry : Entry) → IsEntry (length rs) (field_at key rs) entry → (i : ℕ) → has entry.set.members i ≡ is_some (field_at key rs i)
+pub members_mean : (key : Key) (rs : List Resolved) (entry : Entry) → IsIndexEntry (length rs) (field_at key rs) entry → (i : ℕ) → has_index entry.set.members i ≡ is_some (field_at key rs i)
 members_mean key rs entry is i =
-    ap (λ (s : IndexSet). has s.members i) is.set ∙ has_passing (λ j. is_some (field_at key rs j)) (length rs) i (absent_past key rs)
+    ap (λ (s : IndexSet). has_index s.members i) is.set ∙ has_passing (λ j. is_some (field_at key rs j)) (length rs) i (absent_past key rs)
 
 -- so they are the resolutions that have the key
-pub members_pass : (key : Key) (rs : List Resolved) (entry : Entry) → IsEntry (length rs) (field_at key rs) entry → (xs : List ℕ) → filter (has entry.set.members) xs ≡ filter (passes (has_key key) rs) xs
+pub members_pass : (key : Key) (rs : List Resolved) (entry : Entry) → IsIndexEntry (length rs) (field_at key rs) entry → (xs : List ℕ) → filter (has_index entry.set.members) xs ≡ filter (passes (has_key key) rs) xs
 members_pass key rs entry is xs = ap (λ p. filter p xs) (λ j i. (members_mean key rs entry is i ∙ has_field key rs i) j)
 
 cases_of : {X : Type 0} (h : ℕ → Option X) (x : ℕ) (fs : List X) (xs : List ℕ) (o : Option X) → h x ≡ o → filter_map h xs ≡ fs
@@ -50,22 +50,22 @@ fields_kept h q same (x ∷ xs) =
     ∙ cases_of h x (filter_map h xs) (filter q xs) (h x) refl (fields_kept h q same xs)
 
 -- the fields of the candidates that the entry has
-fields_of_kept : (key : Key) (s : State) (entry : Entry) → IsEntry (length s.schema.resolutions) (field_at key s.schema.resolutions) entry
-    → fields_by_key key s.schema.resolutions (filter (has entry.set.members) s.candidates) ≡ fields_by_key key s.schema.resolutions s.candidates
-fields_of_kept key s entry is = fields_kept (field_at key s.schema.resolutions) (has entry.set.members) (members_mean key s.schema.resolutions entry is) s.candidates
+fields_of_kept : (key : Key) (s : State) (entry : Entry) → IsIndexEntry (length s.schema.resolutions) (field_at key s.schema.resolutions) entry
+    → fields_by_key key s.schema.resolutions (filter (has_index entry.set.members) s.candidates) ≡ fields_by_key key s.schema.resolutions s.candidates
+fields_of_kept key s entry is = fields_kept (field_at key s.schema.resolutions) (has_index entry.set.members) (members_mean key s.schema.resolutions entry is) s.candidates
 
 -- the answer by the candidates that the entry has
-pub result_by : (key : Key) (s : State) (entry : Entry) → IsEntry (length s.schema.resolutions) (field_at key s.schema.resolutions) entry → (kept : List ℕ)
-    → kept ≡ filter (has entry.set.members) s.candidates
-    → by_number (of_fields (distinct_fields key s.schema kept)) (how_many kept) ≡ key_result key s
+pub result_by : (key : Key) (s : State) (entry : Entry) → IsIndexEntry (length s.schema.resolutions) (field_at key s.schema.resolutions) entry → (kept : List ℕ)
+    → kept ≡ filter (has_index entry.set.members) s.candidates
+    → solved_or (of_fields (distinct_fields key s.schema kept)) (how_many kept) ≡ key_result key s
 result_by key s entry is kept kept_is =
     let rs = s.schema.resolutions in
     let shown : List FieldView → List (FieldView × ℕ) = λ fs. map (with_score s.schema.build.catalogue) (first_of_each (λ (f : FieldView). f.shape) fs) in
-    (λ j. by_number (of_fields (shown ((ap (fields_by_key key rs) kept_is ∙ fields_of_kept key s entry is) j))) (how_many ((kept_is ∙ members_pass key rs entry is s.candidates) j)))
+    (λ j. solved_or (of_fields (shown ((ap (fields_by_key key rs) kept_is ∙ fields_of_kept key s entry is) j))) (how_many ((kept_is ∙ members_pass key rs entry is s.candidates) j)))
 
 -- and how many they are
-pub kept_count : (key : Key) (s : State) (entry : Entry) → IsEntry (length s.schema.resolutions) (field_at key s.schema.resolutions) entry → (kept : List ℕ)
-    → kept ≡ filter (has entry.set.members) s.candidates → length kept ≡ length (passing (has_key key) s)
+pub kept_count : (key : Key) (s : State) (entry : Entry) → IsIndexEntry (length s.schema.resolutions) (field_at key s.schema.resolutions) entry → (kept : List ℕ)
+    → kept ≡ filter (has_index entry.set.members) s.candidates → length kept ≡ length (passing (has_key key) s)
 kept_count key s entry is kept kept_is = ap length (kept_is ∙ members_pass key s.schema.resolutions entry is s.candidates)
 
 -- fields of one shape
@@ -101,9 +101,9 @@ one_shape cat shape (f ∷ fs) all some =
     ap (λ rest. of_fields (map (with_score cat) (f ∷ rest))) (none_other f shape (first_of_each (λ (f : FieldView). f.shape) fs) all.0 (firsts_each shape fs all.1)) ∙ ap (λ n. unambiguous n) all.0
 
 -- where the resolutions of the entry agree on the shape, it is the answer
-pub result_agreed : (key : Key) (schema : SchemaView) (entry : Entry) (shape first second : ℕ) (rest : List ℕ) → entry.shape ≡ Some shape → IsEntry (length schema.resolutions) (field_at key schema.resolutions) entry
-    → has entry.set.members first ≡ true
-    → unambiguous shape ≡ by_number (of_fields (distinct_fields key schema (first ∷ second ∷ rest))) (how_many (first ∷ second ∷ rest))
+pub result_agreed : (key : Key) (schema : SchemaView) (entry : Entry) (shape first second : ℕ) (rest : List ℕ) → entry.shape ≡ Some shape → IsIndexEntry (length schema.resolutions) (field_at key schema.resolutions) entry
+    → has_index entry.set.members first ≡ true
+    → unambiguous shape ≡ solved_or (of_fields (distinct_fields key schema (first ∷ second ∷ rest))) (how_many (first ∷ second ∷ rest))
 result_agreed key schema entry shape first second rest shape_is is member =
     let at = field_at key schema.resolutions in
     let one : AgreesOn shape at = subst (λ o. MatchOption o (Differs at) (λ n. AgreesOn n at)) shape_is is.shape in
@@ -115,7 +115,7 @@ result_agreed key schema entry shape first second rest shape_is is member =
     go (Some f) e = λ none. cc
 
 -- where the fields that a key means have one shape, its entry knows it
-pub knows_shape : (key : Key) (resolutions : List Resolved) (entry : Entry) (shape : ℕ) → IsEntry (length resolutions) (field_at key resolutions) entry
+pub knows_shape : (key : Key) (resolutions : List Resolved) (entry : Entry) (shape : ℕ) → IsIndexEntry (length resolutions) (field_at key resolutions) entry
     → HaveShape shape key resolutions → entry.shape ≡ None → ⊥
 knows_shape key resolutions entry shape is same unknown_shape =
     let at = field_at key resolutions in
@@ -148,14 +148,14 @@ pub unknown_key : (key : Key) (s : State) → ((i : ℕ) → field_at key s.sche
 unknown_key key s none =
     let nothing : passing (has_key key) s ≡ [] =
     filter_nothing (passes (has_key key) s.schema.resolutions) (λ i. sym (has_field key s.schema.resolutions i) ∙ ap is_some (none i)) s.candidates in
-    ap (λ xs. by_number (of_fields (distinct_fields key s.schema s.candidates)) (how_many xs)) nothing
+    ap (λ xs. solved_or (of_fields (distinct_fields key s.schema s.candidates)) (how_many xs)) nothing
 
 results_known : (fields : List (FieldView × ℕ)) → of_fields fields ≡ unknown → ⊥
 results_known [] e = cc
 results_known (f ∷ []) e = cc
 results_known (f ∷ g ∷ fs) e = cc
 
-unknown_number : (fields : List (FieldView × ℕ)) (n : HowMany) → by_number (of_fields fields) n ≡ unknown → n ≡ no_index
+unknown_number : (fields : List (FieldView × ℕ)) (n : HowMany) → solved_or (of_fields fields) n ≡ unknown → n ≡ no_index
 unknown_number fields no_index e = refl
 unknown_number fields (one_index i) e = cc
 unknown_number fields several_indices e = absurd (results_known fields e)
@@ -181,7 +181,7 @@ passing_long key s =
 -- the candidates after a key that some of them have
 pub left_known : (key : Key) (s : State) → (key_result key s ≡ unknown → ⊥) → passing (has_key key) s ≡ (see_key key s).candidates
 left_known key s known =
-    sym (or_all_some _ s.candidates (λ none. known (ap (λ xs. by_number (of_fields (distinct_fields key s.schema s.candidates)) (how_many xs)) none)))
+    sym (or_all_some _ s.candidates (λ none. known (ap (λ xs. solved_or (of_fields (distinct_fields key s.schema s.candidates)) (how_many xs)) none)))
 
 -- and after one that none of them has
 pub left_unknown : (key : Key) (s : State) → key_result key s ≡ unknown → s.candidates ≡ (see_key key s).candidates

@@ -15,7 +15,7 @@ pub mod ChoiceResolutions
 pub mod Work
 pub mod ChoiceParts
 pub mod NestedFields
-pub mod Brings
+pub mod Contribution
 pub mod NestedSets
 pub mod Nested
 pub mod NestedNames
@@ -25,7 +25,7 @@ pub mod Marks
 pub mod Reached
 pub mod Serving
 pub mod Starts
-pub mod Brought
+pub mod Contributed
 pub mod CatchAlls
 pub mod WalkFrames
 pub mod Emissions

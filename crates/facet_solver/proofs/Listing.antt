@@ -18,8 +18,8 @@ use Rattle.facet_solver_shape.specs.declared.shape.ShapeKind.{ShapeKind}
 use Rattle.facet_solver_shape.specs.declared.shape.ShapeKind.TheVariants.{Struct, Enum}
 use Rattle.facet_solver.proofs.Roles.{RoleBelow, role_of-below}
 
--- ---- a walk and a list of choices agree: each listed choice is walked, whatever follows it, and what is walked begins with a listed choice
--- membership, by recursion
+-- ---- a walk and a list of choices agree: each listed choice is walked, whatever follows it, and
+-- what is walked begins with a listed choice membership, by recursion
 abbrev pub In : {X : Type 0} → X → List X → Type 0
 In x [] = ⊥
 In x (y ∷ ys) = (y ≡ x) ⊎ In x ys

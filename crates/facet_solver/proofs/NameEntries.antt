@@ -13,7 +13,7 @@ use Rattle.facet_solver_shape.specs.Resolved.{Resolved, field_by_key}
 use Rattle.facet_solver_shape.proofs.Lists.{list_any-map}
 use Rattle.facet_solver.specs.Resolutions.{field_at, has_field_named, has_key, is_known, passes}
 use Rattle.facet_solver.specs.IndexEntries.{entry_at, holds, is_held}
-use Rattle.facet_solver.specs.IndexSet.{IndexSet, has}
+use Rattle.facet_solver.specs.IndexSet.{IndexSet, has_index}
 use Rattle.facet_solver.specs.Indexed.{AgreesOn, Differs, IsEntryIfAny, IsIndexOf, Meant, fields_of_each, first_passing}
 use Rattle.facet_solver.specs.Slots.{categories, is_at, slot_in}
 use Rattle.facet_solver_shape.specs.Keys.{Key}
@@ -93,7 +93,7 @@ entry_holds : (rs : List Resolved) (meant : Meant) (entry : Option Entry) → ((
     → IsEntryIfAny (length rs) meant entry → (i : ℕ) → holds entry i ≡ is_some (meant i)
 entry_holds rs meant None clear is i = sym (ap is_some (is i))
 entry_holds rs meant (Some e) clear is i =
-    ap (λ (s : IndexSet). has s.members i) is.set ∙ has_passing (λ j. is_some (meant j)) (length rs) i clear
+    ap (λ (s : IndexSet). has_index s.members i) is.set ∙ has_passing (λ j. is_some (meant j)) (length rs) i clear
 
 -- so the entry of a key has those that have the key
 pub key_held : (key : Key) (rs : List Resolved) (entry : Option Entry) → IsEntryIfAny (length rs) (field_at key rs) entry → (i : ℕ) → holds entry i ≡ passes (has_key key) rs i
@@ -108,21 +108,21 @@ module _ (name : Name) (rs : List Resolved) (index : Index) (is : IsIndexOf (len
       ∙ found_somewhere name rs i
 
 -- one of the entries that there are has a resolution where one of all slots has
-held_by_one : {X : Type 0} (entry : X → Option Entry) (xs : List X) (i : ℕ) → list_any (λ (e : Entry). has e.set.members i) (filter_map entry xs) ≡ list_any (λ x. holds (entry x) i) xs
+held_by_one : {X : Type 0} (entry : X → Option Entry) (xs : List X) (i : ℕ) → list_any (λ (e : Entry). has_index e.set.members i) (filter_map entry xs) ≡ list_any (λ x. holds (entry x) i) xs
 held_by_one entry [] i = refl
 held_by_one entry (x ∷ xs) i = go (entry x) (held_by_one entry xs i)
   where
-    go : (o : Option Entry) → list_any (λ (e : Entry). has e.set.members i) (filter_map entry xs) ≡ list_any (λ x. holds (entry x) i) xs
-        → list_any (λ (e : Entry). has e.set.members i) (cons_option o (filter_map entry xs)) ≡ (holds o i || list_any (λ x. holds (entry x) i) xs)
+    go : (o : Option Entry) → list_any (λ (e : Entry). has_index e.set.members i) (filter_map entry xs) ≡ list_any (λ x. holds (entry x) i) xs
+        → list_any (λ (e : Entry). has_index e.set.members i) (cons_option o (filter_map entry xs)) ≡ (holds o i || list_any (λ x. holds (entry x) i) xs)
     go None later = later
-    go (Some e) later = ap (λ b. has e.set.members i || b) later
+    go (Some e) later = ap (λ b. has_index e.set.members i || b) later
 
 -- so those that there are of a name tell who has a field of the name
 pub named_held : (name : Name) (rs : List Resolved) (index : Index) (entries : List (Bor Entry)) → IsIndexOf (length rs) (fields_of_each rs) index
     → map (λ (e : Bor Entry). e.now) entries ≡ filter_map (λ c. entry_at index (slot_in name c)) categories → (i : ℕ) → is_held entries i ≡ passes (has_field_named name) rs i
 named_held name rs index entries is all i =
-    sym (list_any-map (λ (e : Entry). has e.set.members i) (λ (e : Bor Entry). e.now) entries)
-    ∙ ap (list_any (λ (e : Entry). has e.set.members i)) all
+    sym (list_any-map (λ (e : Entry). has_index e.set.members i) (λ (e : Bor Entry). e.now) entries)
+    ∙ ap (list_any (λ (e : Entry). has_index e.set.members i)) all
     ∙ held_by_one (λ c. entry_at index (slot_in name c)) categories i
     ∙ name_held name rs index is i
 

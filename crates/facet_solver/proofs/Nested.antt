@@ -1,5 +1,5 @@
--- The laws of nested key paths. On a checked catalogue what is under a shape is what its kind says; and
--- no path goes through one that is not there.
+-- The laws of nested key paths. On a checked catalogue what is under a shape is what its kind says;
+-- and no path goes through one that is not there.
 use Rattle.std.proofs.Common.{◌⊎◌, inl, inr, ◌≡◌, ℕ, zero, suc, ◌<◌, ◌≤◌, List, [], ◌∷◌, ◌++◌, Option, Bool, true, false, sym, refl, ap, ◌∙◌, slice_get, length, arith, string_bytes, subst}
 use Rattle.std.proofs.lemmas.Bool.{cases_lt}
 use Rattle.std.proofs.lemmas.Option.{slice_get_past}

@@ -15,7 +15,7 @@ use Rattle.std.proofs.lemmas.Slice.Eq.{bytes_eq-Decides}
 use Rattle.facet_solver_shape.specs.Names.{Name, names_of, name_ref_cmp}
 use Rattle.facet_solver_shape.specs.Resolved.{Resolved, with_key_path}
 use Rattle.facet_solver.specs.Nested.{KeyPath, KeyPaths, Under, named, no_paths, paths_of_each, with_paths_behind}
-use Rattle.facet_solver.specs.NestedTable.{LeadEarlier, StandFor, entry_at, is_filled, paths_by_name}
+use Rattle.facet_solver.specs.NestedTable.{EntriesStandFor, LeadEarlier, is_filled, nested_entry_at, paths_by_name}
 use Rattle.facet_solver.specs.NestedLevels.{names_left, paths_of_levels}
 use Rattle.facet_solver.specs.NestedNames.{AreRising, Names, NamesLead, paths_of_names, shapes_behind}
 use Rattle.facet_solver.specs.declared.build.nested.names_left.Level.{Level}
@@ -37,7 +37,7 @@ paths_if_any under (Some entry) = paths_by_name under entry.under
 -- the key paths under a shape by its entry, down to n levels
 unfoldable pub entry_paths_within : List (Option Entry) → ℕ → Under
 entry_paths_within entries zero id = no_paths
-entry_paths_within entries (suc n) id = paths_if_any (entry_paths_within entries n) (entry_at entries id)
+entry_paths_within entries (suc n) id = paths_if_any (entry_paths_within entries n) (nested_entry_at entries id)
 
 -- the key paths under a shape by its entry, which leads to earlier shapes alone
 unfoldable pub entry_paths : List (Option Entry) → Under
@@ -57,7 +57,7 @@ module _ (g h : Under) (limit : ℕ) (passes : ℕ → Bool) (agree : (id : ℕ)
       ∙ ap (set.union (named e.0.now (paths_of_each h (shapes_behind e.1)))) (names_same es lead.1)
 
 module _ (entries : List (Option Entry)) (earlier : LeadEarlier entries) where
-  entry_same : (id : ℕ) (g h : Under) → ((k : ℕ) → k < id → g k ≡ h k) → (o : Option Entry) → entry_at entries id ≡ o → paths_if_any g o ≡ paths_if_any h o
+  entry_same : (id : ℕ) (g h : Under) → ((k : ℕ) → k < id → g k ≡ h k) → (o : Option Entry) → nested_entry_at entries id ≡ o → paths_if_any g o ≡ paths_if_any h o
   entry_same id g h agree None at = refl
   entry_same id g h agree (Some entry) at = names_same g h id (is_filled entries) agree entry.under.by_name.items (earlier id entry at).under
 
@@ -66,9 +66,9 @@ module _ (entries : List (Option Entry)) (earlier : LeadEarlier entries) where
   within_same zero m id p q = absurd (omega arith)
   within_same (suc n) zero id p q = absurd (omega arith)
   within_same (suc n) (suc m) id p q =
-      entry_same id (entry_paths_within entries n) (entry_paths_within entries m) (λ k lt. within_same n m k (omega arith) (omega arith)) (entry_at entries id) refl
+      entry_same id (entry_paths_within entries n) (entry_paths_within entries m) (λ k lt. within_same n m k (omega arith) (omega arith)) (nested_entry_at entries id) refl
 
-  pub entry_paths-stand : StandFor (entry_paths entries) entries
+  pub entry_paths-stand : EntriesStandFor (entry_paths entries) entries
   unfolding entry_paths entry_paths_within
   entry_paths-stand id entry at =
       let within = entry_paths_within entries id in

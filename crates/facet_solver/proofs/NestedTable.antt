@@ -23,7 +23,7 @@ use Rattle.facet_solver.specs.Build.{Catalogue, kind_at}
 use Rattle.facet_solver.specs.Content.{is_zero}
 use Rattle.facet_solver.specs.Nested.{KeyPaths, Entered, Under, no_paths, paths_of_each, named, through_field, through_fields_step, under_fields_step, under_kind, has_fields, if_entered, under_shape, entered_view}
 use Rattle.facet_solver.specs.FieldCount.{field_count, fields_of_kind}
-use Rattle.facet_solver.specs.NestedTable.{AreFieldsOf, AreFirstEntries, EntryLeadsTo, FieldAsks, HasMore, IsClosed, IsEntry, IsFilled, IsMade, IsMarked, IsSound, KindAsks, LeadTo, entry_at, entry_if_any, is_filled, paths_by_name, under_of}
+use Rattle.facet_solver.specs.NestedTable.{AreFieldsOf, AreFirstEntries, EntryLeadsTo, FieldAsks, HasMore, IsClosed, IsFilled, IsMade, IsMarked, IsNestedEntry, IsSound, KindAsks, LeadTo, entry_if_any, is_filled, nested_entry_at, paths_by_name, under_of}
 use Rattle.facet_solver.specs.NestedNames.{Names, NamesLead, paths_of_names, shapes_behind}
 use Rattle.facet_solver.specs.declared.build.nested.by_name.FieldsByName.{FieldsByName}
 use Rattle.facet_solver.specs.declared.build.nested.table.Earlier.{Earlier}
@@ -238,12 +238,12 @@ all_ok P Q R S (Err e) f p q r = tt
 
 -- what an entry is made of
 pub made_of : (earlier : Earlier) (kind : ShapeKind) (o : Option Entry) → IfSome o (IsMade earlier kind)
-    → IfSome o (λ entry. IsEntry (entered_view earlier.entered) earlier.shapes.now kind entry × EntryLeadsTo (is_filled earlier.entries.now) entry)
+    → IfSome o (λ entry. IsNestedEntry (entered_view earlier.entered) earlier.shapes.now kind entry × EntryLeadsTo (is_filled earlier.entries.now) entry)
 made_of earlier kind None h = tt
 made_of earlier kind (Some entry) h = (h.is_entry, h.lead)
 
 module _ (entered : Entered) (cat : Catalogue) where
-  pub entry_of_other : (k : ShapeKind) (entry : Entry) → paths_by_name (under_shape entered cat) entry.under ≡ no_paths → entry.variants.items ≡ [] → ((kind : StructKind) (fs : Vec Field Global) → k ≡ Struct kind fs → ⊥) → ((vs : Vec Variant Global) → k ≡ Enum vs → ⊥) → IsEntry entered cat k entry
+  pub entry_of_other : (k : ShapeKind) (entry : Entry) → paths_by_name (under_shape entered cat) entry.under ≡ no_paths → entry.variants.items ≡ [] → ((kind : StructKind) (fs : Vec Field Global) → k ≡ Struct kind fs → ⊥) → ((vs : Vec Variant Global) → k ≡ Enum vs → ⊥) → IsNestedEntry entered cat k entry
   entry_of_other (Struct kind fs) entry u v p q = absurd (p kind fs refl)
   entry_of_other (Enum vs) entry u v p q = absurd (q vs refl)
   entry_of_other _ entry u v p q = record { under = u; variants = ap (λ (fs : List FieldsByName). map (paths_by_name (under_shape entered cat)) fs) v }
@@ -289,16 +289,16 @@ module _ (entered : Entered) (cat : Catalogue) (marks : List Bool) where
     ]
 
     abbrev IsNext : Entry → Type 0
-    IsNext entry = IsEntry entered cat (kind_at cat (length ts)) entry × EntryLeadsTo (is_filled ts) entry
+    IsNext entry = IsNestedEntry entered cat (kind_at cat (length ts)) entry × EntryLeadsTo (is_filled ts) entry
 
     module _ (o : Option Entry) (b : Bool) (some : is_some o ≡ b) (mark : slice_get marks (length ts) ≡ Some b) (right : IfSome o IsNext) where
       is_right : (p : Option Entry) (entry : Entry) → p ≡ Some entry → IfSome p IsNext → IsNext entry
       is_right None entry e h = absurd (cc)
       is_right (Some x) entry e h = let same : x ≡ entry = cc in subst IsNext same h
 
-      entry_right : (id : ℕ) (entry : Entry) → (slice_get ts id ≡ Some (Some entry)) ⊎ ((id ≡ length ts) × (o ≡ Some entry)) → IsEntry entered cat (kind_at cat id) entry
+      entry_right : (id : ℕ) (entry : Entry) → (slice_get ts id ≡ Some (Some entry)) ⊎ ((id ≡ length ts) × (o ≡ Some entry)) → IsNestedEntry entered cat (kind_at cat id) entry
       entry_right id entry (inl before) = first.each id entry (ap entry_if_any before)
-      entry_right id entry (inr last) = subst (λ (i : ℕ). IsEntry entered cat (kind_at cat i) entry) (sym last.0) (is_right o entry last.1 right).0
+      entry_right id entry (inr last) = subst (λ (i : ℕ). IsNestedEntry entered cat (kind_at cat i) entry) (sym last.0) (is_right o entry last.1 right).0
 
       abbrev EarlierThan : ℕ → ℕ → Bool
       EarlierThan id t = nat_lt t id && is_filled (ts ++ o ∷ []) t
@@ -316,10 +316,10 @@ module _ (entered : Entered) (cat : Catalogue) (marks : List Bool) where
 
       entry_marked : (id : ℕ) → (id < length ts) ⊎ (id ≡ length ts) → IsMarked marks id ↔ IsFilled (ts ++ o ∷ []) id
       entry_marked id (inl lt) =
-          let e : entry_at (ts ++ o ∷ []) id ≡ entry_at ts id = ap entry_if_any (before_end ts o id lt) in
+          let e : nested_entry_at (ts ++ o ∷ []) id ≡ nested_entry_at ts id = ap entry_if_any (before_end ts o id lt) in
           (λ m. ap is_some e ∙ (first.marked id lt).0 m, λ f. (first.marked id lt).1 (sym (ap is_some e) ∙ f))
       entry_marked id (inr same) =
-          let e : entry_at (ts ++ o ∷ []) id ≡ o = ap (λ (i : ℕ). entry_at (ts ++ o ∷ []) i) same ∙ ap entry_if_any (at_end ts o) in
+          let e : nested_entry_at (ts ++ o ∷ []) id ≡ o = ap (λ (i : ℕ). nested_entry_at (ts ++ o ∷ []) i) same ∙ ap entry_if_any (at_end ts o) in
           let here : slice_get marks id ≡ Some b = ap (λ (i : ℕ). slice_get marks i) same ∙ mark in
           (λ m. ap is_some e ∙ some ∙ told b (sym here ∙ m), λ f. here ∙ ap Some (sym some ∙ sym (ap is_some e) ∙ f))
         where

@@ -1,4 +1,4 @@
--- Emissions taken in one by one come to their resolution, or to a clash.
+-- Emissions taken in one by one come to their resolution, or to a duplicate key.
 use Rattle.std.proofs.Common.{◌≡◌, ℕ, List, [], ◌∷◌, ◌++◌, Option, Some, None, sym, refl, ap, ◌∙◌, IsSome, subst, ◌⊎◌, inl, inr, zero, suc, Bool, true, false, cond, slice_get, length, append_assoc, append-nil, arith}
 use Rattle.std.specs.Prelude.{Result, IsErrAnd, IsSomeAnd}
 use Rattle.std.specs.FinMap as finite
@@ -7,12 +7,12 @@ use Rattle.facet_solver_shape.specs.declared.resolution.error.SchemaError as sch
 use Rattle.facet_solver_shape.specs.declared.resolution.error.SchemaError.TheVariants.{DuplicateField, OutOfMemory}
 use Rattle.facet_solver.specs.Outcome.{Gives, ErrorOf, duplicate_view, Outcome, Duplicate, resolved, duplicate, next, with_known, take_in, take_all, effect}
 use Rattle.facet_solver.specs.Nested.{KeyPaths, with_key_paths}
-use Rattle.facet_solver.specs.Emissions.{Emission, a_field, some_key_paths, a_pick, a_catch_all}
+use Rattle.facet_solver.specs.Emissions.{Emission, a_field, some_key_paths, a_selection, a_catch_all}
 use Rattle.facet_solver.specs.Walk.{Walked, put_before, and_then}
 use Rattle.facet_solver_shape.specs.Fields.{FieldView, key_of_field}
 use Rattle.std.specs.FinSet as set
 use Rattle.facet_solver_shape.proofs.Resolved.{names_kept, names_put, nothing_required}
-use Rattle.facet_solver_shape.specs.Resolved.{AreRequiredNames, Pick, Resolved, IsAdded, with_pick, with_catch_all, IsRefusalOf, nothing, with_field}
+use Rattle.facet_solver_shape.specs.Resolved.{AreRequiredNames, Selection, Resolved, IsAdded, with_selection, with_catch_all, IsRefusalOf, nothing, with_field}
 use Rattle.std.specs.List.{fold}
 use Rattle.std.specs.Ordering.{eq_by_cmp}
 use Rattle.std.proofs.lemmas.List.Sums.{fold-append}
@@ -22,7 +22,7 @@ use Rattle.std.proofs.lemmas.Bool.{false≢true}
 use Rattle.facet_solver_shape.specs.Keys.{Key, key_cmp}
 use Rattle.facet_solver_shape.proofs.Finite.{equal}
 use Rattle.facet_solver_shape.proofs.Keys.{key_cmp_total, key_cmp_same}
-use Rattle.facet_solver.specs.Choice.{Clashes, HasNoClash, with_emission, resolution_of}
+use Rattle.facet_solver.specs.Choice.{AreDuplicates, HasNoDuplicates, with_emission, resolution_from}
 
 -- ---- emissions one by one
 pub take_all-one : (r : Resolved) (e : Emission) → take_all r (e ∷ []) ≡ take_in r e
@@ -144,9 +144,9 @@ pub taken-paths : (r s : Resolved) (ps : KeyPaths) → s ≡ with_key_paths r ps
 unfolding take_in
 taken-paths r s ps h = ap resolved (sym h)
 
-pub taken-pick : (r s : Resolved) (p : Pick) → s ≡ with_pick r p → take_in r (a_pick p) ≡ resolved s
+pub taken-selection : (r s : Resolved) (p : Selection) → s ≡ with_selection r p → take_in r (a_selection p) ≡ resolved s
 unfolding take_in
-taken-pick r s p h = ap resolved (sym h)
+taken-selection r s p h = ap resolved (sym h)
 
 pub taken-catch_all : (r s : Resolved) (f : FieldView) → s ≡ with_catch_all r f.category f → take_in r (a_catch_all f) ≡ resolved s
 unfolding take_in
@@ -165,7 +165,7 @@ refused-field_and_paths result new r f ps err h k =
 
 pub ruleset takes = (take_all-nil, take_all-one, take_all-next, take_all-stop)
 
--- ---- emissions taken in one by one come to their resolution, or to a clash
+-- ---- emissions taken in one by one come to their resolution, or to a duplicate key
 -- an item of the first of two lists
 get_left : {X : Type 0} (xs ys : List X) (k : ℕ) (x : X) → slice_get xs k ≡ Some x → slice_get (xs ++ ys) k ≡ Some x
 get_left [] ys k x h = absurd (cc)
@@ -190,22 +190,22 @@ record Emitted (es : List Emission) (k : Key) (g : FieldView) : Type 0 where
   there : slice_get es index ≡ Some (a_field g)
   by_key : key_of_field g ≡ k
 
--- r is what the emissions put together, and no two of them clash
+-- r is what the emissions put together, and no two of them are duplicates
 record IsDone (done : List Emission) (r : Resolved) : Type 0 where
   is : r ≡ fold with_emission nothing done
   held : (k : Key) (g : FieldView) → finite.get r.fields k ≡ Some g → Emitted done k g
   missing : (k : Key) (g : FieldView) → finite.get r.fields k ≡ None → Emitted done k g → ⊥
-  free : HasNoClash done
+  free : HasNoDuplicates done
 
-no_clash-nil : HasNoClash []
-no_clash-nil f g k = let h = k.first_is in absurd (cc)
+no_duplicates-nil : HasNoDuplicates []
+no_duplicates-nil f g k = let h = k.first_is in absurd (cc)
 
 nothing_done : IsDone [] nothing
 nothing_done = record {
   is = refl;
   held = λ k g h. absurd (let none = finite.get-empty {X = FieldView} key_cmp k in cc);
   missing = λ k g h e. let there = e.there in absurd (cc);
-  free = no_clash-nil;
+  free = no_duplicates-nil;
 }
 
 later : (done : List Emission) (e : Emission) (k : Key) (g : FieldView) → Emitted done k g → Emitted (done ++ e ∷ []) k g
@@ -218,9 +218,9 @@ split done e k g h = elim (get_push done e (a_field g) h.index h.there) [
   | inr a ↦ inr a.1
 ]
 
--- a clash after one more was one before, or is with the one
-clash-split : (done : List Emission) (e : Emission) (f g : FieldView) → Clashes (done ++ e ∷ []) f g → Clashes done f g ⊎ ((e ≡ a_field g) × Emitted done (key_of_field g) f)
-clash-split done e f g k =
+-- a duplicate key after one more was one before, or is with the one
+duplicates-split : (done : List Emission) (e : Emission) (f g : FieldView) → AreDuplicates (done ++ e ∷ []) f g → AreDuplicates done f g ⊎ ((e ≡ a_field g) × Emitted done (key_of_field g) f)
+duplicates-split done e f g k =
     elim (get_push done e (a_field f) k.first_at k.first_is) [
       | inl a ↦ elim (get_push done e (a_field g) k.second_at k.second_is) [
         | inl b ↦ inl record { first_at = k.first_at; second_at = k.second_at; in_order = k.in_order; first_is = a; second_is = b; same_key = k.same_key }
@@ -241,7 +241,7 @@ done-other done r e d same other = record {
   is = is-push done r e d.is;
   held = λ k g h. later done e k g (d.held k g (ap (λ (m : finite.FinMap key_cmp FieldView). finite.get m k) (sym same) ∙ h));
   missing = λ k g h x. elim (split done e k g x) [ inl a ↦ d.missing k g (ap (λ (m : finite.FinMap key_cmp FieldView). finite.get m k) (sym same) ∙ h) a | inr a ↦ other g a ];
-  free = λ f g k. elim (clash-split done e f g k) [ inl a ↦ d.free f g a | inr a ↦ other g a.0 ];
+  free = λ f g k. elim (duplicates-split done e f g k) [ inl a ↦ d.free f g a | inr a ↦ other g a.0 ];
 }
 
 -- one more field, whose key is free
@@ -250,7 +250,7 @@ done-field done r f d fresh = record {
   is = is-push done r (a_field f) d.is;
   held = λ k g h. found k g (eq_by_cmp key_cmp k (key_of_field f)) refl (sym (put k) ∙ h);
   missing = λ k g h x. lost k g x (eq_by_cmp key_cmp k (key_of_field f)) refl (sym (put k) ∙ h);
-  free = λ g h k. elim (clash-split done (a_field f) g h k) [ inl a ↦ d.free g h a | inr a ↦ (let same : f ≡ h = cc in d.missing (key_of_field f) g fresh (subst (λ (x : FieldView). Emitted done (key_of_field x) g) (sym same) a.1)) ];
+  free = λ g h k. elim (duplicates-split done (a_field f) g h k) [ inl a ↦ d.free g h a | inr a ↦ (let same : f ≡ h = cc in d.missing (key_of_field f) g fresh (subst (λ (x : FieldView). Emitted done (key_of_field x) g) (sym same) a.1)) ];
 }
   where
     put : (k : Key) → finite.get (finite.insert r.fields (key_of_field f) f) k ≡ cond (eq_by_cmp key_cmp k (key_of_field f)) (Some f) (finite.get r.fields k)
@@ -283,9 +283,9 @@ push done q r (a_field f) d h = go (finite.get q.fields (key_of_field f)) refl h
 push done q r (some_key_paths p) d h =
     let same : with_emission q (some_key_paths p) ≡ r = cc in
     subst (IsDone (done ++ some_key_paths p ∷ [])) same (done-other done q (some_key_paths p) d refl (λ f e. absurd (cc)))
-push done q r (a_pick p) d h =
-    let same : with_emission q (a_pick p) ≡ r = cc in
-    subst (IsDone (done ++ a_pick p ∷ [])) same (done-other done q (a_pick p) d refl (λ f e. absurd (cc)))
+push done q r (a_selection p) d h =
+    let same : with_emission q (a_selection p) ≡ r = cc in
+    subst (IsDone (done ++ a_selection p ∷ [])) same (done-other done q (a_selection p) d refl (λ f e. absurd (cc)))
 push done q r (a_catch_all f) d h =
     let same : with_emission q (a_catch_all f) ≡ r = cc in
     subst (IsDone (done ++ a_catch_all f ∷ [])) same (done-other done q (a_catch_all f) d refl (λ f e. absurd (cc)))
@@ -306,46 +306,46 @@ refused done q (a_field f) d x h = go (finite.get q.fields (key_of_field f)) ref
     go None e h = absurd (cc)
     go (Some g) e h = record { first = g; second = f; emitted = refl; before = x.held (key_of_field f) g e; names = cc }
 refused done q (some_key_paths p) d x h = absurd (cc)
-refused done q (a_pick p) d x h = absurd (cc)
+refused done q (a_selection p) d x h = absurd (cc)
 refused done q (a_catch_all f) d x h = absurd (cc)
 
--- emissions without clash, and what they put together
+-- emissions without duplicate keys, and what they put together
 pub record Built (es : List Emission) (r : Resolved) : Type 0 where
-  pub is : r ≡ resolution_of es
-  pub free : HasNoClash es
+  pub is : r ≡ resolution_from es
+  pub free : HasNoDuplicates es
 
--- emissions with a clash, and what a refusal says of it
-pub record Clashing (es : List Emission) (d : Duplicate) : Type 0 where
+-- emissions with duplicate keys, and what a refusal says of it
+pub record HasDuplicates (es : List Emission) (d : Duplicate) : Type 0 where
   pub first : FieldView
   pub second : FieldView
-  pub clash : Clashes es first second
+  pub duplicates : AreDuplicates es first second
   pub names : d ≡ record { name = second.name; first_path = first.path; second_path = second.path }
 
 built_from : (done es : List Emission) (q r : Resolved) → IsDone done q → take_all q es ≡ resolved r → Built (done ++ es) r
-unfolding take_all resolution_of
+unfolding take_all resolution_from
 built_from done [] q r d h =
     let same : q ≡ r = cc in
-    record { is = sym same ∙ d.is ∙ ap (fold with_emission nothing) (sym (append-nil done)); free = subst HasNoClash (sym (append-nil done)) d.free }
+    record { is = sym same ∙ d.is ∙ ap (fold with_emission nothing) (sym (append-nil done)); free = subst HasNoDuplicates (sym (append-nil done)) d.free }
 built_from done (e ∷ es) q r d h = go (take_in q e) refl h (λ s k. built_from (done ++ e ∷ []) es s r k)
   where
     go : (o : Outcome) → take_in q e ≡ o → next o (λ s. take_all s es) ≡ resolved r → ((s : Resolved) → IsDone (done ++ e ∷ []) s → take_all s es ≡ resolved r → Built ((done ++ e ∷ []) ++ es) r) → Built (done ++ e ∷ es) r
     go (resolved s) is k rest = subst (λ (xs : List Emission). Built xs r) (append_assoc done (e ∷ []) es) (rest s (push done q s e d is) k)
     go (duplicate d) is k rest = absurd (cc)
 
-clashing_from : (done es : List Emission) (q : Resolved) (d : Duplicate) → IsDone done q → take_all q es ≡ duplicate d → Clashing (done ++ es) d
+has_duplicates_from : (done es : List Emission) (q : Resolved) (d : Duplicate) → IsDone done q → take_all q es ≡ duplicate d → HasDuplicates (done ++ es) d
 unfolding take_all
-clashing_from done [] q d x h = absurd (cc)
-clashing_from done (e ∷ es) q d x h = go (take_in q e) refl h (λ s k. clashing_from (done ++ e ∷ []) es s d k)
+has_duplicates_from done [] q d x h = absurd (cc)
+has_duplicates_from done (e ∷ es) q d x h = go (take_in q e) refl h (λ s k. has_duplicates_from (done ++ e ∷ []) es s d k)
   where
-    go : (o : Outcome) → take_in q e ≡ o → next o (λ s. take_all s es) ≡ duplicate d → ((s : Resolved) → IsDone (done ++ e ∷ []) s → take_all s es ≡ duplicate d → Clashing ((done ++ e ∷ []) ++ es) d) → Clashing (done ++ e ∷ es) d
-    go (resolved s) is k rest = subst (λ (xs : List Emission). Clashing xs d) (append_assoc done (e ∷ []) es) (rest s (push done q s e x is) k)
+    go : (o : Outcome) → take_in q e ≡ o → next o (λ s. take_all s es) ≡ duplicate d → ((s : Resolved) → IsDone (done ++ e ∷ []) s → take_all s es ≡ duplicate d → HasDuplicates ((done ++ e ∷ []) ++ es) d) → HasDuplicates (done ++ e ∷ es) d
+    go (resolved s) is k rest = subst (λ (xs : List Emission). HasDuplicates xs d) (append_assoc done (e ∷ []) es) (rest s (push done q s e x is) k)
     go (duplicate d') is k rest =
         let same : d' ≡ d = cc in
         let r = refused done q e d' x is in
         record {
           first = r.first;
           second = r.second;
-          clash = record {
+          duplicates = record {
             first_at = r.before.index;
             second_at = length done;
             in_order = slice_get_within done r.before.index (a_field r.first) r.before.there;
@@ -361,11 +361,11 @@ pub built : (es : List Emission) (r : Resolved) → take_all nothing es ≡ reso
 built es r h = built_from [] es nothing r nothing_done h
 
 -- and where that stops
-pub clashing : (es : List Emission) (d : Duplicate) → take_all nothing es ≡ duplicate d → Clashing es d
-clashing es d h = clashing_from [] es nothing d nothing_done h
+pub has_duplicates : (es : List Emission) (d : Duplicate) → take_all nothing es ≡ duplicate d → HasDuplicates es d
+has_duplicates es d h = has_duplicates_from [] es nothing d nothing_done h
 
 -- ---- the names that emissions require
--- a field whose key is free brings its name where it is required
+-- a field whose key is free contributes its name where it is required
 added_names : (q : Resolved) (f : FieldView) → finite.get q.fields (key_of_field f) ≡ None → AreRequiredNames q.fields q.required_names
     → AreRequiredNames (with_field q f).fields (with_field q f).required_names
 added_names q f fresh are = go f.is_required refl
@@ -374,14 +374,14 @@ added_names q f fresh are = go f.is_required refl
     go true required = names_put q.fields f fresh q.required_names required are
     go false optional = names_kept q.fields f fresh q.required_names optional are
 
-names_from : (done es : List Emission) (q : Resolved) → IsDone done q → AreRequiredNames q.fields q.required_names → HasNoClash (done ++ es)
+names_from : (done es : List Emission) (q : Resolved) → IsDone done q → AreRequiredNames q.fields q.required_names → HasNoDuplicates (done ++ es)
     → AreRequiredNames (fold with_emission q es).fields (fold with_emission q es).required_names
 unfolding with_key_paths
 names_from done [] q d are free = are
 names_from done (a_field f ∷ es) q d are free =
     go (finite.get q.fields (key_of_field f)) refl
     (λ fresh. names_from (done ++ a_field f ∷ []) es (with_field q f) (done-field done q f d fresh) (added_names q f fresh are)
-    (subst HasNoClash (sym (append_assoc done (a_field f ∷ []) es)) free))
+    (subst HasNoDuplicates (sym (append_assoc done (a_field f ∷ []) es)) free))
   where
     later : Type 0
     later = AreRequiredNames (fold with_emission (with_field q f) es).fields (fold with_emission (with_field q f) es).required_names
@@ -400,15 +400,15 @@ names_from done (a_field f ∷ es) q d are free =
         })
 names_from done (some_key_paths p ∷ es) q d are free =
     names_from (done ++ some_key_paths p ∷ []) es (with_emission q (some_key_paths p)) (done-other done q (some_key_paths p) d refl (λ f e. absurd (cc))) are
-    (subst HasNoClash (sym (append_assoc done (some_key_paths p ∷ []) es)) free)
-names_from done (a_pick p ∷ es) q d are free =
-    names_from (done ++ a_pick p ∷ []) es (with_emission q (a_pick p)) (done-other done q (a_pick p) d refl (λ f e. absurd (cc))) are
-    (subst HasNoClash (sym (append_assoc done (a_pick p ∷ []) es)) free)
+    (subst HasNoDuplicates (sym (append_assoc done (some_key_paths p ∷ []) es)) free)
+names_from done (a_selection p ∷ es) q d are free =
+    names_from (done ++ a_selection p ∷ []) es (with_emission q (a_selection p)) (done-other done q (a_selection p) d refl (λ f e. absurd (cc))) are
+    (subst HasNoDuplicates (sym (append_assoc done (a_selection p ∷ []) es)) free)
 names_from done (a_catch_all f ∷ es) q d are free =
     names_from (done ++ a_catch_all f ∷ []) es (with_emission q (a_catch_all f)) (done-other done q (a_catch_all f) d refl (λ g e. absurd (cc))) are
-    (subst HasNoClash (sym (append_assoc done (a_catch_all f ∷ []) es)) free)
+    (subst HasNoDuplicates (sym (append_assoc done (a_catch_all f ∷ []) es)) free)
 
--- where no two fields clash, the required names are those of the required fields
-pub required_names : (es : List Emission) → HasNoClash es → AreRequiredNames (resolution_of es).fields (resolution_of es).required_names
-unfolding resolution_of
+-- where no two fields are duplicates, the required names are those of the required fields
+pub required_names : (es : List Emission) → HasNoDuplicates es → AreRequiredNames (resolution_from es).fields (resolution_from es).required_names
+unfolding resolution_from
 required_names es free = names_from [] es nothing nothing_done nothing_required free

@@ -1,5 +1,5 @@
--- What a role leads to goes down a checked catalogue, and ends: definitions by levels do not depend on the
--- levels that are left.
+-- What a role leads to goes down a checked catalogue, and ends: definitions by levels do not depend
+-- on the levels that are left.
 use Rattle.std.proofs.Common.{◌≡◌, ℕ, zero, suc, ◌<◌, ◌≤◌, List, [], ◌∷◌, Option, Some, None, Bool, true, false, sym, refl, subst, ◌∙◌, slice_get, length, arith, string_bytes, Vec, max, get_or, ◌⊎◌, inl, inr, ap}
 use Rattle.std.specs.Prelude.{⊤, if◌then◌else◌}
 use Rattle.std.specs.declared.alloc.Global.{Global}
@@ -21,8 +21,8 @@ use Rattle.std.specs.Borrow.{Bor}
 use Rattle.facet_solver.specs.declared.build.role.Role as role
 use Rattle.facet_solver.specs.declared.build.role.Role.TheVariants.{Regular, Block, Alternatives, CatchAll, Leaf}
 
--- ---- what goes down a checked catalogue ends: definitions by levels don't depend on the levels that are left
--- a limit may rise
+-- ---- what goes down a checked catalogue ends: definitions by levels don't depend on the levels
+-- that are left a limit may rise
 pub FieldsBelow-mono : (m n : ℕ) (fs : List Field) → m ≤ n → FieldsBelow m fs → FieldsBelow n fs
 FieldsBelow-mono m n [] le h = tt
 FieldsBelow-mono m n (f ∷ fs) le h = (omega arith, FieldsBelow-mono m n fs le h.1)
@@ -37,7 +37,7 @@ KindBelow-mono m n (Enum vs) le h = VariantsBelow-mono m n vs.items le h
 KindBelow-mono m n (OptionOf inside) le h = omega (arith, h)
 KindBelow-mono m n _ le h = tt
 
--- what a flattened field leads to names shapes below the limit
+-- what a flattened field leads to refers to shapes below the limit
 abbrev pub RoleBelow : ℕ → Role → Type 0
 RoleBelow limit regular = ⊤
 RoleBelow limit (block target fs) = FieldsBelow limit fs
@@ -150,7 +150,7 @@ module _ (cat : Catalogue) (checked : NamesEarlier cat) (root : ℕ) (s : Shape)
   pub enum-below : (vs : Vec Variant Global) → s.kind ≡ Enum vs → VariantsBelow (length cat) vs.items
   enum-below vs e = VariantsBelow-mono root (length cat) vs.items (omega (arith, inside)) (subst (KindBelow root) e (checked root s is).kind)
 
--- a step of a definition by levels looks only at fields that name earlier shapes
+-- a step of a definition by levels looks only at fields that refer to earlier shapes
 abbrev pub IsLocal : {X : Type 0} → ((List Field → X) → List Field → X) → Type 0
 IsLocal {X} step = (g h : List Field → X) (limit : ℕ) (fs : List Field) → FieldsBelow limit fs → ((m : ℕ) (gs : List Field) → m < limit → FieldsBelow m gs → g gs ≡ h gs) → step g fs ≡ step h fs
 
@@ -170,7 +170,8 @@ module _ {X : Type 0} (step : (List Field → X) → List Field → X) (by_level
       is_step limit fs
       ∙ local (by_level limit) (by_level (suc limit)) limit fs h (λ k gs lt b. same_levels limit (suc limit) k gs lt (omega arith) b)
 
--- ---- the least limit below which fields name shapes: what the recursion down a catalogue lowers
+-- ---- the least limit below which fields refer to shapes: what the recursion down a catalogue
+-- lowers
 unfoldable pub limit_of : List Field → ℕ
 limit_of [] = 0
 limit_of (f ∷ fs) = max (suc f.shape) (limit_of fs)
@@ -195,8 +196,8 @@ VariantsBelow-at limit [] i d h b = absurd (omega arith)
 VariantsBelow-at limit (v ∷ vs) zero d h b = b.0
 VariantsBelow-at limit (v ∷ vs) (suc i) d h b = VariantsBelow-at limit vs i d (omega arith) b.1
 
--- ---- what the code's roles say: which leave nothing to choose, and which have a target with choices
--- a role that is regular, a catch-all or a leaf is plain
+-- ---- what the code's roles say: which leave nothing to choose, and which have a target with
+-- choices a role that is regular, a catch-all or a leaf is plain
 pub plain_role : (r : role.Role) → (r ≡ Regular) ⊎ (((t : Target) × (r ≡ CatchAll t)) ⊎ ((t : Target) × (r ≡ Leaf t))) → IsPlain (role_view r)
 plain_role r (inl h) = subst (λ (r : role.Role). IsPlain (role_view r)) (sym h) tt
 plain_role r (inr (inl h)) = subst (λ (r : role.Role). IsPlain (role_view r)) (sym h.1) tt

@@ -10,7 +10,7 @@ use Rattle.facet_solver.specs.KeyPath.{has_key_at}
 use Rattle.facet_solver.specs.Schema.{IsOwnBuild, SchemaView}
 use Rattle.facet_solver.specs.ShapeAtPath.{has_shape_at_path}
 use Rattle.facet_solver.specs.State as state
-use Rattle.facet_solver.specs.State.{State, has_shape_among, has_tag_field, passing, picks_variant, where_any}
+use Rattle.facet_solver.specs.State.{State, has_shape_among, has_tag_field, passing, selects_variant, where_any}
 use Rattle.facet_solver.specs.Resolutions.{has_key}
 use Rattle.facet_solver.specs.Told.{see_keys, EndsWithOrNames, LeavesSome}
 use Rattle.facet_solver.proofs.IndexSet.{filter_filter}
@@ -40,7 +40,7 @@ built_in schema candidates seen s built same = subst (λ (t : State). IsOwnBuild
 pub found_from : (calls : List CallView) (before after : State) → IsOwnBuild before.schema → after ≡ after_calls calls before → FindsToldChoices calls before after
 found_from calls before after built is = record {
   ends = λ earlier keys new only choices listed index choice at r told.
-      subst (λ (s : State). EndsWithOrNames s index (description r.picks))
+      subst (λ (s : State). EndsWithOrNames s index (description r.selections))
       (fold-append (λ now key. state.see_key key now) (state.new_solver before.schema) earlier keys
       ∙ sym (told_from calls before after is keys only ∙ ap (see_keys keys) new))
       (choice_ends before.schema built choices listed index choice at (earlier ++ keys) r told);
@@ -60,12 +60,12 @@ call_leaves (mark_seen key) s = record { stays = λ i. true; left = all_stay s.c
 call_leaves (satisfy_shapes shapes) s = retain_leaves (has_shape_among shapes) s
 call_leaves (satisfy_at_path path shapes) s = retain_leaves (has_shape_at_path s.schema.build.catalogue path shapes) s
 call_leaves (probe_key path key) s = retain_leaves (has_key_at path key) s
-call_leaves (hint_variant name) s = narrow_leaves (picks_variant name) s
+call_leaves (hint_variant name) s = narrow_leaves (selects_variant name) s
 call_leaves (hint_variant_for_tag tag name) s = go (passing (has_tag_field s.schema.build.catalogue tag) s)
   where
     go : (found : List ℕ) → LeavesSome s.candidates (where_any found (state.hint_variant name s) s).candidates
     go [] = record { stays = λ i. true; left = all_stay s.candidates }
-    go (i ∷ rest) = narrow_leaves (picks_variant name) s
+    go (i ∷ rest) = narrow_leaves (selects_variant name) s
 
 -- so no run does
 pub calls_leave : (calls : List CallView) (s : State) → LeavesSome s.candidates (after_calls calls s).candidates

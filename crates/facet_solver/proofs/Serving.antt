@@ -1,4 +1,5 @@
--- What tables of nested key paths serve: their entries are the sets that walks emit, and walks ask for no others.
+-- What tables of nested key paths serve: their entries are the sets that walks emit, and walks ask
+-- for no others.
 use Rattle.std.proofs.Common.{◌≡◌, ◌<◌, ℕ, List, Option, Some, None, Bool, true, false, refl, sym, ap, ◌∙◌, subst, slice_get, length, get_or}
 use Rattle.std.specs.Prelude.{All, IfSome, Vec, nat_lt, ⊤, if◌then◌else◌}
 use Rattle.std.specs.Option.{option_map}
@@ -20,7 +21,7 @@ use Rattle.facet_solver.specs.declared.build.role.Target.{Target}
 use Rattle.facet_solver.specs.Build.{Build, Catalogue, kind_at, kind_of, repr_for}
 use Rattle.facet_solver.specs.Content.{content_of, content_or, newtype_fields, struct_fields}
 use Rattle.facet_solver.specs.Nested.{Entered, KeyPaths, content_paths, every_kind, named, nested_paths, no_paths, structs_alone, under_shape, under_variant, with_key_paths}
-use Rattle.facet_solver.specs.NestedTable.{AreEntries, EntryLeadsTo, IsFilled, IsMarked, LeadEarlier, StandFor, entry_at, is_filled, paths_by_name, variant_at, variants_of}
+use Rattle.facet_solver.specs.NestedTable.{AreEntries, EntriesStandFor, EntryLeadsTo, IsFilled, IsMarked, LeadEarlier, is_filled, nested_entry_at, paths_by_name, variant_at, variants_of}
 use Rattle.facet_solver.specs.Reached.{ContentReachedBy, FieldReached, IsChosen, KindReached, Reach, RoleReached, ServesEnum, ServesField, ServesFields, ServesVariant, ShapeReached, VariantReached}
 use Rattle.facet_solver.specs.Representation.{is_walked}
 use Rattle.facet_solver.specs.Roles.{Role, alternatives, block, catch_all, leaf, regular, role_by_kind, role_of, role_of_target, target_of}
@@ -30,15 +31,15 @@ use Rattle.facet_solver.proofs.NestedFields.{entry_leads_also, second_of}
 
 -- ---- what an entry has
 -- entries stand for what is under the shapes at their indices
-pub entries_stand : (entered : Entered) (cat : Catalogue) (entries : List (Option Entry)) → NamesEarlier cat → AreEntries entered cat entries → StandFor (under_shape entered cat) entries
+pub entries_stand : (entered : Entered) (cat : Catalogue) (entries : List (Option Entry)) → NamesEarlier cat → AreEntries entered cat entries → EntriesStandFor (under_shape entered cat) entries
 entries_stand entered cat entries checked are id entry at = (are id entry at).under ∙ sym (under_shape-step entered cat checked id)
 
 -- and lead to shapes that have one
-pub entry_filled : (entries : List (Option Entry)) (id : ℕ) (entry : Entry) → LeadEarlier entries → entry_at entries id ≡ Some entry → EntryLeadsTo (is_filled entries) entry
+pub entry_filled : (entries : List (Option Entry)) (id : ℕ) (entry : Entry) → LeadEarlier entries → nested_entry_at entries id ≡ Some entry → EntryLeadsTo (is_filled entries) entry
 entry_filled entries id entry leads at = entry_leads_also _ (is_filled entries) (λ t h. second_of (nat_lt t id) (is_filled entries t) h) entry (leads id entry at)
 
 -- the key paths under a regular field's shape, where that is a struct
-pub regular_entry : (cat : Catalogue) (entries : List (Option Entry)) (id : ℕ) (entry : Entry) → NamesEarlier cat → AreEntries structs_alone cat entries → entry_at entries id ≡ Some entry → structs_alone (kind_at cat id) ≡ true
+pub regular_entry : (cat : Catalogue) (entries : List (Option Entry)) (id : ℕ) (entry : Entry) → NamesEarlier cat → AreEntries structs_alone cat entries → nested_entry_at entries id ≡ Some entry → structs_alone (kind_at cat id) ≡ true
     → paths_by_name (under_shape structs_alone cat) entry.under ≡ nested_paths cat id
 unfolding nested_paths
 regular_entry cat entries id entry checked are at is_struct =
@@ -63,7 +64,7 @@ found_item f None y e = absurd (cc)
 found_item f (Some x) y e = (x, refl, cc)
 
 -- the key paths under the content of a variant, at the variant's index
-pub variant_entry : (cat : Catalogue) (entries : List (Option Entry)) (id : ℕ) (entry : Entry) → AreEntries every_kind cat entries → entry_at entries id ≡ Some entry
+pub variant_entry : (cat : Catalogue) (entries : List (Option Entry)) (id : ℕ) (entry : Entry) → AreEntries every_kind cat entries → nested_entry_at entries id ≡ Some entry
     → (i : ℕ) (v : Variant) → variant_at cat id i ≡ Some v
     → (fields : FieldsByName) × (slice_get entry.variants.items i ≡ Some fields) × (paths_by_name (under_shape every_kind cat) fields ≡ content_paths cat v)
 unfolding content_paths

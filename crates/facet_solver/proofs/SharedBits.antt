@@ -7,7 +7,7 @@ use Rattle.std.proofs.lemmas.Nat.{shr_le}
 use Rattle.std.specs.Int.{bit_at, trailing_zeros}
 use Rattle.std.specs.List.{range_with_len}
 use Rattle.std.specs.Prelude.{bit_and, bit_or}
-use Rattle.facet_solver.specs.IndexSet.{has, upto}
+use Rattle.facet_solver.specs.IndexSet.{has_index, upto}
 use Rattle.facet_solver.specs.SharedBits.{IsNext, IsNextShared, NoneBetween, common_bit, common_from}
 use Rattle.facet_solver.specs.Words.{HoldBelow, IsClearFrom, bit_of, has_bit, members_of}
 use Rattle.facet_solver.proofs.Words.{bit_at-shr, clear_of_zeros, clear_past, next_in_later, has_members, members_below}
@@ -122,18 +122,18 @@ no_members_of_zeros n = filter_none (has_bit (replicate n 0)) 0 (length (replica
 -- one member more
 pub members_more : (before after : List ℕ) (bound index : ℕ) → HoldBelow bound after
     → ((i : ℕ) → has_bit after i ≡ (nat_eq i index || has_bit before i))
-    → members_of after ≡ filter (λ i. nat_eq i index || has (members_of before) i) (upto bound)
+    → members_of after ≡ filter (λ i. nat_eq i index || has_index (members_of before) i) (upto bound)
 members_more before after bound index hold each =
     members_below after bound hold
-    ∙ filter_same (has_bit after) (λ i. nat_eq i index || has (members_of before) i) 0 bound
+    ∙ filter_same (has_bit after) (λ i. nat_eq i index || has_index (members_of before) i) 0 bound
     (λ i _ _. each i ∙ ap (λ b. nat_eq i index || b) (has_members before i))
 
 -- the members that another set has too
-pub members_common : (words others : List ℕ) → common_from words others 0 ≡ filter (has (members_of others)) (members_of words)
+pub members_common : (words others : List ℕ) → common_from words others 0 ≡ filter (has_index (members_of others)) (members_of words)
 members_common words others =
-    filter_same (common_bit words others) (λ i. has_bit words i && has (members_of others) i) 0 (length words * 64 - 0)
+    filter_same (common_bit words others) (λ i. has_bit words i && has_index (members_of others) i) 0 (length words * 64 - 0)
     (λ i _ _. common_is words others i ∙ ap (λ b. has_bit words i && b) (has_members others i))
-    ∙ sym (filter_filter (has_bit words) (has (members_of others)) (range_with_len 0 (length words * 64 - 0)))
+    ∙ sym (filter_filter (has_bit words) (has_index (members_of others)) (range_with_len 0 (length words * 64 - 0)))
 
 -- those from an index on, where there is a next one
 pub next_common : (words others : List ℕ) (from i : ℕ) → IsNext (common_bit words others) from i → common_from words others from ≡ i ∷ common_from words others (i + 1)

@@ -1,4 +1,5 @@
--- The variant of a rank is the last one whose choices begin no later, and the starts of variants are found one after another.
+-- The variant of a rank is the last one whose choices begin no later, and the starts of variants
+-- are found one after another.
 use Rattle.std.proofs.Common.{◌≡◌, ◌⊎◌, inl, inr, ◌+◌, ◌-◌, ◌<◌, ◌≤◌, ◌^◌, ◌∷◌, ◌++◌, ◌∙◌, ℕ, zero, suc, List, [], Option, Some, None, Bool, true, false, ap, arith, drop, get_or, leb, length, map, refl, slice_get, subst, sum_by, sym, take, get_or-append-add}
 use Rattle.std.specs.Prelude.{Vec}
 use Rattle.std.specs.List.{AllWithin}

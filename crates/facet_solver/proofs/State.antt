@@ -11,7 +11,7 @@ use Rattle.facet_solver_shape.specs.Keys.{Key, key_cmp, key_of}
 use Rattle.facet_solver_shape.specs.contracts.resolution.key.FieldKeyOrd.TheImpl as key_order
 use Rattle.facet_solver_shape.specs.declared.resolution.key.FieldKey.{FieldKey}
 use Rattle.facet_solver_shape.specs.Names.{Name, name_eq}
-use Rattle.facet_solver_shape.specs.Resolved.{Pick, pick_view}
+use Rattle.facet_solver_shape.specs.Resolved.{Selection, selection_view}
 use Rattle.facet_solver_shape.specs.declared.resolution.field.VariantSelection.{VariantSelection}
 use Rattle.facet_solver_shape.proofs.Keys.{key_agrees}
 use Rattle.facet_solver_shape.proofs.Lists.{list_any-map}
@@ -32,9 +32,9 @@ seen_with (x ∷ xs) k =
 pub key_named : (keys : List FieldKey) (name : Name) → list_any (λ (k : FieldKey). name_eq (key_of k).name name) keys ≡ list_any (λ (key : Key). name_eq key.name name) (map key_of keys)
 key_named keys name = sym (list_any-map (λ (key : Key). name_eq key.name name) key_of keys)
 
--- a variant of a name is among those that were picked
-pub variant_named : (picks : List VariantSelection) (name : Name) → list_any (λ (v : VariantSelection). name_eq v.variant_name.now name) picks ≡ list_any (λ (pick : Pick). name_eq pick.variant_name name) (map pick_view picks)
-variant_named picks name = sym (list_any-map (λ (pick : Pick). name_eq pick.variant_name name) pick_view picks)
+-- a variant of a name is among those that were selected
+pub variant_named : (selections : List VariantSelection) (name : Name) → list_any (λ (v : VariantSelection). name_eq v.variant_name.now name) selections ≡ list_any (λ (selection : Selection). name_eq selection.variant_name name) (map selection_view selections)
+variant_named selections name = sym (list_any-map (λ (selection : Selection). name_eq selection.variant_name name) selection_view selections)
 
 -- a test of the fields of a map
 pub any_field : (entries : List (FieldKey × FieldView)) (fields : finite.FinMap key_cmp FieldView) (test : FieldView → Bool) → map entry_view entries ≡ finite.entries fields → list_any (λ (e : FieldKey × FieldView). test e.1) entries ≡ list_any test (finite.values fields)

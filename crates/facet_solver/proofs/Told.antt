@@ -19,8 +19,8 @@ use Rattle.facet_solver_shape.specs.Keys.{Key, key_cmp}
 use Rattle.facet_solver_shape.specs.Resolved.{description, Resolved}
 use Rattle.facet_solver_shape.proofs.Keys.{key_cmp_same}
 use Rattle.facet_solver.specs.Choice.{IsResolution, ListsChoices}
-use Rattle.facet_solver.specs.IndexSet.{has, how_many, upto}
-use Rattle.facet_solver.specs.KeyResult.{by_number, distinct_fields, key_result, of_fields, unknown}
+use Rattle.facet_solver.specs.IndexSet.{has_index, how_many, upto}
+use Rattle.facet_solver.specs.KeyResult.{distinct_fields, key_result, of_fields, solved_or, unknown}
 use Rattle.facet_solver.specs.Schema.{IsOwnBuild, SchemaView}
 use Rattle.facet_solver.specs.State.{State, mark_seen, narrow, new_solver, or_all, passing, retain, see_key, state_of}
 use Rattle.facet_solver.specs.Resolutions.{has_key, is_known, passes}
@@ -60,8 +60,8 @@ passes_at : (test : Resolved → Bool) (rs : List Resolved) (i : ℕ) (r : Resol
 passes_at test rs i r at h = ap (λ o. option_map_or test o false) at ∙ h
 
 -- an index is among those that pass
-has_index : (p : ℕ → Bool) (rs : List Resolved) (i : ℕ) (r : Resolved) → slice_get rs i ≡ Some r → p i ≡ true → has (filter p (upto (length rs))) i ≡ true
-has_index p rs i r at h =
+has_index-kept : (p : ℕ → Bool) (rs : List Resolved) (i : ℕ) (r : Resolved) → slice_get rs i ≡ Some r → p i ≡ true → has_index (filter p (upto (length rs))) i ≡ true
+has_index-kept p rs i r at h =
     let low : i < length rs = slice_get_within rs i r at in
     has_inside p 0 (length rs) i (omega arith) (omega arith) ∙ h
 
@@ -71,8 +71,8 @@ kept_or_all test rs all =
     ⊎_elim
     (λ known.
     let one = one_passes test rs known in
-    let member = has_index (passes test rs) rs one.0 one.1 one.2 (passes_at test rs one.0 one.1 one.2 one.3) in
-    or_all_some (indices_of test rs) all (λ none. false≢true (sym (ap (λ is. has is one.0) none) ∙ member))
+    let member = has_index-kept (passes test rs) rs one.0 one.1 one.2 (passes_at test rs one.0 one.1 one.2 one.3) in
+    or_all_some (indices_of test rs) all (λ none. false≢true (sym (ap (λ is. has_index is one.0) none) ∙ member))
     ∙ ap (λ b. cond b (indices_of test rs) all) (sym known))
     (λ absent.
     let none : indices_of test rs ≡ [] = filter_none (passes test rs) 0 (length rs) (λ i low high. none_passes test rs i absent) in
@@ -185,13 +185,13 @@ known_left schema keys index r h =
     accepted_left schema keys
     ∙ pass_alike (has_keys (accepted_keys rs keys)) (has_keys (known_keys rs keys)) (accepted_known rs index r h.present keys [] refl h.has_known) rs
 
-contains_has : (is : List ℕ) (i : ℕ) → has is i ≡ true → Contains is i
+contains_has : (is : List ℕ) (i : ℕ) → has_index is i ≡ true → Contains is i
 contains_has [] i h = absurd (false≢true h)
 contains_has (j ∷ is) i h =
     ⊎_elim
     (λ here. (0, omega arith, (Decides-eqb j i).0 here))
     (λ later. let k = contains_has is i later in (suc k.0, omega arith, k.2))
-    (or_cases (nat_eq j i) (has is i) h)
+    (or_cases (nat_eq j i) (has_index is i) h)
 
 -- and the one that has them is among them
 pub one_left : (schema : SchemaView) (keys : List Key) (index : ℕ) (r : Resolved) → HasAllKnown schema keys index r → Contains (see_keys keys (new_solver schema)).candidates index
@@ -199,7 +199,7 @@ one_left schema keys index r h =
     let rs = schema.resolutions in
     let test = has_keys (known_keys rs keys) in
     contains_has (see_keys keys (new_solver schema)).candidates index
-    (ap (λ is. has is index) (known_left schema keys index r h) ∙ has_index (passes test rs) rs index r h.present (passes_at test rs index r h.present h.has_known))
+    (ap (λ is. has_index is index) (known_left schema keys index r h) ∙ has_index-kept (passes test rs) rs index r h.present (passes_at test rs index r h.present h.has_known))
 
 -- ---- whatever the order
 known_has : (rs : List Resolved) (keys : List Key) (q : Resolved) → has_keys (known_keys rs keys) q ≡ true → (key : Key) → Contains keys key → is_known rs key ≡ true → has_key key q ≡ true
@@ -295,7 +295,7 @@ alone_at (i ∷ []) (suc place) index at one = absurd (none-some index at)
 alone_at (i ∷ j ∷ is) place index at one = absurd (omega arith)
 
 -- a viable candidate is the answer or is named
-pub ends_with : (s : State) (index : ℕ) (r : Resolved) → Contains (viable s) index → slice_get s.schema.resolutions index ≡ Some r → EndsWithOrNames s index (description r.picks)
+pub ends_with : (s : State) (index : ℕ) (r : Resolved) → Contains (viable s) index → slice_get s.schema.resolutions index ≡ Some r → EndsWithOrNames s index (description r.selections)
 ends_with s index r (place, low, same) here =
     let rs = s.schema.resolutions in
     let at : slice_get (viable s) place ≡ Some index = slice_get-get_or (viable s) place index low ∙ ap (λ i. Some i) same in
@@ -304,7 +304,7 @@ ends_with s index r (place, low, same) here =
       alone = λ one. alone_at (viable s) place index at one;
       place = place;
       at_place = at;
-      described = slice_get-map (λ (q : Resolved). description q.picks) (filter_map (slice_get rs) (viable s)) place ∙ ap (option_map (λ (q : Resolved). description q.picks)) found;
+      described = slice_get-map (λ (q : Resolved). description q.selections) (filter_map (slice_get rs) (viable s)) place ∙ ap (option_map (λ (q : Resolved). description q.selections)) found;
     }
 
 -- keys leave the schema
@@ -323,14 +323,14 @@ one_viable schema keys index r h required =
     let fits : fit index ≡ true =
     ap (λ (v : SchemaView). passes (is_viable s.seen) v.resolutions index) (same_schema keys (new_solver schema)) ∙ passes_at (is_viable s.seen) rs index r h.present seen in
     contains_has (viable s) index
-    (ap (λ is. has (filter fit is) index) (known_left schema keys index r h)
-    ∙ ap (λ is. has is index) (filter_filter having fit (upto (length rs)))
-    ∙ has_index (λ i. having i && fit i) rs index r h.present
+    (ap (λ is. has_index (filter fit is) index) (known_left schema keys index r h)
+    ∙ ap (λ is. has_index is index) (filter_filter having fit (upto (length rs)))
+    ∙ has_index-kept (λ i. having i && fit i) rs index r h.present
     (and_from (having index) (fit index) (passes_at (has_keys (known_keys rs keys)) rs index r h.present h.has_known) fits))
 
 -- and the end comes to it
 pub one_ends : (schema : SchemaView) (keys : List Key) (index : ℕ) (r : Resolved) → HasAllKnown schema keys index r → is_viable keys r ≡ true
-    → EndsWithOrNames (see_keys keys (new_solver schema)) index (description r.picks)
+    → EndsWithOrNames (see_keys keys (new_solver schema)) index (description r.selections)
 one_ends schema keys index r h required =
     ends_with (see_keys keys (new_solver schema)) index r (one_viable schema keys index r h required)
     (ap (λ (v : SchemaView). slice_get v.resolutions index) (same_schema keys (new_solver schema)) ∙ h.present)
@@ -387,7 +387,7 @@ choice_has_all schema built choices listed index choice at keys r told =
 pub choice_ends : (schema : SchemaView) → IsOwnBuild schema → (choices : List (List ℕ)) → ListsChoices schema.build schema.root choices
     → (index : ℕ) (choice : List ℕ) → slice_get choices index ≡ Some choice
     → (keys : List Key) (r : Resolved) → TellsChoice schema.build schema.root choice keys r
-    → EndsWithOrNames (see_keys keys (new_solver schema)) index (description r.picks)
+    → EndsWithOrNames (see_keys keys (new_solver schema)) index (description r.selections)
 choice_ends schema built choices listed index choice at keys r told =
     one_ends schema keys index r (choice_has_all schema built choices listed index choice at keys r told) told.has_required
 
@@ -416,4 +416,4 @@ pub unknown_seen : (key : Key) (s : State) → passing (has_key key) s ≡ [] �
 unknown_seen key s none = ap (λ is. record (mark_seen key s) { candidates = or_all is s.candidates }) none
 
 pub unknown_answered : (key : Key) (s : State) → passing (has_key key) s ≡ [] → key_result key s ≡ unknown
-unknown_answered key s none = ap (λ is. by_number (of_fields (distinct_fields key s.schema s.candidates)) (how_many is)) none
+unknown_answered key s none = ap (λ is. solved_or (of_fields (distinct_fields key s.schema s.candidates)) (how_many is)) none

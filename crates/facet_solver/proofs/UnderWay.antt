@@ -35,7 +35,8 @@ each_more (r ∷ resolutions) (suc i) within =
     let e : suc i + 1 ≡ suc (i + 1) = omega arith in
     rw e (ap (λ lists. finite.values r.fields ∷ lists) (each_more resolutions i (omega arith)))
 
--- some of the fields of a resolution were added after those of the resolutions before it, and the others are still to come
+-- some of the fields of a resolution were added after those of the resolutions before it, and the
+-- others are still to come
 pub record IsUnderWay (bound : ℕ) (before : List (List FieldView)) (fields : List FieldView) (rest : List (FieldKey × FieldView)) (index : Index) : Type 0 where
   pub seen : List FieldView
   pub parts : seen ++ fields_of rest ≡ fields

@@ -12,7 +12,7 @@ use Rattle.facet_solver.specs.Outcome.{ErrorOf, StopsBy, Walks, duplicate_view, 
 use Rattle.facet_solver.specs.Roles.{IsPlain, Role, regular, block, alternatives, catch_all, leaf, role_of, may_be_absent}
 use Rattle.facet_solver.specs.Representation.{is_walked}
 use Rattle.facet_solver.specs.Content.{content_of, newtype_fields, content_or}
-use Rattle.facet_solver.specs.Emissions.{Emission, emit_variant, emit_plain, pick_of}
+use Rattle.facet_solver.specs.Emissions.{Emission, emit_variant, emit_plain, selection_of}
 use Rattle.facet_solver.specs.Place.{Path, Chosen, choosing, field_path, variant_path, at_root, at_root_variant}
 use Rattle.facet_solver.specs.Walk.{Walked, put_before, and_then, emit, choose, at_chosen, walk_fields, walk_field, walk_present_field, walk_present, walk_optional, walk_variant, walk_content, walk_content_step, walk_fields_step, HasChoice, HasPresence, Walking, walk_root, walk_root_shape, walk_root_kind, walk_root_variant}
 use Rattle.facet_solver_shape.specs.declared.shape.Shape.{Shape}
@@ -237,22 +237,22 @@ module _ (build : Build) (root : ℕ) (ns : List ℕ) (s : Shape) (is : slice_ge
       go _ e = refl
 
 module _ (build : Build) (s : Shape) (v : Variant) (ns : List ℕ) (inside : Path) (is_inside : inside ≡ at_root_variant v) where
-  root_parts : walk_root_variant build s v ns ≡ put_before (pick_of s v [] ∷ []) (walk_content build v inside ns)
+  root_parts : walk_root_variant build s v ns ≡ put_before (selection_of s v [] ∷ []) (walk_content build v inside ns)
   unfolding walk_root_variant
-  root_parts = ap (λ (place : Path). put_before (pick_of s v [] ∷ []) (walk_content build v place ns)) (sym is_inside)
+  root_parts = ap (λ (place : Path). put_before (selection_of s v [] ∷ []) (walk_content build v place ns)) (sym is_inside)
 
-  pub picked : (r t : Resolved) (p : Path) → p ≡ [] → take_in r (pick_of s v p) ≡ resolved t → effect r (walk_root_variant build s v ns) ≡ effect t (walk_content build v inside ns)
-  picked r t p e h =
+  pub selected : (r t : Resolved) (p : Path) → p ≡ [] → take_in r (selection_of s v p) ≡ resolved t → effect r (walk_root_variant build s v ns) ≡ effect t (walk_content build v inside ns)
+  selected r t p e h =
       ap (effect r) root_parts
-      ∙ effect-put_before r t (pick_of s v [] ∷ []) _ (take_all-one r (pick_of s v []) ∙ ap (λ (q : Path). take_in r (pick_of s v q)) (sym e) ∙ h)
+      ∙ effect-put_before r t (selection_of s v [] ∷ []) _ (take_all-one r (selection_of s v []) ∙ ap (λ (q : Path). take_in r (selection_of s v q)) (sym e) ∙ h)
 
-  pub picked-some : IsSome (walk_root_variant build s v ns) → IsSome (walk_content build v inside ns)
-  picked-some some = put_before-some (pick_of s v [] ∷ []) _ (subst (λ (w : Walked). IsSome w) root_parts some)
+  pub selected-some : IsSome (walk_root_variant build s v ns) → IsSome (walk_content build v inside ns)
+  selected-some some = put_before-some (selection_of s v [] ∷ []) _ (subst (λ (w : Walked). IsSome w) root_parts some)
 
 module _ (build : Build) (s : Shape) (v : Variant) (ns : List ℕ) where
-  pub picked-stops : (r : Resolved) (p : Path) (err : schema.SchemaError) → p ≡ [] → IsSome (walk_root_variant build s v ns) → ErrorOf (take_in r (pick_of s v p)) err → StopsBy (effect r (walk_root_variant build s v ns)) err
-  picked-stops r p err e some h =
+  pub selected-stops : (r : Resolved) (p : Path) (err : schema.SchemaError) → p ≡ [] → IsSome (walk_root_variant build s v ns) → ErrorOf (take_in r (selection_of s v p)) err → StopsBy (effect r (walk_root_variant build s v ns)) err
+  selected-stops r p err e some h =
       let parts = root_parts build s v ns (at_root_variant v) refl in
       subst (λ (w : Walked). StopsBy (effect r w) err) (sym parts)
-      (stops-put_before r (pick_of s v [] ∷ []) _ err (subst (λ (w : Walked). IsSome w) parts some)
-      (subst (λ (o : Outcome). ErrorOf o err) (ap (λ (q : Path). take_in r (pick_of s v q)) e ∙ sym (take_all-one r (pick_of s v []))) h))
+      (stops-put_before r (selection_of s v [] ∷ []) _ err (subst (λ (w : Walked). IsSome w) parts some)
+      (subst (λ (o : Outcome). ErrorOf o err) (ap (λ (q : Path). take_in r (selection_of s v q)) e ∙ sym (take_all-one r (selection_of s v []))) h))

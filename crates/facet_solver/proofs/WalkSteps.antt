@@ -105,7 +105,8 @@ module _ (build : Build) (checked : NamesEarlier build.catalogue) where
   unfolding walk_within
   walk-step n fs = refl
 
--- ---- on a checked catalogue the walk and the count of any fields are their own steps, whatever the fields name
+-- ---- on a checked catalogue the walk and the count of any fields are their own steps, whatever
+-- the fields refer to
 module _ (build : Build) (checked : NamesEarlier build.catalogue) where
   -- a role has nothing below it, or what is below it stands before some shape
   Within : Role → Type 0

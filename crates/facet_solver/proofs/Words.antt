@@ -8,7 +8,7 @@ use Rattle.std.specs.Int.Count.{ones}
 use Rattle.std.specs.List.{range_with_len}
 use Rattle.std.specs.Prelude.{bit_and}
 use Rattle.std.specs.Int.{bit_at, bit_not, trailing_zeros}
-use Rattle.facet_solver.specs.IndexSet.{upto, has}
+use Rattle.facet_solver.specs.IndexSet.{upto, has_index}
 use Rattle.facet_solver.specs.Words.{IsFull, KeepsBits, bit_of, has_bit, HoldBelow, members_from, members_of}
 use Rattle.facet_solver.proofs.IndexSet.{IsNext, filter_split, filter-below, filter-next, filter-rises, filter_all, filter_cut, filter_filter, filter_none, filter_same, has_passing}
 use Rattle.std.proofs.Math.Nat.{sub-zero}
@@ -269,13 +269,13 @@ pub no_members : (words : List ℕ) (from : ℕ) → ((i : ℕ) → from ≤ i �
 no_members words from clear = filter_none (has_bit words) from (length words * 64 - from) (λ i high _. clear i high)
 
 -- an index is a member where its bit is set
-pub has_members : (words : List ℕ) (i : ℕ) → has_bit words i ≡ has (members_of words) i
+pub has_members : (words : List ℕ) (i : ℕ) → has_bit words i ≡ has_index (members_of words) i
 has_members words i =
-    sym (ap (λ members. has members i) (members_upto words) ∙ has_passing (has_bit words) (length words * 64) i (clear_past words))
+    sym (ap (λ members. has_index members i) (members_upto words) ∙ has_passing (has_bit words) (length words * 64) i (clear_past words))
 
 -- so no bit is set where there is no member
 pub no_bits : (words : List ℕ) → members_of words ≡ [] → (i : ℕ) → has_bit words i ≡ false
-no_bits words none i = has_members words i ∙ ap (λ members. has members i) none
+no_bits words none i = has_members words i ∙ ap (λ members. has_index members i) none
 
 -- the members are below the bound
 pub members_below : (words : List ℕ) (bound : ℕ) → HoldBelow bound words → members_of words ≡ filter (has_bit words) (upto bound)

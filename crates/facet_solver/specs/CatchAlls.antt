@@ -8,9 +8,9 @@ use Rattle.facet_solver_shape.specs.declared.shape.Field.{Field}
 use Rattle.facet_solver_shape.specs.Fields.{FieldView}
 use Rattle.facet_solver_shape.specs.Keys.{category_cmp}
 use Rattle.facet_solver_shape.specs.Resolved.{Resolved, with_catch_all}
-use Rattle.facet_solver.specs.declared.build.brings.Brings.{Brings}
+use Rattle.facet_solver.specs.declared.build.contribution.Contribution.{Contribution}
 use Rattle.facet_solver.specs.Place.{Path}
-use Rattle.facet_solver.specs.Brings.{field_brings, has_last}
+use Rattle.facet_solver.specs.Contribution.{contribution_of_field, has_last}
 use Rattle.facet_solver.specs.Build.{Build}
 use Rattle.facet_solver.specs.Emissions.{Emission, a_catch_all}
 use Rattle.facet_solver.specs.Walk.{Walked, walk_fields}
@@ -41,9 +41,9 @@ abbrev pub with_last : FieldCategory → Option FieldView → Resolved → Resol
 with_last category None r = r
 with_last category (Some f) r = with_catch_all r category f
 
--- the last of fields that bring a catch-all of a category
-abbrev pub last_with : List Brings → Build → FieldCategory → List Field → Option Field
+-- the last of fields that contribute a catch-all of a category
+abbrev pub last_with : List Contribution → Build → FieldCategory → List Field → Option Field
 last_with table build category [] = None
 last_with table build category (f ∷ fs) =
     option_or (last_with table build category fs)
-    (if has_last category (field_brings table build f) then Some f else None)
+    (if has_last category (contribution_of_field table build f) then Some f else None)

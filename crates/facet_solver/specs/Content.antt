@@ -5,7 +5,7 @@ use Rattle.facet_solver_shape.specs.declared.shape.ShapeKind.TheVariants.{Struct
 use Rattle.facet_solver_shape.specs.declared.shape.Field.{Field}
 use Rattle.facet_solver_shape.specs.declared.shape.Variant.{Variant}
 use Rattle.facet_solver_shape.specs.Names.{Name}
-use Rattle.facet_solver_shape.specs.Paths.{Step, by_field}
+use Rattle.facet_solver_shape.specs.Paths.{Segment, by_field}
 use Rattle.facet_solver_shape.specs.Catalogues.{FieldsBelow}
 use Rattle.facet_solver_shape.specs.EffectiveShapes.{effective}
 use Rattle.facet_solver.specs.Build.{Catalogue, kind_at}
@@ -37,7 +37,7 @@ effective_of_only cat (f ∷ g ∷ fs) = None
 -- fields, and what their path has more than the variant's
 pub record Content : Type 0 where
   pub fields : List Field
-  pub path : List Step
+  pub path : List Segment
 
 -- the fields of a newtype's struct behind the field `0`, or else the variant's own
 abbrev pub content_or : Variant → Option (List Field) → Content

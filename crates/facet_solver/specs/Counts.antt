@@ -8,7 +8,7 @@ use Rattle.std.specs.Option.{option_map_or}
 use Rattle.facet_solver.specs.Count.{count_shape}
 use Rattle.facet_solver_shape.specs.Catalogues.{NamesEarlier}
 use Rattle.facet_solver.specs.declared.build.walker.Walker.{Walker}
-use Rattle.facet_solver.specs.Brings.{AreBrought}
+use Rattle.facet_solver.specs.Contribution.{AreContributions}
 use Rattle.facet_solver.specs.Reached.{AreTables}
 use Rattle.facet_solver.specs.Starts.{HasWalkedStarts}
 
@@ -42,5 +42,5 @@ pub record IsReady (walker : Walker) : Type 0 where
   pub checked : NamesEarlier walker.build.shapes.now
   pub counted : AreCounts (build_of walker.build) walker.counts
   pub starts : HasWalkedStarts (build_of walker.build) walker.starts.by_index.items
-  pub brings : AreBrought (build_of walker.build) walker.brings.by_index.items
+  pub contribution : AreContributions (build_of walker.build) walker.contribution.by_index.items
   pub tables : AreTables (build_of walker.build) walker.tables

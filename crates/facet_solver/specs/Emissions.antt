@@ -5,7 +5,7 @@ use Rattle.facet_solver_shape.specs.declared.shape.Field.{Field}
 use Rattle.facet_solver_shape.specs.declared.shape.Variant.{Variant}
 use Rattle.facet_solver_shape.specs.Names.{Name, effective_name}
 use Rattle.facet_solver_shape.specs.Fields.{FieldView}
-use Rattle.facet_solver_shape.specs.Resolved.{Pick}
+use Rattle.facet_solver_shape.specs.Resolved.{Selection}
 use Rattle.facet_solver.specs.declared.build.role.Target.{Target}
 use Rattle.facet_solver.specs.Build.{Build, repr_for}
 use Rattle.facet_solver.specs.Roles.{is_option, Role, regular, block, alternatives, catch_all, leaf}
@@ -13,11 +13,11 @@ use Rattle.facet_solver.specs.Place.{Path, Chosen, field_path, variant_path}
 use Rattle.facet_solver.specs.Representation.{Repr, flattened, externally_tagged, internally_tagged, adjacently_tagged, field_category, selector_category, catch_all_category}
 use Rattle.facet_solver.specs.Nested.{KeyPaths, no_paths, named, nested_paths, content_paths}
 
--- a field, key paths, a pick or a catch-all
+-- a field, key paths, a selection or a catch-all
 pub data Emission : Type 0 where
   a_field : FieldView → Emission
   some_key_paths : KeyPaths → Emission
-  a_pick : Pick → Emission
+  a_selection : Selection → Emission
   a_catch_all : FieldView → Emission
 
 -- a regular field, with its own shape: required without default, unless it is an option
@@ -109,16 +109,17 @@ emit_selector_by (adjacently_tagged tag content) build chosen place =
 abbrev pub emit_selector : Build → Chosen → Path → List Emission
 emit_selector build chosen place = emit_selector_by (repr_for build chosen.shape) build chosen place
 
--- the pick of a variant
-abbrev pub pick_of : Shape → Variant → Path → Emission
-pick_of s v p = a_pick record {
+-- the selection of a variant
+abbrev pub selection_of : Shape → Variant → Path → Emission
+selection_of s v p = a_selection record {
   path = p;
   enum_name = string_bytes s.type_identifier;
   variant_name = string_bytes v.name;
 }
 
--- what a flattened enum emits before the content of the chosen variant: the pick and the selector
+-- what a flattened enum emits before the content of the chosen variant: the selection and the
+-- selector
 unfoldable pub emit_variant : Build → Chosen → Path → List Emission
 emit_variant build chosen place =
-    pick_of chosen.shape chosen.variant (field_path place chosen.field)
+    selection_of chosen.shape chosen.variant (field_path place chosen.field)
     ∷ emit_selector build chosen place

@@ -50,7 +50,7 @@ unknown_to seen r = names_where (λ key. not (has_key key r)) seen
 -- why a resolution is not the answer
 abbrev pub failure_of : Catalogue → List Key → Resolved → FailureView
 failure_of catalogue seen r = record {
-  variant_name = description r.picks;
+  variant_name = description r.selections;
   missing_fields = missing_fields catalogue seen r;
   unknown_fields = unknown_to seen r;
   suggestion_matches = 0;

@@ -16,7 +16,7 @@ pub record StandsAtPlace (s : State) (index : ℕ) (text : Name) (descriptions :
   pub described : slice_get descriptions place ≡ Some text
 
 -- an answer gives the index of a resolution, or names it by its description at its place, or says
--- that memory was refused where not one candidate alone is viable; never that none is
+-- that memory ran out where not one candidate alone is viable; never that none is
 abbrev pub GivesOrNames : State → ℕ → Name → Result ResolutionHandle SolverError → Type 0
 GivesOrNames s index text (Ok handle) = index_of handle ≡ index
 GivesOrNames s index text (Err (Ambiguous candidates fields)) =

@@ -9,7 +9,7 @@ use denote.Bor.{Bor}
 use Rattle.facet_solver_shape.specs.declared.resolution.key.FieldCategory.{FieldCategory}
 use Rattle.facet_solver_shape.specs.declared.resolution.key.FieldCategory.TheVariants.{Flat, Attribute, Element, Text, Tag, Elements}
 use Rattle.facet_solver_shape.specs.Names.{Name}
-use Rattle.facet_solver.specs.IndexSet.{IndexSet, has, upto}
+use Rattle.facet_solver.specs.IndexSet.{IndexSet, has_index, upto}
 use Rattle.facet_solver.specs.Slots.{Slot}
 use Rattle.facet_solver.specs.declared.schema.index.CategoryIndex.{CategoryIndex}
 use Rattle.facet_solver.specs.declared.schema.index.Entry.{Entry}
@@ -40,11 +40,11 @@ entry_at index slot = entry_in (category_of index slot.category) slot.name
 
 -- whether an entry has a resolution; where there is none, it has not
 abbrev pub holds : Option Entry → ℕ → Bool
-holds entry index = option_map_or (λ e. has e.set.members index) entry false
+holds entry index = option_map_or (λ e. has_index e.set.members index) entry false
 
 -- whether one of some entries has a resolution
 abbrev pub is_held : List (Bor Entry) → ℕ → Bool
-is_held entries index = list_any (λ e. has e.now.set.members index) entries
+is_held entries index = list_any (λ e. has_index e.now.set.members index) entries
 
 -- an entry is over the numbers below a bound
 abbrev pub HasBound : ℕ → Option Entry → Type 0
@@ -53,7 +53,7 @@ HasBound bound entry = ForSome entry (λ (e : Entry). e.set.bound ≡ bound)
 -- a set with one more number
 abbrev pub with_number : IndexSet → ℕ → IndexSet
 with_number set i =
-    record set { members = filter (λ j. nat_eq j i || has set.members j) (upto set.bound) }
+    record set { members = filter (λ j. nat_eq j i || has_index set.members j) (upto set.bound) }
 
 -- a shape, where it is the one given
 abbrev pub agreed : Option ℕ → ℕ → Option ℕ
@@ -62,7 +62,7 @@ agreed (Some known) shape = if nat_eq known shape then Some known else None
 
 -- an entry with one more resolution. Of a resolution that it has the field that came first is meant
 abbrev pub with_occurrence : Entry → Occurrence → Entry
-with_occurrence e at = if has e.set.members at.index then e else record {
+with_occurrence e at = if has_index e.set.members at.index then e else record {
   set = with_number e.set at.index;
   shape = agreed e.shape at.shape;
 }

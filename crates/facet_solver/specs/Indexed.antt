@@ -38,14 +38,15 @@ pub record Differs (meant : Meant) : Type 0 where
 
 -- an entry has the resolutions below a bound in which a field is meant, and the shape of these
 -- fields, if they agree on it
-pub record IsEntry (bound : ℕ) (meant : Meant) (entry : Entry) : Type 0 where
+pub record IsIndexEntry (bound : ℕ) (meant : Meant) (entry : Entry) : Type 0 where
   pub set : entry.set
       ≡ record { bound = bound; members = filter (λ i. is_some (meant i)) (upto bound) }
   pub shape : MatchOption entry.shape (Differs meant) (λ shape. AgreesOn shape meant)
 
 -- there is an entry, or no field is meant
 abbrev pub IsEntryIfAny : ℕ → Meant → Option Entry → Type 0
-IsEntryIfAny bound meant entry = MatchOption entry ((i : ℕ) → meant i ≡ None) (IsEntry bound meant)
+IsEntryIfAny bound meant entry =
+    MatchOption entry ((i : ℕ) → meant i ≡ None) (IsIndexEntry bound meant)
 
 -- the first field that passes a test, of the fields of each resolution
 abbrev pub first_passing : (FieldView → Bool) → List (List FieldView) → Meant

@@ -43,11 +43,11 @@ key_result_view (Solved handle) = solved (index_of handle)
 key_result_view Unknown = unknown
 
 -- the handle of an answer is one of the schema
-abbrev pub HoldsHandleOf : SchemaView → KeyResult → Type 0
-HoldsHandleOf schema (Unambiguous shape) = ⊤
-HoldsHandleOf schema (Ambiguous fields) = ⊤
-HoldsHandleOf schema (Solved handle) = IsHandleOf schema handle
-HoldsHandleOf schema Unknown = ⊤
+abbrev pub IsKeyResultOf : SchemaView → KeyResult → Type 0
+IsKeyResultOf schema (Unambiguous shape) = ⊤
+IsKeyResultOf schema (Ambiguous fields) = ⊤
+IsKeyResultOf schema (Solved handle) = IsHandleOf schema handle
+IsKeyResultOf schema Unknown = ⊤
 
 -- the score of a shape. One that is not there scores as a shape of any name without a score of its
 -- own
@@ -80,13 +80,13 @@ of_fields (e ∷ []) = unambiguous e.0.shape
 of_fields es = ambiguous es
 
 -- by how many candidates there are: where there are several, an answer is given for them
-abbrev pub by_number : KeyResultView → HowMany → KeyResultView
-by_number several no_index = unknown
-by_number several (one_index index) = solved index
-by_number several several_indices = several
+abbrev pub solved_or : KeyResultView → HowMany → KeyResultView
+solved_or several no_index = unknown
+solved_or several (one_index index) = solved index
+solved_or several several_indices = several
 
 -- the answer to a key, by how many candidates have it
 abbrev pub key_result : Key → State → KeyResultView
 key_result key s =
-    by_number (of_fields (distinct_fields key s.schema s.candidates))
+    solved_or (of_fields (distinct_fields key s.schema s.candidates))
     (how_many (passing (has_key key) s))

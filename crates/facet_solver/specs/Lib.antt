@@ -1,5 +1,5 @@
 pub mod Build
-pub mod Brings
+pub mod Contribution
 pub mod Representation
 pub mod Content
 pub mod Nested

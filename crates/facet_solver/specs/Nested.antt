@@ -1,5 +1,5 @@
 -- Sets of key paths, and the nested ones: what lies under a shape or a variant, by names alone.
--- They are five sets that share one definition. They end since fields name earlier shapes: the
+-- They are five sets that share one definition. They end since fields refer to earlier shapes: the
 -- definition goes down as many levels as the catalogue has shapes.
 use Rattle.std.specs.Prelude.{List, [], ◌∷◌, ◌++◌, map, ◌≡◌, ◌⊎◌, ◌<◌, ℕ, zero, suc, Bool, true, false, ◌&&◌, if◌then◌else◌, string_bytes, length}
 use Rattle.std.specs.Ordering.{nat_cmp}

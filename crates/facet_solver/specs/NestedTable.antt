@@ -75,19 +75,19 @@ entry_if_any None = None
 entry_if_any (Some entry) = entry
 
 -- the entry at an index
-abbrev pub entry_at : List (Option Entry) → ℕ → Option Entry
-entry_at entries id = entry_if_any (slice_get entries id)
+abbrev pub nested_entry_at : List (Option Entry) → ℕ → Option Entry
+nested_entry_at entries id = entry_if_any (slice_get entries id)
 
 -- whether there is an entry at an index
 abbrev pub is_filled : List (Option Entry) → ℕ → Bool
-is_filled entries id = is_some (entry_at entries id)
+is_filled entries id = is_some (nested_entry_at entries id)
 
 -- there is an entry at an index
 abbrev pub IsFilled : List (Option Entry) → ℕ → Type 0
-IsFilled entries id = IsSome (entry_at entries id)
+IsFilled entries id = IsSome (nested_entry_at entries id)
 
 -- an entry stands for the key paths under a kind of shape, and for those under each of its variants
-pub record IsEntry (entered : Entered) (cat : Catalogue) (kind : ShapeKind)
+pub record IsNestedEntry (entered : Entered) (cat : Catalogue) (kind : ShapeKind)
     (entry : Entry) : Type 0 where
   pub under : paths_by_name (under_shape entered cat) entry.under
       ≡ under_kind (through_fields entered cat) (under_variant entered cat) kind
@@ -102,17 +102,17 @@ pub record EntryLeadsTo (passes : ℕ → Bool) (entry : Entry) : Type 0 where
 -- each entry is that of the shape at its index
 abbrev pub AreEntries : Entered → Catalogue → List (Option Entry) → Type 0
 AreEntries entered cat entries =
-    (id : ℕ) (entry : Entry) → entry_at entries id ≡ Some entry
-    → IsEntry entered cat (kind_at cat id) entry
+    (id : ℕ) (entry : Entry) → nested_entry_at entries id ≡ Some entry
+    → IsNestedEntry entered cat (kind_at cat id) entry
 
 -- each entry leads to earlier entries alone
 abbrev pub LeadEarlier : List (Option Entry) → Type 0
-LeadEarlier entries = (id : ℕ) (entry : Entry) → entry_at entries id ≡ Some entry
+LeadEarlier entries = (id : ℕ) (entry : Entry) → nested_entry_at entries id ≡ Some entry
     → EntryLeadsTo (λ t. nat_lt t id && is_filled entries t) entry
 
 -- each entry stands for the key paths under the shape at its index
-abbrev pub StandFor : Under → List (Option Entry) → Type 0
-StandFor under entries = (id : ℕ) (entry : Entry) → entry_at entries id ≡ Some entry
+abbrev pub EntriesStandFor : Under → List (Option Entry) → Type 0
+EntriesStandFor under entries = (id : ℕ) (entry : Entry) → nested_entry_at entries id ≡ Some entry
     → paths_by_name under entry.under ≡ under id
 
 -- a catalogue is checked, and the entries are those of its shapes
@@ -140,7 +140,7 @@ pub record AreFieldsOf (earlier : Earlier) (paths : KeyPaths)
 
 -- the entry of a kind of shape, from earlier ones
 pub record IsMade (earlier : Earlier) (kind : ShapeKind) (entry : Entry) : Type 0 where
-  pub is_entry : IsEntry (entered_view earlier.entered) earlier.shapes.now kind entry
+  pub is_entry : IsNestedEntry (entered_view earlier.entered) earlier.shapes.now kind entry
   pub lead : EntryLeadsTo (is_filled earlier.entries.now) entry
 
 -- the entries at the first indices: the marked shapes have one, and no others

@@ -1,13 +1,13 @@
--- What emissions, taken in one by one, make of a resolution: more of it, or a clash. No public
--- clause speaks of it.
+-- What emissions, taken in one by one, make of a resolution: more of it, or a duplicate key. No
+-- public clause speaks of it.
 use Rattle.std.specs.Prelude.{⊤, ℕ, List, [], ◌∷◌, Option, Some, None, ◌≡◌, Result, MatchResult}
 use Rattle.std.specs.FinMap as map
 use Rattle.facet_solver_shape.specs.Names.{Name}
 use Rattle.facet_solver_shape.specs.Fields.{FieldView, key_of_field}
-use Rattle.facet_solver_shape.specs.Resolved.{Resolved, with_field, with_pick, with_catch_all}
+use Rattle.facet_solver_shape.specs.Resolved.{Resolved, with_field, with_selection, with_catch_all}
 use Rattle.facet_solver.specs.Place.{Path}
 use Rattle.facet_solver.specs.Nested.{with_key_paths}
-use Rattle.facet_solver.specs.Emissions.{Emission, a_field, some_key_paths, a_pick, a_catch_all}
+use Rattle.facet_solver.specs.Emissions.{Emission, a_field, some_key_paths, a_selection, a_catch_all}
 use Rattle.facet_solver.specs.Walk.{Walked}
 use Rattle.std.specs.Borrow.{Bor}
 use Rattle.facet_solver_shape.specs.declared.resolution.error.DuplicateFieldError.{DuplicateFieldError}
@@ -20,7 +20,7 @@ pub record Duplicate : Type 0 where
   pub first_path : Path
   pub second_path : Path
 
--- a resolution, or the clash that it came to
+-- a resolution, or the duplicate key that it came to
 pub data Outcome : Type 0 where
   resolved : Resolved → Outcome
   duplicate : Duplicate → Outcome
@@ -40,7 +40,7 @@ with_known (Some g) r f =
 unfoldable pub take_in : Resolved → Emission → Outcome
 take_in r (a_field f) = with_known (map.get r.fields (key_of_field f)) r f
 take_in r (some_key_paths paths) = resolved (with_key_paths r paths)
-take_in r (a_pick pick) = resolved (with_pick r pick)
+take_in r (a_selection selection) = resolved (with_selection r selection)
 take_in r (a_catch_all f) = resolved (with_catch_all r f.category f)
 
 -- emissions in order
@@ -58,7 +58,7 @@ abbrev pub duplicate_view : DuplicateFieldError → Duplicate
 duplicate_view d =
     record { name = d.field_name.now; first_path = d.first_path; second_path = d.second_path }
 
--- what an error says of an outcome: a duplicate is that of the outcome, and want of memory says
+-- what an error says of an outcome: a duplicate is that of the outcome, and out of memory says
 -- nothing
 abbrev pub ErrorOf : Outcome → SchemaError → Type 0
 ErrorOf o (DuplicateField d) = o ≡ duplicate (duplicate_view d)

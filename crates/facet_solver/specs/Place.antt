@@ -3,13 +3,13 @@ use Rattle.std.specs.Prelude.{List, [], ◌∷◌, ◌++◌, string_bytes}
 use Rattle.facet_solver_shape.specs.declared.shape.Shape.{Shape}
 use Rattle.facet_solver_shape.specs.declared.shape.Field.{Field}
 use Rattle.facet_solver_shape.specs.declared.shape.Variant.{Variant}
-use Rattle.facet_solver_shape.specs.Paths.{Step, by_field, by_variant}
+use Rattle.facet_solver_shape.specs.Paths.{Segment, by_field, by_variant}
 use Rattle.facet_solver.specs.declared.build.place.Chosen as code
 use Rattle.facet_solver.specs.declared.build.role.Target.{Target}
 
--- the steps from the root
+-- the segments from the root
 abbrev pub Path : Type 0
-Path = List Step
+Path = List Segment
 
 -- where the fields of a root struct stand
 abbrev pub at_root : Path

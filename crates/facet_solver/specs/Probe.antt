@@ -9,7 +9,7 @@ use Rattle.facet_solver.specs.Build.{Catalogue}
 use Rattle.facet_solver.specs.FirstOfEach.{first_of_each}
 use Rattle.facet_solver.specs.KeyPath.{has_key_at, has_key_path, whole_path}
 use Rattle.facet_solver.specs.IndexSet.{how_many}
-use Rattle.facet_solver.specs.KeyResult.{KeyResultView, unknown, unambiguous, ambiguous, by_number, score_at}
+use Rattle.facet_solver.specs.KeyResult.{KeyResultView, unknown, unambiguous, ambiguous, solved_or, score_at}
 use Rattle.facet_solver.specs.Schema.{SchemaView}
 use Rattle.facet_solver.specs.ShapeAtPath.{shape_below}
 use Rattle.facet_solver.specs.State.{State, retain}
@@ -53,8 +53,8 @@ abbrev pub scored : Catalogue → FieldView × ℕ → FieldView × ℕ
 scored cat e = (e.0, score_at cat e.1)
 
 -- of the resolutions at some indices that have a whole path, the shapes there, each once
-abbrev pub shapes_at : List Name → SchemaView → List ℕ → List ℕ
-shapes_at whole schema indices =
+abbrev pub shapes_on_path : List Name → SchemaView → List ℕ → List ℕ
+shapes_on_path whole schema indices =
     map (λ e. e.1)
     (fields_on_path whole schema (filter (passes (has_key_path whole) schema.resolutions) indices))
 
@@ -72,8 +72,8 @@ by_shapes cat (e ∷ []) = unambiguous e.1
 by_shapes cat es = ambiguous (map (scored cat) es)
 
 -- the answer to a key at a path, by how many candidates are left
-abbrev pub probe_result : List Name → Name → State → KeyResultView
-probe_result path key s =
+abbrev pub key_path_result : List Name → Name → State → KeyResultView
+key_path_result path key s =
     let cat = s.schema.build.catalogue in
     let left = (probe_key path key s).candidates in
-    by_number (by_shapes cat (fields_on_path (whole_path path key) s.schema left)) (how_many left)
+    solved_or (by_shapes cat (fields_on_path (whole_path path key) s.schema left)) (how_many left)

@@ -59,4 +59,4 @@ pub record FindsToldChoices (calls : List CallView) (before after : State) : Typ
       → (index : ℕ) (choice : List ℕ) → slice_get choices index ≡ Some choice
       → (r : Resolved)
       → TellsChoice before.schema.build before.schema.root choice (earlier ++ keys) r
-      → EndsWithOrNames after index (description r.picks)
+      → EndsWithOrNames after index (description r.selections)

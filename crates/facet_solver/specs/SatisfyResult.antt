@@ -13,10 +13,10 @@ satisfy_result_view (Solved handle) = one_index (index_of handle)
 satisfy_result_view NoMatch = no_index
 
 -- the handle of an answer is one of the schema
-abbrev pub HoldsHandleOf : SchemaView → SatisfyResult → Type 0
-HoldsHandleOf schema Continue = ⊤
-HoldsHandleOf schema (Solved handle) = IsHandleOf schema handle
-HoldsHandleOf schema NoMatch = ⊤
+abbrev pub IsSatisfyResultOf : SchemaView → SatisfyResult → Type 0
+IsSatisfyResultOf schema Continue = ⊤
+IsSatisfyResultOf schema (Solved handle) = IsHandleOf schema handle
+IsSatisfyResultOf schema NoMatch = ⊤
 
 -- the answer, by how many candidates are left
 abbrev pub satisfy_result : State → HowMany

@@ -1,4 +1,5 @@
--- How seen keys are gone through, and their names by the category of the fields that they may match.
+-- How seen keys are gone through, and their names by the category of the fields that they may
+-- match.
 use Rattle.std.specs.Prelude.{◌≡◌, ◌∷◌, ◌++◌, Bool, true, List, Option, Some, None, filter}
 use Rattle.std.specs.Cmp.Lexicographic.{slice_cmp}
 use Rattle.std.specs.FinSet as set
@@ -25,8 +26,8 @@ abbrev pub left : Cursor → List FieldKey
 left cursor = keys_from cursor.next cursor.later
 
 -- keys that are the last of some keys
-abbrev pub IsEndOf : List FieldKey → List FieldKey → Type 0
-IsEndOf keys all = (skipped : List FieldKey) × (skipped ++ keys ≡ all)
+abbrev pub IsSuffixOf : List FieldKey → List FieldKey → Type 0
+IsSuffixOf keys all = (skipped : List FieldKey) × (skipped ++ keys ≡ all)
 
 -- whether keys of a kind may match fields of a category
 abbrev pub may_match : Option FieldCategory → FieldCategory → Bool

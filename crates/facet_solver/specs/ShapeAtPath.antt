@@ -8,7 +8,7 @@ use Rattle.facet_solver_shape.specs.Resolved.{Resolved, field_by_name}
 use Rattle.facet_solver.specs.Build.{Catalogue, kind_at}
 use Rattle.facet_solver.specs.Content.{struct_fields}
 use Rattle.facet_solver.specs.FirstOfEach.{first_of_each}
-use Rattle.facet_solver.specs.IndexSet.{has}
+use Rattle.facet_solver.specs.IndexSet.{has_index}
 use Rattle.facet_solver.specs.Schema.{SchemaView}
 use Rattle.facet_solver.specs.State.{State, retain}
 
@@ -37,7 +37,7 @@ shape_at_path cat (name ∷ path) r =
 -- whether the shape of a resolution at a path is one of some shapes
 abbrev pub has_shape_at_path : Catalogue → List Name → List ℕ → Resolved → Bool
 has_shape_at_path cat path shapes r =
-    option_map_or (has shapes) (shape_at_path cat path r) false
+    option_map_or (has_index shapes) (shape_at_path cat path r) false
 
 -- only the candidates stay whose shape at the path is one of the shapes
 abbrev pub satisfy_at_path : List Name → List ℕ → State → State

@@ -15,7 +15,7 @@ use Rattle.facet_solver_shape.specs.Names.{Name, name_eq}
 use Rattle.facet_solver_shape.specs.Resolved.{Resolved}
 use Rattle.facet_solver_shape.specs.ResolvedCode.{key_code}
 use Rattle.facet_solver.specs.Build.{Catalogue}
-use Rattle.facet_solver.specs.IndexSet.{has, upto}
+use Rattle.facet_solver.specs.IndexSet.{has_index, upto}
 use Rattle.facet_solver.specs.Resolutions.{has_key, passes}
 use Rattle.facet_solver.specs.Schema.{SchemaView, schema_code}
 
@@ -59,13 +59,13 @@ mark_seen key s = record s { seen = insert_key key_cmp s.seen key }
 abbrev pub see_key : Key → State → State
 see_key key s = narrow (has_key key) (mark_seen key s)
 
--- whether a variant of the name was picked, for whichever enum
-abbrev pub picks_variant : Name → Resolved → Bool
-picks_variant name r = list_any (λ pick. name_eq pick.variant_name name) r.picks
+-- whether a variant of the name was selected, for whichever enum
+abbrev pub selects_variant : Name → Resolved → Bool
+selects_variant name r = list_any (λ selection. name_eq selection.variant_name name) r.selections
 
--- only the candidates stay that picked a variant of the name, or all where none did
+-- only the candidates stay that selected a variant of the name, or all where none did
 abbrev pub hint_variant : Name → State → State
-hint_variant name s = narrow (picks_variant name) s
+hint_variant name s = narrow (selects_variant name) s
 
 -- whether an enum of these attributes has the name as its tag, and no content beside it
 abbrev pub is_tag_alone : Name → Option (String Global) → Option (String Global) → Bool
@@ -97,7 +97,7 @@ hint_variant_for_tag tag name s =
 
 -- whether one of a resolution's fields has one of the shapes
 abbrev pub has_shape_among : List ℕ → Resolved → Bool
-has_shape_among shapes r = list_any (λ f. has shapes f.shape) (finite.values r.fields)
+has_shape_among shapes r = list_any (λ f. has_index shapes f.shape) (finite.values r.fields)
 
 -- only the candidates stay that have a field of one of the shapes
 abbrev pub satisfy_shapes : List ℕ → State → State

@@ -29,17 +29,17 @@ resolutions_at resolutions indices = filter_map (slice_get resolutions) indices
 
 -- the descriptions of resolutions
 abbrev pub descriptions : List Resolved → List Name
-descriptions resolutions = map (λ r. description r.picks) resolutions
+descriptions resolutions = map (λ r. description r.selections) resolutions
 
 -- the names of a resolution's fields, in key order
-abbrev pub field_names : Resolved → List Name
-field_names r = map (λ f. f.name) (finite.values r.fields)
+abbrev pub resolution_field_names : Resolved → List Name
+resolution_field_names r = map (λ f. f.name) (finite.values r.fields)
 
 -- the names that some but not all of some resolutions have, in byte order
 abbrev pub disambiguating : List Resolved → List Name
 disambiguating resolutions =
     filter (λ name. not (list_all (has_field_named name) resolutions))
-    (in_byte_order (flat_map field_names resolutions))
+    (in_byte_order (flat_map resolution_field_names resolutions))
 
 -- the state that a report is made from
 abbrev pub state_of_report : Report → State
@@ -71,7 +71,7 @@ no_match_of s =
       missing_required = option_map_or (λ r. map (λ f. f.name) (missing s.seen r)) (closest s) [];
       missing_required_detailed = option_map_or (missing_fields catalogue s.seen) (closest s) [];
       unknown_fields = unknown_names s.seen s.schema.resolutions;
-      closest_resolution = option_map (λ r. description r.picks) (closest s);
+      closest_resolution = option_map (λ r. description r.selections) (closest s);
       candidate_failures = map (failure_of catalogue s.seen) (reported s);
     }
 
@@ -94,7 +94,7 @@ report_by several_indices s = Some (ambiguous (ambiguity_of s))
 abbrev pub report_of : State → Option ErrorView
 report_of s = report_by (how_many (viable s)) s
 
--- an error is the report on a state, or says that memory was refused
+-- an error is the report on a state, or says that memory ran out
 abbrev pub IsReportOn : State → SolverError → Type 0
 IsReportOn s OutOfMemory = ⊤
 IsReportOn s e = Some (error_view e) ≡ report_of s

@@ -11,7 +11,7 @@ use Rattle.facet_solver.specs.Representation.{is_walked}
 use Rattle.facet_solver.specs.Content.{content_of}
 use Rattle.facet_solver.specs.Roles.{Role, regular, block, alternatives, catch_all, leaf, role_of, may_be_absent}
 use Rattle.facet_solver.specs.Place.{Path, Chosen, choosing, at_root, at_root_variant, field_path, variant_path}
-use Rattle.facet_solver.specs.Emissions.{Emission, emit_plain, emit_variant, pick_of}
+use Rattle.facet_solver.specs.Emissions.{Emission, emit_plain, emit_variant, selection_of}
 
 -- what a walk emits and the indices that it leaves, or nothing
 abbrev pub Walked : Type 0
@@ -54,8 +54,8 @@ abbrev pub walk_content_step : Walk → Catalogue → Variant → Path → Walki
 walk_content_step below cat v place ns =
     below (content_of cat v).fields (place ++ (content_of cat v).path) ns
 
--- a flattened enum at a chosen variant: the pick, the selector, and the content where it stands at
--- this level
+-- a flattened enum at a chosen variant: the selection, the selector, and the content where it
+-- stands at this level
 abbrev pub walk_variant_step : Walk → Build → Chosen → Path → Walking
 walk_variant_step below build chosen place ns =
     put_before (emit_variant build chosen place)
@@ -124,7 +124,7 @@ walk_content build v place ns = walk_content_step (walk_fields build) build.cata
 -- a root enum at a chosen variant, whatever its representation
 unfoldable pub walk_root_variant : Build → Shape → Variant → Walking
 walk_root_variant build s v ns =
-    put_before (pick_of s v [] ∷ []) (walk_content build v (at_root_variant v) ns)
+    put_before (selection_of s v [] ∷ []) (walk_content build v (at_root_variant v) ns)
 
 -- the walk of a root by its kind: a struct's fields, a choice among an enum's variants, else
 -- nothing is emitted

@@ -41,15 +41,15 @@ Leads build e result place r =
 abbrev pub IsInside : Path → Path → Type 0
 IsInside outer place = take (length outer) place ≡ outer
 
--- fields that name shapes below a limit, with less work than an amount, and with the tables that
--- their walk asks for
+-- fields that refer to shapes below a limit, with less work than an amount, and with the tables
+-- that their walk asks for
 pub record IsReached (build : Build) (tables : NestedTables) (limit work : ℕ) (fs : List Field)
     : Type 0 where
   pub below : FieldsBelow limit fs
   pub served : ServesFields build tables fs
   pub less : work_of_fields build fs < work
 
--- what is left to walk names shapes below a limit, and is less work than an amount
+-- what is left to walk refers to shapes below a limit, and is less work than an amount
 abbrev pub LeadsBelow : Build → NestedTables → ℕ → ℕ → Result Further SchemaError → Type 0
 LeadsBelow build tables limit work result =
     IfOk result

@@ -5,11 +5,11 @@ ghost use Rattle.facet_solver.specs.Build.{build_of, repr_for};
 ghost use Rattle.facet_solver.specs.Representation as representation;
 ghost use Rattle.facet_solver.specs.Representation.{repr_view};
 
-pub(crate) mod brings;
 pub(crate) mod catch_alls;
 pub(crate) mod category;
 pub(crate) mod choices;
 pub(crate) mod content;
+pub(crate) mod contribution;
 pub(crate) mod count;
 pub(crate) mod emit;
 pub(crate) mod field;

@@ -12,7 +12,7 @@ ghost use Rattle.std.specs.FinMap as finite;
 ghost use Rattle.facet_solver_shape.specs.declared.resolution.key.FieldCategory.TheVariants.{Flat as FlatCategory};
 ghost use Rattle.facet_solver_shape.specs.declared.shape.Field.{Field};
 ghost use Rattle.facet_solver_shape.specs.declared.shape.Variant.{Variant};
-ghost use Rattle.facet_solver.specs.Choice.{IsChoice, IsClash, IsResolution, ListsChoices, Enumerates, GoesByName};
+ghost use Rattle.facet_solver.specs.Choice.{IsChoice, IsChoiceDuplicate, IsResolution, ListsChoices, Enumerates, GoesByName};
 ghost use Rattle.facet_solver.specs.Count.{IsCountOf, below_2_64, count_fields, count_fields_step, count_of_root};
 ghost use Rattle.facet_solver.specs.ByName.{is_viable_by_name, missing_by_name, unknown_by_name};
 ghost use Rattle.facet_solver.specs.Failure.{missing};
@@ -52,11 +52,11 @@ pub fn no_choice_begins_another()
         → IsChoice build root c → IsChoice build root (c ++ d) → d ≡ [] }
 {}
 
-/// A root that has a list of resolutions has no clash.
+/// A root that has a list of resolutions has no duplicate keys.
 pub fn resolutions_exclude_clashes()
     ensures { (build : Build) (root : ℕ) (rs : List Resolved)
         → Enumerates build root rs
-        → (name : Name) (first second : Path) → ¬ IsClash build root name first second }
+        → (name : Name) (first second : Path) → ¬ IsChoiceDuplicate build root name first second }
 {}
 
 /// The list of all choices is as long as the number of choices.
@@ -157,7 +157,7 @@ pub fn known_keys_decide()
 pub fn viable_candidates_are_named()
     ensures { (s : State) (index : ℕ) (r : Resolved)
         → Contains (viable s) index → slice_get s.schema.resolutions index ≡ Some r
-        → EndsWithOrNames s index (description r.picks) }
+        → EndsWithOrNames s index (description r.selections) }
 {}
 
 /// If a resolution has all known keys that a new solver sees, and one of the keys matches each of
@@ -168,7 +168,7 @@ pub fn told_resolutions_are_found()
         → Contains (viable (see_keys keys (new_solver schema))) index }
     ensures ends { (schema : SchemaView) (keys : List Key) (index : ℕ) (r : Resolved)
         → HasAllKnown schema keys index r → is_viable keys r ≡ true
-        → EndsWithOrNames (see_keys keys (new_solver schema)) index (description r.picks) }
+        → EndsWithOrNames (see_keys keys (new_solver schema)) index (description r.selections) }
 {}
 
 /// A new solver of a built schema that sees the keys of one choice ends with that choice's index,
@@ -183,7 +183,7 @@ pub fn told_choices_are_found()
         → (index : ℕ) (choice : List ℕ) → slice_get choices index ≡ Some choice
         → (keys : List Key) (r : Resolved)
         → TellsChoice schema.build schema.root choice keys r
-        → EndsWithOrNames (see_keys keys (new_solver schema)) index (description r.picks) }
+        → EndsWithOrNames (see_keys keys (new_solver schema)) index (description r.selections) }
 {}
 
 /// No call of a solver adds a candidate, and neither does a run of calls, nor a call of a probing

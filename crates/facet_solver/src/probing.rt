@@ -99,7 +99,7 @@ impl<'s, 'c> ProbingSolver<'s, 'c> {
     }
 }
 
-// Only the resolutions stay that have the key at the path, in their order.
+/// Only the resolutions stay that have the key at the path, in their order.
 fn retain_with_key<'s, 'c>(resolutions: &mut Vec<&'s Resolution<'c>>, path: &[&str], key: &str)
     ensures { resolutions_of resolutions.new.items
         ≡ probe_key (names_of path.now) key.now (resolutions_of resolutions.old.items) }
@@ -107,8 +107,8 @@ fn retain_with_key<'s, 'c>(resolutions: &mut Vec<&'s Resolution<'c>>, path: &[&s
     resolutions.retain(|resolution| has_key_at(resolution, path, key));
 }
 
-// Printed as a derived impl would. The derive gets no proof where references lie in a vector, so
-// each is printed by itself.
+/// Printed as a derived impl would. The derive gets no proof where references lie in a vector, so
+/// each is printed by itself.
 impl fmt::Debug for ProbingSolver<'_, '_> {
     fn fmt<W: fmt::Write>(&self, f: &mut fmt::Formatter<W>) -> fmt::Result {
         f.debug_struct("ProbingSolver")

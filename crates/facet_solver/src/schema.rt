@@ -58,8 +58,8 @@ impl<'c> Model for Schema<'c> {
         × IsIndexOf (length s.resolutions.items) (fields_of_each s.resolutions.items) s.index };
 }
 
-// Written out: where a block drops a schema at its end, the borrow checker does not cover a derived
-// drop beside a struct of which a field was moved.
+/// Written out: where a block drops a schema at its end, the borrow checker does not cover a
+/// derived drop beside a struct of which a field was moved.
 impl Drop for Schema<'_> {
     fn drop(self) {
         let Schema {
@@ -271,7 +271,7 @@ impl<'c> Schema<'c> {
         count_of_root(build, root, steps)
     }
 
-    // The schema of a root, by what a build goes by.
+    /// The schema of a root, by what a build goes by.
     fn of_build(
         build: Build<'c>,
         root: ShapeId,
@@ -291,7 +291,7 @@ impl<'c> Schema<'c> {
         Schema::indexed(build, root, made)
     }
 
-    // The schema of the resolutions that a build made of a root. The only error is out of memory.
+    /// The schema of the resolutions that a build made of a root. The only error is out of memory.
     fn indexed(
         build: Build<'c>,
         root: ShapeId,
@@ -322,8 +322,8 @@ impl<'c> Schema<'c> {
         &self.resolutions
     }
 
-    // The entry of a key: the resolutions that have it, and the shape of the fields that it means,
-    // if they agree on it. There is none where no resolution has it.
+    /// The entry of a key: the resolutions that have it, and the shape of the fields that it means,
+    /// if they agree on it. There is none where no resolution has it.
     pub(crate) fn look_up(&self, key: FieldKey<'_>) -> Option<&Entry>
         ensures { IsEntryIfAny (length self.now.resolutions)
             (field_at (key_of key.entry) self.now.resolutions) (option_copied result) }
@@ -331,22 +331,22 @@ impl<'c> Schema<'c> {
         self.index.look_up(self.format, key)
     }
 
-    // Whether the resolution at an index has a field that a key means.
-    pub(crate) fn has_key_at(&self, key: FieldKey<'_>, index: usize) -> bool
+    /// Whether the resolution at an index has a field that a key means.
+    pub(crate) fn resolution_has_key(&self, key: FieldKey<'_>, index: usize) -> bool
         ensures { result ≡ passes (has_key (key_of key.entry)) self.now.resolutions index }
     {
         holds(self.look_up(key), index)
     }
 
-    // Whether some resolution has a field that a key means.
+    /// Whether some resolution has a field that a key means.
     pub(crate) fn is_known(&self, key: FieldKey<'_>) -> bool
         ensures { result ≡ is_known self.now.resolutions (key_of key.entry) }
     {
         self.look_up(key).is_some()
     }
 
-    // The entries of the fields of a name: a resolution has such a field where one of them has the
-    // resolution.
+    /// The entries of the fields of a name: a resolution has such a field where one of them has the
+    /// resolution.
     pub(crate) fn entries_named(&self, alloc: Global, name: &str) -> Result<Vec<&Entry>, AllocError>
         ensures { IfOk result (λ entries. (index : ℕ) → is_held entries.items index
             ≡ passes (has_field_named name.now) self.now.resolutions index) }

@@ -2,7 +2,7 @@
 ghost use Rattle.std.specs.Prelude.{◌≡◌, ◌↔◌, ◌+◌, ◌<◌, ◌≤◌, ◌||◌, [], All, IfOk, IsOk, IsTrue, filter, length, nat_eq, slice_get};
 ghost use Rattle.std.specs.List.Sorted.{IsStrictlyIncreasing};
 ghost use Rattle.facet_solver_shape.specs.Steps.{NoCountFalls};
-ghost use Rattle.facet_solver.specs.IndexSet.{IsWithin, how_many, matches_view, full, has, upto};
+ghost use Rattle.facet_solver.specs.IndexSet.{IsWithin, how_many, matches_view, full, has_index, upto};
 ghost use Rattle.facet_solver.specs.Words.{word_count};
 
 mod bits;
@@ -69,7 +69,8 @@ impl ResolutionSet {
     pub(crate) fn insert(&mut self, index: usize)
         requires { index < self.old.bound }
         ensures { self.new ≡ record self.old {
-          members = filter (λ i. nat_eq i index || has self.old.members i) (upto self.old.bound);
+          members =
+              filter (λ i. nat_eq i index || has_index self.old.members i) (upto self.old.bound);
         } }
     {
         self.words.insert(index);
@@ -79,7 +80,7 @@ impl ResolutionSet {
     pub(crate) fn keep_common(&mut self, other: &ResolutionSet, steps: &mut Steps)
         requires { self.old.bound ≡ other.now.bound }
         ensures kept { self.new
-            ≡ record self.old { members = filter (has other.now.members) self.old.members } }
+            ≡ record self.old { members = filter (has_index other.now.members) self.old.members } }
         ensures words { steps.new.words ≤ steps.old.words + word_count self.old.bound }
         ensures searches { steps.new.searches ≡ steps.old.searches }
         ensures no_fall { NoCountFalls steps.old steps.new }
@@ -94,7 +95,7 @@ impl ResolutionSet {
         steps: &mut Steps,
     ) -> CommonIter<'s>
         requires { self.now.bound ≡ other.now.bound }
-        ensures members { result.items ≡ filter (has other.now.members) self.now.members }
+        ensures members { result.items ≡ filter (has_index other.now.members) self.now.members }
         ensures words { steps.new.words + result.unread
             ≤ steps.old.words + word_count self.now.bound }
         ensures searches { steps.new.searches ≡ steps.old.searches }
@@ -146,7 +147,7 @@ impl ResolutionSet {
 
     /// Whether the set has an index. It has none that is past the last resolution.
     pub fn contains(&self, index: usize) -> bool
-        ensures { result ≡ has self.now.members index }
+        ensures { result ≡ has_index self.now.members index }
     {
         is_set(self.words.as_slice(), index)
     }

@@ -7,7 +7,7 @@ ghost use Rattle.facet_solver_shape.specs.declared.resolution.key.FieldCategory.
 ghost use Rattle.facet_solver_shape.specs.Steps.{NoCountFalls};
 ghost use Rattle.facet_solver.specs.Schema.{IsHandleOf, index_of};
 ghost use Rattle.facet_solver.specs.IndexSet.{IsWithin, how_many, matches_view};
-ghost use Rattle.facet_solver.specs.KeyResult.{HaveShape, HoldsHandleOf, IsUnknownOrSolved, key_result, key_result_view};
+ghost use Rattle.facet_solver.specs.KeyResult.{HaveShape, IsKeyResultOf, IsUnknownOrSolved, key_result, key_result_view};
 ghost use Rattle.facet_solver.specs.State as state;
 ghost use Rattle.facet_solver.specs.State.{narrow, new_solver, passing, retain};
 ghost use Rattle.facet_solver.specs.Words.{begun_words};
@@ -124,7 +124,7 @@ impl<'s, 'c, 'a> Solver<'s, 'c, 'a> {
     ) -> Result<KeyResult<'s, 'c>, AllocError>
         ensures answer { IfOk result (λ answer.
             key_result_view answer ≡ key_result (key_of key.entry) self.old) }
-        ensures handle { IfOk result (HoldsHandleOf self.old.schema) }
+        ensures handle { IfOk result (IsKeyResultOf self.old.schema) }
         ensures ok { OnOk result (self.new ≡ state.see_key (key_of key.entry) self.old) }
         ensures err { OnErr result (self.new ≡ self.old) }
     {
@@ -146,7 +146,7 @@ impl<'s, 'c, 'a> Solver<'s, 'c, 'a> {
     ) -> Result<KeyResult<'s, 'c>, AllocError>
         ensures answer { IfOk result (λ answer.
             key_result_view answer ≡ key_result (key_of key.entry) self.old) }
-        ensures handle { IfOk result (HoldsHandleOf self.old.schema) }
+        ensures handle { IfOk result (IsKeyResultOf self.old.schema) }
         ensures ok { OnOk result (self.new ≡ state.see_key (key_of key.entry) self.old) }
         ensures err { OnErr result (self.new ≡ self.old) }
         ensures words { steps.new.words
@@ -185,7 +185,7 @@ impl<'s, 'c, 'a> Solver<'s, 'c, 'a> {
     ) -> Result<KeyResult<'s, 'c>, AllocError>
         ensures answer { IfOk result (λ answer.
             key_result_view answer ≡ key_result (dom_key Attribute name.now) self.old) }
-        ensures handle { IfOk result (HoldsHandleOf self.old.schema) }
+        ensures handle { IfOk result (IsKeyResultOf self.old.schema) }
         ensures ok { OnOk result (self.new ≡ state.see_key (dom_key Attribute name.now) self.old) }
         ensures err { OnErr result (self.new ≡ self.old) }
     {
@@ -201,7 +201,7 @@ impl<'s, 'c, 'a> Solver<'s, 'c, 'a> {
     ) -> Result<KeyResult<'s, 'c>, AllocError>
         ensures answer { IfOk result (λ answer.
             key_result_view answer ≡ key_result (dom_key Element name.now) self.old) }
-        ensures handle { IfOk result (HoldsHandleOf self.old.schema) }
+        ensures handle { IfOk result (IsKeyResultOf self.old.schema) }
         ensures ok { OnOk result (self.new ≡ state.see_key (dom_key Element name.now) self.old) }
         ensures err { OnErr result (self.new ≡ self.old) }
     {
@@ -213,7 +213,7 @@ impl<'s, 'c, 'a> Solver<'s, 'c, 'a> {
     pub fn see_text(&mut self, alloc: Global) -> Result<KeyResult<'s, 'c>, AllocError>
         ensures answer { IfOk result (λ answer.
             key_result_view answer ≡ key_result (dom_key Text []) self.old) }
-        ensures handle { IfOk result (HoldsHandleOf self.old.schema) }
+        ensures handle { IfOk result (IsKeyResultOf self.old.schema) }
         ensures ok { OnOk result (self.new ≡ state.see_key (dom_key Text []) self.old) }
         ensures err { OnErr result (self.new ≡ self.old) }
     {
@@ -239,7 +239,7 @@ impl<'s, 'c, 'a> Solver<'s, 'c, 'a> {
         was_name_seen(&self.seen, name)
     }
 
-    // The candidates that pass a test, as far as their number matters.
+    /// The candidates that pass a test, as far as their number matters.
     fn matching<T: Test>(&self, test: T) -> Matches
         ensures number { matches_view result ≡ how_many (passing (T.is_passed test) self.now) }
         ensures within { IsWithin (length self.now.schema.resolutions) result }
@@ -248,7 +248,7 @@ impl<'s, 'c, 'a> Solver<'s, 'c, 'a> {
         self.candidates.matching(&AtIndex { resolutions, test })
     }
 
-    // Only the candidates stay that pass a test.
+    /// Only the candidates stay that pass a test.
     fn retain<T: Test>(&mut self, test: T)
         ensures { self.new ≡ retain (T.is_passed test) self.old }
     {
@@ -256,7 +256,8 @@ impl<'s, 'c, 'a> Solver<'s, 'c, 'a> {
         self.candidates.retain(&AtIndex { resolutions, test });
     }
 
-    // Only the candidates stay that pass a test. Where none does, all stay and the answer is false.
+    /// Only the candidates stay that pass a test. Where none does, all stay and the answer is
+    /// false.
     fn narrow<T: Test>(&mut self, test: T) -> bool
         ensures passed { IsTrue result ↔ (passing (T.is_passed test) self.old ≢ []) }
         ensures narrowed { self.new ≡ narrow (T.is_passed test) self.old }

@@ -4,7 +4,7 @@ use Rattle.serde_json.specs.Data.{Members}
 use Rattle.facet_solver.specs.Build.{Build, Catalogue}
 use Rattle.facet_solver.specs.Catalogues.{IsChecked}
 use Rattle.facet_solver.specs.Count.{count_of_root}
-use Rattle.facet_solver.specs.Choice.{IsClash, IsRefusal}
+use Rattle.facet_solver.specs.Choice.{IsChoiceDuplicate, IsRefusal}
 use Rattle.facet_solver.specs.Report.{error_view}
 use Rattle.facet_solver.specs.Schema.{IsBuilt, SchemaView}
 use Rattle.facet_solver.specs.State.{State, new_solver}
@@ -26,7 +26,7 @@ pub end_of_root : (b : Build) (root : ℕ) (document : Members) (schema : Schema
 end_of_root b root document schema bad_input few built end = absurd end
 end_of_root b root document schema (bad_catalogue fault) few built end = absurd end
 end_of_root b root document schema too_many_resolutions few built end = absurd end
-end_of_root b root document schema (duplicate_field clash) few built end = absurd end
+end_of_root b root document schema (duplicate_field duplicate) few built end = absurd end
 end_of_root b root document schema (resolved index resolution) few built end = (few, schema, built, end)
 end_of_root b root document schema (reported report) few built end = (few, schema, built, end)
 
@@ -38,7 +38,7 @@ pub end_of_shapes : (shapes : Catalogue) (input : Input) (ending : Ending)
 end_of_shapes shapes input bad_input checked within end = absurd end.3
 end_of_shapes shapes input (bad_catalogue fault) checked within end = absurd end.3
 end_of_shapes shapes input too_many_resolutions checked within end = (checked, within, end)
-end_of_shapes shapes input (duplicate_field clash) checked within end = (checked, within, end)
+end_of_shapes shapes input (duplicate_field duplicate) checked within end = (checked, within, end)
 end_of_shapes shapes input (resolved index resolution) checked within end = (checked, within, end)
 end_of_shapes shapes input (reported report) checked within end = (checked, within, end)
 
@@ -58,10 +58,10 @@ is_report s (NoMatch _ _ _ _ _ _) reports is = sym is
 is_report s (Ambiguous _ _) reports is = sym is
 is_report s OutOfMemory reports is = absurd reports
 
--- a refusal that is a clash names one
-pub is_clash : (b : Build) (root : ℕ) (e : SchemaError) (clash : DuplicateFieldError) → e ≡ DuplicateField clash
-    → IsRefusal b root e → IsClash b root clash.field_name.now clash.first_path clash.second_path
-is_clash b root e clash same refused = subst (IsRefusal b root) same refused
+-- a refusal as duplicate names a duplicate key of a choice
+pub is_choice_duplicate : (b : Build) (root : ℕ) (e : SchemaError) (duplicate : DuplicateFieldError) → e ≡ DuplicateField duplicate
+    → IsRefusal b root e → IsChoiceDuplicate b root duplicate.field_name.now duplicate.first_path duplicate.second_path
+is_choice_duplicate b root e duplicate same refused = subst (IsRefusal b root) same refused
 
 -- a count that is not above the limit
 pub not_too_many : (count : ℕ) (many : Bool) → many ≡ nat_lt 4096 count → many ≡ false → count ≤ 4096

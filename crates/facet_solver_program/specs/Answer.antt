@@ -9,7 +9,7 @@ use Rattle.facet_solver.specs.declared.error.SolverError.{SolverError}
 use Rattle.facet_solver.specs.declared.error.SolverError.TheVariants.{OutOfMemory}
 use Rattle.facet_solver.specs.Build.{Build, Catalogue}
 use Rattle.facet_solver.specs.Catalogues.{IsChecked, IsFirstFault, number_of}
-use Rattle.facet_solver.specs.Choice.{IsClash}
+use Rattle.facet_solver.specs.Choice.{IsChoiceDuplicate}
 use Rattle.facet_solver.specs.Count.{count_of_root}
 use Rattle.facet_solver.specs.ErrorTexts.{error_output}
 use Rattle.facet_solver.specs.Report.{ErrorView}
@@ -28,9 +28,9 @@ use Rattle.facet_solver_program.specs.Reading.{IsReading, whole}
 use Rattle.facet_solver_program.specs.ShapeView.{shape_view}
 use Rattle.facet_solver_program.specs.Tell.{tell}
 
--- how a run ends: as an input that says nothing, with a fault of the shapes, with more resolutions
--- than are built, with a clash of a choice, with one resolution and its index, or with what the
--- solver reports
+-- how a run ends: as a bad input, with a fault of the shapes, with more resolutions than are built,
+-- with a duplicate key of a choice, with one resolution and its index, or with what the solver
+-- reports
 pub data Ending : Type 0 where
   bad_input : Ending
   bad_catalogue : CatalogueError → Ending
@@ -44,7 +44,7 @@ abbrev pub status_of : Ending → ℕ
 status_of bad_input = 4
 status_of (bad_catalogue fault) = 3
 status_of too_many_resolutions = 2
-status_of (duplicate_field clash) = 2
+status_of (duplicate_field duplicate) = 2
 status_of (resolved index resolution) = 0
 status_of (reported report) = 1
 
@@ -54,9 +54,9 @@ abbrev pub text_of : Ending → Option (List ℕ)
 text_of bad_input = Some (codes "bad input")
 text_of (bad_catalogue fault) = Some (codes "bad catalogue " ++ decimal (number_of fault))
 text_of too_many_resolutions = Some (codes "too many resolutions")
-text_of (duplicate_field clash) = Some (schema_error_text (DuplicateField clash))
+text_of (duplicate_field duplicate) = Some (schema_error_text (DuplicateField duplicate))
 text_of (resolved index resolution) =
-    Some (codes "resolved " ++ (decimal index ++ (codes ": " ++ description resolution.picks)))
+    Some (codes "resolved " ++ (decimal index ++ (codes ": " ++ description resolution.selections)))
 text_of (reported report) = error_output report
 
 -- a status and a text say an end
@@ -73,7 +73,7 @@ representation External = Some externally_tagged
 abbrev pub build : Catalogue → Builder → Build
 build shapes builder = flat_build shapes (representation builder)
 
--- an error of a solver reports more than refused memory
+-- an error of a solver reports more than out of memory
 abbrev pub IsReport : SolverError → Type 0
 IsReport OutOfMemory = ⊥
 IsReport _ = ⊤
@@ -91,13 +91,14 @@ IsEndOfDocument schema document ending =
     let told = members_below [] document in
     IsVerdict (tell schema.build.catalogue told (new_solver schema)) ending
 
--- a root ends with too many resolutions where it has more than 4,096. Else it ends with a clash of
--- one of its choices, or it has a schema, and ends with its document
+-- a root ends with too many resolutions where it has more than 4,096. Else it ends with a duplicate
+-- key of one of its choices, or it has a schema, and ends with its document
 abbrev pub IsEndOfRoot : Build → ℕ → Members → Ending → Type 0
 IsEndOfRoot build root document too_many_resolutions = 4096 < count_of_root build root
-IsEndOfRoot build root document (duplicate_field clash) =
+IsEndOfRoot build root document (duplicate_field duplicate) =
     (count_of_root build root ≤ 4096)
-    × IsClash build root clash.field_name.now clash.first_path clash.second_path
+    × IsChoiceDuplicate build root
+    duplicate.field_name.now duplicate.first_path duplicate.second_path
 IsEndOfRoot build root document ending =
     (count_of_root build root ≤ 4096)
     × (schema : SchemaView) × IsBuilt build root schema × IsEndOfDocument schema document ending

@@ -10,7 +10,7 @@ use Rattle.facet_solver.specs.declared.DomMark.TheVariants.{None as Unmarked}
 use Rattle.facet_solver.specs.declared.ScalarType.{ScalarType}
 use Rattle.facet_solver.specs.declared.ShapeKind.{ShapeKind}
 use Rattle.facet_solver.specs.declared.ShapeKind.TheVariants as kinds
-use Rattle.facet_solver_program.specs.ShapeView.{FieldView, VariantView, KindView, structure, enumeration, other, ShapeView}
+use Rattle.facet_solver_program.specs.ShapeView.{DeclaredFieldView, VariantView, KindView, structure, enumeration, other, ShapeView}
 use Rattle.facet_solver_program.specs.Members.{given, each, or_absent, text_at, optional_text_at, index_at, optional_index_at, flag_at, items_at}
 use Rattle.facet_solver_program.specs.Words.{said_by, struct_kind, dom_mark, scalar_type}
 
@@ -27,7 +27,7 @@ abbrev pub scalar_at : Data → Option ScalarType
 scalar_at d = given (text_at (codes "scalar") d) scalar_type
 
 -- a field
-abbrev pub field : Data → Option FieldView
+abbrev pub field : Data → Option DeclaredFieldView
 field d =
     given (text_at (codes "name") d) (λ name.
     given (optional_text_at (codes "rename") d) (λ rename.
@@ -47,7 +47,7 @@ field d =
     })))))))
 
 -- the fields that a value lists
-abbrev pub fields_at : Data → Option (List FieldView)
+abbrev pub fields_at : Data → Option (List DeclaredFieldView)
 fields_at d = given (items_at (codes "fields") d) (each field)
 
 -- a variant

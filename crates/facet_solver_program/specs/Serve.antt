@@ -4,7 +4,7 @@ use Rattle.std.specs.Io.KnownBytes.{Appends}
 use Rattle.facet_solver_program.specs.Answer.{IsAnswer}
 
 -- how a run over what an input has left ends: with an answer to its bytes, where it tells them; as
--- an input that could not be read; or as refused memory
+-- an input that could not be read; or as out of memory
 abbrev pub IsReply : Option (List ℕ) → ℕ → List ℕ → Type 0
 IsReply input status text =
     IfSome input (λ bytes. IsAnswer bytes status text)

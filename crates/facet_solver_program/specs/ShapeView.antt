@@ -10,7 +10,7 @@ use Rattle.facet_solver.specs.declared.Variant.{Variant}
 use Rattle.facet_solver.specs.Names.{Name, optional_name}
 
 -- all that a field says, with its names as bytes
-pub record FieldView : Type 0 where
+pub record DeclaredFieldView : Type 0 where
   pub name : Name
   pub rename : Option Name
   pub shape : ℕ
@@ -20,7 +20,7 @@ pub record FieldView : Type 0 where
   pub dom : DomMark
 
 -- of a field
-abbrev pub field_view : Field → FieldView
+abbrev pub field_view : Field → DeclaredFieldView
 field_view f = record {
   name = string_bytes f.name;
   rename = optional_name f.rename;
@@ -35,7 +35,7 @@ field_view f = record {
 pub record VariantView : Type 0 where
   pub name : Name
   pub kind : StructKind
-  pub fields : List FieldView
+  pub fields : List DeclaredFieldView
 
 -- of a variant
 abbrev pub variant_view : Variant → VariantView
@@ -47,7 +47,7 @@ variant_view v = record {
 
 -- all that a kind says: the fields of a struct, the variants of an enum, or else the kind itself
 pub data KindView : Type 0 where
-  structure : StructKind → List FieldView → KindView
+  structure : StructKind → List DeclaredFieldView → KindView
   enumeration : List VariantView → KindView
   other : ShapeKind → KindView
 

@@ -40,7 +40,7 @@ pub fn answer(alloc: Global, bytes: &[u8]) -> Result<(u8, String), AllocError>
     }
 }
 
-// The answer to a value.
+/// The answer to a value.
 fn answer_value(alloc: Global, value: &Value) -> Result<(u8, String), AllocError>
     ensures { IfOk result (λ a. (ending : Ending)
         × IsEndOfInput (input.decode (view value.now)) ending
@@ -52,7 +52,7 @@ fn answer_value(alloc: Global, value: &Value) -> Result<(u8, String), AllocError
     }
 }
 
-// The answer where there is no input.
+/// The answer where there is no input.
 fn no_input(alloc: Global, error: DecodeError) -> Result<(u8, String), AllocError>
     ensures { IfOk result (λ a. (error ≡ DecodeError.BadInput)
         × Says a.0 (string_bytes a.1) answer.bad_input) }
@@ -63,14 +63,14 @@ fn no_input(alloc: Global, error: DecodeError) -> Result<(u8, String), AllocErro
     }
 }
 
-// The answer to a bad input.
+/// The answer to a bad input.
 fn bad_input(alloc: Global) -> Result<(u8, String), AllocError>
     ensures { IfOk result (λ a. Says a.0 (string_bytes a.1) answer.bad_input) }
 {
     Ok((4, String::from_str(alloc, "bad input")?))
 }
 
-// The answer to an input: its shapes are checked, and then the root.
+/// The answer to an input: its shapes are checked, and then the root.
 fn answer_input(alloc: Global, input: Input<'_>) -> Result<(u8, String), AllocError>
     ensures { IfOk result (λ a. (ending : Ending)
         × IsEndOfInput (Some (input_view input.entry)) ending
@@ -89,7 +89,7 @@ fn answer_input(alloc: Global, input: Input<'_>) -> Result<(u8, String), AllocEr
     }
 }
 
-// The answer that names a fault of the shapes.
+/// The answer that names a fault of the shapes.
 fn bad_catalogue(alloc: Global, fault: CatalogueError) -> Result<(u8, String), AllocError>
     ensures { IfOk result (λ a. Says a.0 (string_bytes a.1) (answer.bad_catalogue fault)) }
 {
@@ -97,7 +97,7 @@ fn bad_catalogue(alloc: Global, fault: CatalogueError) -> Result<(u8, String), A
     Ok((3, format!(in alloc; "bad catalogue {number}")?))
 }
 
-// The answer for a root: its resolutions are counted, and then built.
+/// The answer for a root: its resolutions are counted, and then built.
 fn answer_root(
     alloc: Global,
     shapes: &Shapes,
@@ -120,11 +120,11 @@ fn answer_root(
     }
 }
 
-// The answer where there is no schema.
+/// The answer where there is no schema.
 fn no_schema(alloc: Global, error: SchemaError<'_>) -> Result<(u8, String), AllocError>
-    ensures { IfOk result (λ a. (clash : DuplicateFieldError)
-        × (error.entry ≡ SchemaError.DuplicateField clash)
-        × Says a.0 (string_bytes a.1) (answer.duplicate_field clash)) }
+    ensures { IfOk result (λ a. (duplicate : DuplicateFieldError)
+        × (error.entry ≡ SchemaError.DuplicateField duplicate)
+        × Says a.0 (string_bytes a.1) (answer.duplicate_field duplicate)) }
 {
     let text = error.to_string(alloc)?;
     match error {
@@ -133,7 +133,7 @@ fn no_schema(alloc: Global, error: SchemaError<'_>) -> Result<(u8, String), Allo
     }
 }
 
-// Whether a root has more resolutions than are built.
+/// Whether a root has more resolutions than are built.
 fn has_too_many(
     alloc: Global,
     shapes: &Shapes,
@@ -148,7 +148,7 @@ fn has_too_many(
     Ok(count.is_none_or(|count| count > MOST_RESOLUTIONS))
 }
 
-// What a builder gives all flattened enums, or None where each enum's own attributes decide.
+/// What a builder gives all flattened enums, or None where each enum's own attributes decide.
 fn representation(builder: Builder) -> Option<EnumRepr<'static>>
     ensures { asked_view result ≡ answer.representation builder }
 {
@@ -159,7 +159,7 @@ fn representation(builder: Builder) -> Option<EnumRepr<'static>>
     }
 }
 
-// The schema of a root, by a builder.
+/// The schema of a root, by a builder.
 fn build<'c>(
     alloc: Global,
     shapes: &'c Shapes,
@@ -177,7 +177,7 @@ fn build<'c>(
     }
 }
 
-// The answer to a document: a new solver is told it, and says what it means.
+/// The answer to a document: a new solver is told it, and says what it means.
 fn answer_document(
     alloc: Global,
     schema: &Schema<'_>,
@@ -195,7 +195,7 @@ fn answer_document(
     }
 }
 
-// The answer that tells why not one resolution alone is left.
+/// The answer that tells why not one resolution alone is left.
 fn unresolved(alloc: Global, error: SolverError<'_>) -> Result<(u8, String), AllocError>
     ensures { IfOk result (λ a. IsReport error.entry
         × Says a.0 (string_bytes a.1) (answer.reported (error_view error.entry))) }
@@ -208,7 +208,7 @@ fn unresolved(alloc: Global, error: SolverError<'_>) -> Result<(u8, String), All
     }
 }
 
-// The answer that names a resolution.
+/// The answer that names a resolution.
 fn resolved(alloc: Global, handle: ResolutionHandle<'_, '_>) -> Result<(u8, String), AllocError>
     ensures { IfOk result (λ a. Says a.0 (string_bytes a.1)
         (answer.resolved (index_of handle.entry) (resolution_of handle.entry))) }

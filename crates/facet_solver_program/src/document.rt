@@ -31,7 +31,7 @@ pub fn members<'v>(
     Ok(members)
 }
 
-// Adds the members of an object at a path, and behind each those of its own value.
+/// Adds the members of an object at a path, and behind each those of its own value.
 #[cycle(document)]
 fn add_members<'v>(
     alloc: Global,
@@ -49,7 +49,7 @@ fn add_members<'v>(
     Ok(())
 }
 
-// Adds one member of an object at a path, and behind it those of its value.
+/// Adds one member of an object at a path, and behind it those of its value.
 #[cycle(document)]
 fn add_member<'v>(
     alloc: Global,
@@ -75,7 +75,7 @@ fn add_member<'v>(
     }
 }
 
-// A path with one more name.
+/// A path with one more name.
 fn with_name<'v>(alloc: Global, path: &[&'v str], name: &'v str) -> Result<Vec<&'v str>, AllocError>
     ensures { IfOk result (λ whole.
         names_of whole.items ≡ names_of path.now ++ name.now ∷ []) }

@@ -22,14 +22,14 @@ pub fn fits(shapes: &Shapes, id: ShapeId, value: &Value) -> bool
     }
 }
 
-// The end of a shape: its effective shape, and from there pointers are followed.
+/// The end of a shape: its effective shape, and from there pointers are followed.
 fn effective_end(shapes: &Shapes, id: ShapeId) -> ShapeId
     ensures { result ≡ fits.effective_end shapes.now id }
 {
     shapes.end_of(shapes.effective(id))
 }
 
-// The inside of an option.
+/// The inside of an option.
 fn inside_at(shapes: &Shapes, id: ShapeId) -> Option<ShapeId>
     ensures { result ≡ fits.inside_at shapes.now id }
 {
@@ -39,7 +39,7 @@ fn inside_at(shapes: &Shapes, id: ShapeId) -> Option<ShapeId>
     }
 }
 
-// Whether a value fits the shape at an index, which is an end.
+/// Whether a value fits the shape at an index, which is an end.
 fn fits_end(shapes: &Shapes, end: ShapeId, value: &Value) -> bool
     ensures { result ≡ fits.fits_end shapes.now end (view value.now) }
 {
@@ -49,8 +49,8 @@ fn fits_end(shapes: &Shapes, end: ShapeId, value: &Value) -> bool
     }
 }
 
-// Whether a shape is a metadata container: it is marked as one, and has a field that is no
-// metadata.
+/// Whether a shape is a metadata container: it is marked as one, and has a field that is no
+/// metadata.
 fn is_metadata_container(shape: &Shape) -> bool
     ensures { result ≡ fits.is_metadata_container shape.now }
 {
@@ -60,14 +60,14 @@ fn is_metadata_container(shape: &Shape) -> bool
     }
 }
 
-// Whether one of the fields is no metadata.
+/// Whether one of the fields is no metadata.
 fn has_plain_field(fields: &[Field]) -> bool
     ensures { result ≡ fits.has_plain_field fields.now }
 {
     fields.iter().any(|field| !field.metadata)
 }
 
-// Whether a value fits a kind of shape.
+/// Whether a value fits a kind of shape.
 fn fits_kind(kind: &ShapeKind, value: &Value) -> bool
     ensures { result ≡ fits.fits_kind kind.now (view value.now) }
 {
@@ -86,7 +86,7 @@ fn fits_kind(kind: &ShapeKind, value: &Value) -> bool
     }
 }
 
-// Whether a value fits a struct.
+/// Whether a value fits a struct.
 fn fits_struct(kind: StructKind, value: &Value) -> bool
     ensures { result ≡ fits.fits_struct kind (view value.now) }
 {
@@ -97,7 +97,7 @@ fn fits_struct(kind: StructKind, value: &Value) -> bool
     }
 }
 
-// Whether a value fits a basic type.
+/// Whether a value fits a basic type.
 fn fits_scalar(scalar: ScalarType, value: &Value) -> bool
     ensures { result ≡ fits.fits_scalar scalar (view value.now) }
 {
@@ -114,22 +114,22 @@ fn fits_scalar(scalar: ScalarType, value: &Value) -> bool
     }
 }
 
-// Whether a text has one character.
+/// Whether a text has one character.
 fn has_one_char(text: &str) -> bool
     ensures { result ≡ (length (chars text.now) == 1) }
 {
     text.chars().count() == 1
 }
 
-// The whole number that a value is.
+/// The whole number that a value is.
 fn whole_number(value: &Value) -> Option<i128>
     ensures { result ≡ fits.whole_number (view value.now) }
 {
     value.as_number().and_then(Number::as_i128)
 }
 
-// Whether a whole number is one of a type of numbers. It has at most 64 bits, as all numbers of an
-// input.
+/// Whether a whole number is one of a type of numbers. It has at most 64 bits, as all numbers of an
+/// input.
 fn is_in_range(scalar: ScalarType, number: i128) -> bool
     ensures { result ≡ fits.is_in_range scalar number }
 {
@@ -152,7 +152,7 @@ fn is_in_range(scalar: ScalarType, number: i128) -> bool
     }
 }
 
-// Whether a number is one of those from one limit to another.
+/// Whether a number is one of those from one limit to another.
 fn is_between(low: i128, high: i128, number: i128) -> bool
     ensures { result ≡ fits.is_between low high number }
 {

@@ -44,8 +44,8 @@ pub fn serve<R: Read, W: Write>(alloc: Global, input: &mut R, output: &mut W) ->
     }
 }
 
-// All bytes of an input. They are read here, and not by `read_to_end`, to tell out of memory from a
-// read that failed.
+/// All bytes of an input. They are read here, and not by `read_to_end`, to tell out of memory from
+/// a read that failed.
 fn read_all<R: Read>(alloc: Global, input: &mut R) -> Result<Vec<u8>, InputError>
     ensures { IfOk result (λ bytes. IfSome (R.remaining input.old) (λ left. bytes.items ≡ left)) }
 {
@@ -64,8 +64,8 @@ fn read_all<R: Read>(alloc: Global, input: &mut R) -> Result<Vec<u8>, InputError
     Err(InputError::Unread)
 }
 
-// Writes a text and a line feed, and gives the status that goes with the text, or 4 where a write
-// fails.
+/// Writes a text and a line feed, and gives the status that goes with the text, or 4 where a write
+/// fails.
 fn reply<W: Write>(output: &mut W, status: u8, text: &str) -> u8
     ensures { result ≢ 4 → (result ≡ status)
         × WritesLine (W.contents output.old) (W.contents output.new) text.now }
@@ -76,7 +76,7 @@ fn reply<W: Write>(output: &mut W, status: u8, text: &str) -> u8
     }
 }
 
-// Writes a text and a line feed.
+/// Writes a text and a line feed.
 fn write_line<W: Write>(output: &mut W, text: &str) -> io::Result<()>
     ensures { OnOk result (WritesLine (W.contents output.old) (W.contents output.new) text.now) }
 {

@@ -38,7 +38,7 @@ pub fn tell<'v>(
     Ok(())
 }
 
-// Tells a solver a member of a document.
+/// Tells a solver a member of a document.
 fn tell_member<'v>(
     alloc: Global,
     shapes: &Shapes,
@@ -55,8 +55,8 @@ fn tell_member<'v>(
     }
 }
 
-// Tells a solver a member of the document itself: its key, a text under that, and which shapes the
-// value fits.
+/// Tells a solver a member of the document itself: its key, a text under that, and which shapes the
+/// value fits.
 fn tell_key<'v>(
     alloc: Global,
     shapes: &Shapes,
@@ -72,7 +72,7 @@ fn tell_key<'v>(
     tell_shapes(alloc, shapes, solver, &[key], value)
 }
 
-// Tells a solver a text under a key, which is a hint of a variant's name, if the key is a tag.
+/// Tells a solver a text under a key, which is a hint of a variant's name, if the key is a tag.
 fn tell_text(solver: &mut Solver<'_, '_, '_>, key: &str, value: &Value)
     ensures { solver.new ≡ tell.tell_text key.now (view value.now) solver.old }
 {
@@ -81,8 +81,8 @@ fn tell_text(solver: &mut Solver<'_, '_, '_>, key: &str, value: &Value)
     }
 }
 
-// Tells a solver a member further below: if some candidate has its path, its key, and which shapes
-// the value fits.
+/// Tells a solver a member further below: if some candidate has its path, its key, and which shapes
+/// the value fits.
 fn tell_path(
     alloc: Global,
     shapes: &Shapes,
@@ -105,7 +105,7 @@ fn tell_path(
     tell_shapes(alloc, shapes, solver, path, value)
 }
 
-// Whether some candidate has a whole key path.
+/// Whether some candidate has a whole key path.
 fn is_known_path(
     alloc: Global,
     solver: &Solver<'_, '_, '_>,
@@ -118,7 +118,7 @@ fn is_known_path(
     Ok(any_has_path(&candidates, path))
 }
 
-// Whether one of some candidates has a whole key path.
+/// Whether one of some candidates has a whole key path.
 fn any_has_path(candidates: &[ResolutionHandle<'_, '_>], path: &[&str]) -> bool
     ensures { result
         ≡ list_any (λ c. has_key_path (names_of path.now) (resolution_of c)) candidates.now }
@@ -128,8 +128,8 @@ fn any_has_path(candidates: &[ResolutionHandle<'_, '_>], path: &[&str]) -> bool
         .any(|candidate| candidate.resolution().has_key_path(path))
 }
 
-// Tells a solver which of the candidates' shapes at a path a value fits, if it fits some, but not
-// all.
+/// Tells a solver which of the candidates' shapes at a path a value fits, if it fits some, but not
+/// all.
 fn tell_shapes(
     alloc: Global,
     shapes: &Shapes,
@@ -149,28 +149,28 @@ fn tell_shapes(
     Ok(())
 }
 
-// Whether a value fits some of some shapes, but not all.
+/// Whether a value fits some of some shapes, but not all.
 fn fits_some_not_all(shapes: &Shapes, ids: &[ShapeId], value: &Value) -> bool
     ensures { result ≡ tell.fits_some_not_all shapes.now (view value.now) ids.now }
 {
     fits_any(shapes, ids, value) && !fits_all(shapes, ids, value)
 }
 
-// Whether a value fits one of some shapes.
+/// Whether a value fits one of some shapes.
 fn fits_any(shapes: &Shapes, ids: &[ShapeId], value: &Value) -> bool
     ensures { result ≡ tell.fits_any shapes.now (view value.now) ids.now }
 {
     ids.iter().any(|id| fits(shapes, *id, value))
 }
 
-// Whether a value fits all of some shapes.
+/// Whether a value fits all of some shapes.
 fn fits_all(shapes: &Shapes, ids: &[ShapeId], value: &Value) -> bool
     ensures { result ≡ tell.fits_all shapes.now (view value.now) ids.now }
 {
     ids.iter().all(|id| fits(shapes, *id, value))
 }
 
-// Of some shapes those that a value fits.
+/// Of some shapes those that a value fits.
 fn fitting(
     alloc: Global,
     shapes: &Shapes,

@@ -91,7 +91,7 @@ index_below : (index : ℕ) (o : Option ℕ) → list_any (λ p. nat_le index p)
 index_below index None none = tt
 index_below index (Some p) none = leb-false index p (or_parts _ _ none).0
 
--- in a catalogue each shape names earlier ones where it has to
+-- in a catalogue each shape refers to earlier ones where it has to
 pub names_earlier : (shapes : List Shape) → IsChecked shapes → NamesEarlier shapes
 names_earlier shapes checked index s here =
     let test : ℕ → ℕ → Bool = λ low p. nat_le low p in

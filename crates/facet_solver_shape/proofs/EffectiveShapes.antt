@@ -1,4 +1,4 @@
--- Effective shapes of a list in which `inner` and `proxy` name earlier ones.
+-- Effective shapes of a list in which `inner` and `proxy` refer to earlier ones.
 use Rattle.std.proofs.Common.{◌⊎◌, inl, inr, ◌≡◌, ℕ, zero, suc, ◌<◌, ◌≤◌, List, Option, Some, None, sym, refl, ap, ◌∙◌, slice_get, length, arith}
 use Rattle.std.specs.Option.{IfSome, option_or}
 use Rattle.std.proofs.lemmas.Option.{slice_get_past}

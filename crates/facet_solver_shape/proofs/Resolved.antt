@@ -13,9 +13,9 @@ use Rattle.std.specs.FinMap.Entries.{below_all}
 use Rattle.std.specs.FinSet as set
 use Rattle.std.proofs.lemmas.Bool.{false≢true, or_cases, or_right}
 use Rattle.facet_solver_shape.specs.Keys.{Key, key_cmp}
-use Rattle.facet_solver_shape.specs.Paths.{Step, key_path_eq}
+use Rattle.facet_solver_shape.specs.Paths.{Segment, key_path_eq}
 use Rattle.facet_solver_shape.specs.Fields.{FieldView, key_of_field, IsStored, as_optional}
-use Rattle.facet_solver_shape.specs.Resolved.{Resolved, AreApart, IsUnionOf, IsOverlaid, IsMergeClash, IsRequiredName, AreRequiredNames, key_paths_view, pick_view, pick_text, description}
+use Rattle.facet_solver_shape.specs.Resolved.{Resolved, AreApart, IsUnionOf, IsOverlaid, IsMergeDuplicate, IsRequiredName, AreRequiredNames, key_paths_view, selection_view, selection_text, description}
 use Rattle.facet_solver_shape.proofs.Finite.{equal, cases_bool, none_is_some, same_value}
 use Rattle.facet_solver_shape.proofs.Keys.{key_cmp_total, key_cmp_same, name_cmp_same, path_cmp_total}
 use Rattle.std.specs.Cmp.Lexicographic.{slice_cmp, lists_ties, texts_ties}
@@ -121,7 +121,8 @@ module _ {K : Type 0} {R : K → K → Ordering} (o : IsTotalOrder R) where
       go [] found = tt
       go (e ∷ es) found = (finite.get-entries m e.0 ∙ found.0, go es found.1)
 
--- of the entries of other, those in left are still to be looked up in mine, and none before them was found
+-- of the entries of other, those in left are still to be looked up in mine, and none before them
+-- was found
 pub record IsSearched (mine other : finite.FinMap key_cmp FieldView) (left : List (Key × FieldView)) : Type 0 where
   pub ahead : (q : Key) → IsSome (finite.get mine q) → IsSome (finite.get other q) → IsSome (find key_cmp q left)
   pub found : AllByRecursion (IsFound other) left
@@ -153,12 +154,12 @@ search_end mine other done q has = go (finite.get other q) (done.ahead q has)
     go (Some x) never = absurd (false≢true (never refl))
 
 -- a field of other whose key is taken
-pub merge_clash : (old other : Resolved) (k : Key) (f present : FieldView) (first second : List Step) → finite.get other.fields k ≡ Some f → k ≡ key_of_field f → finite.get old.fields k ≡ Some present → present.path ≡ first → second ≡ f.path
-    → IsMergeClash old other f.name first second
-merge_clash old other k f present first second among stored taken is_first is_second = record {
+pub merge_duplicate : (old other : Resolved) (k : Key) (f present : FieldView) (first second : List Segment) → finite.get other.fields k ≡ Some f → k ≡ key_of_field f → finite.get old.fields k ≡ Some present → present.path ≡ first → second ≡ f.path
+    → IsMergeDuplicate old other f.name first second
+merge_duplicate old other k f present first second among stored taken is_first is_second = record {
   field = f;
   among = rw (← stored) among;
-  clash = record { taken = rw (← stored, taken) is_first; same_name = refl; same_path = is_second };
+  duplicate = record { taken = rw (← stored, taken) is_first; same_name = refl; same_path = is_second };
 }
 
 -- of all members, those in left are still to be put into now
@@ -234,7 +235,7 @@ module _ (fields : finite.FinMap key_cmp FieldView) (f : FieldView) (fresh : fin
   here : finite.get (finite.insert fields (key_of_field f) f) (key_of_field f) ≡ Some f
   here = put (key_of_field f) ∙ ap (λ r. cond (is_eq r) (Some f) (finite.get fields (key_of_field f))) (tied_itself key_cmp_total (key_of_field f))
 
-  -- a field that is not required brings no name
+  -- a field that is not required contributes no name
   pub names_kept : (names : set.FinSet (slice_cmp nat_cmp)) → f.is_required ≡ false → AreRequiredNames fields names → AreRequiredNames (finite.insert fields (key_of_field f) f) names
   names_kept names optional are name = (λ has. kept_name name ((are name).0 has), λ after. back (new_name name after))
     where
@@ -242,7 +243,7 @@ module _ (fields : finite.FinMap key_cmp FieldView) (f : FieldView) (fresh : fin
       back (inl before) = (are name).1 before
       back (inr new) = absurd (false≢true (sym optional ∙ new.0))
 
-  -- a required field brings its name
+  -- a required field contributes its name
   pub names_put : (names : set.FinSet (slice_cmp nat_cmp)) → f.is_required ≡ true → AreRequiredNames fields names → AreRequiredNames (finite.insert fields (key_of_field f) f) (set.insert names f.name)
   names_put names required are name = (λ has. forth (or_cases _ _ (sym put_name ∙ has)), λ after. put_name ∙ back (new_name name after))
     where
@@ -315,5 +316,5 @@ pub contains_path : (q : List Name) (ps : List (Vec (Bor Name) Global)) → set.
 contains_path q ps = set.contains-from_list path_cmp_total (paths_of ps) q ∙ any_path q (paths_of ps)
 
 -- the first, and the others with what joins them
-pub text_of_picks : (p : VariantSelection) (rest : List VariantSelection) → pick_text (pick_view p) ++ flat_map (λ q. codes " + " ++ pick_text (pick_view q)) rest ≡ description (map pick_view (p ∷ rest))
-text_of_picks p rest = ap (λ ys. pick_text (pick_view p) ++ ys) (flat_map-map (λ q. codes " + " ++ pick_text q) pick_view rest)
+pub text_of_selections : (p : VariantSelection) (rest : List VariantSelection) → selection_text (selection_view p) ++ flat_map (λ q. codes " + " ++ selection_text (selection_view q)) rest ≡ description (map selection_view (p ∷ rest))
+text_of_selections p rest = ap (λ ys. selection_text (selection_view p) ++ ys) (flat_map-map (λ q. codes " + " ++ selection_text q) selection_view rest)

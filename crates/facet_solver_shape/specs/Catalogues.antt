@@ -44,7 +44,7 @@ early_indices s = early_indices_of_kind s.kind ++ (option_to_list s.inner ++ opt
 abbrev pub named_indices : Shape → List ℕ
 named_indices s = early_indices s ++ late_indices_of_kind s.kind
 
--- each field names an index below another
+-- each field refers to an index below another
 abbrev pub FieldsBelow : ℕ → List Field → Type 0
 FieldsBelow index [] = ⊤
 FieldsBelow index (f ∷ fs) = (f.shape < index) × FieldsBelow index fs
@@ -131,7 +131,7 @@ refusal_text e =
     codes "the shape at index " ++ (decimal (shape_of e) ++ (codes " " ++ (fault_text e
     ++ (codes " (refusal " ++ (decimal (number_of e) ++ codes ")")))))
 
--- s names an index that a list of count shapes has not
+-- s refers to an index that a list of count shapes has not
 abbrev pub NamesPast : ℕ → Shape → Type 0
 NamesPast count s = Any (λ p. count ≤ p) (named_indices s)
 

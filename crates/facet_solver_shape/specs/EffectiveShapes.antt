@@ -20,6 +20,6 @@ effective_within (suc n) shapes id =
     go_on (effective_within n shapes) id (next_inside (slice_get shapes id))
 
 -- the effective shape: `inner` is followed to its end, then `proxy`, and again from there. Both
--- name earlier shapes, so no chain is longer than the list
+-- refer to earlier shapes, so no chain is longer than the list
 abbrev pub effective : List Shape → ℕ → ℕ
 effective shapes id = effective_within (length shapes) shapes id

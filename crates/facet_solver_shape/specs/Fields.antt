@@ -11,12 +11,12 @@ use Rattle.facet_solver_shape.specs.declared.resolution.key.FieldKey.{FieldKey}
 use Rattle.std.specs.declared.cmp.Ordering.TheVariants.{Less}
 use Rattle.std.specs.FinMap as finite
 use Rattle.facet_solver_shape.specs.declared.shape.Field.{Field}
-use Rattle.facet_solver_shape.specs.Paths.{Step}
+use Rattle.facet_solver_shape.specs.Paths.{Segment}
 
 -- a field of a resolution
 pub record FieldView : Type 0 where
   pub name : Name
-  pub path : List Step
+  pub path : List Segment
   pub is_required : Bool
   pub shape : ℕ
   pub field : Field

@@ -1,4 +1,4 @@
--- Paths as lists of steps, whose names are lists of bytes, and their equality.
+-- Paths as lists of segments, whose names are lists of bytes, and their equality.
 use Rattle.std.specs.Prelude.{ℕ, List, [], ◌∷◌, ◌++◌, codes, ◌≡◌, Bool, true, false, ◌&&◌, refl}
 use Rattle.std.specs.List.{flat_map}
 use Rattle.facet_solver_shape.specs.Names.{Name, name_eq}
@@ -9,43 +9,43 @@ use lib.Pointwise.{pointwise}
 use Rattle.std.specs.Cmp.{IsEquivalence}
 use Rattle.std.specs.Cmp.Lexicographic.{nat_list_eq_equiv, lists_equiv}
 
--- one step of a path
-pub data Step : Type 0 where
-  by_field : Name → Step
-  by_variant : Name → Name → Step
+-- one segment of a path
+pub data Segment : Type 0 where
+  by_field : Name → Segment
+  by_variant : Name → Name → Segment
 
 -- what a segment says, wherever its names lie
-abbrev pub step_of : PathSegment → Step
-step_of (Field name) = by_field name.now
-step_of (Variant field variant) = by_variant field.now variant.now
+abbrev pub segment_of : PathSegment → Segment
+segment_of (Field name) = by_field name.now
+segment_of (Variant field variant) = by_variant field.now variant.now
 
--- the text of a step
-abbrev pub step_text : Step → List ℕ
-step_text (by_field name) = name
-step_text (by_variant field variant) = field ++ (codes "::" ++ variant)
+-- the text of a segment
+abbrev pub segment_text : Segment → List ℕ
+segment_text (by_field name) = name
+segment_text (by_variant field variant) = field ++ (codes "::" ++ variant)
 
--- the text of a path: its steps with dots between them
-abbrev pub path_text : List Step → List ℕ
+-- the text of a path: its segments with dots between them
+abbrev pub path_text : List Segment → List ℕ
 path_text [] = codes "<root>"
-path_text (s ∷ rest) = step_text s ++ flat_map (λ t. codes "." ++ step_text t) rest
+path_text (s ∷ rest) = segment_text s ++ flat_map (λ t. codes "." ++ segment_text t) rest
 
--- whether two steps are of one form and have the same names
-abbrev pub step_eq : Step → Step → Bool
-step_eq (by_field a) (by_field b) = name_eq a b
-step_eq (by_variant a v) (by_variant b w) = name_eq a b && name_eq v w
-step_eq _ _ = false
+-- whether two segments are of one form and have the same names
+abbrev pub segment_eq : Segment → Segment → Bool
+segment_eq (by_field a) (by_field b) = name_eq a b
+segment_eq (by_variant a v) (by_variant b w) = name_eq a b && name_eq v w
+segment_eq _ _ = false
 
--- whether two paths have the same steps
-abbrev pub path_eq : List Step → List Step → Bool
-path_eq = pointwise step_eq
+-- whether two paths have the same segments
+abbrev pub path_eq : List Segment → List Segment → Bool
+path_eq = pointwise segment_eq
 
 -- whether two key paths have the same names
 abbrev pub key_path_eq : List Name → List Name → Bool
 key_path_eq = pointwise name_eq
 
--- that of steps is an equivalence
-pub step_eq_equiv : IsEquivalence step_eq
-step_eq_equiv = record { refl = itself; symm = either_way; congr = alike }
+-- that of segments is an equivalence
+pub segment_eq_equiv : IsEquivalence segment_eq
+segment_eq_equiv = record { refl = itself; symm = either_way; congr = alike }
   where
     both : (a b : Bool) → a ≡ true → b ≡ true → (a && b) ≡ true
     both true b p q = q
@@ -55,18 +55,18 @@ step_eq_equiv = record { refl = itself; symm = either_way; congr = alike }
     parts true b p = (refl, p)
     parts false b p = absurd (false≢true p)
 
-    itself : (x : Step) → step_eq x x ≡ true
+    itself : (x : Segment) → segment_eq x x ≡ true
     itself (by_field a) = nat_list_eq_equiv.refl a
     itself (by_variant a v) = both _ _ (nat_list_eq_equiv.refl a) (nat_list_eq_equiv.refl v)
 
-    either_way : (x y : Step) → step_eq x y ≡ step_eq y x
+    either_way : (x y : Segment) → segment_eq x y ≡ segment_eq y x
     either_way (by_field a) (by_field b) = nat_list_eq_equiv.symm a b
     either_way (by_field a) (by_variant b w) = refl
     either_way (by_variant a v) (by_field b) = refl
     either_way (by_variant a v) (by_variant b w) =
         λ i. nat_list_eq_equiv.symm a b i && nat_list_eq_equiv.symm v w i
 
-    alike : (x y z : Step) → step_eq x y ≡ true → step_eq x z ≡ step_eq y z
+    alike : (x y z : Segment) → segment_eq x y ≡ true → segment_eq x z ≡ segment_eq y z
     alike (by_field a) (by_field b) (by_field c) p = nat_list_eq_equiv.congr a b c p
     alike (by_field a) (by_field b) (by_variant c u) p = refl
     alike (by_field a) (by_variant b w) z p = absurd (false≢true p)
@@ -78,4 +78,4 @@ step_eq_equiv = record { refl = itself; symm = either_way; congr = alike }
 
 -- that of paths is an equivalence
 pub path_eq_equiv : IsEquivalence path_eq
-path_eq_equiv = lists_equiv step_eq_equiv
+path_eq_equiv = lists_equiv segment_eq_equiv

@@ -8,7 +8,7 @@ use Rattle.std.specs.FinMap as finite
 use Rattle.std.specs.FinSet as set
 use Rattle.facet_solver_shape.specs.declared.resolution.key.FieldCategory.{FieldCategory}
 use Rattle.facet_solver_shape.specs.Names.{Name, names_of}
-use Rattle.facet_solver_shape.specs.Paths.{Step}
+use Rattle.facet_solver_shape.specs.Paths.{Segment}
 use Rattle.facet_solver_shape.specs.Keys.{Key, key_cmp, category_cmp}
 use Rattle.std.specs.List.{flat_map}
 use denote.Bor.{Bor}
@@ -18,32 +18,33 @@ use Rattle.facet_solver_shape.specs.declared.resolution.error.SchemaError.{Schem
 use Rattle.facet_solver_shape.specs.declared.resolution.error.SchemaError.TheVariants.{DuplicateField, OutOfMemory}
 use Rattle.facet_solver_shape.specs.Fields.{FieldView, as_optional, has_name, key_of_field, matches}
 
--- a variant that was picked for an enum
-pub record Pick : Type 0 where
-  pub path : List Step
+-- a variant that was selected for an enum
+pub record Selection : Type 0 where
+  pub path : List Segment
   pub enum_name : Name
   pub variant_name : Name
 
--- what a picked variant says
-abbrev pub pick_view : VariantSelection → Pick
-pick_view v =
+-- what a selected variant says
+abbrev pub selection_view : VariantSelection → Selection
+selection_view v =
     record { path = v.path; enum_name = v.enum_name.now; variant_name = v.variant_name.now }
 
--- the text of a pick: its enum and its variant
-abbrev pub pick_text : Pick → List ℕ
-pick_text pick = pick.enum_name ++ (codes "::" ++ pick.variant_name)
+-- the text of a selection: its enum and its variant
+abbrev pub selection_text : Selection → List ℕ
+selection_text selection = selection.enum_name ++ (codes "::" ++ selection.variant_name)
 
--- the text of all picks, in order
-abbrev pub description : List Pick → List ℕ
+-- the text of all selections, in order
+abbrev pub description : List Selection → List ℕ
 description [] = codes "(no variants)"
-description (pick ∷ rest) = pick_text pick ++ flat_map (λ p. codes " + " ++ pick_text p) rest
+description (selection ∷ rest) =
+    selection_text selection ++ flat_map (λ other. codes " + " ++ selection_text other) rest
 
 -- a resolution
 pub record Resolved : Type 0 where
   pub fields : finite.FinMap key_cmp FieldView
   pub required_names : set.FinSet (slice_cmp nat_cmp)
   pub key_paths : set.FinSet (slice_cmp (slice_cmp nat_cmp))
-  pub picks : List Pick
+  pub selections : List Selection
   pub catch_alls : finite.FinMap category_cmp FieldView
 
 -- names behind references, each once
@@ -75,7 +76,7 @@ nothing = record {
   fields = finite.empty;
   required_names = set.empty;
   key_paths = set.empty;
-  picks = [];
+  selections = [];
   catch_alls = finite.empty;
 }
 
@@ -100,8 +101,8 @@ abbrev pub field_by_key : Key → Resolved → Option FieldView
 field_by_key key r = find (matches key) (finite.values r.fields)
 
 -- a refusal of one more field: its key is taken, and these are the name and the two paths
-pub record IsFieldClash
-    (old : Resolved) (f : FieldView) (name : Name) (first second : List Step)
+pub record IsFieldDuplicate
+    (old : Resolved) (f : FieldView) (name : Name) (first second : List Segment)
     : Type 0 where
   pub taken : IsSomeAnd (finite.get old.fields (key_of_field f)) (λ present. present.path ≡ first)
   pub same_name : name ≡ f.name
@@ -110,16 +111,16 @@ pub record IsFieldClash
 -- what a refusal of the field f says
 abbrev pub IsRefusalOf : Resolved → FieldView → SchemaError → Type 0
 IsRefusalOf old f (DuplicateField d) =
-    IsFieldClash old f d.field_name.now d.first_path d.second_path
+    IsFieldDuplicate old f d.field_name.now d.first_path d.second_path
 IsRefusalOf old f OutOfMemory = ⊤
 
 -- with one more key path
 abbrev pub with_key_path : Resolved → List Name → Resolved
 with_key_path r path = record r { key_paths = set.insert r.key_paths path }
 
--- with one more picked variant, after the others
-abbrev pub with_pick : Resolved → Pick → Resolved
-with_pick r pick = record r { picks = r.picks ++ pick ∷ [] }
+-- with one more selected variant, after the others
+abbrev pub with_selection : Resolved → Selection → Resolved
+with_selection r selection = record r { selections = r.selections ++ selection ∷ [] }
 
 -- with a field that takes the members of a category that no other field takes, in place of an
 -- earlier one
@@ -147,20 +148,20 @@ pub record IsMerged (old other made : Resolved) : Type 0 where
   pub fields : IsUnionOf old.fields other.fields made.fields
   pub required_names : made.required_names ≡ set.union old.required_names other.required_names
   pub key_paths : made.key_paths ≡ set.union old.key_paths other.key_paths
-  pub picks : made.picks ≡ old.picks ++ other.picks
+  pub selections : made.selections ≡ old.selections ++ other.selections
   pub catch_alls : IsOverlaid old.catch_alls other.catch_alls made.catch_alls
 
 -- the key of some field of other is taken in old, and these are its name and the two paths
-pub record IsMergeClash (old other : Resolved) (name : Name) (first second : List Step)
+pub record IsMergeDuplicate (old other : Resolved) (name : Name) (first second : List Segment)
     : Type 0 where
   pub field : FieldView
   pub among : finite.get other.fields (key_of_field field) ≡ Some field
-  pub clash : IsFieldClash old field name first second
+  pub duplicate : IsFieldDuplicate old field name first second
 
 -- what a refusal of all that other has says
 abbrev pub IsMergeRefusalOf : Resolved → Resolved → SchemaError → Type 0
 IsMergeRefusalOf old other (DuplicateField d) =
-    IsMergeClash old other d.field_name.now d.first_path d.second_path
+    IsMergeDuplicate old other d.field_name.now d.first_path d.second_path
 IsMergeRefusalOf old other OutOfMemory = ⊤
 
 -- new is old with no field and no name required

@@ -12,40 +12,40 @@ use Rattle.facet_solver_shape.specs.contracts.shape.Field as field
 use Rattle.facet_solver_shape.specs.declared.resolution.key.FieldCategory.{FieldCategory}
 use Rattle.facet_solver_shape.specs.contracts.resolution.key.FieldCategory as category
 use Rattle.facet_solver_shape.specs.Names.{Name}
-use Rattle.facet_solver_shape.specs.Paths.{Step, by_field, by_variant}
+use Rattle.facet_solver_shape.specs.Paths.{Segment, by_field, by_variant}
 use Rattle.facet_solver_shape.specs.Keys.{Key, key_cmp, category_cmp}
 use Rattle.facet_solver_shape.specs.Fields.{FieldView}
-use Rattle.facet_solver_shape.specs.Resolved.{Pick, Resolved}
+use Rattle.facet_solver_shape.specs.Resolved.{Resolved, Selection}
 
 -- a name
 abbrev name_code : Coded Name
 name_code = coded_list coded_ℕ
 
--- a step as its names
-abbrev step_parts : Step → Name ⊎ (Name × Name)
-step_parts (by_field name) = inl name
-step_parts (by_variant field variant) = inr (field, variant)
+-- a segment as its names
+abbrev segment_parts : Segment → Name ⊎ (Name × Name)
+segment_parts (by_field name) = inl name
+segment_parts (by_variant field variant) = inr (field, variant)
 
 -- and back
-abbrev step_from : Name ⊎ (Name × Name) → Step
-step_from (inl name) = by_field name
-step_from (inr names) = by_variant names.0 names.1
+abbrev segment_from : Name ⊎ (Name × Name) → Segment
+segment_from (inl name) = by_field name
+segment_from (inr names) = by_variant names.0 names.1
 
--- which is the step again
-pub step_back : (s : Step) → step_from (step_parts s) ≡ s
-step_back (by_field name) = refl
-step_back (by_variant field variant) = refl
+-- which is the segment again
+pub segment_back : (s : Segment) → segment_from (segment_parts s) ≡ s
+segment_back (by_field name) = refl
+segment_back (by_variant field variant) = refl
 
 -- a path
-abbrev path_code : Coded (List Step)
+abbrev path_code : Coded (List Segment)
 path_code = coded_list
     (code_by (Name ⊎ (Name × Name)) (coded⊎ name_code (coded× name_code name_code))
-    step_parts step_from step_back)
+    segment_parts segment_from segment_back)
 
 -- a field
 abbrev pub field_view_code : Coded FieldView
 field_view_code =
-    code_by ((Name × (List Step)) × ((Bool × ℕ) × (Field × FieldCategory)))
+    code_by ((Name × (List Segment)) × ((Bool × ℕ) × (Field × FieldCategory)))
     (coded× (coded× name_code path_code)
     (coded× (coded× coded_bool coded_ℕ)
     (coded× field.the_row.coded category.the_row.coded)))
@@ -60,10 +60,10 @@ field_view_code =
     })
     (λ _. refl)
 
--- a pick
-abbrev pub pick_code : Coded Pick
-pick_code =
-    code_by (List Step × (Name × Name)) (coded× path_code (coded× name_code name_code))
+-- a selection
+abbrev pub selection_code : Coded Selection
+selection_code =
+    code_by (List Segment × (Name × Name)) (coded× path_code (coded× name_code name_code))
     (λ p. (p.path, (p.enum_name, p.variant_name)))
     (λ p. record { path = p.0; enum_name = p.1.0; variant_name = p.1.1 })
     (λ _. refl)
@@ -98,15 +98,15 @@ resolved_code =
     code_by
     ((finite.FinMap key_cmp FieldView × set.FinSet (slice_cmp nat_cmp))
     × (set.FinSet (slice_cmp (slice_cmp nat_cmp))
-    × (List Pick × finite.FinMap category_cmp FieldView)))
+    × (List Selection × finite.FinMap category_cmp FieldView)))
     (coded× (coded× field_map_code name_set_code)
-    (coded× key_path_set_code (coded× (coded_list pick_code) catch_alls_code)))
-    (λ r. ((r.fields, r.required_names), (r.key_paths, (r.picks, r.catch_alls))))
+    (coded× key_path_set_code (coded× (coded_list selection_code) catch_alls_code)))
+    (λ r. ((r.fields, r.required_names), (r.key_paths, (r.selections, r.catch_alls))))
     (λ p. record {
       fields = p.0.0;
       required_names = p.0.1;
       key_paths = p.1.0;
-      picks = p.1.1.0;
+      selections = p.1.1.0;
       catch_alls = p.1.1.1;
     })
     (λ _. refl)

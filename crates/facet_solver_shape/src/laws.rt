@@ -10,7 +10,7 @@ ghost use Rattle.std.specs.declared.cmp.Ordering.TheVariants.{Less, Equal};
 ghost use Rattle.facet_solver_shape.specs.Keys.{Key, key_cmp, key_of, flat_key, dom_key, category_index};
 ghost use Rattle.facet_solver_shape.specs.Fields.{IsLeastIfAny, matches, has_name, FieldView, IsStored};
 ghost use Rattle.facet_solver_shape.specs.Names.{Name};
-ghost use Rattle.facet_solver_shape.specs.Paths.{path_eq, Step};
+ghost use Rattle.facet_solver_shape.specs.Paths.{path_eq, Segment};
 ghost use Rattle.facet_solver_shape.specs.contracts.resolution.key.FieldKeyOrd.TheImpl as derived;
 ghost use Rattle.facet_solver_shape.specs.contracts.resolution.key.FieldKeyPartialEq.TheImpl as equality;
 ghost use Rattle.facet_solver_shape.specs.contracts.shape.identifier.ShapeIdHash.TheImpl as id_hash;
@@ -30,7 +30,7 @@ pub fn shape_ids_go_by_index()
 
 /// Two paths are equal exactly if their segments are.
 pub fn paths_equal_by_segments()
-    ensures { (a b : List Step) → IsTrue (path_eq a b) ↔ (a ≡ b) }
+    ensures { (a b : List Segment) → IsTrue (path_eq a b) ↔ (a ≡ b) }
 {}
 
 /// The order of keys agrees with `==` and is total, and has flat keys first, then categories in

@@ -4,7 +4,7 @@ ghost use Rattle.std.specs.Option.{option_copied, option_map};
 ghost use Rattle.std.specs.String.{string_bytes};
 ghost use Rattle.std.specs.FinMap as finite;
 ghost use Rattle.std.specs.FinSet as set;
-ghost use Rattle.facet_solver_shape.specs.Resolved.{description, field_by_key, field_by_name, nothing, IsAdded, with_key_path, with_pick, with_catch_all, with_field, AreRequiredNames, AreApart, IsMerged, IsMadeOptional, pick_view, IsRefusalOf, IsMergeRefusalOf, names_view, key_paths_view};
+ghost use Rattle.facet_solver_shape.specs.Resolved.{description, field_by_key, field_by_name, nothing, IsAdded, with_key_path, with_selection, with_catch_all, with_field, AreRequiredNames, AreApart, IsMerged, IsMadeOptional, selection_view, IsRefusalOf, IsMergeRefusalOf, names_view, key_paths_view};
 ghost use Rattle.facet_solver_shape.specs.Fields.{entry_view, key_of_field, IsStored, field_entries_view};
 ghost use Rattle.facet_solver_shape.specs.Keys.{key_of};
 ghost use Rattle.facet_solver_shape.specs.Names.{names_of};
@@ -17,9 +17,9 @@ mod key;
 mod path;
 mod tables;
 
-use describe::describe_picks;
+use describe::describe_selections;
 pub use error::{DuplicateFieldError, SchemaError};
-use field::joined_picks;
+use field::joined_selections;
 pub use field::{FieldInfo, KeyPath, VariantSelection};
 pub use key::{FieldCategory, FieldKey};
 pub use path::{FieldPath, PathSegment};
@@ -36,13 +36,13 @@ pub struct Resolution<'c> {
     fields: FieldMap<'c>,
     required: NameSet<'c>,
     key_paths: KeyPathSet<'c>,
-    picks: Vec<VariantSelection<'c>>,
+    selections: Vec<VariantSelection<'c>>,
     catch_alls: CatchAlls<'c>,
 }
 
 impl<'c> Model for Resolution<'c> {
     ghost use Rattle.std.specs.Prelude.{map};
-    ghost use Rattle.facet_solver_shape.specs.Resolved.{Resolved, AreRequiredNames, pick_view};
+    ghost use Rattle.facet_solver_shape.specs.Resolved.{Resolved, AreRequiredNames, selection_view};
     ghost use Rattle.facet_solver_shape.specs.ResolvedCode.{resolved_code};
 
     ghost Value = { Resolved };
@@ -53,7 +53,7 @@ impl<'c> Model for Resolution<'c> {
       fields = r.fields;
       required_names = r.required;
       key_paths = r.key_paths;
-      picks = map pick_view r.picks.items;
+      selections = map selection_view r.selections.items;
       catch_alls = r.catch_alls;
     } };
 
@@ -69,7 +69,7 @@ impl<'c> Resolution<'c> {
             fields: FieldMap::new(alloc),
             required: NameSet::new(alloc),
             key_paths: KeyPathSet::new(alloc),
-            picks: Vec::new(alloc),
+            selections: Vec::new(alloc),
             catch_alls: CatchAlls::new(alloc),
         }
     }
@@ -94,9 +94,9 @@ impl<'c> Resolution<'c> {
     /// The selected variants, in the order in which they were added. In a schema that is the order
     /// of the walk: an enum before those in its content, and earlier fields first.
     pub fn variant_selections(&self) -> &[VariantSelection<'c>]
-        ensures { map pick_view result.now ≡ self.now.picks }
+        ensures { map selection_view result.now ≡ self.now.selections }
     {
-        &self.picks
+        &self.selections
     }
 
     /// The paths of all keys, by the names from the document down to the key. They are in
@@ -141,9 +141,9 @@ impl<'c> Resolution<'c> {
     ///
     /// The only error is out of memory.
     pub fn describe(&self, alloc: Global) -> Result<String, AllocError>
-        ensures { IfOk result (λ text. string_bytes text ≡ description self.now.picks) }
+        ensures { IfOk result (λ text. string_bytes text ≡ description self.now.selections) }
     {
-        describe_picks(alloc, &self.picks)
+        describe_selections(alloc, &self.selections)
     }
 
     /// Adds a field under its stored key.
@@ -165,18 +165,18 @@ impl<'c> Resolution<'c> {
         self.add_new(info)
     }
 
-    // The path of the field that has the key of another, if there is one.
+    /// The path of the field that has the key of another, if there is one.
     fn path_of_same_key(&self, info: &FieldInfo<'c>) -> Result<Option<FieldPath<'c>>, AllocError>
         ensures { IfOk result (λ path. path
             ≡ option_map (λ f. f.path) (finite.get self.now.fields (key_of_field info.now))) }
     {
         match self.fields.get(&info.key()) {
-            Some(present) => Ok(Some(present.path.copied(*self.picks.allocator())?)),
+            Some(present) => Ok(Some(present.path.copied(*self.selections.allocator())?)),
             None => Ok(None),
         }
     }
 
-    // Adds a field whose key is new.
+    /// Adds a field whose key is new.
     fn add_new(&mut self, info: FieldInfo<'c>) -> Result<(), SchemaError<'c>>
         requires fresh { finite.get self.old.fields (key_of_field info) ≡ None }
         ensures ok { OnOk result (self.new ≡ with_field self.old info.entry) }
@@ -190,7 +190,7 @@ impl<'c> Resolution<'c> {
         }
     }
 
-    // Adds a required field, whose key is new.
+    /// Adds a required field, whose key is new.
     fn add_required(&mut self, info: FieldInfo<'c>) -> Result<(), SchemaError<'c>>
         requires fresh { finite.get self.old.fields (key_of_field info) ≡ None }
         requires required { IsTrue info.is_required }
@@ -229,7 +229,7 @@ impl<'c> Resolution<'c> {
         enum_name: &'c str,
         variant_name: &'c str,
     ) -> Result<(), AllocError>
-        ensures ok { OnOk result (self.new ≡ with_pick self.old
+        ensures ok { OnOk result (self.new ≡ with_selection self.old
             (record {
               path = path.entry;
               enum_name = enum_name.now;
@@ -237,7 +237,7 @@ impl<'c> Resolution<'c> {
             })) }
         ensures err { OnErr result (self.new ≡ self.old) }
     {
-        self.picks.push(VariantSelection {
+        self.selections.push(VariantSelection {
             path,
             enum_name,
             variant_name,
@@ -276,33 +276,33 @@ impl<'c> Resolution<'c> {
         Ok(())
     }
 
-    // The two as one, in memory of its own.
+    /// The two as one, in memory of its own.
     fn merged(&self, other: &Resolution<'c>) -> Result<Self, SchemaError<'c>>
         ensures ok { IfOk result (IsMerged self.now other.now) }
         ensures refused { IfErr result (IsMergeRefusalOf self.now other.now) }
     {
         self.refuse_shared(other)?;
-        let alloc = *self.picks.allocator();
+        let alloc = *self.selections.allocator();
         let fields = self.fields.overlaid(alloc, &other.fields)?;
         let required = self.required.joined(alloc, &other.required)?;
         let key_paths = self.key_paths.joined(alloc, &other.key_paths)?;
-        let picks = joined_picks(alloc, &self.picks, &other.picks)?;
+        let selections = joined_selections(alloc, &self.selections, &other.selections)?;
         let catch_alls = self.catch_alls.overlaid(alloc, &other.catch_alls)?;
         Ok(Resolution {
             fields,
             required,
             key_paths,
-            picks,
+            selections,
             catch_alls,
         })
     }
 
-    // Refuses a resolution with a field whose key is taken here.
+    /// Refuses a resolution with a field whose key is taken here.
     fn refuse_shared(&self, other: &Resolution<'c>) -> Result<(), SchemaError<'c>>
         ensures ok { OnOk result (AreApart self.now.fields other.now.fields) }
         ensures refused { IfErr result (IsMergeRefusalOf self.now other.now) }
     {
-        let alloc = *self.picks.allocator();
+        let alloc = *self.selections.allocator();
         for (key, info) in other.fields() {
             if let Some(present) = self.fields.get(key) {
                 let first_path = present.path.copied(alloc)?;

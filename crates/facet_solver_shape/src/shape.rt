@@ -287,7 +287,7 @@ impl Shape {
         }
     }
 
-    // Where a pointer leads to; `None` for an opaque pointer and for any other shape.
+    /// Where a pointer leads to; `None` for an opaque pointer and for any other shape.
     fn pointee(&self) -> Option<ShapeId>
         ensures { result ≡ pointee_of_kind self.now.kind }
     {

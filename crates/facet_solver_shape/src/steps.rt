@@ -32,7 +32,7 @@ impl Model for Steps {
     } };
 }
 
-// By hand, for the counts can't be read.
+/// By hand, for the counts can't be read.
 impl fmt::Debug for Steps {
     fn fmt<W: fmt::Write>(&self, f: &mut fmt::Formatter<W>) -> fmt::Result {
         f.write_str("Steps")

@@ -24,7 +24,7 @@ use Rattle.facet_solver_tests.specs.declared.callers.choice_to_values.FieldValue
 use Rattle.facet_solver_tests.specs.declared.callers.choice_to_values.Values.{Values}
 use Rattle.facet_solver_tests.specs.declared.callers.choice_to_values.Mismatch.{Mismatch}
 use Rattle.facet_solver_tests.specs.declared.callers.choice_to_values.Mismatch.TheVariants.{Unknown, Repeated, Missing, OutOfMemory}
-use Rattle.facet_solver_tests.specs.ChoiceToValues.{AreTaken, AreValues, HaveOneKey, IsFieldFault, IsMemberOf, IsMismatch, IsPlaced, IsValue, Meaning, field_at, is_taken, meant_by, rest_of}
+use Rattle.facet_solver_tests.specs.ChoiceToValues.{AreTaken, AreValues, HaveOneKey, IsFieldFault, IsMemberOf, IsMismatch, IsPlaced, IsValue, Meaning, is_taken, meant_by, meant_field_at, rest_of}
 use Rattle.facet_solver_tests.proofs.KeysToChoice.{at_place}
 
 -- what is in a list stands at a place of it
@@ -84,7 +84,7 @@ at_mapped h (x ∷ xs) zero = refl
 at_mapped h (x ∷ xs) (suc i) = at_mapped h xs i
 
 -- fields that were found for all keys say which member means which field
-pub same_meaning : (r : Resolved) (keys : List Key) (fields : List (Option (Bor FieldView))) → map option_copied fields ≡ map (λ key. field_by_key key r) keys → field_at fields ≡ meant_by r keys
+pub same_meaning : (r : Resolved) (keys : List Key) (fields : List (Option (Bor FieldView))) → map option_copied fields ≡ map (λ key. field_by_key key r) keys → meant_field_at fields ≡ meant_by r keys
 same_meaning r keys fields e = λ i member. (at_mapped option_copied fields member ∙ ap (λ all. option_flatten (slice_get all member)) e ∙ sym (at_mapped (λ key. field_by_key key r) keys member)) i
 
 -- a field that a member means is one of the resolution

@@ -40,8 +40,8 @@ has_or_lists s index text (Err _) h = absurd h
 
 -- what a schema says of its choices holds of those of the root that it was built of
 pub of_root : (build : Build) (root : ℕ) (schema : SchemaView) (keys : List Key) (Q : ℕ → Name → Type 0) → IsBuilt build root schema
-    → ((choices : List (List ℕ)) → ListsChoices schema.build schema.root choices → (index : ℕ) (choice : List ℕ) → slice_get choices index ≡ Some choice → (r : Resolved) → TellsChoice schema.build schema.root choice keys r → Q index (description r.picks))
-    → (choices : List (List ℕ)) → ListsChoices build root choices → (index : ℕ) (choice : List ℕ) → slice_get choices index ≡ Some choice → (r : Resolved) → TellsChoice build root choice keys r → Q index (description r.picks)
+    → ((choices : List (List ℕ)) → ListsChoices schema.build schema.root choices → (index : ℕ) (choice : List ℕ) → slice_get choices index ≡ Some choice → (r : Resolved) → TellsChoice schema.build schema.root choice keys r → Q index (description r.selections))
+    → (choices : List (List ℕ)) → ListsChoices build root choices → (index : ℕ) (choice : List ℕ) → slice_get choices index ≡ Some choice → (r : Resolved) → TellsChoice build root choice keys r → Q index (description r.selections)
 of_root build root schema keys Q built says choices listed index choice at r told =
     says choices (moved (λ b n. ListsChoices b n choices) listed) index choice at r (moved (λ b n. TellsChoice b n choice keys r) told)
   where

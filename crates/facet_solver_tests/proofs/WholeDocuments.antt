@@ -9,7 +9,7 @@ use Rattle.facet_solver.specs.Schema.{SchemaView}
 use Rattle.facet_solver.specs.State.{State}
 use Rattle.facet_solver.specs.declared.ResolutionHandle.{ResolutionHandle}
 use Rattle.facet_solver.specs.declared.SolverError.TheVariants.{OutOfMemory}
-use Rattle.facet_solver_tests.specs.KeysToChoice.{IsVerdict}
+use Rattle.facet_solver_tests.specs.KeysToChoice.{IsChoiceVerdict}
 use Rattle.facet_solver_tests.specs.Documents.{Value, Members, Items, scalar, object, list, no_members, member, no_items, item, events_of, member_events, item_events, IsDocument, ReadsDocuments}
 use Rattle.facet_solver_tests.specs.Stream.{PlaceView, IsWhole, Streams, at, behind, innermost, may_stand, may_stand_in, place_behind, value_ended, value_ended_in, well_placed}
 use Rattle.facet_solver_tests.specs.declared.callers.stream.Event.{Event}
@@ -190,12 +190,12 @@ document_of (End ∷ events) whole = absurd (false≢true whole.0)
 pub reads_documents : (schema : SchemaView) (events : List Event) (answer : Result ResolutionHandle Unread) → Streams schema events answer → ReadsDocuments schema events answer
 reads_documents schema events (Ok handle) h = record {
   is_document = document_of events h.0;
-  verdict = λ members is. subst (λ (s : State). IsVerdict s (Ok handle)) (told_as_document schema events members is) h.1;
+  verdict = λ members is. subst (λ (s : State). IsChoiceVerdict s (Ok handle)) (told_as_document schema events members is) h.1;
 }
 reads_documents schema events (Err (Misplaced index)) h = λ document. not_misplaced events index document h
 reads_documents schema events (Err Unfinished) h = λ document. h.1 (whole_document events document).1
 reads_documents schema events (Err (Solver OutOfMemory)) h = tt
 reads_documents schema events (Err (Solver error)) h = record {
   is_document = document_of events h.0;
-  verdict = λ members is. subst (λ (s : State). IsVerdict s (Err error)) (told_as_document schema events members is) h.1;
+  verdict = λ members is. subst (λ (s : State). IsChoiceVerdict s (Err error)) (told_as_document schema events members is) h.1;
 }

@@ -14,7 +14,7 @@ IsAbove most None = ⊤
 IsAbove most (Some count) = most < count
 
 -- the choices are counted, and there are at most as many as asked for
-pub record IsWithin (build : Build) (root most : ℕ) : Type 0 where
+pub record HasAtMost (build : Build) (root most : ℕ) : Type 0 where
   pub count : ℕ
   pub counted : IsCountOf build.catalogue root build.representation (Some count)
   pub within : count ≤ most
@@ -22,7 +22,7 @@ pub record IsWithin (build : Build) (root most : ℕ) : Type 0 where
 -- a table is that of at most as many choices as asked for; or there are more, and as many as said;
 -- or the schema is refused
 abbrev pub GivesTable : Build → ℕ → ℕ → Result (String Global) NoTable → Type 0
-GivesTable build root most (Ok table) = IsWithin build root most
+GivesTable build root most (Ok table) = HasAtMost build root most
 GivesTable build root most (Err (TooMany count)) =
     IsCountOf build.catalogue root build.representation count × IsAbove most count
 GivesTable build root most (Err (Schema error)) = IsRefusal build root error

@@ -8,7 +8,7 @@ use Rattle.facet_solver.specs.Resolved.{Resolved, field_by_name}
 use Rattle.facet_solver.specs.Schema.{SchemaView}
 use Rattle.facet_solver.specs.Resolutions.{has_key}
 use Rattle.facet_solver.specs.Told.{has_keys}
-use Rattle.facet_solver.specs.Verdict.{field_names, is_viable}
+use Rattle.facet_solver.specs.Verdict.{is_viable, resolution_field_names}
 use Rattle.facet_solver.specs.declared.FieldCategory.TheVariants.{Flat, Attribute, Element, Text, Tag, Elements}
 use Rattle.facet_solver.specs.declared.FieldKey.{FieldKey}
 use Rattle.facet_solver_tests.specs.KeysToChoice.{keys_of}
@@ -16,7 +16,8 @@ use Rattle.facet_solver_tests.specs.declared.callers.ambiguous_pairs.AmbiguousPa
 
 -- the names of a resolution's fields that another one has no field of, in key order
 abbrev pub names_beside : Resolved → Resolved → List Name
-names_beside other r = filter (λ name. not (is_some (field_by_name name other))) (field_names r)
+names_beside other r =
+    filter (λ name. not (is_some (field_by_name name other))) (resolution_field_names r)
 
 -- the keys that may mean a field of a name, in whatever category: with the name, and without one
 abbrev pub keys_for : Name → List Key

@@ -26,8 +26,8 @@ abbrev pub meant_by : Resolved → List Key → Meaning
 meant_by r keys member = option_and_then (λ key. field_by_key key r) (slice_get keys member)
 
 -- the field behind a reference at an index
-abbrev pub field_at : List (Option (Bor FieldView)) → Meaning
-field_at fields member = option_and_then option_copied (slice_get fields member)
+abbrev pub meant_field_at : List (Option (Bor FieldView)) → Meaning
+meant_field_at fields member = option_and_then option_copied (slice_get fields member)
 
 -- two fields have one category and one name
 abbrev pub HaveOneKey : FieldView → FieldView → Type 0
@@ -101,7 +101,7 @@ IsFieldFault r meaning (Missing field) = IsFirst r meaning field.now (IsMissing 
 IsFieldFault r meaning OutOfMemory = ⊤
 
 -- the first member that neither a field nor a catch-all takes
-pub record IsUnknown (r : Resolved) (keys : List Key) (member : ℕ) (key : Key) : Type 0 where
+pub record IsUnknownMember (r : Resolved) (keys : List Key) (member : ℕ) (key : Key) : Type 0 where
   pub there : slice_get keys member ≡ Some key
   pub no_field : field_by_key key r ≡ None
   pub no_catch_all : catch_all_of key r ≡ None
@@ -121,7 +121,7 @@ FindsMembers r meaning (Err fault) = IsFieldFault r meaning fault
 
 -- an error of the search for members that no field takes
 abbrev pub IsRestFault : Resolved → List Key → Mismatch → Type 0
-IsRestFault r keys (Unknown member key) = IsUnknown r keys member (key_of key)
+IsRestFault r keys (Unknown member key) = IsUnknownMember r keys member (key_of key)
 IsRestFault r keys OutOfMemory = ⊤
 IsRestFault r keys other = ⊥
 
@@ -145,7 +145,7 @@ pub record PlacesAll (r : Resolved) (keys : List Key) (values : Values) : Type 0
 
 -- a mismatch is there. An unknown member comes before any fault of a field
 abbrev pub IsMismatch : Resolved → List Key → Mismatch → Type 0
-IsMismatch r keys (Unknown member key) = IsUnknown r keys member (key_of key)
+IsMismatch r keys (Unknown member key) = IsUnknownMember r keys member (key_of key)
 IsMismatch r keys OutOfMemory = ⊤
 IsMismatch r keys fault = AreTaken r keys × IsFieldFault r (meant_by r keys) fault
 

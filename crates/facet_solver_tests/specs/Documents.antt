@@ -8,7 +8,7 @@ use Rattle.facet_solver.specs.State.{State, new_solver}
 use Rattle.facet_solver.specs.declared.ResolutionHandle.{ResolutionHandle}
 use Rattle.facet_solver.specs.declared.SolverError.{SolverError}
 use Rattle.facet_solver.specs.declared.SolverError.TheVariants.{OutOfMemory}
-use Rattle.facet_solver_tests.specs.KeysToChoice.{IsVerdict}
+use Rattle.facet_solver_tests.specs.KeysToChoice.{IsChoiceVerdict}
 use Rattle.facet_solver_tests.specs.Stream.{key_call}
 use Rattle.facet_solver_tests.specs.declared.callers.stream.Event.{Event}
 use Rattle.facet_solver_tests.specs.declared.callers.stream.Event.TheVariants.{Key, Object as ObjectBegins, List as ListBegins, Scalar, End}
@@ -74,10 +74,10 @@ pub record IsRead
     : Type 0 where
   pub is_document : IsDocument events
   pub verdict : (members : Members) → events ≡ events_of (object members)
-      → IsVerdict (told_document schema members) answer
+      → IsChoiceVerdict (told_document schema members) answer
 
--- an answer is the verdict on a document, or events are not those of one; memory may be refused at
--- any time
+-- an answer is the verdict on a document, or events are not those of one; memory may run out at any
+-- time
 abbrev pub ReadsDocuments : SchemaView → List Event → Result ResolutionHandle Unread → Type 0
 ReadsDocuments schema events (Ok handle) = IsRead schema events (Ok handle)
 ReadsDocuments schema events (Err (Misplaced index)) = ¬ IsDocument events

@@ -39,7 +39,7 @@ FindsInSchema schema keys answer =
     (choices : List (List ℕ)) → ListsChoices schema.build schema.root choices
     → (index : ℕ) (choice : List ℕ) → slice_get choices index ≡ Some choice
     → (r : Resolved) → TellsChoice schema.build schema.root choice keys r
-    → HasOrLists index (description r.picks) answer
+    → HasOrLists index (description r.selections) answer
 
 -- a choice has an index, or else the error lists a description; a schema that is refused says why
 abbrev pub GivesOrLists : Build → ℕ → (ℕ × Name) → Result Choice NoChoice → Type 0
@@ -53,13 +53,13 @@ FindsChoice build root keys answer =
     (choices : List (List ℕ)) → ListsChoices build root choices
     → (index : ℕ) (choice : List ℕ) → slice_get choices index ≡ Some choice
     → (r : Resolved) → TellsChoice build root choice keys r
-    → GivesOrLists build root (index, description r.picks) answer
+    → GivesOrLists build root (index, description r.selections) answer
 
 -- a handle is that of the only viable resolution; an error is the report on the state, or says
--- that memory was refused
-abbrev pub IsVerdict : State → Result ResolutionHandle SolverError → Type 0
-IsVerdict s (Ok handle) = (viable s ≡ index_of handle ∷ []) × IsHandleOf s.schema handle
-IsVerdict s (Err error) = IsReportOn s error
+-- that memory ran out
+abbrev pub IsChoiceVerdict : State → Result ResolutionHandle SolverError → Type 0
+IsChoiceVerdict s (Ok handle) = (viable s ≡ index_of handle ∷ []) × IsHandleOf s.schema handle
+IsChoiceVerdict s (Err error) = IsReportOn s error
 
 -- a choice is that of the only viable resolution of a schema of the root, with its description
 pub record IsChoiceOf (build : Build) (root : ℕ) (keys : List Key) (choice : Choice)
@@ -69,9 +69,9 @@ pub record IsChoiceOf (build : Build) (root : ℕ) (keys : List Key) (choice : C
   pub alone : viable (see_keys keys (new_solver schema)) ≡ choice.index ∷ []
   pub resolution : Resolved
   pub there : slice_get schema.resolutions choice.index ≡ Some resolution
-  pub described : string_bytes choice.description ≡ description resolution.picks
+  pub described : string_bytes choice.description ≡ description resolution.selections
 
--- an error of a solver is its report on such a schema, or says that memory was refused
+-- an error of a solver is its report on such a schema, or says that memory ran out
 pub record IsErrorOf (build : Build) (root : ℕ) (keys : List Key) (error : SolverError)
     : Type 0 where
   pub schema : SchemaView
@@ -79,7 +79,7 @@ pub record IsErrorOf (build : Build) (root : ℕ) (keys : List Key) (error : Sol
   pub report : IsReportOn (see_keys keys (new_solver schema)) error
 
 -- what keys come to in a schema of a root, whether they tell one choice or not
-abbrev pub IsAnswer : Build → ℕ → List Key → Result Choice NoChoice → Type 0
-IsAnswer build root keys (Ok choice) = IsChoiceOf build root keys choice
-IsAnswer build root keys (Err (Schema error)) = IsRefusal build root error
-IsAnswer build root keys (Err (Solver error)) = IsErrorOf build root keys error
+abbrev pub IsChoiceAnswer : Build → ℕ → List Key → Result Choice NoChoice → Type 0
+IsChoiceAnswer build root keys (Ok choice) = IsChoiceOf build root keys choice
+IsChoiceAnswer build root keys (Err (Schema error)) = IsRefusal build root error
+IsChoiceAnswer build root keys (Err (Solver error)) = IsErrorOf build root keys error

@@ -5,7 +5,7 @@ use Rattle.facet_solver.specs.Keys.{Key, key_of, flat_key}
 use Rattle.facet_solver.specs.Names.{Name, name_eq, names_of}
 use Rattle.facet_solver.specs.Resolved.{Resolved}
 use Rattle.facet_solver.specs.Schema.{IsHandleOf, SchemaView, index_of, resolution_of}
-use Rattle.facet_solver.specs.State.{State, has_tag_field, hint_variant_for_tag, new_solver, passing, picks_variant, see_key}
+use Rattle.facet_solver.specs.State.{State, has_tag_field, hint_variant_for_tag, new_solver, passing, see_key, selects_variant}
 use Rattle.facet_solver.specs.Resolutions.{has_key}
 use Rattle.facet_solver.specs.Told.{has_keys, see_keys}
 use Rattle.facet_solver.specs.Verdict.{IsReportOn, resolutions_at, viable}
@@ -23,11 +23,11 @@ IsFirstUnknown r keys None = has_keys keys r ≡ true
 abbrev pub saw_tag : SchemaView → Name → State
 saw_tag schema tag = see_key (flat_key tag) (new_solver schema)
 
--- some candidate has a field of the tag, and some picked a variant of the name
+-- some candidate has a field of the tag, and some selected a variant of the name
 abbrev pub NamesVariant : State → Name → Name → Type 0
 NamesVariant s tag name =
     (passing (has_tag_field s.schema.build.catalogue tag) s ≢ [])
-    × (passing (picks_variant name) s ≢ [])
+    × (passing (selects_variant name) s ≢ [])
 
 -- names, each once, where it first stands
 abbrev pub each_once : List Name → List Name
@@ -35,14 +35,14 @@ each_once [] = []
 each_once (name ∷ names) =
     name ∷ filter (λ other. not (name_eq other name)) (each_once names)
 
--- the names of the variants that a resolution picked, in order
-abbrev pub picked_names : Resolved → List Name
-picked_names r = map (λ pick. pick.variant_name) r.picks
+-- the names of the variants that a resolution selected, in order
+abbrev pub selected_names : Resolved → List Name
+selected_names r = map (λ selection. selection.variant_name) r.selections
 
--- the names of the variants that the candidates picked, each once, in the order of the candidates
+-- the names of the variants that the candidates selected, each once, in the order of the candidates
 abbrev pub variant_names : State → List Name
 variant_names s =
-    each_once (flat_map picked_names (resolutions_at s.schema.resolutions s.candidates))
+    each_once (flat_map selected_names (resolutions_at s.schema.resolutions s.candidates))
 
 -- a configuration was told: its tag, the text under it, and its other keys
 abbrev pub told : SchemaView → (Name × Name) → List Key → State

@@ -8,7 +8,7 @@ use Rattle.facet_solver.specs.Schema.{SchemaView}
 use Rattle.facet_solver.specs.State.{State, new_solver}
 use Rattle.facet_solver.specs.declared.ResolutionHandle.{ResolutionHandle}
 use Rattle.facet_solver.specs.declared.SolverError.TheVariants.{OutOfMemory}
-use Rattle.facet_solver_tests.specs.KeysToChoice.{IsVerdict}
+use Rattle.facet_solver_tests.specs.KeysToChoice.{IsChoiceVerdict}
 use Rattle.facet_solver_tests.specs.declared.callers.stream.Event.{Event}
 use Rattle.facet_solver_tests.specs.declared.callers.stream.Event.TheVariants.{Key, Object as ObjectBegins, List as ListBegins, Scalar, End}
 use Rattle.facet_solver_tests.specs.declared.callers.stream.Frame.{Frame}
@@ -147,17 +147,18 @@ told schema events = after_calls (calls_from beginning events) (new_solver schem
 
 -- how a reader ends: by the verdict of its solver, or the document is unfinished
 abbrev pub Ends : Reading → Result ResolutionHandle Unread → Type 0
-Ends r (Ok handle) = (r.place.frames ≡ []) × IsVerdict r.state (Ok handle)
+Ends r (Ok handle) = (r.place.frames ≡ []) × IsChoiceVerdict r.state (Ok handle)
 Ends r (Err (Misplaced index)) = ⊥
 Ends r (Err Unfinished) = r.place.frames ≢ []
-Ends r (Err (Solver error)) = (r.place.frames ≡ []) × IsVerdict r.state (Err error)
+Ends r (Err (Solver error)) = (r.place.frames ≡ []) × IsChoiceVerdict r.state (Err error)
 
 -- what the events of a document come to: a verdict is that of the calls which a whole document
--- means; memory may be refused at any time
+-- means; memory may run out at any time
 abbrev pub Streams : SchemaView → List Event → Result ResolutionHandle Unread → Type 0
-Streams schema events (Ok handle) = IsWhole events × IsVerdict (told schema events) (Ok handle)
+Streams schema events (Ok handle) =
+    IsWhole events × IsChoiceVerdict (told schema events) (Ok handle)
 Streams schema events (Err (Misplaced index)) = IsFirstMisplaced events index
 Streams schema events (Err Unfinished) = IsUnfinished events
 Streams schema events (Err (Solver OutOfMemory)) = ⊤
 Streams schema events (Err (Solver error)) =
-    IsWhole events × IsVerdict (told schema events) (Err error)
+    IsWhole events × IsChoiceVerdict (told schema events) (Err error)

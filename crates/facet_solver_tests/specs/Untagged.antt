@@ -84,13 +84,14 @@ TellsType shapes g v =
     → StandsByType g shape (end_scalar shapes shape)
 
 -- the score of the shape at an index
-abbrev pub score_at : List Shape → ℕ → ℕ
-score_at shapes index =
+abbrev pub declared_score_at : List Shape → ℕ → ℕ
+declared_score_at shapes index =
     option_map_or (λ s. score_of (string_bytes s.type_identifier)) (slice_get shapes index) 1000
 
 -- the score of a variant: that of the shape that is listed with a scalar, and 1000 for any other
 abbrev pub variant_score : List Shape → Variant → ℕ
-variant_score shapes v = option_map_or (score_at shapes) (scalar_shape (format_of shapes v)) 1000
+variant_score shapes v =
+    option_map_or (declared_score_at shapes) (scalar_shape (format_of shapes v)) 1000
 
 -- the same variants, those of lower score first, and those of one score in their order
 pub record IsByScore (shapes : List Shape) (variants found : List Variant) : Type 0 where

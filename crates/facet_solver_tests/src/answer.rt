@@ -18,9 +18,9 @@ pub const BAR: &str = "|";
 pub enum Outcome {
     /// What is wanted came.
     Held,
-    /// Memory was refused. What the line is about is as it was before.
+    /// Out of memory. What the line is about is as it was before.
     Refused,
-    /// A call that was refused memory left something else than it found, or had no need of memory.
+    /// A call that ran out of memory left something else than it found, or had no need of memory.
     Broken,
     /// A word is missing, or means nothing where it stands.
     Unread,
@@ -100,7 +100,7 @@ impl<'t> Answer<'t> {
         self.outcome = Outcome::Held;
     }
 
-    /// Begins it again where a call said that memory was refused, and tells whether that is so.
+    /// Begins it again where a call said that it was out of memory, and tells whether that is so.
     pub fn begins_again(&mut self) -> bool {
         let is_refused = matches!(self.outcome, Outcome::Refused);
         if is_refused {
@@ -121,7 +121,7 @@ impl<'t> Answer<'t> {
         }
     }
 
-    /// Notes that memory was refused.
+    /// Notes that a call was out of memory.
     pub fn refused(&mut self) {
         self.note(Outcome::Refused);
     }
@@ -131,13 +131,13 @@ impl<'t> Answer<'t> {
         self.note(Outcome::Unread);
     }
 
-    /// Notes that a call which was refused memory left something else than it found, or had no need
+    /// Notes that a call which ran out of memory left something else than it found, or had no need
     /// of memory.
     pub fn broken(&mut self) {
         self.note(Outcome::Broken);
     }
 
-    /// Tells a part. What is refused memory is tried again at once.
+    /// Tells a part. What runs out of memory is tried again at once.
     pub fn put(&mut self, part: &str) {
         if self.text.push_str(part).is_err() && self.text.push_str(part).is_err() {
             self.refused();
@@ -204,7 +204,7 @@ impl<'t> Answer<'t> {
         self.take()
     }
 
-    /// Adds an item to a list. What is refused memory is tried again at once.
+    /// Adds an item to a list. What runs out of memory is tried again at once.
     pub fn push<T: Drop>(&mut self, list: &mut Vec<T>, item: T) {
         if let Err(refused) = list.push(item) {
             if list.push(refused.value).is_err() {
@@ -314,7 +314,7 @@ impl<'t> Answer<'t> {
     }
 }
 
-// What is called, and the answer that is wanted.
+/// What is called, and the answer that is wanted.
 fn parts(text: &str) -> (&str, &str) {
     if text.starts_with(BAR) {
         return (BAR, "the text that stands there");

@@ -46,8 +46,8 @@ impl<'c> Hand<'c> {
         }
     }
 
-    // Makes a call, and compares its answer with what is wanted. Where it is refused memory it has
-    // to change nothing, and is made again.
+    /// Makes a call, and compares its answer with what is wanted. Where it runs out of memory it
+    /// has to change nothing, and is made again.
     fn make<'t: 'c>(&mut self, line: Line<'t>, answer: &mut Answer<'t>) {
         answer.begin(line);
         self.add_state(answer);
@@ -61,14 +61,14 @@ impl<'c> Hand<'c> {
         answer.compare();
     }
 
-    // Tells all that calls change: the path and both resolutions.
+    /// Tells all that calls change: the path and both resolutions.
     fn add_state(&self, answer: &mut Answer<'_>) {
         answer.add_value(&self.path);
         answer.add_debug(&self.resolution);
         answer.add_debug(&self.other);
     }
 
-    // Answers a call. Where memory is refused it may be made again: what it is about is as it was.
+    /// Answers a call. Where memory runs out it may be made again: what it is about is as it was.
     fn answer<'t: 'c>(&mut self, answer: &mut Answer<'t>) {
         match answer.word() {
             "add_field" => self.add_field(answer),
@@ -82,8 +82,8 @@ impl<'c> Hand<'c> {
         }
     }
 
-    // Answers a call that needs no words, or one that is about the path, or that reads the
-    // resolution.
+    /// Answers a call that needs no words, or one that is about the path, or that reads the
+    /// resolution.
     fn other_answer<'t: 'c>(&mut self, call: &str, answer: &mut Answer<'t>) {
         match call {
             "mark_all_optional" => {
@@ -104,14 +104,14 @@ impl<'c> Hand<'c> {
         }
     }
 
-    // The error of the lists so far, which are then empty again.
+    /// The error of the lists so far, which are then empty again.
     fn no_match(&mut self, answer: &mut Answer<'_>) {
         let lists = mem::replace(&mut self.error, ErrorByHand::new(answer.alloc));
         answer.keep_error(&lists.into_error());
         answer.add("ok");
     }
 
-    // Goes to another path.
+    /// Goes to another path.
     fn go<'t: 'c>(&mut self, call: &str, answer: &mut Answer<'t>) {
         let alloc = answer.alloc;
         let next = match call {
@@ -141,7 +141,7 @@ impl<'c> Hand<'c> {
         }
     }
 
-    // A field at the path.
+    /// A field at the path.
     fn info(
         &self,
         category: FieldCategory,

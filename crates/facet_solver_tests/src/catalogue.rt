@@ -159,7 +159,7 @@ impl<'c> Catalogue<'c> {
         }
     }
 
-    // The format of a variant of an enum, and what it expects.
+    /// The format of a variant of an enum, and what it expects.
     fn variant(&self, answer: &mut Answer<'_>) {
         let shape = self.shape(answer);
         let name = answer.word();
@@ -213,7 +213,7 @@ impl<'c> Catalogue<'c> {
         }
     }
 
-    // One of the lists of an enum's variants, each with its type, or else another list.
+    /// One of the lists of an enum's variants, each with its type, or else another list.
     fn list(&self, groups: &VariantsByFormat<'_>, answer: &mut Answer<'_>) {
         let list = match answer.word() {
             "scalar" => &groups.scalar_variants,
@@ -307,13 +307,13 @@ fn expected(format: &VariantFormat) -> &'static str {
 
 const FORMATS: [(&str, Format); 2] = [("flat", Format::Flat), ("dom", Format::Dom)];
 
-// The next word as a format.
+/// The next word as a format.
 fn format(answer: &mut Answer<'_>) -> Format {
     let word = answer.word();
     answer.meaning(&FORMATS, word, Format::Flat)
 }
 
-// The representation that the next words ask for.
+/// The representation that the next words ask for.
 fn asked<'t>(answer: &mut Answer<'t>) -> EnumRepr<'t> {
     match answer.word() {
         "flattened" => EnumRepr::Flattened,

@@ -60,7 +60,7 @@ impl<'c> ErrorByHand<'c> {
         answer.push(&mut self.missing, missing);
     }
 
-    // A failure of the missing and unknown fields so far, which are then none again.
+    /// A failure of the missing and unknown fields so far, which are then none again.
     fn add_failure(&mut self, variant_name: &str, answer: &mut Answer<'_>) {
         let failure = CandidateFailure {
             variant_name: answer.copied(variant_name),

@@ -31,7 +31,7 @@ pub fn of_error(error: &SolverError<'_>, answer: &mut Answer<'_>) {
     }
 }
 
-// The list of texts of a name.
+/// The list of texts of a name.
 fn list<'e>(error: &'e SolverError<'_>, name: &str) -> Option<&'e Vec<String>> {
     match (error, name) {
         (SolverError::NoMatch { input_fields, .. }, "input_fields") => Some(input_fields),
@@ -48,7 +48,7 @@ fn list<'e>(error: &'e SolverError<'_>, name: &str) -> Option<&'e Vec<String>> {
     }
 }
 
-// Name, path and type of each field.
+/// Name, path and type of each field.
 fn add_missing(fields: &[MissingFieldInfo<'_>], answer: &mut Answer<'_>) {
     for field in fields {
         answer.add(field.name);
@@ -57,7 +57,7 @@ fn add_missing(fields: &[MissingFieldInfo<'_>], answer: &mut Answer<'_>) {
     }
 }
 
-// Answers a call that reads the failure of a number.
+/// Answers a call that reads the failure of a number.
 fn of_failure(failures: &[CandidateFailure<'_>], answer: &mut Answer<'_>) {
     let Some(failure) = failures.get(answer.number()) else {
         answer.unread();

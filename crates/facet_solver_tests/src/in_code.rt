@@ -65,7 +65,7 @@ impl Check {
     }
 }
 
-// The catalogue of two types, each on a line.
+/// The catalogue of two types, each on a line.
 fn catalogue(
     first: &'static str,
     second: &'static str,

@@ -8,8 +8,8 @@ use facet_solver::{
 };
 use std::alloc::{AllocError, Global};
 
-// A key may live shorter than the schema and its catalogue. What it tells, also at a path, outlives
-// it and the solver.
+/// A key may live shorter than the schema and its catalogue. What it tells, also at a path,
+/// outlives it and the solver.
 fn answers<'s, 'c, 'd>(
     alloc: Global,
     solver: &mut Solver<'s, 'c, 'd>,
@@ -22,7 +22,7 @@ fn answers<'s, 'c, 'd>(
     ]
 }
 
-// The fields of an ambiguous answer outlive it.
+/// The fields of an ambiguous answer outlive it.
 fn fields<'a, 's, 'c>(answer: &'a KeyResult<'s, 'c>) -> Option<&'a Vec<(&'s FieldInfo<'c>, u64)>> {
     match answer {
         KeyResult::Ambiguous { fields } => Some(fields),
@@ -30,7 +30,7 @@ fn fields<'a, 's, 'c>(answer: &'a KeyResult<'s, 'c>) -> Option<&'a Vec<(&'s Fiel
     }
 }
 
-// What fields and shapes that are fit tell outlives the solver, and the lists.
+/// What fields and shapes that are fit tell outlives the solver, and the lists.
 fn satisfied<'s, 'c>(
     solver: &mut Solver<'s, 'c, '_>,
     fields: &[&FieldInfo<'_>],
@@ -44,7 +44,7 @@ fn satisfied<'s, 'c>(
     ]
 }
 
-// A handle among the candidates outlives the solver.
+/// A handle among the candidates outlives the solver.
 fn candidates<'s, 'c>(
     alloc: Global,
     solver: &Solver<'s, 'c, '_>,
@@ -52,7 +52,7 @@ fn candidates<'s, 'c>(
     solver.candidates(alloc)
 }
 
-// The end of a document outlives the document, and its error outlives the schema.
+/// The end of a document outlives the document, and its error outlives the schema.
 fn end<'s, 'c>(
     alloc: Global,
     solver: Solver<'s, 'c, '_>,
@@ -60,24 +60,24 @@ fn end<'s, 'c>(
     solver.finish(alloc)
 }
 
-// A resolution outlives its handle.
+/// A resolution outlives its handle.
 fn resolution<'s, 'c>(handle: &ResolutionHandle<'s, 'c>) -> &'s Resolution<'c> {
     handle.resolution()
 }
 
-// The shape at an index outlives the schema that gives its catalogue.
+/// The shape at an index outlives the schema that gives its catalogue.
 fn shape<'c>(schema: &Schema<'c>, index: usize) -> Option<&'c Shape> {
     let shapes: &'c Shapes = schema.shapes();
     shapes.get(ShapeId::new(index))
 }
 
-// A candidate of a probing solver outlives it.
+/// A candidate of a probing solver outlives it.
 fn probed_candidates<'p, 's, 'c>(solver: &'p ProbingSolver<'s, 'c>) -> &'p [&'s Resolution<'c>] {
     solver.candidates()
 }
 
-// What a key that is probed tells outlives the probing solver and the path, and so does what the
-// end tells.
+/// What a key that is probed tells outlives the probing solver and the path, and so does what the
+/// end tells.
 fn probed<'s, 'c>(
     solver: &mut ProbingSolver<'s, 'c>,
     path: &[&str],
@@ -86,7 +86,7 @@ fn probed<'s, 'c>(
     [solver.probe_key(path, key), solver.finish()]
 }
 
-// Variants outlive the lists that they stand in.
+/// Variants outlive the lists that they stand in.
 fn pairs<'c>(
     alloc: Global,
     variants: &VariantsByFormat<'c>,
@@ -94,8 +94,8 @@ fn pairs<'c>(
     variants.tuple_variants_with_arity(alloc, 2)
 }
 
-// A field is found by a key that lives shorter. Its name, and that of a catch-all, outlives its
-// resolution.
+/// A field is found by a key that lives shorter. Its name, and that of a catch-all, outlives its
+/// resolution.
 fn name_of<'c>(resolution: &Resolution<'c>, key: &FieldKey<'_>) -> Option<&'c str> {
     let field = match resolution.field_by_key(key) {
         Some(field) => field,
@@ -104,7 +104,7 @@ fn name_of<'c>(resolution: &Resolution<'c>, key: &FieldKey<'_>) -> Option<&'c st
     Some(field.serialized_name)
 }
 
-// The name of a key outlives the key.
+/// The name of a key outlives the key.
 fn name<'a>(key: &FieldKey<'a>) -> &'a str {
     key.name()
 }

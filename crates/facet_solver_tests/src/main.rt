@@ -39,10 +39,10 @@ const IN_CODE: &str = "in_code";
 /// The status where a transcript or a check does not hold.
 const WRONG: u8 = 1;
 
-/// The status where all hold that were not refused memory.
+/// The status where all hold that did not run out of memory.
 const REFUSED: u8 = 5;
 
-/// How many transcripts and checks did not hold, and how many were refused memory.
+/// How many transcripts and checks did not hold, and how many ran out of memory.
 #[derive(Clone, Copy)]
 struct Tally {
     wrong: u64,
@@ -146,7 +146,7 @@ fn run_text<'t, R: Print>(
     Ok(())
 }
 
-// Prints how a transcript or a check went, and counts it.
+/// Prints how a transcript or a check went, and counts it.
 fn report<R: Print>(
     rt: &R,
     tally: &mut Tally,

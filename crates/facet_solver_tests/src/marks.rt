@@ -29,7 +29,7 @@ pub fn held(alloc: Global) {
     mark(alloc, HELD);
 }
 
-/// A call said that memory was refused, so some request was.
+/// A call said that it was out of memory, so some request was refused.
 pub fn out_of_memory(alloc: Global) {
     mark(alloc, OUT_OF_MEMORY);
 }

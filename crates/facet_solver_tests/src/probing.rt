@@ -49,7 +49,7 @@ impl<'s, 'c> Probing<'s, 'c> {
         }
     }
 
-    // A new solver of the resolutions from a number on.
+    /// A new solver of the resolutions from a number on.
     fn renew_from(&mut self, answer: &mut Answer<'_>) {
         let first = answer.number();
         match self.schema.resolutions().get(first..) {
@@ -88,7 +88,7 @@ impl<'s, 'c> Probing<'s, 'c> {
     }
 }
 
-// A resolution is told by its description.
+/// A resolution is told by its description.
 fn add_probed(probed: ProbeResult<'_, '_>, answer: &mut Answer<'_>) {
     match probed {
         ProbeResult::KeepGoing => answer.add("keep going"),

@@ -21,7 +21,7 @@ pub fn public_types_have_their_derives(answer: &mut Answer<'_>) {
     answer.claim("Flat Flattened");
 }
 
-// The counts themselves are for contracts alone.
+/// The counts themselves are for contracts alone.
 fn steps_are_counted() {
     let mut steps = Steps::new();
     steps.word();

@@ -8,7 +8,7 @@ use facet_solver::{
 };
 use std::alloc::{AllocError, Global};
 
-// The shapes of `Message`. A shape refers to others by index, and stands after them.
+/// The shapes of `Message`. A shape refers to others by index, and stands after them.
 fn shapes(alloc: Global) -> Result<Vec<Shape>, AllocError>
     ensures { IfOk result (λ shapes. length shapes.items ≡ 3) }
 {
@@ -32,7 +32,7 @@ fn shapes(alloc: Global) -> Result<Vec<Shape>, AllocError>
     Ok(shapes)
 }
 
-// The payload of a message that has these keys, or why it is not clear.
+/// The payload of a message that has these keys, or why it is not clear.
 fn payload(alloc: Global, keys: &[&str]) -> Result<String, AllocError> {
     let shapes = match Shapes::new(shapes(alloc)?) {
         Ok(shapes) => shapes,
@@ -66,7 +66,7 @@ pub fn keys_tell_the_payload(answer: &mut Answer<'static>) {
 
 fn tell(keys: &[&str], wanted: &'static str, answer: &mut Answer<'static>) {
     match payload(answer.alloc, keys) {
-        // An error of refused memory has a text too.
+        // The error `OutOfMemory` has a text too.
         Ok(text) if text.as_str() == "out of memory" => answer.refused(),
         Ok(text) => answer.add(text.as_str()),
         Err(AllocError) => answer.refused(),

@@ -48,7 +48,7 @@ pub fn of_resolution(
             let has_path = resolution.has_key_path(&answer.path);
             answer.add_yes_or_no(has_path);
         }
-        "picks" => add_picks(resolution, answer),
+        "selections" => add_selections(resolution, answer),
         "matched_by" => add_matched_by(resolution, answer),
         "choice_to_values" => of_choice(resolution, answer),
         _ => add_field(catalogue, resolution, call, answer),
@@ -96,7 +96,7 @@ fn add_paths(resolution: &Resolution<'_>, answer: &mut Answer<'_>) {
     }
 }
 
-// Tells the names of a path, with dots between them.
+/// Tells the names of a path, with dots between them.
 fn add_path(path: &[&str], answer: &mut Answer<'_>) {
     answer.add("");
     let mut dot = "";
@@ -107,14 +107,14 @@ fn add_path(path: &[&str], answer: &mut Answer<'_>) {
     }
 }
 
-fn add_picks(resolution: &Resolution<'_>, answer: &mut Answer<'_>) {
-    for pick in resolution.variant_selections() {
-        answer.add_value(&pick.path);
-        answer.add_all(&[pick.enum_name, pick.variant_name]);
+fn add_selections(resolution: &Resolution<'_>, answer: &mut Answer<'_>) {
+    for selection in resolution.variant_selections() {
+        answer.add_value(&selection.path);
+        answer.add_all(&[selection.enum_name, selection.variant_name]);
     }
 }
 
-// Tells whether the field of a name is matched by a key.
+/// Tells whether the field of a name is matched by a key.
 fn add_matched_by(resolution: &Resolution<'_>, answer: &mut Answer<'_>) {
     match resolution.field_by_name(answer.word()) {
         Some(field) => {
@@ -125,7 +125,7 @@ fn add_matched_by(resolution: &Resolution<'_>, answer: &mut Answer<'_>) {
     }
 }
 
-// Tells the field that a call reads: its path, its type, and whether it is required.
+/// Tells the field that a call reads: its path, its type, and whether it is required.
 fn add_field(
     catalogue: Catalogue<'_>,
     resolution: &Resolution<'_>,

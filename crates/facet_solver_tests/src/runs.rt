@@ -39,7 +39,7 @@ pub fn steps<'t>(
     steps
 }
 
-// Adds the steps of a line, between two of which `then` stands.
+/// Adds the steps of a line, between two of which `then` stands.
 fn add_steps<'t>(catalogue: Catalogue<'_>, steps: &mut Vec<Step<'t>>, answer: &mut Answer<'t>) {
     let line = answer.line;
     let Some((_, run)) = answer.call.split_once(' ') else {
@@ -59,7 +59,7 @@ fn add_steps<'t>(catalogue: Catalogue<'_>, steps: &mut Vec<Step<'t>>, answer: &m
 }
 
 impl<'t> Step<'t> {
-    // The step of a text: `times=600 see x`, or `see x` alone.
+    /// The step of a text: `times=600 see x`, or `see x` alone.
     fn read(catalogue: Catalogue<'_>, answer: &mut Answer<'t>) -> Self {
         let mut times = 1;
         let mut call = answer.word();

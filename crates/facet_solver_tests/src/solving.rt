@@ -59,8 +59,8 @@ impl<'s, 'c, 't: 's> Session<'s, 'c, 't> {
         }
     }
 
-    // Makes a call, and compares its answer with what is wanted. Where it is refused memory it has
-    // to change nothing, and is made again.
+    /// Makes a call, and compares its answer with what is wanted. Where it runs out of memory it
+    /// has to change nothing, and is made again.
     fn make(&mut self, line: Line<'t>, answer: &mut Answer<'t>) {
         answer.begin(line);
         self.add_state(answer);
@@ -74,14 +74,14 @@ impl<'s, 'c, 't: 's> Session<'s, 'c, 't> {
         answer.compare();
     }
 
-    // Tells all that calls change of the solver that is told keys: its candidates, and the keys
-    // that it has seen.
+    /// Tells all that calls change of the solver that is told keys: its candidates, and the keys
+    /// that it has seen.
     fn add_state(&self, answer: &mut Answer<'_>) {
         self.add_candidate_set(answer);
         self.add_seen(answer);
     }
 
-    // Answers a call. Where memory is refused it may be made again: the solver is as it was.
+    /// Answers a call. Where memory runs out it may be made again: the solver is as it was.
     fn answer(&mut self, answer: &mut Answer<'t>) {
         match answer.word() {
             "run" => self.run(answer),
@@ -91,7 +91,7 @@ impl<'s, 'c, 't: 's> Session<'s, 'c, 't> {
         }
     }
 
-    // Answers a call that tells a key.
+    /// Answers a call that tells a key.
     fn call(&mut self, call: &str, answer: &mut Answer<'t>) {
         let alloc = answer.alloc;
         let told = match call {
@@ -111,7 +111,7 @@ impl<'s, 'c, 't: 's> Session<'s, 'c, 't> {
         self.add_told(told, answer);
     }
 
-    // Answers a call that narrows by other than a key, or that reads.
+    /// Answers a call that narrows by other than a key, or that reads.
     fn other_call(&mut self, call: &str, answer: &mut Answer<'t>) {
         match call {
             "mark_seen" => self.mark_seen(answer),
@@ -125,7 +125,7 @@ impl<'s, 'c, 't: 's> Session<'s, 'c, 't> {
         }
     }
 
-    // Answers a call that reads what the solver is, its error, or the schema.
+    /// Answers a call that reads what the solver is, its error, or the schema.
     fn reading_call(&self, call: &str, answer: &mut Answer<'_>) {
         match call {
             "candidates" | "last" => self.add_candidates(call, answer),
@@ -165,7 +165,7 @@ impl<'s, 'c, 't: 's> Session<'s, 'c, 't> {
         }
     }
 
-    // Tells what a key told.
+    /// Tells what a key told.
     fn add_told(&self, told: Result<KeyResult<'s, 'c>, AllocError>, answer: &mut Answer<'_>) {
         match &told {
             Ok(KeyResult::Unambiguous { shape }) => {
@@ -179,17 +179,17 @@ impl<'s, 'c, 't: 's> Session<'s, 'c, 't> {
         }
     }
 
-    // Hints a variant, and for a tag its text before.
+    /// Hints a variant, and for a tag its text before.
     fn hint(&mut self, call: &str, answer: &mut Answer<'_>) {
         let word = answer.word();
         let variant = answer.next_word();
         marks::begin(answer.alloc);
-        let is_picked = match call {
+        let is_selected = match call {
             "hint_variant" => self.solver.hint_variant(word),
             _ => self.solver.hint_variant_for_tag(word, variant),
         };
         marks::no_request(answer.alloc);
-        answer.add_yes_or_no(is_picked);
+        answer.add_yes_or_no(is_selected);
     }
 
     fn satisfy(&mut self, answer: &mut Answer<'_>) {
@@ -202,7 +202,7 @@ impl<'s, 'c, 't: 's> Session<'s, 'c, 't> {
         }
     }
 
-    // The fields of all words that are left, each the number of a resolution and a name.
+    /// The fields of all words that are left, each the number of a resolution and a name.
     fn fields(&self, answer: &mut Answer<'_>) -> Vec<&'s FieldInfo<'c>> {
         let mut fields = Vec::new(answer.alloc);
         for _ in 0..usize::MAX {
@@ -257,7 +257,7 @@ impl<'s, 'c, 't: 's> Session<'s, 'c, 't> {
         }
     }
 
-    // Tells the numbers of the candidates, or the last of them.
+    /// Tells the numbers of the candidates, or the last of them.
     fn add_candidates(&self, call: &str, answer: &mut Answer<'_>) {
         let Ok(candidates) = self.solver.candidates(answer.alloc) else {
             answer.refused();
@@ -274,7 +274,7 @@ impl<'s, 'c, 't: 's> Session<'s, 'c, 't> {
         }
     }
 
-    // Tells the number of the candidates, the first, and all of them.
+    /// Tells the number of the candidates, the first, and all of them.
     fn add_candidate_set(&self, answer: &mut Answer<'_>) {
         let set = self.solver.candidate_set();
         match set.first() {
@@ -305,7 +305,7 @@ impl<'s, 'c, 't: 's> Session<'s, 'c, 't> {
         }
     }
 
-    // A new solver in place of the one before, with a mark of what it holds.
+    /// A new solver in place of the one before, with a mark of what it holds.
     fn renew(&mut self, answer: &mut Answer<'_>) {
         match new_solver(answer.alloc, self.schema) {
             Ok(solver) => {
@@ -318,8 +318,8 @@ impl<'s, 'c, 't: 's> Session<'s, 'c, 't> {
         }
     }
 
-    // Finishes, and starts a new solver. Where memory is refused it is tried again on a solver that
-    // was told the same, and there was need of memory only if not one resolution is viable.
+    /// Finishes, and starts a new solver. Where memory runs out it is tried again on a solver that
+    /// was told the same, and there was need of memory only if not one resolution is viable.
     fn finish(&mut self, answer: &mut Answer<'t>) {
         self.error = None;
         self.finish_once(answer);
@@ -379,8 +379,8 @@ impl<'s, 'c, 't: 's> Session<'s, 'c, 't> {
         answer.add("ok");
     }
 
-    // Where a run was refused memory behind its first calls, the solver is as one that made these,
-    // and goes on from there.
+    /// Where a run was out of memory behind its first calls, the solver is as one that made these,
+    /// and goes on from there.
     fn run_rest(&mut self, calls: &[Call<'s>], made: usize, answer: &mut Answer<'t>) {
         let Some((first, rest)) = calls.split_at_checked(made) else {
             answer.broken();
@@ -401,7 +401,7 @@ impl<'s, 'c, 't: 's> Session<'s, 'c, 't> {
         }
     }
 
-    // Makes the calls that the solver was told before this one again, of a new solver.
+    /// Makes the calls that the solver was told before this one again, of a new solver.
     fn tell_anew(&mut self, answer: &mut Answer<'t>) {
         let line = answer.line;
         match new_solver(answer.alloc, self.schema) {
@@ -429,7 +429,7 @@ impl<'s, 'c, 't: 's> Session<'s, 'c, 't> {
     }
 }
 
-// It takes memory only where there are more than 64 resolutions.
+/// It takes memory only where there are more than 64 resolutions.
 fn new_solver<'s, 'c, 'a>(
     alloc: Global,
     schema: &'s Schema<'c>,
@@ -442,7 +442,7 @@ fn new_solver<'s, 'c, 'a>(
     solver
 }
 
-// Tells the path and the score of each field that a key may mean.
+/// Tells the path and the score of each field that a key may mean.
 fn add_ambiguous(fields: &[(&FieldInfo<'_>, u64)], answer: &mut Answer<'_>) {
     answer.add("ambiguous");
     for (field, score) in fields {

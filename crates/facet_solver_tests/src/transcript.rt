@@ -13,7 +13,7 @@ use std::alloc::AllocError;
 /// What the first line of a transcript begins with, before its name.
 pub const HEAD: &str = "transcript ";
 
-/// The lines of a file. Empty lines and those that begin with `#` say nothing, and of a text that
+/// The lines of a file. Empty lines and those that begin with `#` are ignored, and of a text that
 /// is wanted only the first line is one.
 pub fn lines<'t>(file: &'t str, answer: &mut Answer<'t>) -> Vec<Line<'t>> {
     let mut lines = Vec::new(answer.alloc);
@@ -51,7 +51,7 @@ pub fn of_one<'l, 't>(lines: &'l [Line<'t>]) -> &'l [Line<'t>] {
 }
 
 /// Makes the calls of a transcript, and compares what they answer with what is wanted. It is made
-/// twice where memory is refused.
+/// twice where memory runs out.
 pub fn run<'t>(lines: &[Line<'t>], answer: &mut Answer<'t>) {
     run_once(lines, answer);
     if answer.begins_again() {
@@ -87,7 +87,7 @@ fn on_types<'t>(types: Types<'t>, calls: &[Line<'t>], answer: &mut Answer<'t>) {
     }
 }
 
-// The calls where the types are no catalogue: only what the check says.
+/// The calls where the types are no catalogue: only what the check says.
 fn on_fault<'t>(fault: CatalogueError, calls: &[Line<'t>], answer: &mut Answer<'t>) {
     for line in calls {
         answer.begin(*line);
@@ -102,7 +102,7 @@ fn on_fault<'t>(fault: CatalogueError, calls: &[Line<'t>], answer: &mut Answer<'
     }
 }
 
-// The calls up to the first schema, and those behind it.
+/// The calls up to the first schema, and those behind it.
 fn on_catalogue<'t>(catalogue: Catalogue<'_>, calls: &[Line<'t>], answer: &mut Answer<'t>) {
     for index in 0..calls.len() {
         let behind = &calls[index + 1..];
@@ -126,7 +126,7 @@ fn on_catalogue<'t>(catalogue: Catalogue<'_>, calls: &[Line<'t>], answer: &mut A
     }
 }
 
-// A call on the types alone.
+/// A call on the types alone.
 fn of_types<'t>(catalogue: Catalogue<'_>, line: Line<'t>, answer: &mut Answer<'t>) {
     answer.begin(line);
     catalogue.answer(answer);
@@ -136,7 +136,7 @@ fn of_types<'t>(catalogue: Catalogue<'_>, line: Line<'t>, answer: &mut Answer<'t
     answer.compare();
 }
 
-// What a line builds, where it is what the line wants.
+/// What a line builds, where it is what the line wants.
 fn built<'c, 't: 'c>(catalogue: Catalogue<'c>, answer: &mut Answer<'t>) -> Option<Schema<'c>> {
     let mut schema = build(catalogue, answer);
     if answer.begins_again() {
@@ -187,8 +187,8 @@ fn on_steps<'s, 'c, 't: 's>(
     }
 }
 
-// The calls on what is made by hand, whose fields stand for the first field of the type that is
-// named.
+/// The calls on what is made by hand, whose fields stand for the first field of the type that is
+/// named.
 fn by_hand<'t>(catalogue: Catalogue<'_>, calls: &[Line<'t>], answer: &mut Answer<'t>) {
     match catalogue.first_field(answer) {
         Some(field) => on_field(catalogue, field, calls, answer),

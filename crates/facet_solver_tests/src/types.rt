@@ -112,7 +112,7 @@ impl<'t> Types<'t> {
         answer.push(&mut self.names, name);
     }
 
-    // The place that a word names. A scalar is declared where it is named first.
+    /// The place that a word names. A scalar is declared where it is named first.
     fn id(&mut self, word: &'t str, answer: &mut Answer<'t>) -> ShapeId {
         if let Some(id) = place_of(&self.names, word) {
             return id;
@@ -183,7 +183,7 @@ impl<'t> Types<'t> {
         variants
     }
 
-    // Adds the next variant so many times, each time with its number in its names.
+    /// Adds the next variant so many times, each time with its number in its names.
     fn add_variants(&mut self, times: &str, variants: &mut Vec<Variant>, answer: &mut Answer<'t>) {
         let words = same_words(&answer.words);
         for number in 0..answer.number_of(times) {
@@ -194,7 +194,7 @@ impl<'t> Types<'t> {
         }
     }
 
-    // A name with a comma behind it stands for a unit variant.
+    /// A name with a comma behind it stands for a unit variant.
     fn add_variant(&mut self, name: &'t str, variants: &mut Vec<Variant>, answer: &mut Answer<'t>) {
         let (name, kind) = match name.strip_suffix(',') {
             Some(name) => (name, StructKind::Unit),
@@ -209,7 +209,7 @@ impl<'t> Types<'t> {
         answer.push(variants, variant);
     }
 
-    // The fields of a body, up to the bracket that closes it.
+    /// The fields of a body, up to the bracket that closes it.
     fn fields(&mut self, kind: StructKind, answer: &mut Answer<'t>) -> Vec<Field> {
         let mut fields = Vec::new(answer.alloc);
         if kind == StructKind::Unit {
@@ -229,7 +229,7 @@ impl<'t> Types<'t> {
         fields
     }
 
-    // Adds a field with a name, as `x: u8`, or one that goes by its number, as `u8`.
+    /// Adds a field with a name, as `x: u8`, or one that goes by its number, as `u8`.
     fn add_fields(
         &mut self,
         fields: &mut Vec<Field>,
@@ -252,7 +252,7 @@ impl<'t> Types<'t> {
         }
     }
 
-    // Adds a field whose name is the text so far.
+    /// Adds a field whose name is the text so far.
     fn add_field(
         &self,
         fields: &mut Vec<Field>,
@@ -277,7 +277,7 @@ impl<'t> Types<'t> {
         Some(answer.take())
     }
 
-    // Puts a name, with the number in place of `#`.
+    /// Puts a name, with the number in place of `#`.
     fn put_name(&self, name: &str, answer: &mut Answer<'t>) {
         match name.split_once('#') {
             Some((before, behind)) => {
@@ -311,7 +311,7 @@ impl<'t> Marks<'t> {
         times: None,
     };
 
-    // Takes a word in, if it is a mark.
+    /// Takes a word in, if it is a mark.
     fn take(&mut self, word: &'t str, answer: &mut Answer<'t>) -> bool {
         let (name, value) = assigned(word);
         match name {

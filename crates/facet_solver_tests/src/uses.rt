@@ -84,7 +84,7 @@ fn load(schema: &Schema<'_>, answer: &mut Answer<'_>) {
     }
 }
 
-// The keys that are left.
+/// The keys that are left.
 fn keys<'t>(answer: &mut Answer<'t>) -> Vec<FieldKey<'t>> {
     let mut keys = Vec::new(answer.alloc);
     for _ in 0..usize::MAX {

@@ -1,9 +1,10 @@
-//! The catch-alls of a struct that emits nothing else. Each takes the place of the one of its category before it, so only the
-//! last of each category is looked for, however often it is flattened.
+//! The catch-alls of a struct that emits nothing else. Each takes the place of the one of its
+//! category before it, so only the last of each category is looked for, however often it is
+//! flattened.
 ghost use Rattle.std.specs.Prelude.{◌≡◌, length, OnOk};
 ghost use Rattle.std.specs.Option.{option_copied};
 ghost use Rattle.facet_solver_shape.specs.Catalogues.{FieldsBelow};
-ghost use Rattle.facet_solver.specs.Brings.{AreCatchAlls, fields_bring};
+ghost use Rattle.facet_solver.specs.Contribution.{AreCatchAlls, contribution_of_fields};
 ghost use Rattle.facet_solver.specs.Build.{build_of};
 ghost use Rattle.facet_solver.specs.CatchAlls as last;
 ghost use Rattle.facet_solver.specs.CatchAlls.{emitted_by, last_catch_all, with_last};
@@ -26,8 +27,8 @@ pub(crate) fn set_catch_alls<'c>(
 ) -> Result<(), AllocError>
     requires ready { IsReady walker.now }
     requires below { FieldsBelow (length walker.now.build.shapes.now) fields.now }
-    requires alone { AreCatchAlls
-        (fields_bring walker.now.brings.by_index.items (build_of walker.now.build) fields.now) }
+    requires alone { let contributions = walker.now.contribution.by_index.items in
+        AreCatchAlls (contribution_of_fields contributions (build_of walker.now.build) fields.now) }
     ensures taken { let emitted = emitted_by (build_of walker.now.build) fields.now place.old in
         OnOk result (take_all resolution.old emitted ≡ resolved resolution.new) }
     ensures place { OnOk result (place.new ≡ place.old) }
@@ -38,8 +39,8 @@ pub(crate) fn set_catch_alls<'c>(
     Ok(())
 }
 
-/// Sets the last catch-all of a category, if there is one. It is sought from struct to struct in a loop, since they lie as
-/// deep as a catalogue.
+/// Sets the last catch-all of a category, if there is one. It is sought from struct to struct in a
+/// loop, since they lie as deep as a catalogue.
 fn set_last<'c>(
     walker: &Walker<'c>,
     fields: &'c [Field],
@@ -49,8 +50,8 @@ fn set_last<'c>(
 ) -> Result<(), AllocError>
     requires ready { IsReady walker.now }
     requires below { FieldsBelow (length walker.now.build.shapes.now) fields.now }
-    requires alone { AreCatchAlls
-        (fields_bring walker.now.brings.by_index.items (build_of walker.now.build) fields.now) }
+    requires alone { let contributions = walker.now.contribution.by_index.items in
+        AreCatchAlls (contribution_of_fields contributions (build_of walker.now.build) fields.now) }
     ensures set { let emitted = emitted_by (build_of walker.now.build) fields.now place.old in
         OnOk result
         (resolution.new ≡ with_last category (last_catch_all category emitted) resolution.old) }
@@ -76,20 +77,20 @@ fn set_last<'c>(
     Ok(())
 }
 
-/// The last of fields that bring a catch-all of a category.
+/// The last of fields that contribute a catch-all of a category.
 fn last_with<'c>(
     walker: &Walker<'c>,
     fields: &'c [Field],
     category: FieldCategory,
 ) -> Option<&'c Field>
     ensures { option_copied result
-        ≡ last.last_with walker.now.brings.by_index.items
+        ≡ last.last_with walker.now.contribution.by_index.items
         (build_of walker.now.build) category fields.now }
 {
     let mut last = None;
     for field in fields {
         if walker
-            .brings
+            .contribution
             .of_field(walker.build, field)
             .has_last(category)
         {

@@ -9,8 +9,8 @@ ghost use Rattle.facet_solver.specs.Listing as listing;
 ghost use Rattle.facet_solver.specs.Starts.{AreStarts, HasStarts};
 ghost use Rattle.facet_solver.specs.Work as work;
 
-use crate::build::brings::Brings;
 use crate::build::content::content_fields;
+use crate::build::contribution::Contribution;
 use crate::build::role::{Role, role_of};
 use crate::build::starts::last_start;
 use crate::build::walker::Walker;
@@ -26,9 +26,10 @@ pub(crate) enum Part<'c> {
     Fields(&'c [Field], u64),
 }
 
-/// Puts the choice of a rank among those of a root into `choice`: the indices that a walk of the root takes, a variant's for
-/// each enum, and 0 or 1 for each field that may be absent. `parts` is room for what is still to come. Both are cleared
-/// first, so that they serve one rank after another.
+/// Puts the choice of a rank among those of a root into `choice`: the indices that a walk of the
+/// root takes, a variant's for each enum, and 0 or 1 for each field that may be absent. `parts` is
+/// room for what is still to come. Both are cleared first, so that they serve one rank after
+/// another.
 pub(crate) fn choice_at<'c>(
     walker: &Walker<'c>,
     root: ShapeId,
@@ -87,8 +88,9 @@ fn push_root<'c>(
     }
 }
 
-/// Adds what the choice of a rank at fields is put together from. The choices of the last field follow one another where those
-/// of the fields before it stay, so it has the rank that is left over.
+/// Adds what the choice of a rank at fields is put together from. The choices of the last field
+/// follow one another where those of the fields before it stay, so it has the rank that is left
+/// over.
 fn push_fields<'c>(
     walker: &Walker<'c>,
     fields: &'c [Field],
@@ -125,9 +127,9 @@ fn up_to_choices<'c>(walker: &Walker<'c>, fields: &'c [Field]) -> &'c [Field]
 {
     let mut kept = fields;
     while let Some((field, before)) = kept.split_last() {
-        match walker.brings.of_field(walker.build, field) {
-            Brings::Choices => break,
-            Brings::CatchAlls(_) | Brings::Emissions => kept = before,
+        match walker.contribution.of_field(walker.build, field) {
+            Contribution::Choices => break,
+            Contribution::CatchAlls(_) | Contribution::Emissions => kept = before,
         }
     }
     kept
@@ -166,8 +168,8 @@ fn push_field<'c>(
     }
 }
 
-/// Adds the index of a field that may be absent: 0 where it is, which is the first choice there, and else 1. Where the field
-/// is present, the answer is the rank that is left.
+/// Adds the index of a field that may be absent: 0 where it is, which is the first choice there,
+/// and else 1. Where the field is present, the answer is the rank that is left.
 fn push_presence(
     may_be_absent: bool,
     rank: u64,
@@ -191,8 +193,8 @@ fn push_presence(
     }
 }
 
-/// Adds what the choice of a rank among variants is put together from, whose contents are walked or not. Where they are, the
-/// starts say where the choices of each variant begin.
+/// Adds what the choice of a rank among variants is put together from, whose contents are walked or
+/// not. Where they are, the starts say where the choices of each variant begin.
 fn push_variant<'c>(
     walker: &Walker<'c>,
     walked: bool,
@@ -222,7 +224,8 @@ fn push_variant<'c>(
     Ok(())
 }
 
-/// The index of the variant at which the choice of a rank stands, the fields of its content, and the rank among its choices.
+/// The index of the variant at which the choice of a rank stands, the fields of its content, and
+/// the rank among its choices.
 fn variant_at<'c>(
     walker: &Walker<'c>,
     variants: &'c [Variant],
@@ -242,7 +245,8 @@ fn variant_at<'c>(
     ensures work { let build = build_of walker.now.build in
         2 + work.work_of_fields build result.1.now ≤ work.work_of_variants build variants.now }
 {
-    // A variant without choices has the start of the next one, so the last start that is not above the rank is the right one.
+    // A variant without choices has the start of the next one, so the last start that is not above
+    // the rank is the right one.
     let index = last_start(starts, rank);
     let fields = content_fields(walker.build.shapes, &variants[index]);
     (index, fields, rank - starts[index])

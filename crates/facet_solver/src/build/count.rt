@@ -42,7 +42,8 @@ impl Counts {
         Counts::before(build, build.shapes.len(), &mut Steps::new())
     }
 
-    /// Counts the shapes before an index, each once and in order: a shape names earlier ones alone.
+    /// Counts the shapes before an index, each once and in order: a shape refers to earlier ones
+    /// alone.
     fn before(build: Build, limit: usize, steps: &mut Steps) -> Result<Counts, AllocError>
         requires within { limit ≤ length build.shapes.now }
         requires checked { NamesEarlier build.shapes.now }
@@ -81,7 +82,8 @@ impl Counts {
         count_content(build, self.by_index.as_slice(), variant, &mut Steps::new())
     }
 
-    /// The choices of a root. An enum's are counted anew, for the contents of a root are walked; any other shape's are known.
+    /// The choices of a root. An enum's are counted anew, for the contents of a root are walked;
+    /// any other shape's are known.
     pub(crate) fn of_root(&self, build: Build, root: ShapeId) -> SaturatingCount
         requires has { root < length build.shapes.now }
         requires counted { AreCounts (build_of build) self.now }
@@ -96,8 +98,8 @@ impl Counts {
     }
 }
 
-/// The number of choices of a root where it is below 2^64. An enum's are those of its variants' contents, whatever its
-/// representation.
+/// The number of choices of a root where it is below 2^64. An enum's are those of its variants'
+/// contents, whatever its representation.
 pub(crate) fn count_of_root(
     build: Build,
     root: ShapeId,

@@ -12,7 +12,7 @@ ghost use Rattle.facet_solver.specs.NestedTable.{IsFilled};
 ghost use Rattle.facet_solver.specs.Reached.{IsChosen, ServesApart, ServesPlain, ServesRegular};
 
 use crate::build::field::{catch_all_field, leaf_field, regular_field, selector_field};
-use crate::build::nested::paths::key_path;
+use crate::build::nested::paths::one_name_path;
 use crate::build::place::{Chosen, Place};
 use crate::build::representation::EnumRepr;
 use crate::build::role::{Role, Target};
@@ -28,7 +28,7 @@ fn add_with_path<'c>(
     ensures { let emitted = emissions.field_and_paths info.entry no_paths in
         Gives (take_all resolution.old emitted) result resolution.new }
 {
-    let path = key_path(walker.build.alloc, info.serialized_name)?;
+    let path = one_name_path(walker.build.alloc, info.serialized_name)?;
     resolution.add_field(info)?;
     resolution.add_key_path(path)?;
     Ok(())
@@ -116,15 +116,15 @@ pub(crate) fn emit_plain<'c>(
     }
 }
 
-/// Adds the pick of a variant for an enum at a path.
-pub(crate) fn add_pick<'c>(
+/// Adds the selection of a variant for an enum at a path.
+pub(crate) fn add_selection<'c>(
     path: FieldPath<'c>,
     shape: &'c Shape,
     variant: &'c Variant,
     resolution: &mut Resolution<'c>,
 ) -> Result<(), SchemaError<'c>>
-    ensures { let pick = emissions.pick_of shape.now variant.now path.entry in
-        Gives (take_in resolution.old pick) result resolution.new }
+    ensures { let selection = emissions.selection_of shape.now variant.now path.entry in
+        Gives (take_in resolution.old selection) result resolution.new }
 {
     resolution.add_variant_selection(path, &shape.type_identifier, &variant.name)?;
     Ok(())
@@ -148,7 +148,8 @@ fn add_selector<'c>(
     add_with_path(walker, info, resolution)
 }
 
-/// Adds the selector of a chosen variant whose name holds the content, and the key paths of the name and behind it.
+/// Adds the selector of a chosen variant whose name holds the content, and the key paths of the
+/// name and behind it.
 fn add_external_selector<'c>(
     walker: &Walker<'c>,
     chosen: &Chosen<'c>,
@@ -203,7 +204,8 @@ fn emit_selector<'c>(
     }
 }
 
-/// What a flattened enum emits at a chosen variant, before the variant's content: the pick and the selector.
+/// What a flattened enum emits at a chosen variant, before the variant's content: the selection and
+/// the selector.
 pub(crate) fn emit_variant<'c>(
     walker: &Walker<'c>,
     chosen: &Chosen<'c>,
@@ -219,6 +221,6 @@ pub(crate) fn emit_variant<'c>(
         Gives (take_all resolution.old emitted) result resolution.new }
 {
     let path = place.field_path(walker.build.alloc, chosen.field)?;
-    add_pick(path, chosen.shape, chosen.variant, resolution)?;
+    add_selection(path, chosen.shape, chosen.variant, resolution)?;
     emit_selector(walker, chosen, place, resolution)
 }

@@ -51,7 +51,8 @@ pub(crate) fn catch_all_field<'c>(
     })
 }
 
-/// Any other flattened field, with its target as its shape: never required where its own is an option.
+/// Any other flattened field, with its target as its shape: never required where its own is an
+/// option.
 #[tactic(auto, unfolding(crate::specs::Emissions::leaf_field))]
 pub(crate) fn leaf_field<'c>(
     build: Build<'c>,

@@ -1,5 +1,6 @@
-//! Nested key paths: those under a field's shape, and those under the content of a variant. The fields that they go through
-//! are found once for each shape that walks ask for, in tables, and the walks follow these from name to name.
+//! Nested key paths: those under a field's shape, and those under the content of a variant. The
+//! fields that they go through are found once for each shape that walks ask for, in tables, and the
+//! walks follow these from name to name.
 ghost use Rattle.std.specs.Prelude.{◌≡◌};
 ghost use Rattle.facet_solver.specs.Build.{kind_at};
 ghost use Rattle.facet_solver.specs.Nested.{entered_view, has_fields};

@@ -1,6 +1,6 @@
 //! Where the walk of one choice stands, and what was chosen there.
 ghost use Rattle.std.specs.Prelude.{◌≡◌, ◌∷◌, ◌++◌, [], codes, length, map, take, IfOk, OnOk};
-ghost use Rattle.facet_solver_shape.specs.Paths.{by_field, step_of};
+ghost use Rattle.facet_solver_shape.specs.Paths.{by_field, segment_of};
 ghost use Rattle.facet_solver.specs.Place as places;
 ghost use Rattle.facet_solver.specs.Place.{chosen_of};
 
@@ -9,8 +9,8 @@ use facet_solver_shape::{Field, FieldPath, PathSegment, Shape, Variant};
 use std::alloc::{AllocError, Global};
 use std::marker::Model;
 
-/// Where fields stand, seen as the path to them. A walk has one place, which goes along with it: what is entered is added
-/// behind the path, and cut off again when the walk is through with it.
+/// Where fields stand, seen as the path to them. A walk has one place, which goes along with it:
+/// what is entered is added behind the path, and cut off again when the walk is through with it.
 #[derive(Drop)]
 pub(crate) struct Place<'c> {
     segments: Vec<PathSegment<'c>>,
@@ -18,12 +18,12 @@ pub(crate) struct Place<'c> {
 
 impl<'c> Model for Place<'c> {
     ghost use Rattle.std.specs.Prelude.{map};
-    ghost use Rattle.facet_solver_shape.specs.Paths.{step_of};
+    ghost use Rattle.facet_solver_shape.specs.Paths.{segment_of};
     ghost use Rattle.facet_solver.specs.Place as places;
 
     ghost Value = { places.Path };
 
-    ghost view = { λ a. map step_of a.segments.items };
+    ghost view = { λ a. map segment_of a.segments.items };
 }
 
 /// A variant that is chosen for the enum of a flattened field.
@@ -99,7 +99,7 @@ impl<'c> Place<'c> {
 
     /// The segments, with room for more behind them.
     fn with_room(&self, alloc: Global, more: usize) -> Result<Vec<PathSegment<'c>>, AllocError>
-        ensures { IfOk result (λ segments. map step_of segments.items ≡ self.now) }
+        ensures { IfOk result (λ segments. map segment_of segments.items ≡ self.now) }
     {
         let room = self.segments.len().saturating_add(more);
         let mut segments = Vec::with_capacity(alloc, room)?;

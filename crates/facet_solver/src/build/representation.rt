@@ -38,8 +38,8 @@ pub enum EnumRepr<'c> {
 }
 
 impl<'c> EnumRepr<'c> {
-    /// The representation that an enum's own attributes ask for: untagged is flattened, a tag with a content name is
-    /// adjacent, a tag alone internal, and no tag external.
+    /// The representation that an enum's own attributes ask for: untagged is flattened, a tag with
+    /// a content name is adjacent, a tag alone internal, and no tag external.
     pub fn from_shape(shape: &'c Shape) -> EnumRepr<'c>
         ensures { repr_view result ≡ representation.repr_of_shape shape.now }
     {

@@ -12,10 +12,10 @@ ghost use Rattle.facet_solver.specs.Counts.{IsReady};
 ghost use Rattle.facet_solver.specs.Reached.{ServesRoot, ServesVariant};
 
 use crate::build::Build;
-use crate::build::brings::BringsTable;
 use crate::build::choices::choice_at;
+use crate::build::contribution::ContributionTable;
 use crate::build::count::Counts;
-use crate::build::emit::add_pick;
+use crate::build::emit::add_selection;
 use crate::build::nested::tables::NestedTables;
 use crate::build::starts::Starts;
 use crate::build::walk::{Cursor, enter_content, next_variant, walk_fields};
@@ -24,8 +24,9 @@ use facet_solver_shape::{
     FieldPath, Resolution, SchemaError, Shape, ShapeId, ShapeKind, Steps, Variant,
 };
 
-/// Exactly one resolution for each choice of variants of the root, in lexicographic order of the choices. Where two
-/// fields of one choice have one stored key, there is none: the error names them, the one emitted first first.
+/// Exactly one resolution for each choice of variants of the root, in lexicographic order of the
+/// choices. Where two fields of one choice have one stored key, there is none: the error names
+/// them, the one emitted first first.
 pub(crate) fn resolutions<'c>(
     build: Build<'c>,
     root: ShapeId,
@@ -48,13 +49,13 @@ pub(crate) fn resolutions<'c>(
         return Err(SchemaError::OutOfMemory);
     };
     let starts = Starts::new(build, root, &counts)?;
-    let brings = BringsTable::new(build, root)?;
+    let contribution = ContributionTable::new(build, root)?;
     let tables = NestedTables::new(build, root, steps)?;
     let walker = Walker {
         build,
         counts,
         starts,
-        brings,
+        contribution,
         tables,
     };
     let mut resolutions = Vec::with_capacity(build.alloc, count as usize)?;
@@ -136,7 +137,7 @@ fn walk_root_variant<'c, 'n>(
         walk.walk_root_variant (build_of walker.now.build) shape.now variant.now indices.now in
         Walks (effect resolution.old walked) result resolution.new }
 {
-    add_pick(
+    add_selection(
         FieldPath::empty(walker.build.alloc),
         shape,
         variant,

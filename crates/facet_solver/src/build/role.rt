@@ -5,7 +5,8 @@ ghost use Rattle.facet_solver.specs.Roles.{role_view};
 
 use facet_solver_shape::{Field, Shape, ShapeId, ShapeKind, Shapes, Variant};
 
-/// What a flattened field leads to: the inside of its shape where that is an option, else its shape.
+/// What a flattened field leads to: the inside of its shape where that is an option, else its
+/// shape.
 #[derive(Clone, Copy)]
 pub(crate) struct Target {
     pub(crate) shape: ShapeId,

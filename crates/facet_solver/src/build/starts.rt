@@ -1,5 +1,5 @@
-//! Where the choices of variants begin among those of their enum, found once for each enum. So the variant of a rank is found
-//! by halves, however many variants there are.
+//! Where the choices of variants begin among those of their enum, found once for each enum. So the
+//! variant of a rank is found by halves, however many variants there are.
 ghost use Rattle.std.specs.Prelude.{◌≡◌, ◌<◌, ◌≤◌, IfOk, OnOk, get_or, length, true};
 ghost use Rattle.std.specs.List.Sorted.{IsNonDecreasing};
 ghost use Rattle.facet_solver_shape.specs.Catalogues.{KindBelow, NamesEarlier, VariantsBelow};
@@ -13,15 +13,16 @@ use crate::build::count::saturating::SaturatingCount;
 use facet_solver_shape::{ShapeId, ShapeKind, Variant};
 use std::alloc::{AllocError, Global};
 
-/// The ranks at which the choices of an enum's variants begin, by the index of the enum: of each whose contents are walked, and
-/// of the root. Any other shape has none.
+/// The ranks at which the choices of an enum's variants begin, by the index of the enum: of each
+/// whose contents are walked, and of the root. Any other shape has none.
 #[derive(Drop)]
 pub(crate) struct Starts {
     by_index: Vec<Vec<u64>>,
 }
 
 impl Starts {
-    /// Finds them by the counts. The table ends with the last enum that has some; where none has, it takes no memory.
+    /// Finds them by the counts. The table ends with the last enum that has some; where none has,
+    /// it takes no memory.
     pub(crate) fn new(build: Build, root: ShapeId, counts: &Counts) -> Result<Starts, AllocError>
         requires checked { NamesEarlier build.shapes.now }
         requires counted { AreCounts (build_of build) counts.now }

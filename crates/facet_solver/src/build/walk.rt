@@ -1,5 +1,5 @@
-//! The walk of one choice, which fills one resolution. It goes as deep as a catalogue, so it is a loop over a stack of its
-//! own.
+//! The walk of one choice, which fills one resolution. It goes as deep as a catalogue, so it is a
+//! loop over a stack of its own.
 ghost use Rattle.std.specs.Prelude.{◌≡◌, ◌<◌, ◌∷◌, ◌++◌, [], IfOk, IsSome, OnOk, if◌then◌else◌, length, slice_get, slice_index};
 ghost use Rattle.facet_solver_shape.specs.Catalogues.{FieldsBelow};
 ghost use Rattle.facet_solver.specs.Content.{content_of};
@@ -13,9 +13,9 @@ ghost use Rattle.facet_solver.specs.Counts.{IsReady};
 ghost use Rattle.facet_solver.specs.Reached.{IsChosen, ServesEnum, ServesField, ServesFields};
 ghost use Rattle.facet_solver.specs.Work.{work_of_field, work_of_fields, work_of_variant};
 
-use crate::build::brings::Brings;
 use crate::build::catch_alls::set_catch_alls;
 use crate::build::content::newtype_fields;
+use crate::build::contribution::Contribution;
 use crate::build::emit::{emit_plain, emit_variant};
 use crate::build::place::{Chosen, Place};
 use crate::build::role::{Role, role_of};
@@ -30,7 +30,8 @@ pub(crate) struct Frame<'c> {
     pub(crate) depth: usize,
 }
 
-/// Where walks are, one after another: the place, and the fields that are left. So one walk leaves its memory to the next.
+/// Where walks are, one after another: the place, and the fields that are left. So one walk leaves
+/// its memory to the next.
 #[derive(Drop)]
 pub(crate) struct Cursor<'c> {
     pub(crate) place: Place<'c>,
@@ -68,7 +69,8 @@ pub(crate) fn next_variant<'c, 'n>(
     (&variants[indices[0]], &indices[1..])
 }
 
-/// Whether a field is present, and the indices that are left: where it may be absent, the next index says so.
+/// Whether a field is present, and the indices that are left: where it may be absent, the next
+/// index says so.
 fn presence<'n>(may_be_absent: bool, indices: &'n [usize]) -> (bool, &'n [usize])
     requires { walk.HasPresence may_be_absent indices.now }
     ensures { (present : Walking) → walk.walk_optional may_be_absent present indices.now
@@ -81,9 +83,9 @@ fn presence<'n>(may_be_absent: bool, indices: &'n [usize]) -> (bool, &'n [usize]
     }
 }
 
-/// Walks fields in order, each with the indices that the one before it left, and what is inside a field before the next one;
-/// answers the indices that the last one left. `frames` is room for the fields that are left at each level, and is cleared
-/// first.
+/// Walks fields in order, each with the indices that the one before it left, and what is inside a
+/// field before the next one; answers the indices that the last one left. `frames` is room for the
+/// fields that are left at each level, and is cleared first.
 pub(crate) fn walk_fields<'c, 'n>(
     walker: &Walker<'c>,
     fields: &'c [Field],
@@ -161,7 +163,7 @@ fn walk_field<'c, 'n>(
     match role {
         Role::Block(target, fields) => {
             place.enter_field(field)?;
-            if let Brings::CatchAlls(_) = walker.brings.of(target.shape) {
+            if let Contribution::CatchAlls(_) = walker.contribution.of(target.shape) {
                 set_catch_alls(walker, fields, place, resolution)?;
                 return Ok(plain);
             }
@@ -188,8 +190,8 @@ fn walk_field<'c, 'n>(
     }
 }
 
-/// Walks a flattened enum at a chosen variant, but for the fields inside it, which are those of the content where that stands
-/// at this level: the pick and the selector.
+/// Walks a flattened enum at a chosen variant, but for the fields inside it, which are those of the
+/// content where that stands at this level: the selection and the selector.
 fn walk_variant<'c, 'n>(
     walker: &Walker<'c>,
     chosen: &Chosen<'c>,

@@ -1,11 +1,12 @@
 //! What the functions of one build's choices and walks share.
 use crate::build::Build;
-use crate::build::brings::BringsTable;
+use crate::build::contribution::ContributionTable;
 use crate::build::count::Counts;
 use crate::build::nested::tables::NestedTables;
 use crate::build::starts::Starts;
 
-/// What the functions of one build's choices and walks share, so that none of them takes each part by itself.
+/// What the functions of one build's choices and walks share, so that none of them takes each part
+/// by itself.
 #[derive(Drop)]
 pub(crate) struct Walker<'c> {
     pub(crate) build: Build<'c>,
@@ -13,8 +14,8 @@ pub(crate) struct Walker<'c> {
     pub(crate) counts: Counts,
     /// Where the choices of each variant begin among those of its enum.
     pub(crate) starts: Starts,
-    /// What each struct brings where it is flattened.
-    pub(crate) brings: BringsTable,
+    /// What each struct contributes where it is flattened.
+    pub(crate) contribution: ContributionTable,
     /// The nested key paths that the walks ask for.
     pub(crate) tables: NestedTables<'c>,
 }

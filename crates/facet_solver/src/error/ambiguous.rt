@@ -6,7 +6,7 @@ ghost use Rattle.facet_solver.specs.QuotedNames.{where_ascii};
 use crate::error::quoted::Quoted;
 use std::fmt;
 
-// The names that tell candidates apart.
+/// The names that tell candidates apart.
 #[derive(Drop)]
 pub(crate) struct Hint<'s>(pub(crate) &'s [String]);
 

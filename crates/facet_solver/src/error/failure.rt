@@ -8,7 +8,7 @@ use crate::error::quoted::Quoted;
 use crate::error::{CandidateFailure, MissingFieldInfo};
 use std::fmt;
 
-// Names of fields, each after a comma.
+/// Names of fields, each after a comma.
 #[derive(Drop)]
 struct LaterNames<'s, 'c>(&'s [MissingFieldInfo<'c>]);
 
@@ -25,7 +25,7 @@ impl fmt::Display for LaterNames<'_, '_> {
     }
 }
 
-// The names of fields, as a list.
+/// The names of fields, as a list.
 #[derive(Drop)]
 struct MissingNames<'s, 'c>(&'s [MissingFieldInfo<'c>]);
 
@@ -44,7 +44,7 @@ impl fmt::Display for MissingNames<'_, '_> {
     }
 }
 
-// What a resolution lacks.
+/// What a resolution lacks.
 #[derive(Drop)]
 struct MissingPart<'s, 'c>(&'s [MissingFieldInfo<'c>]);
 
@@ -67,7 +67,7 @@ impl fmt::Display for MissingPart<'_, '_> {
     }
 }
 
-// The seen names that mean no field of a resolution.
+/// The seen names that mean no field of a resolution.
 #[derive(Drop)]
 struct UnknownPart<'s, 'c> {
     missing: &'s [MissingFieldInfo<'c>],
@@ -92,7 +92,7 @@ impl fmt::Display for UnknownPart<'_, '_> {
     }
 }
 
-// Why one resolution is not the answer.
+/// Why one resolution is not the answer.
 #[derive(Drop)]
 pub(crate) struct FailureLine<'s, 'c>(pub(crate) &'s CandidateFailure<'c>);
 

@@ -11,7 +11,7 @@ use crate::error::quoted::Quoted;
 use crate::error::{CandidateFailure, MissingFieldInfo};
 use std::fmt;
 
-// A line for each failure.
+/// A line for each failure.
 #[derive(Drop)]
 struct FailureLines<'s, 'c>(&'s [CandidateFailure<'c>]);
 
@@ -28,7 +28,7 @@ impl fmt::Display for FailureLines<'_, '_> {
     }
 }
 
-// Missing fields with their paths.
+/// Missing fields with their paths.
 #[derive(Drop)]
 struct AtPaths<'s, 'c>(&'s [MissingFieldInfo<'c>]);
 
@@ -45,7 +45,7 @@ impl fmt::Display for AtPaths<'_, '_> {
     }
 }
 
-// Missing fields with their paths, if there are any.
+/// Missing fields with their paths, if there are any.
 #[derive(Drop)]
 struct MissingEnd<'s, 'c>(&'s [MissingFieldInfo<'c>]);
 
@@ -61,7 +61,7 @@ impl fmt::Display for MissingEnd<'_, '_> {
     }
 }
 
-// The closest resolution.
+/// The closest resolution.
 #[derive(Drop)]
 struct Closest<'s>(&'s Option<String>);
 
@@ -76,7 +76,7 @@ impl fmt::Display for Closest<'_> {
     }
 }
 
-// Why nothing matches.
+/// Why nothing matches.
 #[derive(Drop)]
 pub(crate) struct Reasons<'s, 'c> {
     pub(crate) failures: &'s [CandidateFailure<'c>],
@@ -100,7 +100,7 @@ impl fmt::Display for Reasons<'_, '_> {
     }
 }
 
-// The names that no resolution has.
+/// The names that no resolution has.
 #[derive(Drop)]
 pub(crate) struct UnknownEnd<'s>(pub(crate) &'s [String]);
 

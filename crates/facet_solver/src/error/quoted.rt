@@ -4,7 +4,7 @@ ghost use Rattle.facet_solver.specs.QuotedNames.{list_output};
 
 use std::fmt;
 
-// Names in brackets, each between quotes and with escapes.
+/// Names in brackets, each between quotes and with escapes.
 #[derive(Drop)]
 pub(crate) struct Quoted<'s>(pub(crate) &'s [String]);
 

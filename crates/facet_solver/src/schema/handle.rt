@@ -35,7 +35,7 @@ impl Eq for ResolutionHandle<'_, '_> {
 impl<'s, 'c> ResolutionHandle<'s, 'c> {
     ghost use Rattle.facet_solver.specs.Schema.{index_of, resolution_of, IsHandleOf};
 
-    // The handle of the resolution at an index.
+    /// The handle of the resolution at an index.
     pub(crate) fn new(schema: &'s Schema<'c>, index: usize) -> Self
         requires { index < length schema.now.resolutions }
         ensures index { index_of result ≡ index }

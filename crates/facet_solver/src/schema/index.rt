@@ -16,7 +16,7 @@ use facet_solver_shape::{FieldCategory, FieldInfo, FieldKey, Resolution, ShapeId
 use std::alloc::{AllocError, Global};
 use std::collections::BTreeMap;
 
-// The categories of fields.
+/// The categories of fields.
 const CATEGORIES: [FieldCategory; 6] = [
     FieldCategory::Flat,
     FieldCategory::Attribute,
@@ -45,7 +45,7 @@ pub(crate) struct Entry {
 }
 
 impl Entry {
-    // The entry of one resolution.
+    /// The entry of one resolution.
     fn of_one(alloc: Global, at: &Occurrence) -> Result<Self, AllocError>
         requires { at.now.index < at.now.bound }
         ensures { IfOk result (λ entry. entry ≡ entry_of_one at.now) }
@@ -58,7 +58,7 @@ impl Entry {
         })
     }
 
-    // Adds a resolution. Of one that is here the field that came first is meant.
+    /// Adds a resolution. Of one that is here the field that came first is meant.
     fn add(&mut self, at: &Occurrence)
         requires { at.now.index < self.old.set.bound }
         ensures { self.new ≡ with_occurrence self.old at.now }
@@ -92,21 +92,21 @@ impl<'c> CategoryIndex<'c> {
         }
     }
 
-    // The entry of a name.
+    /// The entry of a name.
     fn entry_of(&self, name: &str) -> Option<&Entry>
         ensures { option_copied result ≡ entry_in self.now (Some name.now) }
     {
         self.named.get(name)
     }
 
-    // The entry of every name.
+    /// The entry of every name.
     fn entry_of_all(&self) -> Option<&Entry>
         ensures { option_copied result ≡ entry_in self.now None }
     {
         self.all.as_ref()
     }
 
-    // Adds a resolution to the entry of every name.
+    /// Adds a resolution to the entry of every name.
     fn add_to_all(&mut self, alloc: Global, at: &Occurrence) -> Result<(), AllocError>
         requires index { at.now.index < at.now.bound }
         requires bound { HasBound at.now.bound self.old.all }
@@ -120,7 +120,7 @@ impl<'c> CategoryIndex<'c> {
         Ok(())
     }
 
-    // Adds a field.
+    /// Adds a field.
     fn add(
         &mut self,
         alloc: Global,
@@ -152,7 +152,7 @@ pub(crate) fn holds(entry: Option<&Entry>, index: usize) -> bool
     }
 }
 
-// Adds a resolution to the entry of a name.
+/// Adds a resolution to the entry of a name.
 fn add_named<'c>(
     named: &mut BTreeMap<&'c str, Entry>,
     alloc: Global,
@@ -187,7 +187,7 @@ pub(crate) struct Index<'c> {
 }
 
 impl<'c> Index<'c> {
-    // No entries.
+    /// No entries.
     fn empty(alloc: Global) -> Self
         ensures { (slot : Slot) → entry_at result slot ≡ None }
     {
@@ -213,7 +213,7 @@ impl<'c> Index<'c> {
         Ok(index)
     }
 
-    // Adds the fields of the resolution at an index.
+    /// Adds the fields of the resolution at an index.
     fn add_all(
         &mut self,
         alloc: Global,
@@ -273,7 +273,7 @@ impl<'c> Index<'c> {
         self.entries_of_each_category(alloc, name)
     }
 
-    // The entries of a name, one for each category that has one.
+    /// The entries of a name, one for each category that has one.
     fn entries_of_each_category(&self, alloc: Global, name: &str) -> Result<Vec<&Entry>, AllocError>
         ensures { IfOk result (λ entries. map (λ e. e.now) entries.items
             ≡ filter_map (λ c. entry_at self.now (slot_in name.now c)) categories) }
@@ -287,7 +287,7 @@ impl<'c> Index<'c> {
         Ok(entries)
     }
 
-    // The entry of the slot where a key looks.
+    /// The entry of the slot where a key looks.
     fn entry_at(&self, format: Format, key: FieldKey<'_>) -> Option<&Entry>
         ensures { option_copied result ≡ entry_at self.now (slot_of format (key_of key.entry)) }
     {
@@ -305,7 +305,7 @@ impl<'c> Index<'c> {
         }
     }
 
-    // Adds a field.
+    /// Adds a field.
     fn add(
         &mut self,
         alloc: Global,

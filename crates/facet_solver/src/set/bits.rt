@@ -2,7 +2,7 @@
 ghost use Rattle.std.specs.Prelude.{◌≡◌, ℕ, ◌∷◌, [], ◌+◌, ◌-◌, ◌*◌, ◌^◌, ◌<◌, ◌≤◌, ◌↔◌, ◌&&◌, IfOk, IfSome, IsTrue, MatchOption, length, nat_eq, replicate, slice_index, vec_len};
 ghost use Rattle.std.specs.Int.{bit_at};
 ghost use Rattle.facet_solver_shape.specs.Steps.{NoCountFalls};
-ghost use Rattle.facet_solver.specs.IndexSet.{has};
+ghost use Rattle.facet_solver.specs.IndexSet.{has_index};
 ghost use Rattle.facet_solver.specs.SharedBits.{IsNext, IsNextShared, NoneBetween, common_word};
 ghost use Rattle.facet_solver.specs.Words.{IsClearFrom, IsFull, KeepsBits, bit_of, has_bit, members_from, members_of, word_count};
 
@@ -48,7 +48,7 @@ fn is_bit_set(word: u64, bit: usize) -> bool
 
 /// Whether the bit of an index is set.
 pub(crate) fn is_set(words: &[u64], index: usize) -> bool
-    ensures { result ≡ has (members_of words.now) index }
+    ensures { result ≡ has_index (members_of words.now) index }
 {
     let word = index / 64;
     word < words.len() && is_bit_set(words[word], index % 64)

@@ -5,7 +5,7 @@ ghost use Rattle.std.specs.Option.{option_copied};
 ghost use Rattle.facet_solver_shape.specs.Keys.{key_of};
 ghost use Rattle.facet_solver_shape.specs.Names.{name_eq};
 ghost use Rattle.facet_solver.specs.FirstOfEach.{is_among};
-ghost use Rattle.facet_solver.specs.State.{has_shape_among, picks_variant};
+ghost use Rattle.facet_solver.specs.State.{has_shape_among, selects_variant};
 ghost use Rattle.facet_solver.specs.Resolutions.{passes, passing_at};
 
 pub(crate) mod tag_field;
@@ -53,30 +53,33 @@ impl<T: Test> Condition for AtIndex<'_, '_, T> {
     }
 }
 
-/// Whether a resolution picked a variant of a name, for whichever enum.
+/// Whether a resolution selected a variant of a name, for whichever enum.
 #[derive(Clone, Copy)]
-pub(crate) struct PicksVariant<'n> {
+pub(crate) struct SelectsVariant<'n> {
     pub(crate) name: &'n str,
 }
 
-impl Test for PicksVariant<'_> {
-    ghost is_passed = { λ t. picks_variant t.name.now };
+impl Test for SelectsVariant<'_> {
+    ghost is_passed = { λ t. selects_variant t.name.now };
 
     fn is_passed(&self, resolution: &Resolution<'_>) -> bool {
-        picks_variant(resolution, self.name)
+        selects_variant(resolution, self.name)
     }
 }
 
-fn picks_variant(resolution: &Resolution<'_>, name: &str) -> bool
-    ensures { result ≡ picks_variant name.now resolution.now }
+fn selects_variant(resolution: &Resolution<'_>, name: &str) -> bool
+    ensures { result ≡ selects_variant name.now resolution.now }
 {
-    is_picked(resolution.variant_selections(), name)
+    is_selected(resolution.variant_selections(), name)
 }
 
-fn is_picked(picks: &[VariantSelection<'_>], name: &str) -> bool
-    ensures { result ≡ list_any (λ pick. name_eq pick.variant_name.now name.now) picks.now }
+fn is_selected(selections: &[VariantSelection<'_>], name: &str) -> bool
+    ensures { result
+        ≡ list_any (λ selection. name_eq selection.variant_name.now name.now) selections.now }
 {
-    picks.iter().any(|pick| pick.variant_name == name)
+    selections
+        .iter()
+        .any(|selection| selection.variant_name == name)
 }
 
 /// Whether a field of a resolution has the shape of one of some items.

@@ -62,7 +62,7 @@ pub(crate) fn distinct_fields<'s, 'c>(
     Ok(fields)
 }
 
-// Adds the field that a key means at an index, if it is the first of its shape.
+/// Adds the field that a key means at an index, if it is the first of its shape.
 fn add_if_new<'s, 'c>(
     fields: &mut Vec<(&'s FieldInfo<'c>, u64)>,
     search: &KeySearch<'s, 'c, '_>,
@@ -84,7 +84,7 @@ fn add_if_new<'s, 'c>(
     Ok(())
 }
 
-// The score of a shape that is not there.
+/// The score of a shape that is not there.
 const NO_SCORE: u64 = 1000;
 
 /// The score of the shape at an index.

@@ -32,7 +32,7 @@ impl<'s, 'c, 'a> Solver<'s, 'c, 'a> {
         self.verdict(alloc)
     }
 
-    // That answer. The solver is only read here, so that it is dropped in one place.
+    /// That answer. The solver is only read here, so that it is dropped in one place.
     fn verdict(&self, alloc: Global) -> Result<ResolutionHandle<'s, 'c>, SolverError<'c>>
         ensures one { IsOk result ↔ (length (viable self.now) ≡ 1) }
         ensures index { IfOk result (λ handle. viable self.now ≡ index_of handle ∷ []) }
@@ -46,7 +46,7 @@ impl<'s, 'c, 'a> Solver<'s, 'c, 'a> {
         }
     }
 
-    // The candidates that are viable, as far as their number matters.
+    /// The candidates that are viable, as far as their number matters.
     fn viable(&self) -> Matches
         ensures number { matches_view result ≡ how_many (viable self.now) }
         ensures within { IsWithin (length self.now.schema.resolutions) result }
@@ -54,7 +54,7 @@ impl<'s, 'c, 'a> Solver<'s, 'c, 'a> {
         self.matching(IsViable { seen: &self.seen })
     }
 
-    // What a report is made from.
+    /// What a report is made from.
     fn report(&self, alloc: Global) -> Report<'_, 'c, 'a>
         ensures { state_of_report result ≡ self.now }
     {

@@ -2,11 +2,11 @@
 ghost use Rattle.std.specs.Prelude.{◌≡◌, ◌≢◌, ◌↔◌, [], IsTrue};
 ghost use Rattle.std.specs.Bool.{OnFalse};
 ghost use Rattle.facet_solver.specs.State as state;
-ghost use Rattle.facet_solver.specs.State.{has_tag_field, passing, picks_variant};
+ghost use Rattle.facet_solver.specs.State.{has_tag_field, passing, selects_variant};
 
 use crate::set::Matches;
 use crate::solver::Solver;
-use crate::solver::conditions::PicksVariant;
+use crate::solver::conditions::SelectsVariant;
 use crate::solver::conditions::tag_field::HasTagField;
 
 impl Solver<'_, '_, '_> {
@@ -14,11 +14,11 @@ impl Solver<'_, '_, '_> {
     /// candidates stay that selected such a variant, and the answer is true. Where none did, all
     /// stay and the answer is false. The call allocates nothing.
     pub fn hint_variant(&mut self, name: &str) -> bool
-        ensures picked { IsTrue result ↔ (passing (picks_variant name.now) self.old ≢ []) }
+        ensures selected { IsTrue result ↔ (passing (selects_variant name.now) self.old ≢ []) }
         ensures narrowed { self.new ≡ state.hint_variant name.now self.old }
         ensures unchanged { OnFalse result (self.new ≡ self.old) }
     {
-        self.narrow(PicksVariant { name })
+        self.narrow(SelectsVariant { name })
     }
 
     /// Takes the hint that the document has the name of a variant under the tag.
@@ -27,9 +27,9 @@ impl Solver<'_, '_, '_> {
     /// has that tag and no content name. Otherwise all candidates stay and the answer is false. The
     /// call allocates nothing.
     pub fn hint_variant_for_tag(&mut self, tag: &str, variant_name: &str) -> bool
-        ensures picked { IsTrue result
+        ensures selected { IsTrue result
             ↔ (passing (has_tag_field self.old.schema.build.catalogue tag.now) self.old ≢ [])
-            × (passing (picks_variant variant_name.now) self.old ≢ []) }
+            × (passing (selects_variant variant_name.now) self.old ≢ []) }
         ensures narrowed { self.new
             ≡ state.hint_variant_for_tag tag.now variant_name.now self.old }
         ensures unchanged { OnFalse result (self.new ≡ self.old) }

@@ -2,8 +2,8 @@
 ghost use Rattle.std.specs.Prelude.{◌≡◌, ◌↔◌, ◌+◌, ◌<◌, ◌≤◌, ℕ, IfOk, IsTrue, length, map};
 ghost use Rattle.facet_solver_shape.specs.Keys.{key_of};
 ghost use Rattle.facet_solver_shape.specs.Steps.{NoCountFalls};
-ghost use Rattle.facet_solver.specs.Indexed.{IsEntry};
-ghost use Rattle.facet_solver.specs.KeyResult.{HaveShape, HoldsHandleOf, IsUnknownOrSolved, key_result, key_result_view, of_fields, scored_view, solved, unknown};
+ghost use Rattle.facet_solver.specs.Indexed.{IsIndexEntry};
+ghost use Rattle.facet_solver.specs.KeyResult.{HaveShape, IsKeyResultOf, IsUnknownOrSolved, key_result, key_result_view, of_fields, scored_view, solved, unknown};
 ghost use Rattle.facet_solver.specs.Resolutions.{field_at, has_key};
 ghost use Rattle.facet_solver.specs.Schema.{SchemaView};
 ghost use Rattle.facet_solver.specs.State.{passing, state_of};
@@ -39,26 +39,26 @@ pub enum KeyResult<'s, 'c> {
 }
 
 impl<'s, 'c> KeyResult<'s, 'c> {
-    // Whether no candidate has a field that the key means.
+    /// Whether no candidate has a field that the key means.
     pub(crate) fn is_unknown(&self) -> bool
         ensures { IsTrue result ↔ (key_result_view self.now ≡ unknown) }
     {
         matches!(self, KeyResult::Unknown)
     }
 
-    // The answer by the index of the one candidate that is left.
+    /// The answer by the index of the one candidate that is left.
     fn of_one(schema: &'s Schema<'c>, index: usize) -> Self
         requires { index < length schema.now.resolutions }
         ensures answer { key_result_view result ≡ solved index }
-        ensures handle { HoldsHandleOf schema.now result }
+        ensures handle { IsKeyResultOf schema.now result }
     {
         KeyResult::Solved(ResolutionHandle::new(schema, index))
     }
 
-    // The answer by fields of different shapes, with the scores of the shapes.
+    /// The answer by fields of different shapes, with the scores of the shapes.
     pub(crate) fn of_fields(fields: Vec<(&'s FieldInfo<'c>, u64)>) -> Self
         ensures answer { key_result_view result ≡ of_fields (map scored_view fields.entry.items) }
-        ensures no_handle { (schema : SchemaView) → HoldsHandleOf schema result }
+        ensures no_handle { (schema : SchemaView) → IsKeyResultOf schema result }
     {
         match fields.as_slice() {
             [(field, _)] => KeyResult::Unambiguous {
@@ -79,10 +79,10 @@ pub(crate) fn key_result<'s, 'c>(
 ) -> Result<KeyResult<'s, 'c>, AllocError>
     requires bound { candidates.now.bound ≡ length search.now.schema.now.resolutions }
     requires entry { let resolutions = search.now.schema.now.resolutions in
-        IsEntry (length resolutions) (field_at (key_of search.now.key) resolutions) entry.now }
+        IsIndexEntry (length resolutions) (field_at (key_of search.now.key) resolutions) entry.now }
     ensures answer { let state = state_of search.now.schema.now candidates.now.members in
         IfOk result (λ answer. key_result_view answer ≡ key_result (key_of search.now.key) state) }
-    ensures handle { IfOk result (HoldsHandleOf search.now.schema.now) }
+    ensures handle { IfOk result (IsKeyResultOf search.now.schema.now) }
     ensures words { steps.new.words
         ≤ steps.old.words + begun_words (length search.now.schema.now.resolutions) }
     ensures searches { let state = state_of search.now.schema.now candidates.now.members in
@@ -109,8 +109,8 @@ pub(crate) fn key_result<'s, 'c>(
     Ok(KeyResult::of_fields(fields))
 }
 
-// Printed as a derived impl would. The derive gets no proof where references lie in pairs in a
-// vector, so each pair is printed by itself.
+/// Printed as a derived impl would. The derive gets no proof where references lie in pairs in a
+/// vector, so each pair is printed by itself.
 impl fmt::Debug for KeyResult<'_, '_> {
     fn fmt<W: fmt::Write>(&self, f: &mut fmt::Formatter<W>) -> fmt::Result {
         match self {

@@ -2,9 +2,9 @@
 ghost use Rattle.std.specs.Prelude.{◌≡◌, ◌∷◌, ◌++◌, [], IfOk, OnOk, List, ℕ, filter, map, slice_get};
 ghost use Rattle.std.specs.Option.{option_and_then, option_copied, option_map};
 ghost use Rattle.facet_solver_shape.specs.Names.{names_of};
-ghost use Rattle.facet_solver.specs.KeyResult.{HoldsHandleOf, key_result_view, scored_view};
+ghost use Rattle.facet_solver.specs.KeyResult.{IsKeyResultOf, key_result_view, scored_view};
 ghost use Rattle.facet_solver.specs.KeyPath.{has_key_at, has_key_path, whole_path};
-ghost use Rattle.facet_solver.specs.Probe.{below_first, by_shapes, field_on_path_at, fields_on_path, first_field, scored_at, shapes_at};
+ghost use Rattle.facet_solver.specs.Probe.{below_first, by_shapes, field_on_path_at, fields_on_path, first_field, scored_at, shapes_on_path};
 ghost use Rattle.facet_solver.specs.ShapeAtPath as at_path;
 ghost use Rattle.facet_solver.specs.Resolutions.{passes};
 
@@ -47,7 +47,7 @@ impl PathSearch<'_, '_, '_> {
             let left = filter (passes (has_key_path whole) schema.resolutions) set.now.members in
             IfOk result (λ answer. key_result_view answer
             ≡ by_shapes schema.build.catalogue (fields_on_path whole schema left)) }
-        ensures no_handle { IfOk result (HoldsHandleOf schema.now) }
+        ensures no_handle { IfOk result (IsKeyResultOf schema.now) }
     {
         let mut shapes = Vec::new(alloc);
         let mut fields = Vec::new(alloc);
@@ -61,8 +61,8 @@ impl PathSearch<'_, '_, '_> {
         })
     }
 
-    // Adds the shape of the resolution at an index, if that has the whole path and the shape is
-    // new, with the field of the first name and the score.
+    /// Adds the shape of the resolution at an index, if that has the whole path and the shape is
+    /// new, with the field of the first name and the score.
     fn add_if_new<'s, 'c>(
         &self,
         shapes: &mut Vec<ShapeId>,
@@ -72,11 +72,11 @@ impl PathSearch<'_, '_, '_> {
     ) -> Result<(), AllocError>
         ensures shapes { let whole = whole_path (names_of self.now.path.now) self.now.key.now in
             OnOk result ((seen : List ℕ)
-            → shapes.old.items ≡ shapes_at whole schema.now seen
-            → shapes.new.items ≡ shapes_at whole schema.now (seen ++ index ∷ [])) }
+            → shapes.old.items ≡ shapes_on_path whole schema.now seen
+            → shapes.new.items ≡ shapes_on_path whole schema.now (seen ++ index ∷ [])) }
         ensures fields { let whole = whole_path (names_of self.now.path.now) self.now.key.now in
             OnOk result ((seen : List ℕ)
-            → shapes.old.items ≡ shapes_at whole schema.now seen
+            → shapes.old.items ≡ shapes_on_path whole schema.now seen
             → map scored_view fields.old.items ≡ scored_at whole schema.now seen
             → map scored_view fields.new.items ≡ scored_at whole schema.now (seen ++ index ∷ [])) }
     {
@@ -93,7 +93,7 @@ impl PathSearch<'_, '_, '_> {
         Ok(())
     }
 
-    // Whether the resolution at an index has the whole path.
+    /// Whether the resolution at an index has the whole path.
     fn is_at(&self, schema: &Schema<'_>, index: usize) -> bool
         ensures { let whole = whole_path (names_of self.now.path.now) self.now.key.now in
             result ≡ passes (has_key_path whole) schema.now.resolutions index }
@@ -104,8 +104,8 @@ impl PathSearch<'_, '_, '_> {
         }
     }
 
-    // Where the resolution at an index has a shape at the path: the field of the first name, with
-    // that shape.
+    /// Where the resolution at an index has a shape at the path: the field of the first name, with
+    /// that shape.
     fn field_on_path_at<'s, 'c>(
         &self,
         schema: &'s Schema<'c>,
@@ -120,7 +120,7 @@ impl PathSearch<'_, '_, '_> {
         Some((field, shape))
     }
 
-    // The field of the first name in the resolution at an index.
+    /// The field of the first name in the resolution at an index.
     fn first_field_at<'s, 'c>(
         &self,
         schema: &'s Schema<'c>,
@@ -133,7 +133,7 @@ impl PathSearch<'_, '_, '_> {
         self.first_field(schema.resolutions().get(index)?)
     }
 
-    // The field of the first name.
+    /// The field of the first name.
     fn first_field<'s, 'c>(&self, resolution: &'s Resolution<'c>) -> Option<&'s FieldInfo<'c>>
         ensures { let whole = whole_path (names_of self.now.path.now) self.now.key.now in
             option_copied result ≡ first_field whole resolution.now }
@@ -144,7 +144,7 @@ impl PathSearch<'_, '_, '_> {
         }
     }
 
-    // The shape at the end of the path, from the shape of the field of the first name.
+    /// The shape at the end of the path, from the shape of the field of the first name.
     fn shape_below(&self, catalogue: &Shapes, first: ShapeId) -> Option<ShapeId>
         ensures { let whole = whole_path (names_of self.now.path.now) self.now.key.now in
             result ≡ at_path.shape_below catalogue.now (below_first whole) first }

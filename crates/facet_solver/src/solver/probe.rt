@@ -1,9 +1,9 @@
 //! The call that asks for a key at a path of names.
 ghost use Rattle.std.specs.Prelude.{◌≡◌, IfOk, OnErr, OnOk};
 ghost use Rattle.facet_solver_shape.specs.Names.{names_of};
-ghost use Rattle.facet_solver.specs.KeyResult.{HoldsHandleOf, key_result_view};
+ghost use Rattle.facet_solver.specs.KeyResult.{IsKeyResultOf, key_result_view};
 ghost use Rattle.facet_solver.specs.Probe as probe;
-ghost use Rattle.facet_solver.specs.Probe.{probe_result};
+ghost use Rattle.facet_solver.specs.Probe.{key_path_result};
 
 use crate::schema::handle::ResolutionHandle;
 use crate::set::Matches;
@@ -30,8 +30,8 @@ impl<'s, 'c> Solver<'s, 'c, '_> {
         key: &str,
     ) -> Result<KeyResult<'s, 'c>, AllocError>
         ensures answer { IfOk result (λ answer.
-            key_result_view answer ≡ probe_result (names_of path.now) key.now self.old) }
-        ensures handle { IfOk result (HoldsHandleOf self.old.schema) }
+            key_result_view answer ≡ key_path_result (names_of path.now) key.now self.old) }
+        ensures handle { IfOk result (IsKeyResultOf self.old.schema) }
         ensures ok { OnOk result
             (self.new ≡ probe.probe_key (names_of path.now) key.now self.old) }
         ensures err { OnErr result (self.new ≡ self.old) }

@@ -45,7 +45,7 @@ impl<'r, 'c, 'a> Report<'r, 'c, 'a> {
         let missing = self.closest_missing(&names)?;
         Ok(SolverError::NoMatch {
             input_fields: names_where(alloc, self.seen, AnyKey)?,
-            missing_required: names_of(alloc, &missing)?,
+            missing_required: missing_names(alloc, &missing)?,
             missing_required_detailed: missing,
             unknown_fields: names_where(
                 alloc,
@@ -71,17 +71,18 @@ impl<'r, 'c, 'a> Report<'r, 'c, 'a> {
         })
     }
 
-    // The first candidate.
+    /// The first candidate.
     fn closest(&self) -> Option<&'r Resolution<'c>>
         ensures { option_copied result ≡ verdict.closest (state_of_report self.now) }
     {
         self.schema.resolutions().get(self.candidates.first()?)
     }
 
-    // The description of the first candidate.
+    /// The description of the first candidate.
     fn closest_description(&self) -> Result<Option<String>, AllocError>
-        ensures { IfOk result (λ text. optional_name text
-            ≡ option_map (λ r. description r.picks) (verdict.closest (state_of_report self.now))) }
+        ensures { let closest = verdict.closest (state_of_report self.now) in
+            IfOk result (λ text.
+            optional_name text ≡ option_map (λ r. description r.selections) closest) }
     {
         match self.closest() {
             Some(resolution) => Ok(Some(resolution.describe(self.alloc)?)),
@@ -89,7 +90,7 @@ impl<'r, 'c, 'a> Report<'r, 'c, 'a> {
         }
     }
 
-    // What the first candidate lacks.
+    /// What the first candidate lacks.
     fn closest_missing(
         &self,
         names: &SeenNames<'_>,
@@ -106,7 +107,7 @@ impl<'r, 'c, 'a> Report<'r, 'c, 'a> {
         }
     }
 
-    // Why the candidates are not the answer, or where there is none, all resolutions.
+    /// Why the candidates are not the answer, or where there is none, all resolutions.
     fn failures(&self, names: &SeenNames<'_>) -> Result<Vec<CandidateFailure<'c>>, AllocError>
         requires { AreSeenNames (state_of_report self.now).seen names.now }
         ensures { let state = state_of_report self.now in
@@ -123,8 +124,11 @@ impl<'r, 'c, 'a> Report<'r, 'c, 'a> {
     }
 }
 
-// The names of missing fields.
-fn names_of<'c>(alloc: Global, fields: &[MissingFieldInfo<'c>]) -> Result<Vec<&'c str>, AllocError>
+/// The names of missing fields.
+fn missing_names<'c>(
+    alloc: Global,
+    fields: &[MissingFieldInfo<'c>],
+) -> Result<Vec<&'c str>, AllocError>
     ensures { IfOk result (λ names. names_of names.items
         ≡ map (λ f. f.name) (map missing_view fields.now)) }
 {

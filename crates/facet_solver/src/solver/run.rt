@@ -59,7 +59,7 @@ impl<'s, 'c, 'a> Solver<'s, 'c, 'a> {
         Ok(())
     }
 
-    // Makes one call.
+    /// Makes one call.
     fn make(&mut self, alloc: Global, call: &Call<'a>) -> Result<(), AllocError>
         ensures ok { OnOk result (self.new ≡ after_call (call_view call.now) self.old) }
         ensures err { OnErr result (self.new ≡ self.old) }

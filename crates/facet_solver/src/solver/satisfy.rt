@@ -1,7 +1,7 @@
 //! The calls that say which shapes a value fits.
 ghost use Rattle.std.specs.Prelude.{◌≡◌, IfOk};
 ghost use Rattle.facet_solver_shape.specs.Names.{names_of};
-ghost use Rattle.facet_solver.specs.SatisfyResult.{HoldsHandleOf, satisfy_result, satisfy_result_view};
+ghost use Rattle.facet_solver.specs.SatisfyResult.{IsSatisfyResultOf, satisfy_result, satisfy_result_view};
 ghost use Rattle.facet_solver.specs.ShapeAtPath as at_path;
 ghost use Rattle.facet_solver.specs.State as state;
 
@@ -20,7 +20,7 @@ impl<'s, 'c> Solver<'s, 'c, '_> {
     /// The answer says how many candidates are left. The call allocates nothing.
     pub fn satisfy(&mut self, fields: &[&FieldInfo<'_>]) -> SatisfyResult<'s, 'c>
         ensures answer { satisfy_result_view result ≡ satisfy_result self.new }
-        ensures handle { HoldsHandleOf self.old.schema result }
+        ensures handle { IsSatisfyResultOf self.old.schema result }
         ensures narrowed { self.new ≡ state.satisfy fields.now self.old }
     {
         self.retain(HasShapeAmong { items: fields });
@@ -33,7 +33,7 @@ impl<'s, 'c> Solver<'s, 'c, '_> {
     /// The answer says how many candidates are left. The call allocates nothing.
     pub fn satisfy_shapes(&mut self, shapes: &[ShapeId]) -> SatisfyResult<'s, 'c>
         ensures answer { satisfy_result_view result ≡ satisfy_result self.new }
-        ensures handle { HoldsHandleOf self.old.schema result }
+        ensures handle { IsSatisfyResultOf self.old.schema result }
         ensures narrowed { self.new ≡ state.satisfy_shapes shapes.now self.old }
     {
         self.retain(HasShapeAmong { items: shapes });
@@ -47,7 +47,7 @@ impl<'s, 'c> Solver<'s, 'c, '_> {
     /// structs. The answer says how many candidates are left. The call allocates nothing.
     pub fn satisfy_at_path(&mut self, path: &[&str], shapes: &[ShapeId]) -> SatisfyResult<'s, 'c>
         ensures answer { satisfy_result_view result ≡ satisfy_result self.new }
-        ensures handle { HoldsHandleOf self.old.schema result }
+        ensures handle { IsSatisfyResultOf self.old.schema result }
         ensures narrowed { self.new
             ≡ at_path.satisfy_at_path (names_of path.now) shapes.now self.old }
     {
@@ -75,10 +75,10 @@ impl<'s, 'c> Solver<'s, 'c, '_> {
         distinct_shapes(alloc, self.schema, &self.candidates, path)
     }
 
-    // The answer by the number of candidates that are left.
+    /// The answer by the number of candidates that are left.
     fn satisfy_result(&self) -> SatisfyResult<'s, 'c>
         ensures answer { satisfy_result_view result ≡ satisfy_result self.now }
-        ensures handle { HoldsHandleOf self.now.schema result }
+        ensures handle { IsSatisfyResultOf self.now.schema result }
     {
         let mut indices = self.candidates.iter();
         match (indices.next(), indices.next()) {

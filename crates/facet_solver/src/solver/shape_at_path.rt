@@ -49,7 +49,7 @@ pub(crate) fn distinct_shapes(
     Ok(shapes)
 }
 
-// The shape at a path of the resolution at an index.
+/// The shape at a path of the resolution at an index.
 fn shape_at(schema: &Schema<'_>, path: &[&str], index: usize) -> Option<ShapeId>
     ensures { let schema = schema.now in result
         ≡ at_path.shape_at schema.build.catalogue (names_of path.now) schema.resolutions index }
@@ -57,7 +57,7 @@ fn shape_at(schema: &Schema<'_>, path: &[&str], index: usize) -> Option<ShapeId>
     shape_at_path(schema.shapes(), path, schema.resolutions().get(index)?)
 }
 
-// Adds a shape that is not there yet.
+/// Adds a shape that is not there yet.
 fn add_if_new(shapes: &mut Vec<ShapeId>, shape: ShapeId) -> Result<(), AllocError>
     ensures { OnOk result ((seen : List ℕ) → shapes.old.items ≡ distinct seen
         → shapes.new.items ≡ distinct (seen ++ shape ∷ [])) }
@@ -103,7 +103,7 @@ pub(crate) fn shape_of_member(catalogue: &Shapes, name: &str, id: ShapeId) -> Op
     }
 }
 
-// The shape of the first field that goes by a name.
+/// The shape of the first field that goes by a name.
 fn shape_of_field(name: &str, fields: &[Field]) -> Option<ShapeId>
     ensures { result ≡ at_path.shape_of_field name.now fields.now }
 {

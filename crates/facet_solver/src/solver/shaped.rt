@@ -30,7 +30,7 @@ impl Shaped for &FieldInfo<'_> {
     }
 }
 
-// A field with its score.
+/// A field with its score.
 impl Shaped for (&FieldInfo<'_>, u64) {
     ghost shape_of = { λ e. e.0.now.shape };
 

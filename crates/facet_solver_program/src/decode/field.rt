@@ -39,7 +39,7 @@ pub fn fields_at(alloc: Global, value: &Value) -> Result<Vec<Field>, DecodeError
     fields(alloc, items_at(value, "fields")?)
 }
 
-// The fields that items are.
+/// The fields that items are.
 fn fields(alloc: Global, items: &[Value]) -> Result<Vec<Field>, DecodeError>
     ensures ok { IfOk result (λ fields.
         each catalogue.field (items_view items.now) ≡ Some (map field_view fields.items)) }
@@ -67,7 +67,7 @@ pub fn variant(alloc: Global, value: &Value) -> Result<Variant, DecodeError>
     })
 }
 
-// The mark of a field.
+/// The mark of a field.
 fn mark_at(value: &Value) -> Result<DomMark, DecodeError>
     ensures ok { IfOk result (λ mark. catalogue.mark_at (view value.now) ≡ Some mark) }
     ensures bad { IsErrOf result DecodeError.BadInput → catalogue.mark_at (view value.now) ≡ None }

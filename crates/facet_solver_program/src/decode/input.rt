@@ -39,7 +39,7 @@ pub fn decode<'v>(alloc: Global, value: &'v Value) -> Result<Input<'v>, DecodeEr
     })
 }
 
-// The shapes that an input lists.
+/// The shapes that an input lists.
 fn shapes_at(alloc: Global, value: &Value) -> Result<Vec<Shape>, DecodeError>
     ensures ok { IfOk result (λ shapes.
         input.shapes_at (view value.now) ≡ Some (map shape_view shapes.items)) }
@@ -51,7 +51,7 @@ fn shapes_at(alloc: Global, value: &Value) -> Result<Vec<Shape>, DecodeError>
     }
 }
 
-// The builder that an input asks for.
+/// The builder that an input asks for.
 fn builder_at(value: &Value) -> Result<Builder, DecodeError>
     ensures ok { IfOk result (λ builder. input.builder_at (view value.now) ≡ Some builder) }
     ensures bad { IsErrOf result DecodeError.BadInput → input.builder_at (view value.now) ≡ None }
@@ -65,7 +65,7 @@ fn builder_at(value: &Value) -> Result<Builder, DecodeError>
     }
 }
 
-// The members of an input's document.
+/// The members of an input's document.
 fn document_at(value: &Value) -> Result<&Map<String, Value>, DecodeError>
     ensures ok { IfOk result (λ document.
         input.document_at (view value.now) ≡ Some (members_view document.now.entries)) }

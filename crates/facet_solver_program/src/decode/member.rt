@@ -57,7 +57,7 @@ pub fn optional_text_at(
     }
 }
 
-// The index of a shape.
+/// The index of a shape.
 fn as_index(value: &Value) -> Result<ShapeId, DecodeError>
     ensures ok { IfOk result (λ index. members.as_index (view value.now) ≡ Some index) }
     ensures bad { IsErrOf result DecodeError.BadInput

@@ -29,7 +29,7 @@ pub fn shapes(alloc: Global, items: &[Value]) -> Result<Vec<Shape>, DecodeError>
     Ok(shapes)
 }
 
-// The shape that a value is.
+/// The shape that a value is.
 #[tactic(auto, unfolding(crate::specs::Catalogue::shape))]
 fn shape(alloc: Global, value: &Value) -> Result<Shape, DecodeError>
     ensures ok { IfOk result (λ shape. catalogue.shape (view value.now) ≡ Some (shape_view shape)) }
@@ -47,7 +47,7 @@ fn shape(alloc: Global, value: &Value) -> Result<Shape, DecodeError>
     })
 }
 
-// What the shape that a value is is made of.
+/// What the shape that a value is is made of.
 fn kind(alloc: Global, value: &Value) -> Result<ShapeKind, DecodeError>
     ensures ok { IfOk result (λ kind. catalogue.kind (view value.now) ≡ Some (kind_view kind)) }
     ensures bad { IsErrOf result DecodeError.BadInput → catalogue.kind (view value.now) ≡ None }
@@ -74,7 +74,7 @@ fn kind(alloc: Global, value: &Value) -> Result<ShapeKind, DecodeError>
     }
 }
 
-// The variants that items are.
+/// The variants that items are.
 fn variants(alloc: Global, items: &[Value]) -> Result<Vec<Variant>, DecodeError>
     ensures ok { IfOk result (λ variants.
         each catalogue.variant (items_view items.now) ≡ Some (map variant_view variants.items)) }
@@ -88,7 +88,7 @@ fn variants(alloc: Global, items: &[Value]) -> Result<Vec<Variant>, DecodeError>
     Ok(variants)
 }
 
-// The basic type of a scalar.
+/// The basic type of a scalar.
 fn scalar_at(value: &Value) -> Result<ScalarType, DecodeError>
     ensures ok { IfOk result (λ scalar. catalogue.scalar_at (view value.now) ≡ Some scalar) }
     ensures bad { IsErrOf result DecodeError.BadInput

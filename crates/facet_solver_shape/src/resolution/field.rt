@@ -1,8 +1,8 @@
-//! Fields of a resolution, nested keys and picked variants.
+//! Fields of a resolution, nested keys and selected variants.
 ghost use Rattle.std.specs.Prelude.{◌≡◌, ◌++◌, map, IfOk, OnOk};
 ghost use Rattle.facet_solver_shape.specs.Keys.{key_of};
 ghost use Rattle.facet_solver_shape.specs.Fields.{matches, key_of_field};
-ghost use Rattle.facet_solver_shape.specs.Resolved.{pick_view};
+ghost use Rattle.facet_solver_shape.specs.Resolved.{selection_view};
 
 use crate::resolution::key::{FieldCategory, FieldKey};
 use crate::resolution::path::FieldPath;
@@ -60,8 +60,8 @@ pub struct VariantSelection<'c> {
 }
 
 impl<'c> FieldInfo<'c> {
-    // The stored key, under which a resolution keeps the field: that of its name alone for a field
-    // of category Flat, else that of its name in its category.
+    /// The stored key, under which a resolution keeps the field: that of its name alone for a field
+    /// of category Flat, else that of its name in its category.
     pub(crate) fn key(&self) -> FieldKey<'c>
         ensures { key_of result ≡ key_of_field self.now }
     {
@@ -89,7 +89,7 @@ impl<'c> FieldInfo<'c> {
         }
     }
 
-    // The same field, with a path in memory of its own.
+    /// The same field, with a path in memory of its own.
     pub(crate) fn copied(&self, alloc: Global) -> Result<Self, AllocError>
         ensures { IfOk result (λ made. made ≡ self.now) }
     {
@@ -105,9 +105,9 @@ impl<'c> FieldInfo<'c> {
 }
 
 impl<'c> VariantSelection<'c> {
-    // The same pick, with a path in memory of its own.
+    /// The same selection, with a path in memory of its own.
     pub(crate) fn copied(&self, alloc: Global) -> Result<Self, AllocError>
-        ensures { IfOk result (λ made. pick_view made ≡ pick_view self.now) }
+        ensures { IfOk result (λ made. selection_view made ≡ selection_view self.now) }
     {
         Ok(VariantSelection {
             path: self.path.copied(alloc)?,
@@ -117,14 +117,14 @@ impl<'c> VariantSelection<'c> {
     }
 }
 
-// The picks of both, in order.
-pub(crate) fn joined_picks<'c>(
+/// The selections of both, in order.
+pub(crate) fn joined_selections<'c>(
     alloc: Global,
     first: &[VariantSelection<'c>],
     second: &[VariantSelection<'c>],
 ) -> Result<Vec<VariantSelection<'c>>, AllocError>
-    ensures { IfOk result (λ made. map pick_view made.items
-        ≡ map pick_view first.now ++ map pick_view second.now) }
+    ensures { IfOk result (λ made. map selection_view made.items
+        ≡ map selection_view first.now ++ map selection_view second.now) }
 {
     let mut made = Vec::new(alloc);
     push_copies(alloc, &mut made, first)?;
@@ -132,17 +132,17 @@ pub(crate) fn joined_picks<'c>(
     Ok(made)
 }
 
-// After an error some of the picks may have been added.
+/// After an error some of the selections may have been added.
 fn push_copies<'c>(
     alloc: Global,
     made: &mut Vec<VariantSelection<'c>>,
-    picks: &[VariantSelection<'c>],
+    selections: &[VariantSelection<'c>],
 ) -> Result<(), AllocError>
-    ensures { OnOk result (map pick_view made.new.items
-        ≡ map pick_view made.old.items ++ map pick_view picks.now) }
+    ensures { OnOk result (map selection_view made.new.items
+        ≡ map selection_view made.old.items ++ map selection_view selections.now) }
 {
-    for pick in picks {
-        made.push(pick.copied(alloc)?)?;
+    for selection in selections {
+        made.push(selection.copied(alloc)?)?;
     }
     Ok(())
 }

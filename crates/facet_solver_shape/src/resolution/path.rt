@@ -3,7 +3,7 @@ ghost use Rattle.std.specs.Prelude.{◌≡◌, map, [], ◌∷◌, ◌++◌, ◌
 ghost use Rattle.std.specs.Option.{option_map};
 ghost use Rattle.std.specs.List.{flat_map};
 ghost use Rattle.std.specs.Cmp.{partial_equiv_from_equiv};
-ghost use Rattle.facet_solver_shape.specs.Paths.{step_of, by_field, by_variant, step_text, path_text, path_eq, path_eq_equiv};
+ghost use Rattle.facet_solver_shape.specs.Paths.{segment_of, by_field, by_variant, segment_text, path_text, path_eq, path_eq_equiv};
 
 use std::alloc::{AllocError, Global};
 use std::fmt;
@@ -30,11 +30,11 @@ pub struct FieldPath<'c> {
 
 impl<'c> Model for FieldPath<'c> {
     ghost use Rattle.std.specs.Prelude.{List, map};
-    ghost use Rattle.facet_solver_shape.specs.Paths.{Step, step_of};
+    ghost use Rattle.facet_solver_shape.specs.Paths.{Segment, segment_of};
 
-    ghost Value = { List Step };
+    ghost Value = { List Segment };
 
-    ghost view = { λ a. map step_of a.segments.items };
+    ghost view = { λ a. map segment_of a.segments.items };
 }
 
 impl PartialEq for FieldPath<'_> {
@@ -53,7 +53,7 @@ impl Eq for FieldPath<'_> {
 
 /// The path of these segments, from the root on.
 impl<'c> From<Vec<PathSegment<'c>>> for FieldPath<'c> {
-    ghost from_gives = { λ segments path. path ≡ map step_of segments.items };
+    ghost from_gives = { λ segments path. path ≡ map segment_of segments.items };
 
     fn from(segments: Vec<PathSegment<'c>>) -> FieldPath<'c> {
         FieldPath { segments }
@@ -92,7 +92,7 @@ impl<'c> FieldPath<'c> {
     }
 
     fn pushed(&self, alloc: Global, segment: PathSegment<'c>) -> Result<Self, AllocError>
-        ensures { IfOk result (λ path. path ≡ self.now ++ step_of segment.entry ∷ []) }
+        ensures { IfOk result (λ path. path ≡ self.now ++ segment_of segment.entry ∷ []) }
     {
         let mut segments = Vec::with_capacity(alloc, self.segments.len() + 1)?;
         segments.extend_from_slice(&self.segments)?;
@@ -100,7 +100,7 @@ impl<'c> FieldPath<'c> {
         Ok(FieldPath { segments })
     }
 
-    // The same path in memory of its own.
+    /// The same path in memory of its own.
     pub(crate) fn copied(&self, alloc: Global) -> Result<Self, AllocError>
         ensures { IfOk result (λ path. path ≡ self.now) }
     {
@@ -127,7 +127,7 @@ impl<'c> FieldPath<'c> {
 
     /// The last segment; `None` for the root.
     pub fn last(&self) -> Option<&PathSegment<'c>>
-        ensures { option_map (λ s. step_of s.now) result
+        ensures { option_map (λ s. segment_of s.now) result
             ≡ slice_get self.now (length self.now - 1) }
     {
         self.segments.last()
@@ -135,18 +135,18 @@ impl<'c> FieldPath<'c> {
 
     /// The segments, from the root on.
     pub fn segments(&self) -> &[PathSegment<'c>]
-        ensures { map step_of result.now ≡ self.now }
+        ensures { map segment_of result.now ≡ self.now }
     {
         &self.segments
     }
 }
 
-// A segment, to be printed.
+/// A segment, to be printed.
 #[derive(Drop)]
 struct SegmentText<'s, 'c>(&'s PathSegment<'c>);
 
 impl fmt::Display for SegmentText<'_, '_> {
-    ghost output = { λ s. Some (step_text (step_of s.0.now)) };
+    ghost output = { λ s. Some (segment_text (segment_of s.0.now)) };
 
     fn fmt<W: fmt::Write>(&self, f: &mut fmt::Formatter<W>) -> fmt::Result {
         match *self.0 {
@@ -156,12 +156,12 @@ impl fmt::Display for SegmentText<'_, '_> {
     }
 }
 
-// Segments, to be printed with a dot before each.
+/// Segments, to be printed with a dot before each.
 #[derive(Drop)]
 struct Dotted<'s, 'c>(&'s [PathSegment<'c>]);
 
 impl fmt::Display for Dotted<'_, '_> {
-    ghost output = { λ d. Some (flat_map (λ s. codes "." ++ step_text (step_of s)) d.0.now) };
+    ghost output = { λ d. Some (flat_map (λ s. codes "." ++ segment_text (segment_of s)) d.0.now) };
 
     fn fmt<W: fmt::Write>(&self, f: &mut fmt::Formatter<W>) -> fmt::Result {
         for segment in self.0 {

@@ -1,4 +1,4 @@
-// The tables of a resolution, each seen as a finite map or set.
+//! The tables of a resolution, each seen as a finite map or set.
 pub(crate) mod catch_alls;
 pub(crate) mod field_map;
 pub(crate) mod key_path_set;

@@ -70,7 +70,7 @@ impl CatalogueError {
         }
     }
 
-    // What the shape does that no shape of a catalogue does.
+    /// What the shape does that no shape of a catalogue does.
     fn fault(&self) -> &'static str
         ensures { result.now ≡ fault_text self.now }
     {
@@ -192,7 +192,7 @@ impl Shapes {
         end
     }
 
-    // Where the shape at an index leads to.
+    /// Where the shape at an index leads to.
     fn pointee(&self, id: ShapeId) -> Option<ShapeId>
         ensures value { result ≡ pointee_at self.now id }
         ensures checked { IsChecked self.now }

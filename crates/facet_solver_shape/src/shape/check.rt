@@ -14,8 +14,8 @@ use names::{repeats_field_name, repeats_variant_name};
 pub(super) use pointers::later_pointee;
 use pointers::never_ends;
 
-// Gives the fault of lowest number that the shape at one index of a list has, where pointees
-// followed from all earlier indices and from `ending` come to an end.
+/// Gives the fault of lowest number that the shape at one index of a list has, where pointees
+/// followed from all earlier indices and from `ending` come to an end.
 pub(super) fn check_shape(
     shapes: &[Shape],
     index: usize,

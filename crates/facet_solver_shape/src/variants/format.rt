@@ -100,7 +100,7 @@ impl VariantFormat {
     }
 }
 
-// The format of a variant whose fields have no names.
+/// The format of a variant whose fields have no names.
 fn unnamed_format(shapes: &Shapes, fields: &[Field]) -> VariantFormat
     ensures { result ≡ unnamed_format shapes.now fields.now }
 {
@@ -112,7 +112,7 @@ fn unnamed_format(shapes: &Shapes, fields: &[Field]) -> VariantFormat
     }
 }
 
-// The format of a variant with one field without a name.
+/// The format of a variant with one field without a name.
 fn newtype_format(shapes: &Shapes, field: ShapeId) -> VariantFormat
     ensures { result ≡ newtype_format shapes.now field }
 {
@@ -124,7 +124,7 @@ fn newtype_format(shapes: &Shapes, field: ShapeId) -> VariantFormat
     }
 }
 
-// That format, by the kind at the end of the value.
+/// That format, by the kind at the end of the value.
 fn format_of_kind(kind: &ShapeKind, value: ShapeId, inner_shape: ShapeId) -> VariantFormat
     ensures { result ≡ format_of_kind kind.now value inner_shape }
 {
@@ -154,14 +154,14 @@ fn format_of_kind(kind: &ShapeKind, value: ShapeId, inner_shape: ShapeId) -> Var
     }
 }
 
-// The shape that a shape stands for: what a metadata container contains, else itself.
+/// The shape that a shape stands for: what a metadata container contains, else itself.
 fn value_shape(shapes: &Shapes, id: ShapeId) -> ShapeId
     ensures { result ≡ value_shape shapes.now id }
 {
     shapes.get(id).and_then(contained_shape).unwrap_or(id)
 }
 
-// What a metadata container contains: the shape of its first field that is not metadata.
+/// What a metadata container contains: the shape of its first field that is not metadata.
 fn contained_shape(shape: &Shape) -> Option<ShapeId>
     ensures { result ≡ contained_shape shape.now }
 {
@@ -171,14 +171,14 @@ fn contained_shape(shape: &Shape) -> Option<ShapeId>
     }
 }
 
-// The shape of the first field that is not metadata.
+/// The shape of the first field that is not metadata.
 fn first_plain_shape(fields: &[Field]) -> Option<ShapeId>
     ensures { result ≡ option_map (λ f. f.shape) (find (λ f. not f.metadata) fields.now) }
 {
     fields.iter().find(|f| !f.metadata).map(|f| f.shape)
 }
 
-// Whether none of the variants has a field.
+/// Whether none of the variants has a field.
 fn have_no_fields(variants: &[Variant]) -> bool
     ensures { result ≡ list_all (λ v. length v.fields.items == 0) variants.now }
 {

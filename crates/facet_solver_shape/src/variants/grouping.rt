@@ -9,7 +9,7 @@ use super::format::VariantFormat;
 use crate::shape::{ScalarType, ShapeId, Shapes, Variant};
 use std::alloc::{AllocError, Global};
 
-// The lists of these variants.
+/// The lists of these variants.
 pub(super) fn grouped<'c>(
     alloc: Global,
     shapes: &'c Shapes,
@@ -26,7 +26,7 @@ pub(super) fn grouped<'c>(
 }
 
 impl<'c> VariantsByFormat<'c> {
-    // No variants yet.
+    /// No variants yet.
     fn empty(alloc: Global) -> Self
         ensures { groups_view result ≡ groups_of [] [] }
     {
@@ -43,7 +43,7 @@ impl<'c> VariantsByFormat<'c> {
         }
     }
 
-    // Adds one more variant at the end of its lists.
+    /// Adds one more variant at the end of its lists.
     fn add(&mut self, shapes: &Shapes, variant: &'c Variant) -> Result<(), AllocError>
         ensures { OnOk result (groups_view self.new
             ≡ joined (groups_view self.old) (groups_of shapes.now (variant.now ∷ []))) }
@@ -65,7 +65,7 @@ impl<'c> VariantsByFormat<'c> {
         Ok(())
     }
 
-    // Adds a scalar at the end of the scalar list, and of the list of its type if there is one.
+    /// Adds a scalar at the end of the scalar list, and of the list of its type if there is one.
     fn add_scalar(
         &mut self,
         shapes: &Shapes,
@@ -103,7 +103,7 @@ impl<'c> VariantsByFormat<'c> {
     }
 }
 
-// Adds a variant with a shape at the end of a list.
+/// Adds a variant with a shape at the end of a list.
 fn add_entry<'c>(
     list: &mut Vec<(&'c Variant, ShapeId)>,
     variant: &'c Variant,
@@ -119,7 +119,7 @@ fn add_entry<'c>(
     }
 }
 
-// The scalar type at the end of a shape, if it is a scalar.
+/// The scalar type at the end of a shape, if it is a scalar.
 #[tactic(auto, unfolding(crate::specs::Scalars::end_scalar))]
 fn end_scalar(shapes: &Shapes, id: ShapeId) -> Option<ScalarType>
     ensures { result ≡ end_scalar shapes.now id }

@@ -66,7 +66,7 @@ pub fn ambiguity_table<'c>(
     Ok(table(alloc, schema.resolutions(), &pairs)?)
 }
 
-// The table of some pairs.
+/// The table of some pairs.
 fn table(
     alloc: Global,
     resolutions: &[Resolution<'_>],
@@ -98,7 +98,7 @@ fn push_description(
     text.push_str(" | ")
 }
 
-// The names of keys: in a format without attributes and elements they are all that a key has.
+/// The names of keys: in a format without attributes and elements they are all that a key has.
 fn push_keys(keys: &[FieldKey<'_>], text: &mut String) -> Result<(), AllocError> {
     let mut between = "";
     for key in keys {

@@ -44,7 +44,7 @@ pub fn ambiguous_pairs<'c>(
     Ok(pairs)
 }
 
-// Adds the pairs of a resolution and those before it.
+/// Adds the pairs of a resolution and those before it.
 fn add_pairs_with<'c>(
     alloc: Global,
     schema: &Schema<'c>,
@@ -67,7 +67,7 @@ fn add_pairs_with<'c>(
     Ok(())
 }
 
-// The pair of two resolutions. Each key in it is one that both have.
+/// The pair of two resolutions. Each key in it is one that both have.
 fn pair_of<'c>(
     alloc: Global,
     resolutions: &[Resolution<'c>],
@@ -93,8 +93,8 @@ fn pair_of<'c>(
     }))
 }
 
-// Adds a key, which the other resolution has, for each field that one requires and no key meets,
-// until there is none.
+/// Adds a key, which the other resolution has, for each field that one requires and no key meets,
+/// until there is none.
 fn add_keys<'c>(
     required_by: &Resolution<'c>,
     other: &Resolution<'c>,
@@ -115,7 +115,7 @@ fn add_keys<'c>(
     Ok(true)
 }
 
-// Whether keys meet a field: it is not required, or one of them means it.
+/// Whether keys meet a field: it is not required, or one of them means it.
 fn is_met(keys: &[FieldKey<'_>], field: &FieldInfo<'_>) -> bool
     ensures { result ≡ is_met (keys_of keys.now) field.now }
 {
@@ -127,7 +127,7 @@ fn is_met(keys: &[FieldKey<'_>], field: &FieldInfo<'_>) -> bool
     !field.required
 }
 
-// A key that means a field, and that a resolution has.
+/// A key that means a field, and that a resolution has.
 fn key_for<'c>(field: &FieldInfo<'c>, resolution: &Resolution<'c>) -> Option<FieldKey<'c>>
     ensures { IsKeyFor resolution.now field.now result }
 {
@@ -140,8 +140,8 @@ fn key_for<'c>(field: &FieldInfo<'c>, resolution: &Resolution<'c>) -> Option<Fie
     None
 }
 
-// The keys that may mean a field of a name: a key without a name means a text, a tag, or all
-// elements.
+/// The keys that may mean a field of a name: a key without a name means a text, a tag, or all
+/// elements.
 fn keys_for<'c>(name: &'c str) -> [FieldKey<'c>; 10]
     ensures { keys_of result ≡ keys_for name.now }
 {
@@ -159,14 +159,14 @@ fn keys_for<'c>(name: &'c str) -> [FieldKey<'c>; 10]
     ]
 }
 
-// Whether a key means a field and a resolution has it.
+/// Whether a key means a field and a resolution has it.
 fn serves(key: &FieldKey<'_>, field: &FieldInfo<'_>, resolution: &Resolution<'_>) -> bool
     ensures { result ≡ serves resolution.now field.now (key_of key.now) }
 {
     field.matched_by(key) && resolution.field_by_key(key).is_some()
 }
 
-// The names of a resolution's fields that another one has no field of.
+/// The names of a resolution's fields that another one has no field of.
 fn names_beside<'c>(
     alloc: Global,
     other: &Resolution<'c>,

@@ -7,7 +7,7 @@ ghost use Rattle.facet_solver.specs.Fields.{FieldView};
 ghost use Rattle.facet_solver.specs.Keys.{key_of};
 ghost use Rattle.facet_solver.specs.Resolved.{field_by_key};
 ghost use Rattle.facet_solver_tests.specs.ChoiceToValues.{FindsMember, FindsMembers, FindsRest, GivesValues, HaveOneKey};
-ghost use Rattle.facet_solver_tests.specs.ChoiceToValues.{catch_all_of, field_at};
+ghost use Rattle.facet_solver_tests.specs.ChoiceToValues.{catch_all_of, meant_field_at};
 ghost use Rattle.facet_solver_tests.specs.KeysToChoice.{keys_of};
 
 use facet_solver::{FieldCategory, FieldInfo, FieldKey, Resolution};
@@ -117,7 +117,7 @@ pub fn catch_all_of<'r, 'c>(
     }
 }
 
-// The members that no field takes. One that no catch-all takes either is refused.
+/// The members that no field takes. One that no catch-all takes either is refused.
 fn rest_of<'r, 'c, 'd>(
     alloc: Global,
     resolution: &Resolution<'_>,
@@ -137,7 +137,7 @@ fn rest_of<'r, 'c, 'd>(
     Ok(rest)
 }
 
-// The field that each key means.
+/// The field that each key means.
 fn meant_fields<'r, 'c>(
     alloc: Global,
     resolution: &'r Resolution<'c>,
@@ -153,15 +153,15 @@ fn meant_fields<'r, 'c>(
     Ok(meant)
 }
 
-// Each field of a resolution with the member that means it, by the fields that the members mean.
+/// Each field of a resolution with the member that means it, by the fields that the members mean.
 fn members_of<'r, 'c, 'd>(
     alloc: Global,
     resolution: &'r Resolution<'c>,
     meant: &[Option<&FieldInfo<'_>>],
 ) -> Result<Vec<FieldValue<'r, 'c>>, Mismatch<'r, 'c, 'd>>
-    requires { (member : ℕ) (f : FieldView) → field_at meant.now member ≡ Some f
+    requires { (member : ℕ) (f : FieldView) → meant_field_at meant.now member ≡ Some f
         → Contains (finite.values resolution.now.fields) f }
-    ensures { FindsMembers resolution.now (field_at meant.now) result }
+    ensures { FindsMembers resolution.now (meant_field_at meant.now) result }
 {
     let mut fields = Vec::new(alloc);
     for (_, field) in resolution.fields() {
@@ -174,14 +174,14 @@ fn members_of<'r, 'c, 'd>(
     Ok(fields)
 }
 
-// The member that means a field, if there is one. A second one is refused.
+/// The member that means a field, if there is one. A second one is refused.
 fn member_of<'r, 'c, 'd>(
     field: &'r FieldInfo<'c>,
     meant: &[Option<&FieldInfo<'_>>],
 ) -> Result<Option<usize>, Mismatch<'r, 'c, 'd>>
-    requires { (member : ℕ) (f : FieldView) → field_at meant.now member ≡ Some f
+    requires { (member : ℕ) (f : FieldView) → meant_field_at meant.now member ≡ Some f
         → HaveOneKey f field.now → f ≡ field.now }
-    ensures { FindsMember (field_at meant.now) field.now result }
+    ensures { FindsMember (meant_field_at meant.now) field.now result }
 {
     let mut found = None;
     for (member, other) in meant.iter().enumerate() {
@@ -199,8 +199,8 @@ fn member_of<'r, 'c, 'd>(
     Ok(found)
 }
 
-// Whether a field was found, and has the category and the name of another one. Of the fields of a
-// resolution only that one itself has both.
+/// Whether a field was found, and has the category and the name of another one. Of the fields of a
+/// resolution only that one itself has both.
 fn is_of_key(found: Option<&FieldInfo<'_>>, field: &FieldInfo<'_>) -> bool
     ensures { IsTrue result ↔ IsSomeAnd (option_copied found.entry) (λ f. HaveOneKey f field.now) }
 {

@@ -6,7 +6,7 @@ ghost use Rattle.facet_solver.specs.State.{new_solver, see_key};
 ghost use Rattle.facet_solver.specs.Told.{see_keys};
 ghost use Rattle.facet_solver.specs.declared.Format.TheVariants as Format;
 ghost use Rattle.facet_solver_tests.specs.ElementToChoice.{key_of_part, keys_of_parts};
-ghost use Rattle.facet_solver_tests.specs.KeysToChoice.{FindsChoice, FindsInSchema, IsAnswer, IsVerdict};
+ghost use Rattle.facet_solver_tests.specs.KeysToChoice.{FindsChoice, FindsInSchema, IsChoiceAnswer, IsChoiceVerdict};
 
 use crate::callers::keys_to_choice::{Choice, NoChoice};
 use facet_solver::laws::{calls_are_made_one_by_one, told_choices_are_found};
@@ -38,7 +38,7 @@ pub fn element_to_choice<'c>(
     requires { root < length shapes.now }
     ensures found { FindsChoice
         (build_with shapes.now None Format.Dom) root (keys_of_parts parts.now) result }
-    ensures answer { IsAnswer
+    ensures answer { IsChoiceAnswer
         (build_with shapes.now None Format.Dom) root (keys_of_parts parts.now) result }
 {
     // Keys change no schema.
@@ -59,7 +59,7 @@ pub fn element_in_schema<'s, 'c>(
     parts: &[Part<'_>],
 ) -> Result<ResolutionHandle<'s, 'c>, SolverError<'c>>
     ensures found { FindsInSchema schema.now (keys_of_parts parts.now) result }
-    ensures verdict { IsVerdict
+    ensures verdict { IsChoiceVerdict
         (see_keys (keys_of_parts parts.now) (new_solver schema.now)) result }
 {
     // The clauses that the contract follows from, beside that of `finish`.
@@ -73,7 +73,7 @@ pub fn element_in_schema<'s, 'c>(
     solver.finish(alloc)
 }
 
-// Tells a part, whose answer is left out: the end alone counts.
+/// Tells a part, whose answer is left out: the end alone counts.
 fn see_part<'d>(
     solver: &mut Solver<'_, '_, 'd>,
     alloc: Global,

@@ -5,7 +5,7 @@ ghost use Rattle.facet_solver.specs.Representation.{flattened};
 ghost use Rattle.facet_solver.specs.Schema.{flat_build};
 ghost use Rattle.facet_solver.specs.State.{new_solver};
 ghost use Rattle.facet_solver.specs.Told.{see_keys};
-ghost use Rattle.facet_solver_tests.specs.KeysToChoice.{FindsChoice, FindsInSchema, IsAnswer, IsVerdict, keys_of};
+ghost use Rattle.facet_solver_tests.specs.KeysToChoice.{FindsChoice, FindsInSchema, IsChoiceAnswer, IsChoiceVerdict, keys_of};
 
 use facet_solver::laws::{calls_are_made_one_by_one, told_choices_are_found};
 use facet_solver::{
@@ -76,7 +76,7 @@ pub fn keys_to_choice<'c>(
     requires { root < length shapes.now }
     ensures found { FindsChoice
         (flat_build shapes.now (Some flattened)) root (keys_of keys.now) result }
-    ensures answer { IsAnswer
+    ensures answer { IsChoiceAnswer
         (flat_build shapes.now (Some flattened)) root (keys_of keys.now) result }
 {
     // Keys change no schema.
@@ -97,7 +97,7 @@ pub fn choice_in_schema<'s, 'c>(
     keys: &[FieldKey<'_>],
 ) -> Result<ResolutionHandle<'s, 'c>, SolverError<'c>>
     ensures found { FindsInSchema schema.now (keys_of keys.now) result }
-    ensures verdict { IsVerdict (see_keys (keys_of keys.now) (new_solver schema.now)) result }
+    ensures verdict { IsChoiceVerdict (see_keys (keys_of keys.now) (new_solver schema.now)) result }
 {
     // What is known of told keys, of calls, and of the schema: the clauses that the contract
     // follows from, beside that of `finish`.

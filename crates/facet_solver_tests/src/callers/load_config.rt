@@ -3,7 +3,7 @@
 ghost use Rattle.std.specs.Prelude.{◌≡◌, ◌++◌, IfOk, List, OnOk};
 ghost use Rattle.std.specs.List.{list_any};
 ghost use Rattle.facet_solver.specs.Names.{Name, name_eq, names_of};
-ghost use Rattle.facet_solver_tests.specs.LoadConfig.{IsFirstUnknown, Loads, each_once, picked_names, variant_names};
+ghost use Rattle.facet_solver_tests.specs.LoadConfig.{IsFirstUnknown, Loads, each_once, selected_names, variant_names};
 ghost use Rattle.facet_solver_tests.specs.KeysToChoice.{keys_of};
 
 use facet_solver::{FieldKey, Resolution, ResolutionHandle, Schema, Solver, SolverError};
@@ -68,7 +68,7 @@ pub fn load_config<'s, 'c, 'd>(
     }
 }
 
-// The names of the variants that the candidates picked, each once, in their order.
+/// The names of the variants that the candidates selected, each once, in their order.
 fn variant_names<'c>(alloc: Global, solver: &Solver<'_, 'c, '_>) -> Result<Vec<&'c str>, AllocError>
     ensures { IfOk result (λ names. names_of names.items ≡ variant_names solver.now) }
 {
@@ -80,30 +80,30 @@ fn variant_names<'c>(alloc: Global, solver: &Solver<'_, 'c, '_>) -> Result<Vec<&
     Ok(names)
 }
 
-// Adds those names of the variants that a resolution picked that are new.
+/// Adds those names of the variants that a resolution selected that are new.
 fn add_variant_names<'c>(
     resolution: &Resolution<'c>,
     names: &mut Vec<&'c str>,
 ) -> Result<(), AllocError>
     ensures { OnOk result ((met : List Name) → names_of names.old.items ≡ each_once met
-        → names_of names.new.items ≡ each_once (met ++ picked_names resolution.now)) }
+        → names_of names.new.items ≡ each_once (met ++ selected_names resolution.now)) }
 {
-    for pick in resolution.variant_selections() {
-        if !has_name(names, pick.variant_name) {
-            names.push(pick.variant_name)?;
+    for selection in resolution.variant_selections() {
+        if !has_name(names, selection.variant_name) {
+            names.push(selection.variant_name)?;
         }
     }
     Ok(())
 }
 
-// Whether a name is one of some names.
+/// Whether a name is one of some names.
 fn has_name(names: &[&str], name: &str) -> bool
     ensures { result ≡ list_any (λ other. name_eq other.now name.now) names.now }
 {
     names.iter().any(|other| *other == name)
 }
 
-// The first key that a resolution has no field of.
+/// The first key that a resolution has no field of.
 fn first_unknown<'d>(resolution: &Resolution<'_>, keys: &[FieldKey<'d>]) -> Option<FieldKey<'d>>
     ensures { IsFirstUnknown resolution.now (keys_of keys.now) result }
 {

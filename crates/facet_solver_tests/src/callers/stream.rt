@@ -84,7 +84,7 @@ impl<'c> From<AllocError> for Unread<'c> {
     }
 }
 
-// What is open at a place of a document.
+/// What is open at a place of a document.
 #[derive(Clone, Copy)]
 enum Frame {
     // The document, whose object has not ended.
@@ -97,7 +97,7 @@ enum Frame {
     List,
 }
 
-// A place in a document: what is open there and the keys that lead there, both from the root.
+/// A place in a document: what is open there and the keys that lead there, both from the root.
 #[derive(Drop)]
 struct Place<'d> {
     frames: Vec<Frame>,
@@ -114,7 +114,7 @@ impl<'d> Model for Place<'d> {
 }
 
 impl<'d> Place<'d> {
-    // Where a document begins.
+    /// Where a document begins.
     fn new(alloc: Global) -> Result<Self, AllocError>
         ensures { IfOk result (λ place. place ≡ beginning) }
     {
@@ -126,21 +126,21 @@ impl<'d> Place<'d> {
         })
     }
 
-    // Whether the document has ended.
+    /// Whether the document has ended.
     fn is_end(&self) -> bool
         ensures { IsTrue result ↔ (self.now.frames ≡ []) }
     {
         self.frames.is_empty()
     }
 
-    // Whether an event may stand there.
+    /// Whether an event may stand there.
     fn may_stand(&self, event: Event<'_, '_>) -> bool
         ensures { result ≡ may_stand event.entry self.now }
     {
         may_stand_in(event, self.frames.last().copied())
     }
 
-    // Whether it lies in a list, at whatever depth.
+    /// Whether it lies in a list, at whatever depth.
     fn in_list(&self) -> bool
         ensures { result ≡ in_list self.now }
     {
@@ -152,21 +152,21 @@ impl<'d> Place<'d> {
         false
     }
 
-    // The keys that lead there.
+    /// The keys that lead there.
     fn path(&self) -> &[&'d str]
         ensures { names_of result.now ≡ self.now.path }
     {
         &self.path
     }
 
-    // The keys above the last of them.
+    /// The keys above the last of them.
     fn above(&self) -> &[&'d str]
         ensures { names_of result.now ≡ without_last self.now.path }
     {
         &self.path[..self.path.len().saturating_sub(1)]
     }
 
-    // Something begins.
+    /// Something begins.
     fn begin(&mut self, frame: Frame) -> Result<(), AllocError>
         ensures ok { OnOk result
             (self.new ≡ at (self.old.frames ++ frame ∷ []) self.old.path) }
@@ -176,7 +176,7 @@ impl<'d> Place<'d> {
         Ok(())
     }
 
-    // A member begins.
+    /// A member begins.
     fn begin_member(&mut self, key: &'d str) -> Result<(), AllocError>
         ensures ok { OnOk result (self.new ≡ behind (Key key.entry) self.old) }
         ensures err { OnErr result (self.new ≡ self.old) }
@@ -189,7 +189,7 @@ impl<'d> Place<'d> {
         Ok(())
     }
 
-    // A member ends.
+    /// A member ends.
     fn end_member(&mut self)
         ensures { self.new ≡ at (without_last self.old.frames) (without_last self.old.path) }
     {
@@ -197,7 +197,7 @@ impl<'d> Place<'d> {
         self.path.pop();
     }
 
-    // A value ends, and with it the member that it is of, or the document.
+    /// A value ends, and with it the member that it is of, or the document.
     fn end_value(&mut self)
         ensures { self.new ≡ value_ended self.old }
     {
@@ -210,7 +210,7 @@ impl<'d> Place<'d> {
         }
     }
 
-    // An object or a list ends, which is a value.
+    /// An object or a list ends, which is a value.
     fn end(&mut self)
         ensures { self.new ≡ value_ended (at (without_last self.old.frames) self.old.path) }
     {
@@ -219,7 +219,7 @@ impl<'d> Place<'d> {
     }
 }
 
-// Whether an event may stand in what is open innermost.
+/// Whether an event may stand in what is open innermost.
 fn may_stand_in(event: Event<'_, '_>, innermost: Option<Frame>) -> bool
     ensures { result ≡ may_stand_in event.entry innermost }
 {
@@ -234,7 +234,7 @@ fn may_stand_in(event: Event<'_, '_>, innermost: Option<Frame>) -> bool
     }
 }
 
-// Tells a key below the keys of a path.
+/// Tells a key below the keys of a path.
 fn tell_key<'d>(
     solver: &mut Solver<'_, '_, 'd>,
     alloc: Global,
@@ -312,7 +312,7 @@ impl<'s, 'c, 'd> Reader<'s, 'c, 'd> {
         Ok(())
     }
 
-    // A key comes. Its member begins first, since what a solver is told can't be taken back.
+    /// A key comes. Its member begins first, since what a solver is told can't be taken back.
     fn key(&mut self, alloc: Global, key: &'d str) -> Result<(), AllocError>
         ensures ok { OnOk result (self.new ≡ read (Key key.entry) self.old) }
         ensures err { OnErr result (self.new ≡ self.old) }
@@ -326,7 +326,7 @@ impl<'s, 'c, 'd> Reader<'s, 'c, 'd> {
         Ok(())
     }
 
-    // A scalar comes, which is a value.
+    /// A scalar comes, which is a value.
     fn scalar(&mut self, shapes: &[ShapeId])
         ensures { self.new ≡ read (Scalar shapes.entry) self.old }
     {

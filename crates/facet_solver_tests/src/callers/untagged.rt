@@ -66,7 +66,7 @@ pub fn variants_for<'c>(
     }
 }
 
-// The variants of an enum, as declared; none for any other shape.
+/// The variants of an enum, as declared; none for any other shape.
 fn declared(shapes: &Shapes, id: ShapeId) -> &[Variant]
     ensures { result.now ≡ unwrap_or (variants_at shapes.now id) [] }
 {
@@ -81,7 +81,7 @@ fn declared(shapes: &Shapes, id: ShapeId) -> &[Variant]
     }
 }
 
-// The variants that a value may be, in order.
+/// The variants that a value may be, in order.
 fn fitting<'c>(
     alloc: Global,
     shapes: &Shapes,
@@ -102,7 +102,7 @@ fn fitting<'c>(
     Ok(found)
 }
 
-// Whether a value may be a variant; the lists are those of its enum.
+/// Whether a value may be a variant; the lists are those of its enum.
 fn may_be(
     shapes: &Shapes,
     variant: &Variant,
@@ -126,7 +126,7 @@ fn may_be(
     }
 }
 
-// Whether a value may be a scalar of a shape, by the lists that the shape stands in.
+/// Whether a value may be a scalar of a shape, by the lists that the shape stands in.
 fn may_be_scalar(groups: &VariantsByFormat<'_>, shape: ShapeId, value: ValueKind) -> bool
     ensures { (type : Option ScalarType) → StandsByType groups.now shape type
         → result ≡ may_be_scalar value type }
@@ -147,7 +147,7 @@ fn may_be_scalar(groups: &VariantsByFormat<'_>, shape: ShapeId, value: ValueKind
     }
 }
 
-// Whether the shape stands in the list of a type.
+/// Whether the shape stands in the list of a type.
 fn is_plain(groups: &VariantsByFormat<'_>, shape: ShapeId) -> bool
     ensures { (type : Option ScalarType) → StandsByType groups.now shape type
         → result ≡ is_plain type }
@@ -158,14 +158,14 @@ fn is_plain(groups: &VariantsByFormat<'_>, shape: ShapeId) -> bool
         || has_shape(&groups.string_variants, shape)
 }
 
-// Whether an entry has the shape.
+/// Whether an entry has the shape.
 fn has_shape(entries: &[(&Variant, ShapeId)], shape: ShapeId) -> bool
     ensures { result ≡ has_shape entries.now shape }
 {
     entries.iter().any(|(_, listed)| *listed == shape)
 }
 
-// The same variants by their scores, the least first, and those of one score in their order.
+/// The same variants by their scores, the least first, and those of one score in their order.
 fn by_score<'c>(
     shapes: &Shapes,
     mut variants: Vec<&'c Variant>,
@@ -177,10 +177,10 @@ fn by_score<'c>(
     Ok(variants)
 }
 
-// The score of what is no number.
+/// The score of what is no number.
 const NO_NUMBER: u64 = 1000;
 
-// The score of the shape that is listed with a variant.
+/// The score of the shape that is listed with a variant.
 fn score(shapes: &Shapes, variant: &Variant) -> u64
     ensures { result ≡ variant_score shapes.now variant.now }
 {

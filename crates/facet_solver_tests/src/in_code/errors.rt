@@ -10,7 +10,7 @@ pub fn refused_memory_has_a_text(answer: &mut Answer<'static>) {
     answer.claim("out of memory");
 }
 
-// A name with a tab or a line's end cannot stand in a transcript.
+/// A name with a tab or a line's end cannot stand in a transcript.
 pub fn names_in_lists_are_escaped(answer: &mut Answer<'static>) {
     let mut candidates = Vec::new(answer.alloc);
     let name = answer.copied("a\tb\nc\0d\u{1b}e\u{7f}f'g\"h\\i");

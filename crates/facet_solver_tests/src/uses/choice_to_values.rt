@@ -17,7 +17,7 @@ pub fn of_choice(resolution: &Resolution<'_>, answer: &mut Answer<'_>) {
     }
 }
 
-// Tells each field with its member, and the members that a catch-all takes.
+/// Tells each field with its member, and the members that a catch-all takes.
 fn add_values(values: &Values<'_, '_>, answer: &mut Answer<'_>) {
     let mut comma = "";
     for value in &values.fields {

@@ -48,7 +48,7 @@ fn event_words<'t>(answer: &mut Answer<'t>) -> Vec<&'t str> {
     words
 }
 
-// The types of each word: those of `=u8/u16`, and none of any other word.
+/// The types of each word: those of `=u8/u16`, and none of any other word.
 fn shapes_of(
     catalogue: Catalogue<'_>,
     words: &[&str],
@@ -68,7 +68,7 @@ fn shapes_of(
     shapes
 }
 
-// The events of words, with the types of each.
+/// The events of words, with the types of each.
 fn events<'t>(
     words: &[&'t str],
     shapes: &'t [Vec<ShapeId>],

@@ -27,7 +27,7 @@ module _ (build : Build) (root : ℕ) (is_flat : build.format ≡ Flat) where
   of_names choice r is = record {
     stored = fields-stored build root choice r is;
     flat = recursion_from_All IsFlat (finite.values r.fields) (flat_fields build root choice r is_flat is);
-    are = subst (λ (q : Resolved). AreRequiredNames q.fields q.required_names) (sym is.put_together) (required_names is.emissions is.no_clash);
+    are = subst (λ (q : Resolved). AreRequiredNames q.fields q.required_names) (sym is.put_together) (required_names is.emissions is.no_duplicates);
   }
 
   each : (P : Resolved → Type 0) → ((r : Resolved) → IsOfNames r → P r) → (choices : List (List ℕ)) (rs : List Resolved)

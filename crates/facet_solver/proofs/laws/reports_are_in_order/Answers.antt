@@ -6,7 +6,7 @@ use Rattle.std.specs.Ordering.{nat_cmp}
 use Rattle.std.proofs.lemmas.List.Kept.{IsStrictlySortedBy-filter}
 use Rattle.facet_solver.specs.Failure.{in_byte_order, is_met}
 use Rattle.facet_solver.specs.Resolutions.{has_field_named}
-use Rattle.facet_solver.specs.Verdict.{field_names}
+use Rattle.facet_solver.specs.Verdict.{resolution_field_names}
 use Rattle.facet_solver.proofs.ByteOrder.{sorted-in_byte_order}
 use Rattle.facet_solver.proofs.FieldCategories.{fields-stored}
 use Rattle.facet_solver.proofs.StoredOrder.{stored_rise}
@@ -14,7 +14,7 @@ use Rattle.facet_solver.proofs.laws.reports_are_in_order.Goals as goal
 
 pub returns-clause-disambiguating : goal.returns-clause-disambiguating
 returns-clause-disambiguating c = λ resolutions.
-    let names = flat_map field_names resolutions in
+    let names = flat_map resolution_field_names resolutions in
     IsStrictlySortedBy-filter (slice_cmp nat_cmp) (λ name. not (list_all (has_field_named name) resolutions)) (in_byte_order names) (sorted-in_byte_order names)
 
 pub returns-clause-missing : goal.returns-clause-missing

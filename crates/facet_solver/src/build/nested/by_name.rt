@@ -12,9 +12,9 @@ use std::alloc::{AllocError, Global};
 /// A name of regular fields, and the shapes of these fields that are entered.
 pub(crate) type NamedShapes<'c> = (&'c str, ShapesBehind);
 
-/// Regular fields by name: behind each name the shapes of these fields that are entered, each once. The names rise. Where
-/// structs are flattened their fields are taken together, so they are no more than the fields of a catalogue, whatever key
-/// paths there are.
+/// Regular fields by name: behind each name the shapes of these fields that are entered, each once.
+/// The names rise. Where structs are flattened their fields are taken together, so they are no more
+/// than the fields of a catalogue, whatever key paths there are.
 #[derive(Drop)]
 pub(crate) struct FieldsByName<'c> {
     pub(crate) by_name: Vec<NamedShapes<'c>>,
@@ -98,7 +98,8 @@ fn joined<'c>(
     Ok(joined)
 }
 
-/// Adds copies of fields to those that were gathered. After an error some of them may have been added.
+/// Adds copies of fields to those that were gathered. After an error some of them may have been
+/// added.
 pub(crate) fn add_copies<'c>(
     alloc: Global,
     fields: &FieldsByName<'c>,

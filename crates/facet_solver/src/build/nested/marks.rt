@@ -9,8 +9,8 @@ ghost use Rattle.facet_solver.specs.NestedTable.{FieldAsks, IsClosed, IsMarked, 
 use crate::build::nested::Entered;
 use facet_solver_shape::{Field, ShapeId, ShapeKind, Shapes, Variant};
 
-/// Marks every shape that a marked one asks for, and no other, from the last index down: what a shape asks for stands before
-/// it.
+/// Marks every shape that a marked one asks for, and no other, from the last index down: what a
+/// shape asks for stands before it.
 pub(crate) fn close_marks(shapes: &Shapes, entered: Entered, marks: &mut [bool])
     ensures all { length marks.new ≡ length marks.old }
     ensures kept { MarksAmong marks.old marks.new }

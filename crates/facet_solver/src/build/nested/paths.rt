@@ -5,7 +5,7 @@ ghost use Rattle.facet_solver_shape.specs.Names.{names_of};
 ghost use Rattle.facet_solver.specs.Nested.{Under, named, paths_of_each, with_key_paths, with_paths_behind};
 ghost use Rattle.facet_solver.specs.NestedLevels.{names_left};
 ghost use Rattle.facet_solver.specs.NestedNames.{AreRising, NamesLead, paths_of_names};
-ghost use Rattle.facet_solver.specs.NestedTable.{is_filled, LeadEarlier, LeadTo, StandFor, paths_by_name};
+ghost use Rattle.facet_solver.specs.NestedTable.{is_filled, LeadEarlier, LeadTo, EntriesStandFor, paths_by_name};
 
 use crate::build::nested::by_name::{FieldsByName, add_copies};
 use crate::build::nested::names_left::{Level, NamesLeft};
@@ -15,7 +15,8 @@ use std::alloc::{AllocError, Global};
 use std::mem;
 
 impl<'c> NestedTable<'c> {
-    /// Adds the key path of a name, and behind it those that fields stand for. After an error some of them may have been added.
+    /// Adds the key path of a name, and behind it those that fields stand for. After an error some
+    /// of them may have been added.
     pub(crate) fn add_named(
         &self,
         alloc: Global,
@@ -25,7 +26,7 @@ impl<'c> NestedTable<'c> {
     ) -> Result<(), AllocError>
         requires earlier { LeadEarlier self.now.by_index.items }
         requires filled { LeadTo (is_filled self.now.by_index.items) fields.now }
-        ensures { OnOk result ((under : Under) → StandFor under self.now.by_index.items
+        ensures { OnOk result ((under : Under) → EntriesStandFor under self.now.by_index.items
             → resolution.new ≡ with_key_paths resolution.old
             (named name.now (paths_by_name under fields.now))) }
     {
@@ -35,9 +36,10 @@ impl<'c> NestedTable<'c> {
         resolution.add_key_path(path)
     }
 
-    /// Adds the key paths that fields stand for, each behind a prefix, which stays: the last in their order first, since a set
-    /// finds the place of a path soonest that comes before all it has. It goes from name to name in a loop, since structs nest
-    /// as deep as a catalogue. After an error some of the paths may have been added, and the prefix may be longer.
+    /// Adds the key paths that fields stand for, each behind a prefix, which stays: the last in
+    /// their order first, since a set finds the place of a path soonest that comes before all it
+    /// has. It goes from name to name in a loop, since structs nest as deep as a catalogue. After
+    /// an error some of the paths may have been added, and the prefix may be longer.
     pub(crate) fn add_paths(
         &self,
         alloc: Global,
@@ -48,7 +50,7 @@ impl<'c> NestedTable<'c> {
         requires earlier { LeadEarlier self.now.by_index.items }
         requires filled { LeadTo (is_filled self.now.by_index.items) fields.now }
         ensures prefix { OnOk result (prefix.new.items ≡ prefix.old.items) }
-        ensures paths { OnOk result ((under : Under) → StandFor under self.now.by_index.items
+        ensures paths { OnOk result ((under : Under) → EntriesStandFor under self.now.by_index.items
             → resolution.new ≡ with_paths_behind resolution.old (names_of prefix.old.items)
             (paths_by_name under fields.now)) }
     {
@@ -72,8 +74,8 @@ impl<'c> NestedTable<'c> {
         }
     }
 
-    /// The names under shapes, if there are shapes. Those of several shapes are taken together first, so that each key path
-    /// is made once.
+    /// The names under shapes, if there are shapes. Those of several shapes are taken together
+    /// first, so that each key path is made once.
     fn names_under(
         &self,
         alloc: Global,
@@ -84,7 +86,7 @@ impl<'c> NestedTable<'c> {
             shapes.now }
         ensures none { IfOk result (λ names. IfNone names (shapes.now ≡ [])) }
         ensures paths { IfOk result (λ names. IfSome names (λ names.
-            (under : Under) → StandFor under self.now.by_index.items
+            (under : Under) → EntriesStandFor under self.now.by_index.items
             → paths_of_names under (names_left names) ≡ paths_of_each under shapes.now)) }
         ensures lead { IfOk result (λ names. IfSome names (λ names.
             (limit : ℕ) → AllByRecursion (λ id. id ≤ limit) shapes.now
@@ -113,7 +115,7 @@ impl<'c> NestedTable<'c> {
         requires filled { AllByRecursion (λ id. is_filled self.now.by_index.items id ≡ true)
             shapes.now }
         ensures paths { IfOk result (λ fields.
-            (under : Under) → StandFor under self.now.by_index.items
+            (under : Under) → EntriesStandFor under self.now.by_index.items
             → paths_by_name under fields ≡ paths_of_each under shapes.now) }
         ensures lead { IfOk result (λ fields.
             (limit : ℕ) → AllByRecursion (λ id. id ≤ limit) shapes.now
@@ -128,7 +130,7 @@ impl<'c> NestedTable<'c> {
 }
 
 /// The key path of one name.
-pub(crate) fn key_path<'c>(alloc: Global, name: &'c str) -> Result<KeyPath<'c>, AllocError>
+pub(crate) fn one_name_path<'c>(alloc: Global, name: &'c str) -> Result<KeyPath<'c>, AllocError>
     ensures { IfOk result (λ path. map (λ n. n.now) path.items ≡ name.now ∷ []) }
 {
     Vec::from_slice(alloc, &[name])

@@ -1,5 +1,5 @@
-//! Marks, by index, of the shapes that the walks of a root's choices go through, and of those whose nested key paths they
-//! ask for.
+//! Marks, by index, of the shapes that the walks of a root's choices go through, and of those whose
+//! nested key paths they ask for.
 ghost use Rattle.std.specs.Prelude.{◌≡◌, ◌+◌, ◌<◌, ℕ, All, Bool, List, true, length, sum_by};
 ghost use Rattle.facet_solver_shape.specs.Catalogues.{FieldsBelow, NamesEarlier, VariantsBelow};
 ghost use Rattle.facet_solver_shape.specs.Steps.{NoCountFalls};
@@ -17,8 +17,9 @@ use crate::build::role::{Role, role_of};
 use crate::build::visit::visited;
 use facet_solver_shape::{Field, ShapeId, ShapeKind, Shapes, Steps, Variant};
 
-/// Marks what the walks of a root's choices go through, and nothing else: in `structs` the structs whose nested key paths they
-/// ask for, in `apart` the enums whose content is written apart, each with all shapes that its key paths are made from.
+/// Marks what the walks of a root's choices go through, and nothing else: in `structs` the structs
+/// whose nested key paths they ask for, in `apart` the enums whose content is written apart, each
+/// with all shapes that its key paths are made from.
 pub(crate) fn mark_reached(
     build: Build,
     root: ShapeId,
@@ -48,8 +49,8 @@ pub(crate) fn mark_reached(
     close_marks(build.shapes, Entered::EveryKind, apart);
 }
 
-/// Marks what a root leads to. An enum's content is walked, whatever its representation. Its fields are visited here, for no
-/// table has an entry of the root.
+/// Marks what a root leads to. An enum's content is walked, whatever its representation. Its fields
+/// are visited here, for no table has an entry of the root.
 fn mark_root(
     build: Build,
     root: ShapeId,
@@ -82,8 +83,8 @@ fn mark_root(
     }
 }
 
-/// Marks what the marked shapes lead to, from the last index down: what a shape leads to stands before it. An enum whose
-/// content is written apart is marked in `apart`.
+/// Marks what the marked shapes lead to, from the last index down: what a shape leads to stands
+/// before it. An enum whose content is written apart is marked in `apart`.
 fn mark_walked(build: Build, walked: &mut [bool], structs: &mut [bool], apart: &mut [bool])
     requires checked { NamesEarlier build.shapes.now }
     requires structs { length structs.old ≡ length walked.old }
@@ -106,8 +107,9 @@ fn mark_walked(build: Build, walked: &mut [bool], structs: &mut [bool], apart: &
     }
 }
 
-/// Marks what the shape at an index leads to, or the shape itself in `apart` where it is an enum whose content is written
-/// apart. Its fields are read in steps of its own: below the root the visits are those of the tables.
+/// Marks what the shape at an index leads to, or the shape itself in `apart` where it is an enum
+/// whose content is written apart. Its fields are read in steps of its own: below the root the
+/// visits are those of the tables.
 fn mark_shape(
     build: Build,
     index: usize,
@@ -174,7 +176,8 @@ fn mark_variants(
     }
 }
 
-/// Marks what the content of a variant with these fields leads to: the struct of a newtype, or else what the fields do.
+/// Marks what the content of a variant with these fields leads to: the struct of a newtype, or else
+/// what the fields do.
 fn mark_content(
     shapes: &Shapes,
     fields: &[Field],

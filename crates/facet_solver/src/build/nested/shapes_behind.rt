@@ -8,7 +8,8 @@ use facet_solver_shape::ShapeId;
 use std::alloc::{AllocError, Global};
 use std::slice;
 
-/// The shapes of the fields of one name. Mostly there is one at most, which takes no memory beside the name.
+/// The shapes of the fields of one name. Mostly there is one at most, which takes no memory beside
+/// the name.
 #[derive(Drop)]
 pub(crate) enum ShapesBehind {
     Nothing,

@@ -1,5 +1,6 @@
-//! A table by index of the fields that nested key paths go through: those under a shape are made from those under the shapes
-//! that its flattened fields name, which stand before it. So each field is visited once.
+//! A table by index of the fields that nested key paths go through: those under a shape are made
+//! from those under the shapes that its flattened fields name, which stand before it. So each field
+//! is visited once.
 ghost use Rattle.std.specs.Prelude.{◌≡◌, ◌&&◌, ◌+◌, ◌∷◌, [], ◌<◌, ◌≤◌, ◌↔◌, ℕ, All, Bool, IfOk, IfSome, OnOk, Some, true, length, map, slice_get, string_bytes, sum_by, take};
 ghost use Rattle.std.specs.List.{AllByRecursion};
 ghost use Rattle.std.specs.Option.{is_some};
@@ -9,7 +10,7 @@ ghost use Rattle.facet_solver.specs.Content.{is_zero};
 ghost use Rattle.facet_solver.specs.Nested as nested;
 ghost use Rattle.facet_solver.specs.Nested.{entered_view, has_fields, if_entered, no_paths, Under, under_fields_step, under_shape};
 ghost use Rattle.facet_solver.specs.FieldCount.{field_count, fields_of_kind};
-ghost use Rattle.facet_solver.specs.NestedTable.{AreEntries, AreFieldsOf, FieldAsks, HasMore, entry_at, IsClosed, is_filled, IsFilled, IsMade, IsMarked, IsSound, KindAsks, LeadEarlier, LeadTo, VariantAsks, paths_by_name, under_of};
+ghost use Rattle.facet_solver.specs.NestedTable.{AreEntries, AreFieldsOf, FieldAsks, HasMore, nested_entry_at, IsClosed, is_filled, IsFilled, IsMade, IsMarked, IsSound, KindAsks, LeadEarlier, LeadTo, VariantAsks, paths_by_name, under_of};
 
 use crate::build::Build;
 use crate::build::nested::by_name::{FieldsByName, NamedShapes, add_copies};
@@ -49,8 +50,9 @@ pub(crate) struct NestedTable<'c> {
 }
 
 impl<'c> NestedTable<'c> {
-    /// Makes the entries of the marked shapes in order, as far as the marks go. Each is made from earlier ones, for what a
-    /// marked shape asks for is marked. No other shape gets an entry, and where none is marked the table takes no memory.
+    /// Makes the entries of the marked shapes in order, as far as the marks go. Each is made from
+    /// earlier ones, for what a marked shape asks for is marked. No other shape gets an entry, and
+    /// where none is marked the table takes no memory.
     pub(crate) fn new(
         build: Build<'c>,
         entered: Entered,
@@ -92,7 +94,7 @@ impl<'c> NestedTable<'c> {
     /// The entry of a shape that has one.
     pub(crate) fn entry(&self, id: ShapeId) -> &Entry<'c>
         requires { IsFilled self.now.by_index.items id }
-        ensures { entry_at self.now.by_index.items id ≡ Some result.now }
+        ensures { nested_entry_at self.now.by_index.items id ≡ Some result.now }
     {
         match self.by_index.get(id.index()) {
             Some(Some(entry)) => entry,
@@ -232,8 +234,8 @@ impl<'t, 'c> Earlier<'t, 'c> {
         FieldsByName::new(self.alloc, gathered)
     }
 
-    /// Adds those under a variant by its only field, which stands for its shape where it is named `0` and the shape is
-    /// entered.
+    /// Adds those under a variant by its only field, which stands for its shape where it is named
+    /// `0` and the shape is entered.
     fn add_under_only_field(
         self,
         field: &'c Field,

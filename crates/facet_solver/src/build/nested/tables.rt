@@ -10,7 +10,7 @@ ghost use Rattle.facet_solver.specs.Reached.{AreTables, Asked, HaveOnly, HoldAsk
 
 use crate::build::Build;
 use crate::build::nested::Entered;
-use crate::build::nested::paths::key_path;
+use crate::build::nested::paths::one_name_path;
 use crate::build::nested::reached::mark_reached;
 use crate::build::nested::table::NestedTable;
 use facet_solver_shape::{Resolution, ShapeId, Steps};
@@ -26,8 +26,8 @@ pub(crate) struct NestedTables<'c> {
 }
 
 impl<'c> NestedTables<'c> {
-    /// Makes both tables for a root. What a root leads to stands before it, and there they end. Their marks and those of the
-    /// walked shapes lie in one piece of memory, side by side.
+    /// Makes both tables for a root. What a root leads to stands before it, and there they end.
+    /// Their marks and those of the walked shapes lie in one piece of memory, side by side.
     pub(crate) fn new(
         build: Build<'c>,
         root: ShapeId,
@@ -72,14 +72,15 @@ impl<'c> NestedTables<'c> {
             OnOk result (resolution.new ≡ with_key_paths resolution.old (named name.now paths)) }
     {
         if !Entered::StructsAlone.has(build.shapes, shape) {
-            return resolution.add_key_path(key_path(build.alloc, name)?);
+            return resolution.add_key_path(one_name_path(build.alloc, name)?);
         }
         let under = &self.structs.entry(shape).under;
         self.structs.add_named(build.alloc, name, under, resolution)
     }
 
-    /// Adds the key path of the name that holds the content of a variant, by the shape of its enum and its index there. The
-    /// content is written apart from the enum's siblings. Behind the name it adds the key paths under the content.
+    /// Adds the key path of the name that holds the content of a variant, by the shape of its enum
+    /// and its index there. The content is written apart from the enum's siblings. Behind the name
+    /// it adds the key paths under the content.
     pub(crate) fn add_content_paths(
         &self,
         build: Build<'c>,

@@ -4,7 +4,7 @@ ghost use Rattle.std.specs.List.{list_all, list_any};
 ghost use Rattle.facet_solver_shape.specs.Fields.{matches};
 ghost use Rattle.facet_solver_shape.specs.Keys.{key_of};
 ghost use Rattle.facet_solver.specs.Failure as failure;
-ghost use Rattle.facet_solver.specs.SeenNames.{IsEndOf, left};
+ghost use Rattle.facet_solver.specs.SeenNames.{IsSuffixOf, left};
 ghost use Rattle.facet_solver.specs.Verdict as verdict;
 
 use crate::solver::conditions::Test;
@@ -32,8 +32,8 @@ fn is_viable(seen: &BTreeSet<FieldKey<'_>>, resolution: &Resolution<'_>) -> bool
     are_met(seen, resolution.fields())
 }
 
-// Fields rise as keys do, so most find their key where the one before them found its own: no memory
-// is taken, and most seen keys are passed once.
+/// Fields rise as keys do, so most find their key where the one before them found its own: no
+/// memory is taken, and most seen keys are passed once.
 fn are_met(seen: &BTreeSet<FieldKey<'_>>, fields: &BTreeMap<FieldKey<'_>, FieldInfo<'_>>) -> bool
     ensures { result
         ≡ list_all (λ e. failure.is_met (map key_of seen.now.keys) e.1) fields.now.entries }
@@ -48,8 +48,8 @@ fn are_met(seen: &BTreeSet<FieldKey<'_>>, fields: &BTreeMap<FieldKey<'_>, FieldI
     true
 }
 
-// Whether the seen keys meet a field: its own key is sought behind those that were passed before,
-// and so is the flat key of an element. Where none is there, all are asked.
+/// Whether the seen keys meet a field: its own key is sought behind those that were passed before,
+/// and so is the flat key of an element. Where none is there, all are asked.
 fn is_met(
     seen: &BTreeSet<FieldKey<'_>>,
     own: &mut Cursor<'_, '_>,
@@ -57,11 +57,11 @@ fn is_met(
     key: FieldKey<'_>,
     field: &FieldInfo<'_>,
 ) -> bool
-    requires own { IsEndOf (left own.old) seen.now.keys }
-    requires flat { IsEndOf (left flat.old) seen.now.keys }
+    requires own { IsSuffixOf (left own.old) seen.now.keys }
+    requires flat { IsSuffixOf (left flat.old) seen.now.keys }
     ensures met { result ≡ failure.is_met (map key_of seen.now.keys) field.now }
-    ensures own { IsEndOf (left own.new) seen.now.keys }
-    ensures flat { IsEndOf (left flat.new) seen.now.keys }
+    ensures own { IsSuffixOf (left own.new) seen.now.keys }
+    ensures flat { IsSuffixOf (left flat.new) seen.now.keys }
 {
     if !field.required {
         return true;
@@ -95,12 +95,12 @@ impl<'k, 'a> Cursor<'k, 'a> {
         }
     }
 
-    // Passes the keys before the one that is sought, up to one that matches the field, and says
-    // whether there is one.
+    /// Passes the keys before the one that is sought, up to one that matches the field, and says
+    /// whether there is one.
     fn finds(&mut self, sought: FieldKey<'_>, field: &FieldInfo<'_>) -> bool
         ensures found { IsTrue result
             → list_any (λ k. matches (key_of k) field.now) (left self.old) ≡ true }
-        ensures rest { IsEndOf (left self.new) (left self.old) }
+        ensures rest { IsSuffixOf (left self.new) (left self.old) }
     {
         while let Some(key) = self.next {
             if field.matched_by(key) {

@@ -38,7 +38,7 @@ pub(crate) fn failures_at<'c>(
     Ok(failures)
 }
 
-// Why the resolution at an index is not the answer.
+/// Why the resolution at an index is not the answer.
 fn failure<'c>(
     report: &Report<'_, 'c, '_>,
     names: &SeenNames<'_>,
@@ -81,7 +81,7 @@ pub(crate) fn missing_fields<'c>(
     Ok(fields)
 }
 
-// What is told of a field that a resolution lacks.
+/// What is told of a field that a resolution lacks.
 fn missing_field<'c>(
     alloc: Global,
     shapes: &Shapes,
@@ -97,7 +97,7 @@ fn missing_field<'c>(
     })
 }
 
-// The type identifier of a shape.
+/// The type identifier of a shape.
 fn type_identifier(alloc: Global, shapes: &Shapes, id: ShapeId) -> Result<String, AllocError>
     ensures { IfOk result (λ text. string_bytes text ≡ type_identifier shapes.now id) }
 {

@@ -59,7 +59,7 @@ impl KeyTest for IsUnknownAt<'_, '_> {
     ghost is_passed = { λ t key. not (passes (has_key key) t.schema.now.resolutions t.index) };
 
     fn is_passed(&self, key: FieldKey<'_>) -> bool {
-        !self.schema.has_key_at(key, self.index)
+        !self.schema.resolution_has_key(key, self.index)
     }
 }
 

@@ -62,7 +62,7 @@ impl<'a> SeenNames<'a> {
     }
 }
 
-// The names of the seen keys that may match fields of a category.
+/// The names of the seen keys that may match fields of a category.
 fn names_for<'a>(
     alloc: Global,
     category: FieldCategory,
@@ -80,7 +80,7 @@ fn names_for<'a>(
     Ok(names)
 }
 
-// Whether a key may match fields of a category.
+/// Whether a key may match fields of a category.
 fn may_match(key: FieldKey<'_>, category: FieldCategory) -> bool
     ensures { result ≡ may_match (key_of key.entry).dom category }
 {

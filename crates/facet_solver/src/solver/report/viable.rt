@@ -6,7 +6,7 @@ ghost use Rattle.facet_solver_shape.specs.Resolved.{names_view};
 ghost use Rattle.facet_solver.specs.Resolutions.{has_field_named, passes};
 ghost use Rattle.facet_solver.specs.IndexEntries.{is_held};
 ghost use Rattle.facet_solver.specs.Verdict as verdict;
-ghost use Rattle.facet_solver.specs.Verdict.{field_names, resolutions_at, state_of_report, viable};
+ghost use Rattle.facet_solver.specs.Verdict.{resolution_field_names, resolutions_at, state_of_report, viable};
 
 use crate::schema::Schema;
 use crate::schema::index::Entry;
@@ -79,7 +79,7 @@ pub(crate) fn disambiguating(
     Ok(names)
 }
 
-// Whether each of the resolutions at some indices has a field of the name.
+/// Whether each of the resolutions at some indices has a field of the name.
 fn is_in_all(
     alloc: Global,
     schema: &Schema<'_>,
@@ -93,7 +93,7 @@ fn is_in_all(
     Ok(are_held(&entries, indices))
 }
 
-// Whether each of some resolutions is in one of some entries.
+/// Whether each of some resolutions is in one of some entries.
 fn are_held(entries: &[&Entry], indices: &[usize]) -> bool
     ensures { result ≡ list_all (is_held entries.now) indices.now }
 {
@@ -106,14 +106,14 @@ fn is_held(entries: &[&Entry], index: usize) -> bool
     entries.iter().any(|entry| entry.set.contains(index))
 }
 
-// The names of fields of the resolutions at some indices.
+/// The names of fields of the resolutions at some indices.
 fn all_names<'c>(
     alloc: Global,
     schema: &Schema<'c>,
     indices: &[usize],
 ) -> Result<BTreeSet<&'c str>, AllocError>
     ensures { IfOk result (λ names. names_view names.keys ≡ set.from_list
-        (flat_map field_names (resolutions_at schema.now.resolutions indices.now))) }
+        (flat_map resolution_field_names (resolutions_at schema.now.resolutions indices.now))) }
 {
     let resolutions = schema.resolutions();
     let mut names = BTreeSet::new(alloc);
@@ -125,13 +125,14 @@ fn all_names<'c>(
     Ok(names)
 }
 
-// Adds the names of a resolution's fields.
+/// Adds the names of a resolution's fields.
 fn add_names<'c>(
     names: &mut BTreeSet<&'c str>,
     resolution: &Resolution<'c>,
 ) -> Result<(), AllocError>
-    ensures { OnOk result (names_view names.new.keys
-        ≡ set.union (names_view names.old.keys) (set.from_list (field_names resolution.now))) }
+    ensures { let field_names = set.from_list (resolution_field_names resolution.now) in
+        OnOk result (names_view names.new.keys
+        ≡ set.union (names_view names.old.keys) field_names) }
 {
     for (_, field) in resolution.fields() {
         names.insert(field.serialized_name)?;

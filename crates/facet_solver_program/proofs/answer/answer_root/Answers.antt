@@ -2,7 +2,7 @@ use Rattle.std.proofs.lemmas.Result.{IfOk-weaker}
 use Rattle.serde_json.specs.View.{members_view}
 use Rattle.facet_solver.specs.Count.{count_of_root}
 use Rattle.facet_solver_program.specs.Answer.{build, duplicate_field}
-use Rattle.facet_solver_program.proofs.Endings.{end_of_root, is_clash, not_too_many}
+use Rattle.facet_solver_program.proofs.Endings.{end_of_root, is_choice_duplicate, not_too_many}
 use Rattle.facet_solver_program.proofs.answer.answer_root.Goals as goal
 
 pub returns-in-Ok : goal.returns-in-Ok
@@ -24,7 +24,7 @@ returns-in-Err c =
     IfOk-weaker c.no_schema.result _ _
     (λ a said. (
       duplicate_field said.0,
-      (few, is_clash b c.args.root c.in-Err.error said.0 said.1 c.in-Err.ensures.refused),
+      (few, is_choice_duplicate b c.args.root c.in-Err.error said.0 said.1 c.in-Err.ensures.refused),
       said.2,
     ))
     c.no_schema.ensures

@@ -1,4 +1,4 @@
-// Fields that take what no other field of their category takes, seen as a finite map.
+//! Fields that take what no other field of their category takes, seen as a finite map.
 ghost use Rattle.std.specs.Prelude.{◌≡◌, OnOk, OnErr, IfOk};
 ghost use Rattle.std.specs.Option.{option_copied};
 ghost use Rattle.std.specs.FinMap as finite;
@@ -9,7 +9,7 @@ use std::alloc::{AllocError, Global};
 use std::collections::BTreeMap;
 use std::marker::Model;
 
-// At most one field a category.
+/// At most one field a category.
 #[derive(Debug, Drop)]
 pub(crate) struct CatchAlls<'c> {
     entries: BTreeMap<FieldCategory, FieldInfo<'c>>,
@@ -43,7 +43,7 @@ impl<'c> CatchAlls<'c> {
         self.entries.get(&category)
     }
 
-    // Takes the place of an earlier one of the category.
+    /// Takes the place of an earlier one of the category.
     pub(crate) fn insert(
         &mut self,
         category: FieldCategory,
@@ -56,7 +56,7 @@ impl<'c> CatchAlls<'c> {
         Ok(())
     }
 
-    // The fields of both; those of the upper map where a category is in both.
+    /// The fields of both; those of the upper map where a category is in both.
     pub(crate) fn overlaid(&self, alloc: Global, upper: &CatchAlls<'c>) -> Result<Self, AllocError>
         ensures { IfOk result (IsOverlaid self.now upper.now) }
     {
@@ -66,7 +66,7 @@ impl<'c> CatchAlls<'c> {
         Ok(made)
     }
 
-    // After an error some of the fields may have been put in.
+    /// After an error some of the fields may have been put in.
     fn put_all(&mut self, alloc: Global, upper: &CatchAlls<'c>) -> Result<(), AllocError>
         ensures { OnOk result (IsOverlaid self.old upper.now self.new) }
     {

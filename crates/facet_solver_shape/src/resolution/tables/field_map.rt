@@ -1,4 +1,4 @@
-// Fields by stored key, seen as a finite map.
+//! Fields by stored key, seen as a finite map.
 ghost use Rattle.std.specs.Prelude.{◌≡◌, OnOk, OnErr, IfOk, All, false, find, map};
 ghost use Rattle.std.specs.Option.{option_copied, option_map};
 ghost use Rattle.std.specs.FinMap as finite;
@@ -11,7 +11,7 @@ use std::alloc::{AllocError, Global};
 use std::collections::BTreeMap;
 use std::marker::Model;
 
-// Fields by stored key.
+/// Fields by stored key.
 #[derive(Debug, Drop)]
 pub(crate) struct FieldMap<'c> {
     entries: BTreeMap<FieldKey<'c>, FieldInfo<'c>>,
@@ -56,7 +56,7 @@ impl<'c> FieldMap<'c> {
         self.entries.get(key)
     }
 
-    // The first field that a key means.
+    /// The first field that a key means.
     pub(crate) fn first_matched(&self, key: &FieldKey) -> Option<&FieldInfo<'c>>
         ensures { option_copied result
             ≡ find (matches (key_of key.now)) (finite.values self.now) }
@@ -69,7 +69,7 @@ impl<'c> FieldMap<'c> {
         None
     }
 
-    // The first field of a name.
+    /// The first field of a name.
     pub(crate) fn first_named(&self, name: &str) -> Option<&FieldInfo<'c>>
         ensures { option_copied result
             ≡ find (has_name name.now) (finite.values self.now) }
@@ -82,7 +82,7 @@ impl<'c> FieldMap<'c> {
         None
     }
 
-    // Puts a field under its stored key.
+    /// Puts a field under its stored key.
     pub(crate) fn insert(&mut self, info: FieldInfo<'c>) -> Result<(), AllocError>
         ensures ok { OnOk result
             (self.new ≡ finite.insert self.old (key_of_field info.entry) info.entry) }
@@ -93,7 +93,7 @@ impl<'c> FieldMap<'c> {
         Ok(())
     }
 
-    // The fields of both; those of the upper map where a key is in both.
+    /// The fields of both; those of the upper map where a key is in both.
     pub(crate) fn overlaid(&self, alloc: Global, upper: &FieldMap<'c>) -> Result<Self, AllocError>
         ensures { IfOk result (IsOverlaid self.now upper.now) }
     {
@@ -103,7 +103,7 @@ impl<'c> FieldMap<'c> {
         Ok(made)
     }
 
-    // After an error some of the fields may have been put in.
+    /// After an error some of the fields may have been put in.
     fn put_all(&mut self, alloc: Global, upper: &FieldMap<'c>) -> Result<(), AllocError>
         ensures { OnOk result (IsOverlaid self.old upper.now self.new) }
     {
@@ -114,7 +114,7 @@ impl<'c> FieldMap<'c> {
         Ok(())
     }
 
-    // No field is required any more.
+    /// No field is required any more.
     pub(crate) fn mark_all_optional(&mut self)
         ensures { (k : Key)
             → finite.get self.new k ≡ option_map as_optional (finite.get self.old k) }

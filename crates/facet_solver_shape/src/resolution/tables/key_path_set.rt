@@ -1,4 +1,4 @@
-// Key paths, each once, seen as a finite set.
+//! Key paths, each once, seen as a finite set.
 ghost use Rattle.std.specs.Prelude.{◌≡◌, OnOk, OnErr, IfOk};
 ghost use Rattle.std.specs.FinSet as set;
 ghost use Rattle.facet_solver_shape.specs.Paths.{key_path_eq};
@@ -10,7 +10,7 @@ use std::alloc::{AllocError, Global};
 use std::collections::BTreeSet;
 use std::marker::Model;
 
-// Key paths, each once.
+/// Key paths, each once.
 #[derive(Debug, Drop)]
 pub(crate) struct KeyPathSet<'c> {
     paths: BTreeSet<KeyPath<'c>>,
@@ -64,7 +64,7 @@ impl<'c> KeyPathSet<'c> {
         Ok(())
     }
 
-    // The paths of both.
+    /// The paths of both.
     pub(crate) fn joined(&self, alloc: Global, other: &KeyPathSet<'c>) -> Result<Self, AllocError>
         ensures { IfOk result (λ made. made ≡ set.union self.now other.now) }
     {
@@ -74,7 +74,7 @@ impl<'c> KeyPathSet<'c> {
         Ok(made)
     }
 
-    // After an error some of the paths may have been put in.
+    /// After an error some of the paths may have been put in.
     fn put_all(&mut self, alloc: Global, other: &KeyPathSet<'c>) -> Result<(), AllocError>
         ensures { OnOk result (self.new ≡ set.union self.old other.now) }
     {

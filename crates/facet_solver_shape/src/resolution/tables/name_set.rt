@@ -1,4 +1,4 @@
-// Names, each once, seen as a finite set.
+//! Names, each once, seen as a finite set.
 ghost use Rattle.std.specs.Prelude.{◌≡◌, OnOk, OnErr, IfOk, not};
 ghost use Rattle.std.specs.Bool.{OnTrue, OnFalse};
 ghost use Rattle.std.specs.FinSet as set;
@@ -8,7 +8,7 @@ use std::alloc::{AllocError, Global};
 use std::collections::BTreeSet;
 use std::marker::Model;
 
-// Names, each once.
+/// Names, each once.
 #[derive(Debug, Drop)]
 pub(crate) struct NameSet<'c> {
     names: BTreeSet<&'c str>,
@@ -47,7 +47,7 @@ impl<'c> NameSet<'c> {
         &self.names
     }
 
-    // Answers whether the name is new.
+    /// Answers whether the name is new.
     pub(crate) fn insert(&mut self, name: &'c str) -> Result<bool, AllocError>
         ensures added { IfOk result (λ added. added ≡ not (set.contains self.old name.now)) }
         ensures ok { OnOk result (self.new ≡ set.insert self.old name.now) }
@@ -59,7 +59,7 @@ impl<'c> NameSet<'c> {
         Ok(self.names.insert(name)?)
     }
 
-    // Takes out a name that was just put in anew.
+    /// Takes out a name that was just put in anew.
     pub(crate) fn remove(&mut self, name: &'c str)
         ensures { self.new ≡ set.remove self.old name.now }
     {
@@ -72,7 +72,7 @@ impl<'c> NameSet<'c> {
         self.names.clear();
     }
 
-    // The names of both.
+    /// The names of both.
     pub(crate) fn joined(&self, alloc: Global, other: &NameSet<'c>) -> Result<Self, AllocError>
         ensures { IfOk result (λ made. made ≡ set.union self.now other.now) }
     {
@@ -82,7 +82,7 @@ impl<'c> NameSet<'c> {
         Ok(made)
     }
 
-    // After an error some of the names may have been put in.
+    /// After an error some of the names may have been put in.
     fn put_all(&mut self, other: &NameSet<'c>) -> Result<(), AllocError>
         ensures { OnOk result (self.new ≡ set.union self.old other.now) }
     {

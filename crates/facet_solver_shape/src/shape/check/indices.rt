@@ -5,14 +5,14 @@ ghost use Rattle.facet_solver_shape.specs.Catalogues.{early_indices, early_indic
 
 use crate::shape::{Field, Shape, ShapeKind, Variant};
 
-// Whether some index that the shape names is past `count` indices.
+/// Whether some index that the shape names is past `count` indices.
 pub(super) fn names_past(shape: &Shape, count: usize) -> bool
     ensures { result ≡ list_any (λ p. nat_le count p) (named_indices shape.now) }
 {
     names_early_from(shape, count) || kind_names_late_from(&shape.kind, count)
 }
 
-// Whether some index that has to be an earlier one isn't below `low`.
+/// Whether some index that has to be an earlier one isn't below `low`.
 pub(super) fn names_early_from(shape: &Shape, low: usize) -> bool
     ensures { result ≡ list_any (λ p. nat_le low p) (early_indices shape.now) }
 {
@@ -32,7 +32,7 @@ fn kind_names_early_from(kind: &ShapeKind, low: usize) -> bool
     }
 }
 
-// Whether some index that may be any isn't below `low`.
+/// Whether some index that may be any isn't below `low`.
 fn kind_names_late_from(kind: &ShapeKind, low: usize) -> bool
     ensures { result ≡ list_any (λ p. nat_le low p) (late_indices_of_kind kind.now) }
 {

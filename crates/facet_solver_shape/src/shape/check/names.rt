@@ -7,7 +7,7 @@ ghost use Rattle.facet_solver_shape.specs.Catalogues.{RepeatsName, RepeatsFieldN
 use super::stretch::{STRETCH, repeats_in_stretch};
 use crate::shape::{Field, ShapeKind, Variant};
 
-// What has a declared name.
+/// What has a declared name.
 pub(super) trait Named {
     ghost name_of: { Self → Name };
 
@@ -31,7 +31,7 @@ impl Named for Variant {
     }
 }
 
-// Whether two fields of a struct, or of one variant, have one declared name.
+/// Whether two fields of a struct, or of one variant, have one declared name.
 pub(super) fn repeats_field_name(kind: &ShapeKind) -> bool
     ensures { IsTrue result ↔ RepeatsFieldName kind.now }
 {
@@ -42,7 +42,7 @@ pub(super) fn repeats_field_name(kind: &ShapeKind) -> bool
     }
 }
 
-// Whether two variants have one name.
+/// Whether two variants have one name.
 pub(super) fn repeats_variant_name(kind: &ShapeKind) -> bool
     ensures { IsTrue result ↔ RepeatsVariantName kind.now }
 {
@@ -52,8 +52,8 @@ pub(super) fn repeats_variant_name(kind: &ShapeKind) -> bool
     }
 }
 
-// Whether two items have one name. A name above all before it, or below them, is new. At any other
-// name a stretch of items begins, which are compared with one another and with all before them.
+/// Whether two items have one name. A name above all before it, or below them, is new. At any other
+/// name a stretch of items begins, which are compared with one another and with all before them.
 fn repeats_name<T: Named>(items: &[T]) -> bool
     ensures { IsTrue result ↔ RepeatsName (map T.name_of items.now) }
 {

@@ -4,9 +4,9 @@ ghost use Rattle.facet_solver_shape.specs.Pointers.{pointee_at, NeverEnds, EndsB
 
 use crate::shape::{Shape, ShapeId};
 
-// Whether the way of pointees from an index has no end, where those from all earlier indices and
-// from `ending` have one. A way as long as the list that leads on has come to an index again, so
-// no more steps are to be made.
+/// Whether the way of pointees from an index has no end, where those from all earlier indices and
+/// from `ending` have one. A way as long as the list that leads on has come to an index again, so
+/// no more steps are to be made.
 pub(super) fn never_ends(shapes: &[Shape], index: usize, ending: ShapeId) -> bool
     requires earlier { EndsBelow shapes.now index }
     requires known { ¬ NeverEnds shapes.now ending }
@@ -25,14 +25,14 @@ pub(super) fn never_ends(shapes: &[Shape], index: usize, ending: ShapeId) -> boo
     pointee_at(shapes, here).is_some()
 }
 
-// Where the pointer at an index leads to, if that comes later.
+/// Where the pointer at an index leads to, if that comes later.
 pub(crate) fn later_pointee(shapes: &[Shape], index: usize) -> Option<ShapeId>
     ensures { IfSome result (λ next. pointee_at shapes.now index ≡ Some next) }
 {
     pointee_at(shapes, ShapeId::new(index)).filter(|next| index < next.index())
 }
 
-// Where the shape at an index leads to.
+/// Where the shape at an index leads to.
 fn pointee_at(shapes: &[Shape], id: ShapeId) -> Option<ShapeId>
     ensures { result ≡ pointee_at shapes.now id }
 {

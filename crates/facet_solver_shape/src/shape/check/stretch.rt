@@ -7,10 +7,11 @@ ghost use Rattle.facet_solver_shape.specs.Catalogues.{RepeatsName, SharesName};
 
 use super::names::Named;
 
-// How many names a stretch has at most: so many are sorted on the stack.
+/// How many names a stretch has at most: so many are sorted on the stack.
 pub(super) const STRETCH: usize = 256;
 
-// Whether two items of the stretch have one name, or one of them has the name of an item before it.
+/// Whether two items of the stretch have one name, or one of them has the name of an item before
+/// it.
 pub(super) fn repeats_in_stretch<T: Named>(before: &[T], stretch: &[T]) -> bool
     requires { length stretch.now ≤ STRETCH }
     ensures { IsTrue result ↔ (RepeatsName (map T.name_of stretch.now)
@@ -28,7 +29,7 @@ pub(super) fn repeats_in_stretch<T: Named>(before: &[T], stretch: &[T]) -> bool
     repeats_neighbour(names) || has_name_among(before, names)
 }
 
-// Whether a name is the next one too.
+/// Whether a name is the next one too.
 fn repeats_neighbour(names: &[&str]) -> bool
     requires { IsSorted name_ref_cmp names.now }
     ensures { IsTrue result ↔ RepeatsName (names_of names.now) }
@@ -41,7 +42,7 @@ fn repeats_neighbour(names: &[&str]) -> bool
     false
 }
 
-// Whether an item has one of the names.
+/// Whether an item has one of the names.
 fn has_name_among<T: Named>(items: &[T], names: &[&str]) -> bool
     requires { IsSorted name_ref_cmp names.now }
     ensures { result ≡ list_any (λ item. list_any (λ n. bytes_eq n (T.name_of item))
@@ -54,7 +55,7 @@ fn has_name_among<T: Named>(items: &[T], names: &[&str]) -> bool
     )
 }
 
-// Whether the name is one of the names, by halving.
+/// Whether the name is one of the names, by halving.
 fn is_among(name: &str, names: &[&str]) -> bool
     requires { IsSorted name_ref_cmp names.now }
     ensures { result ≡ list_any (λ n. bytes_eq n name.now) (names_of names.now) }

@@ -12,7 +12,7 @@ returns-clause-taken c =
     let fs = c.args.fields.now in
     let second = c.in_ok-set_last.ensures.place in
     let third = c.in_ok-set_last-2.ensures.place ∙ second in
-    all_set build c.requires.ready.checked c.args.walker.now.brings.by_index.items c.requires.ready.brings fs c.args.place.now c.requires.below c.requires.alone
+    all_set build c.requires.ready.checked c.args.walker.now.contribution.by_index.items c.requires.ready.contribution fs c.args.place.now c.requires.below c.requires.alone
     c.args.resolution.now c.set_last.new.resolution c.set_last-2.new.resolution c.set_last-3.new.resolution
     c.in_ok-set_last.ensures.set
     (c.in_ok-set_last-2.ensures.set ∙ ap (λ (p : Path). with_last Attribute (last_catch_all Attribute (emitted_by build fs p)) c.set_last.new.resolution) second)

@@ -17,7 +17,7 @@ pub loop-field-preserved : goal.loop-field-preserved
 loop-field-preserved c =
     let walker = c.args.walker.now in
     let build = build_of walker.build in
-    let table = walker.brings.by_index.items in
+    let table = walker.contribution.by_index.items in
     let category = c.args.category in
     let so_far = c.loop-field.invariant in
     let fs = c.loop-field.fields.now in
@@ -29,9 +29,9 @@ loop-field-preserved c =
     let there = found-below table build category (length walker.build.shapes.now) fs f so_far.1.1.0 is in
     let alone = found-alone table build category fs f is in
     let same : last_catch_all category (emitted_by build fs place) ≡ last_catch_all category (emitted_by build inner c.enter_field.new.self) =
-    last-is build c.requires.ready.checked table c.requires.ready.brings category (length walker.build.shapes.now) fs place so_far.1.1.0 so_far.1.1.1.0
-    ∙ ap (last_at build c.requires.ready.checked table c.requires.ready.brings category place) (sym is)
-    ∙ at-block build c.requires.ready.checked table c.requires.ready.brings category f place c.in-Block.field-0 inner c.in-Block.ensures alone
+    last-is build c.requires.ready.checked table c.requires.ready.contribution category (length walker.build.shapes.now) fs place so_far.1.1.0 so_far.1.1.1.0
+    ∙ ap (last_at build c.requires.ready.checked table c.requires.ready.contribution category place) (sym is)
+    ∙ at-block build c.requires.ready.checked table c.requires.ready.contribution category f place c.in-Block.field-0 inner c.in-Block.ensures alone
     ∙ ap (λ (inside : Path). last_catch_all category (emitted_by build inner inside)) (sym c.in_ok-enter_field-in-Block.ensures) in (
       sym same ∙ so_far.0,
       (
@@ -39,7 +39,7 @@ loop-field-preserved c =
         (
           FieldsBelow-mono f.shape (length walker.build.shapes.now) inner (omega (arith, there)) below,
           (
-            block-alone build c.requires.ready.checked table c.requires.ready.brings category f place c.in-Block.field-0 inner c.in-Block.ensures alone,
+            block-alone build c.requires.ready.checked table c.requires.ready.contribution category f place c.in-Block.field-0 inner c.in-Block.ensures alone,
             so_far.1.1.1.1,
           ),
         ),
@@ -50,7 +50,7 @@ pub loop-field-smaller : goal.loop-field-smaller
 loop-field-smaller c =
     let walker = c.args.walker.now in
     let build = build_of walker.build in
-    let table = walker.brings.by_index.items in
+    let table = walker.contribution.by_index.items in
     let fs = c.loop-field.fields.now in
     let f = c.in-Some.field.now in
     let is : Some f ≡ last_with table build c.args.category fs = sym (ap option_copied c.in-Some.is) ∙ c.last_with.ensures in
@@ -64,17 +64,17 @@ pub unreachable-requires : goal.unreachable-requires
 unreachable-requires c =
     let walker = c.args.walker.now in
     let build = build_of walker.build in
-    let table = walker.brings.by_index.items in
+    let table = walker.contribution.by_index.items in
     let f = c.in-Some.field.now in
     let is : Some f ≡ last_with table build c.args.category c.loop-field.fields.now = sym (ap option_copied c.in-Some.is) ∙ c.last_with.ensures in
-    no_other_role build c.requires.ready.checked table c.requires.ready.brings c.args.category f c.loop-field.place c.role_of.result c.role_of.ensures c.in-Regular.is
+    no_other_role build c.requires.ready.checked table c.requires.ready.contribution c.args.category f c.loop-field.place c.role_of.result c.role_of.ensures c.in-Regular.is
     (found-has table build c.args.category c.loop-field.fields.now f is)
 
 pub returns-in-CatchAll-clause-set : goal.returns-in-CatchAll-clause-set
 returns-in-CatchAll-clause-set c =
     let walker = c.args.walker.now in
     let build = build_of walker.build in
-    let table = walker.brings.by_index.items in
+    let table = walker.contribution.by_index.items in
     let category = c.args.category in
     let so_far = c.loop-field.invariant in
     let fs = c.loop-field.fields.now in
@@ -83,9 +83,9 @@ returns-in-CatchAll-clause-set c =
     let is : Some f ≡ last_with table build category fs = sym (ap option_copied c.in-Some.is) ∙ c.last_with.ensures in
     let same : last_catch_all category (emitted_by build c.args.fields.now c.args.place.now) ≡ Some c.in_ok-info-in-CatchAll.info =
     sym so_far.0
-    ∙ last-is build c.requires.ready.checked table c.requires.ready.brings category (length walker.build.shapes.now) fs place so_far.1.1.0 so_far.1.1.1.0
-    ∙ ap (last_at build c.requires.ready.checked table c.requires.ready.brings category place) (sym is)
-    ∙ at-catch_all build c.requires.ready.checked table c.requires.ready.brings category f place c.in-CatchAll.target c.in-CatchAll.ensures (found-has table build category fs f is)
+    ∙ last-is build c.requires.ready.checked table c.requires.ready.contribution category (length walker.build.shapes.now) fs place so_far.1.1.0 so_far.1.1.1.0
+    ∙ ap (last_at build c.requires.ready.checked table c.requires.ready.contribution category place) (sym is)
+    ∙ at-catch_all build c.requires.ready.checked table c.requires.ready.contribution category f place c.in-CatchAll.target c.in-CatchAll.ensures (found-has table build category fs f is)
     ∙ ap Some (sym c.in_ok-info-in-CatchAll.ensures) in
     rw (same, ← so_far.1.1.1.1) c.set_catch_all_map.ensures.ok
 
@@ -93,16 +93,16 @@ pub returns-clause-set : goal.returns-clause-set
 returns-clause-set c =
     let walker = c.args.walker.now in
     let build = build_of walker.build in
-    let table = walker.brings.by_index.items in
+    let table = walker.contribution.by_index.items in
     let category = c.args.category in
     let so_far = c.loop-field.invariant in
     let fs = c.loop-field.fields.now in
     let place = c.loop-field.place in
     let is_none : last_catch_all category (emitted_by build c.args.fields.now c.args.place.now) ≡ None =
     sym so_far.0
-    ∙ last-is build c.requires.ready.checked table c.requires.ready.brings category (length walker.build.shapes.now) fs place so_far.1.1.0 so_far.1.1.1.0
-    ∙ ap (last_at build c.requires.ready.checked table c.requires.ready.brings category place) (sym c.last_with.ensures ∙ ap option_copied c.in_default.is)
-    ∙ last_at-none build c.requires.ready.checked table c.requires.ready.brings category place in
+    ∙ last-is build c.requires.ready.checked table c.requires.ready.contribution category (length walker.build.shapes.now) fs place so_far.1.1.0 so_far.1.1.1.0
+    ∙ ap (last_at build c.requires.ready.checked table c.requires.ready.contribution category place) (sym c.last_with.ensures ∙ ap option_copied c.in_default.is)
+    ∙ last_at-none build c.requires.ready.checked table c.requires.ready.contribution category place in
     so_far.1.1.1.1 ∙ ap (λ (o : Option FieldView). with_last category o c.args.resolution.now) (sym is_none)
 
 pub returns-clause-place : goal.returns-clause-place

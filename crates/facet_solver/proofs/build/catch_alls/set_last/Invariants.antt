@@ -1,6 +1,6 @@
 use Rattle.std.proofs.Common.{◌≡◌, length}
 use Rattle.facet_solver_shape.specs.Catalogues.{FieldsBelow}
-use Rattle.facet_solver.specs.Brings.{AreCatchAlls, fields_bring}
+use Rattle.facet_solver.specs.Contribution.{AreCatchAlls, contribution_of_fields}
 use Rattle.facet_solver.specs.Build.{build_of}
 use Rattle.facet_solver.specs.CatchAlls.{emitted_by, last_catch_all}
 use Rattle.facet_solver.specs.WalkFrames.{IsInside}
@@ -14,7 +14,7 @@ invariant-loop-field l =
     ≡ last_catch_all l.category (emitted_by (build_of l.walker.build) l.fn.fields l.fn.place))
     × (IsInside l.fn.place l.place
     × (FieldsBelow (length l.walker.build.shapes.now) l.fields
-    × (AreCatchAlls (fields_bring l.walker.brings.by_index.items (build_of l.walker.build) l.fields)
+    × (AreCatchAlls (contribution_of_fields l.walker.contribution.by_index.items (build_of l.walker.build) l.fields)
     × (l.resolution ≡ l.fn.resolution))))
 
 abbrev pub decreases-loop-field : goal.decreases-loop-field

@@ -3,18 +3,18 @@ use Rattle.facet_solver_shape.specs.Catalogues.{FieldsBelow}
 use Rattle.facet_solver.specs.Build.{build_of}
 use Rattle.facet_solver.specs.Listing.{choices_of_fields}
 use Rattle.facet_solver.specs.Work.{work_of_fields}
-use Rattle.facet_solver.specs.declared.build.brings.Brings.{Brings}
-use Rattle.facet_solver.specs.declared.build.brings.Brings.TheVariants.{CatchAlls, Emissions, Choices as BringsChoices}
-use Rattle.facet_solver.specs.declared.build.brings.categories.Categories.{Categories}
-use Rattle.facet_solver.proofs.Brought.{field_of_one}
+use Rattle.facet_solver.specs.declared.build.contribution.Contribution.{Contribution}
+use Rattle.facet_solver.specs.declared.build.contribution.Contribution.TheVariants.{CatchAlls, Emissions, Choices as ContributesChoices}
+use Rattle.facet_solver.specs.declared.build.contribution.categories.Categories.{Categories}
+use Rattle.facet_solver.proofs.Contributed.{field_of_one}
 use Rattle.facet_solver.proofs.ChoiceParts.{without_last}
 use Rattle.facet_solver.proofs.Work.{FieldsBelow-last, work_of_fields-last}
 use Rattle.facet_solver.proofs.build.choices.up_to_choices.Goals as goal
 
--- what brings catch-alls or other emissions alone brings no choices
-fewer : (b : Brings) → ((a : Categories) × (b ≡ CatchAlls a)) ⊎ (b ≡ Emissions) → b ≡ BringsChoices → ⊥
-fewer b (inl e) v = let no : CatchAlls e.0 ≡ BringsChoices = sym e.1 ∙ v in cc
-fewer b (inr e) v = let no : Emissions ≡ BringsChoices = sym e ∙ v in cc
+-- what contributes catch-alls or other emissions alone contributes no choices
+fewer : (b : Contribution) → ((a : Categories) × (b ≡ CatchAlls a)) ⊎ (b ≡ Emissions) → b ≡ ContributesChoices → ⊥
+fewer b (inl e) v = let no : CatchAlls e.0 ≡ ContributesChoices = sym e.1 ∙ v in cc
+fewer b (inr e) v = let no : Emissions ≡ ContributesChoices = sym e ∙ v in cc
 
 pub loop-field-preserved : goal.loop-field-preserved
 loop-field-preserved c =
@@ -25,7 +25,7 @@ loop-field-preserved c =
     let split : c.loop-field.kept.now ≡ fs ++ f ∷ [] = c.in-Some.ensures.cases.0 in
     let below = subst (FieldsBelow (length build.catalogue)) split c.loop-field.invariant.0 in
     let apart = FieldsBelow-last (length build.catalogue) fs f below in
-    let none = field_of_one build checked c.args.walker.now.brings.by_index.items c.requires.ready.brings f apart.1 (λ v. fewer c.of_field.result c.in-CatchAlls.is (c.of_field.ensures ∙ v)) in
+    let none = field_of_one build checked c.args.walker.now.contribution.by_index.items c.requires.ready.contribution f apart.1 (λ v. fewer c.of_field.result c.in-CatchAlls.is (c.of_field.ensures ∙ v)) in
     let work = work_of_fields-last build checked fs f below in
     let whole = ap (work_of_fields build) split in (
       apart.0,

@@ -4,7 +4,7 @@ use Rattle.facet_solver.specs.Walk.{walk_root}
 use Rattle.facet_solver_shape.specs.Resolved.{Resolved}
 use Rattle.facet_solver.specs.Outcome.{effect, StopsBy}
 use Rattle.facet_solver.specs.Build.{build_of}
-use Rattle.facet_solver.proofs.ChoiceResolutions.{choice-walked, resolution-is, stops-clash}
+use Rattle.facet_solver.proofs.ChoiceResolutions.{choice-walked, resolution-is, stops-duplicate}
 use Rattle.facet_solver.proofs.build.resolve.resolve.Goals as goal
 
 pub walk_root-requires-clause-walked : goal.walk_root-requires-clause-walked
@@ -16,7 +16,7 @@ returns-in_err-walk_root-clause-refused c =
     let build = build_of c.args.walker.now.build in
     let p = err_from_is_err_and c.from_residual.result c.from_residual.ensures.1 in
     rw (p.1, p.2)
-    (stops-clash build c.args.root c.args.choice.now _ c.requires.choice
+    (stops-duplicate build c.args.root c.args.choice.now _ c.requires.choice
     (subst (λ (r : Resolved). StopsBy (effect r (walk_root build c.args.root c.args.choice.now)) c.in_err-walk_root.field-0.0) c.new-resolution.ensures c.in_err-walk_root.ensures))
 
 pub returns-clause-resolved : goal.returns-clause-resolved

@@ -49,7 +49,7 @@ set_catch_alls-requires-clause-alone c =
     let f = c.args.field.now in
     let fs = c.in-Block.fields.now in
     let is : block c.in-Block.target fs ≡ role_of build.catalogue f = sym (ap role_view c.in-Block.is) ∙ c.role_of-role.ensures in
-    struct-alone build c.requires.ready.checked c.args.walker.now.brings.by_index.items c.requires.ready.brings f c.in-Block.target fs c.in-CatchAlls.field-0 is (sym c.of.ensures ∙ c.in-CatchAlls.is)
+    struct-alone build c.requires.ready.checked c.args.walker.now.contribution.by_index.items c.requires.ready.contribution f c.in-Block.target fs c.in-CatchAlls.field-0 is (sym c.of.ensures ∙ c.in-CatchAlls.is)
 
 pub returns-in-CatchAlls-clause-leads : goal.returns-in-CatchAlls-clause-leads
 returns-in-CatchAlls-clause-leads c =
@@ -63,12 +63,12 @@ returns-in-CatchAlls-clause-leads c =
     let here = when-present build f place c.args.indices.now c.may_be_absent.result (c.may_be_absent.ensures ∙ ap may_be_absent c.role_of-role.ensures)
     c.presence-is_present.result.0 ns c.presence-is_present.ensures c.if-not-is_present.false in
     let inside = c.enter_field.new.self in
-    let table = c.args.walker.now.brings.by_index.items in
+    let table = c.args.walker.now.contribution.by_index.items in
     let below = FieldsBelow-mono f.shape (length build.catalogue) fs (omega (arith, c.requires.below)) (block-below build.catalogue c.requires.ready.checked f c.in-Block.target fs is) in
-    let alone = struct-alone build c.requires.ready.checked table c.requires.ready.brings f c.in-Block.target fs c.in-CatchAlls.field-0 is (sym c.of.ensures ∙ c.in-CatchAlls.is) in
+    let alone = struct-alone build c.requires.ready.checked table c.requires.ready.contribution f c.in-Block.target fs c.in-CatchAlls.field-0 is (sym c.of.ensures ∙ c.in-CatchAlls.is) in
     let e = here ∙ at-block build f place ns c.in-Block.target fs is
     ∙ ap (λ (p : Path). walk_fields build fs p ns) (sym c.in_ok-enter_field-in-Block.ensures)
-    ∙ fields_walked build c.requires.ready.checked table c.requires.ready.brings (length build.catalogue) fs inside ns below alone in
+    ∙ fields_walked build c.requires.ready.checked table c.requires.ready.contribution (length build.catalogue) fs inside ns below alone in
     leads-nothing c.set_catch_alls.new.resolution _ ns
     (emit-done r c.set_catch_alls.new.resolution _ (emitted_by build fs inside) ns e c.in_ok-set_catch_alls-in-Block.ensures.taken)
 

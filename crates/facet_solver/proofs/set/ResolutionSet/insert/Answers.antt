@@ -1,6 +1,6 @@
 use Rattle.std.proofs.Common.{◌≡◌, ℕ, List, ◌||◌, ◌<◌, ◌/◌, nat_eq, filter, length, ap, subst, ◌∙◌, arith, ne_eqb}
 use Rattle.std.proofs.Math.ListN.{length-set}
-use Rattle.facet_solver.specs.IndexSet.{IndexSet, has, upto}
+use Rattle.facet_solver.specs.IndexSet.{IndexSet, has_index, upto}
 use Rattle.facet_solver.specs.Words.{has_bit, members_of, words_of}
 use Rattle.facet_solver.proofs.SharedBits.{insert_has, members_more}
 use Rattle.facet_solver.proofs.set.ResolutionSet.insert.Goals as goal
@@ -29,7 +29,7 @@ returns c =
     let full = c.self.invariant.count in
     let room : c.args.index / 64 < length words = omega arith in
     let with_members : List ℕ → IndexSet = λ members. record { bound = c.self.inside.bound; members = members } in
-    let Q : IndexSet → Type 0 = λ s. with_members (members_of after) ≡ record { bound = s.bound; members = filter (λ i. nat_eq i c.args.index || has s.members i) (upto s.bound) } in
+    let Q : IndexSet → Type 0 = λ s. with_members (members_of after) ≡ record { bound = s.bound; members = filter (λ i. nat_eq i c.args.index || has_index s.members i) (upto s.bound) } in
     subst Q c.self.view_is
     (ap with_members
     (members_more words after c.self.inside.bound c.args.index (invariant_of-self c)

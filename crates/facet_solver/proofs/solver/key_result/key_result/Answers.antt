@@ -1,6 +1,6 @@
 use Rattle.std.proofs.Common.{ℕ, List, [], ◌∷◌, ap, sym, ◌∙◌, arith}
 use Rattle.facet_solver_shape.specs.Keys.{key_of}
-use Rattle.facet_solver.specs.IndexSet.{has}
+use Rattle.facet_solver.specs.IndexSet.{has_index}
 use Rattle.facet_solver.specs.KeyResult.{of_fields}
 use Rattle.facet_solver.specs.State.{State, state_of}
 use Rattle.facet_solver.proofs.Kept.{first_kept, first_within, kept_count, knows_shape, result_agreed, result_by}
@@ -14,7 +14,7 @@ returns-in_default-clause-answer c =
 pub of_one-requires : goal.of_one-requires
 of_one-requires c =
     let e = sym c.common-holders.ensures.members ∙ c.in-Some.ensures.next in
-    let low = first_within c.args.candidates.now.bound (has c.args.entry.now.set.members) c.args.candidates.now.members c.in-Some.first _ c.common-holders.ensures.within e in
+    let low = first_within c.args.candidates.now.bound (has_index c.args.entry.now.set.members) c.args.candidates.now.members c.in-Some.first _ c.common-holders.ensures.within e in
     rw c.requires.bound at low
 
 pub returns-in_default-next-clause-answer : goal.returns-in_default-next-clause-answer
@@ -31,7 +31,7 @@ returns-in-Some-shape-clause-answer c =
     let key = key_of c.args.search.now.key in
     let kept = c.common-holders.ensures.members in
     result_agreed key s.schema c.args.entry.now c.in-Some-shape.shape first c.in-Some-next.second c.next-2.new.self.items c.in-Some-shape.is c.requires.entry
-    (first_kept (has c.args.entry.now.set.members) c.args.candidates.now.members first _ (sym kept ∙ c.in-Some.ensures.next))
+    (first_kept (has_index c.args.entry.now.set.members) c.args.candidates.now.members first _ (sym kept ∙ c.in-Some.ensures.next))
     ∙ result_by key s c.args.entry.now c.requires.entry (first ∷ c.in-Some-next.second ∷ c.next-2.new.self.items)
     (ap (λ rest. first ∷ rest) (sym c.in-Some-next.ensures.next) ∙ sym c.in-Some.ensures.next ∙ kept)
 

@@ -1,5 +1,5 @@
 use Rattle.std.proofs.Common.{◌++◌, ◌∙◌, map}
-use Rattle.facet_solver_shape.specs.Resolved.{pick_view}
+use Rattle.facet_solver_shape.specs.Resolved.{selection_view}
 use Rattle.facet_solver_shape.proofs.Resolved.{union_of_apart, names_joined}
 use Rattle.facet_solver_shape.proofs.resolution.Resolution.merged.Goals as goal
 
@@ -15,6 +15,6 @@ returns-clause-ok c =
       fields = union_of_apart _ _ _ apart c.in_ok-fields.ensures;
       required_names = c.in_ok-required.ensures;
       key_paths = c.in_ok-key_paths.ensures;
-      picks = c.in_ok-picks.ensures ∙ (λ i. map pick_view (c.deref.ensures.value i) ++ map pick_view (c.deref-2.ensures.value i));
+      selections = c.in_ok-selections.ensures ∙ (λ i. map selection_view (c.deref.ensures.value i) ++ map selection_view (c.deref-2.ensures.value i));
       catch_alls = c.in_ok-catch_alls.ensures;
     })

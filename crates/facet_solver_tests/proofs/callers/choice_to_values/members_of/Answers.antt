@@ -3,7 +3,7 @@ use Rattle.std.specs.Prelude.{IsSome}
 use Rattle.std.specs.FinMap as finite
 use Rattle.facet_solver.specs.Fields.{FieldView, entry_view}
 use Rattle.facet_solver_tests.specs.declared.callers.choice_to_values.FieldValue.{FieldValue}
-use Rattle.facet_solver_tests.specs.ChoiceToValues.{field_at}
+use Rattle.facet_solver_tests.specs.ChoiceToValues.{meant_field_at}
 use Rattle.facet_solver_tests.proofs.ChoiceToValues.{in_middle, place_more, same_field, well_more}
 use Rattle.facet_solver_tests.proofs.callers.choice_to_values.members_of.Goals as goal
 use Rattle.facet_solver_tests.proofs.callers.choice_to_values.members_of.Goals.{else-field-via-then-field+else-is_none, else-field-via-else-field}
@@ -26,5 +26,5 @@ loop-field-preserved c =
     ] in
     record {
       place = place_more (λ (v : FieldValue). v.field.now) c.loop-field.fields.items c.push.new.self.items value (map (λ e. e.1) (map entry_view c.next.new.self)) _ c.in_ok-push.ensures.items before;
-      well = well_more (field_at c.args.meant.now) c.loop-field.fields.items c.push.new.self.items value c.in_ok-push.ensures.items c.loop-field.invariant.well (record { member = c.in_ok-member.ensures; present = present });
+      well = well_more (meant_field_at c.args.meant.now) c.loop-field.fields.items c.push.new.self.items value c.in_ok-push.ensures.items c.loop-field.invariant.well (record { member = c.in_ok-member.ensures; present = present });
     }

@@ -1,7 +1,7 @@
 use Rattle.std.proofs.Common.{◌≡◌, ◌++◌, All, map}
 use Rattle.std.specs.FinMap as finite
 use Rattle.facet_solver.specs.Fields.{entry_view}
-use Rattle.facet_solver_tests.specs.ChoiceToValues.{IsValue, field_at}
+use Rattle.facet_solver_tests.specs.ChoiceToValues.{IsValue, meant_field_at}
 use Rattle.facet_solver_tests.proofs.callers.choice_to_values.members_of.Given as goal
 
 -- the fields so far have their values, and the others follow them
@@ -9,5 +9,5 @@ abbrev pub invariant-loop-field : goal.invariant-loop-field
 invariant-loop-field l = record {
   place : map (λ v. v.field.now) l.fields.items ++ map (λ e. e.1) (map entry_view l.field-iterator)
       ≡ finite.values l.resolution.fields;
-  well : All (IsValue (field_at l.meant)) l.fields.items;
+  well : All (IsValue (meant_field_at l.meant)) l.fields.items;
 }

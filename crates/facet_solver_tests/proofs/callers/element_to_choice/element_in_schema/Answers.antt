@@ -19,7 +19,7 @@ returns-clause-found c choices listed index choice at r told =
     let parts = c.args.parts.now in
     let schema = c.args.schema.now in
     let all = keys_of_parts parts in
-    let text = description r.picks in
+    let text = description r.selections in
     let same : c.loop-part.solver ≡ see_keys all (new_solver schema) =
     c.loop-part.invariant ∙ ap (λ (ps : List Part). see_keys (map key_of_part ps) (new_solver schema)) (take_all c.loop-part.part-index parts c.loop-part-test.false) in
     let ends = c.told_choices_are_found.ensures schema c.resolutions.ensures.built choices listed index choice at all r told in

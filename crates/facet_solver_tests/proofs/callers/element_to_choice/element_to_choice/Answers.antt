@@ -35,5 +35,5 @@ returns-clause-answer c =
       alone = c.in_ok-handle.ensures.verdict.0 ∙ ap (λ (n : ℕ). n ∷ []) (sym c.index.ensures);
       resolution = resolution_of handle;
       there = ap (slice_get schema.resolutions) c.index.ensures ∙ subst (λ (s : SchemaView). IsHandleOf s handle) (c.calls_are_made_one_by_one.ensures.schema keys (new_solver schema)) c.in_ok-handle.ensures.verdict.1;
-      described = c.in_ok-description.ensures ∙ ap (λ (r : Resolved). description r.picks) c.resolution.ensures;
+      described = c.in_ok-description.ensures ∙ ap (λ (r : Resolved). description r.selections) c.resolution.ensures;
     }

@@ -20,7 +20,7 @@ returns-clause-found c choices listed index choice at r told =
     let keys = c.args.keys.now in
     let schema = c.args.schema.now in
     let all = keys_of keys in
-    let text = description r.picks in
+    let text = description r.selections in
     let same : c.loop-key.solver ≡ see_keys all (new_solver schema) =
     c.loop-key.invariant ∙ ap (λ (ks : List FieldKey). see_keys (map key_of ks) (new_solver schema)) (take_all c.loop-key.key-index keys c.loop-key-test.false) in
     let ends = c.told_choices_are_found.ensures schema c.resolutions.ensures.built choices listed index choice at all r told in

@@ -4,8 +4,8 @@ use Rattle.facet_solver_tests.specs.LoadConfig.{each_once}
 use Rattle.facet_solver_tests.proofs.LoadConfig.{names_in}
 use Rattle.facet_solver_tests.proofs.callers.load_config.add_variant_names.Given as goal
 
--- the names of the picks so far were added
-abbrev pub invariant-loop-pick : goal.invariant-loop-pick
-invariant-loop-pick l =
+-- the names of the selections so far were added
+abbrev pub invariant-loop-selection : goal.invariant-loop-selection
+invariant-loop-selection l =
     (met : List Name) → names_of l.fn.names.items ≡ each_once met
-    → names_of l.names.items ≡ each_once (met ++ names_in (take l.pick-index l.pick-items))
+    → names_of l.names.items ≡ each_once (met ++ names_in (take l.selection-index l.selection-items))

@@ -3,7 +3,7 @@ use Rattle.std.proofs.lemmas.List.{take_all}
 use Rattle.facet_solver.specs.Names.{Name}
 use Rattle.facet_solver.specs.Schema.{resolution_of}
 use Rattle.facet_solver.specs.declared.ResolutionHandle.{ResolutionHandle}
-use Rattle.facet_solver_tests.specs.LoadConfig.{each_once, picked_names}
+use Rattle.facet_solver_tests.specs.LoadConfig.{each_once, selected_names}
 use Rattle.facet_solver_tests.proofs.LoadConfig.{handle_more, names_at, names_of_handles}
 use Rattle.facet_solver_tests.proofs.callers.load_config.variant_names.Goals as goal
 
@@ -13,7 +13,7 @@ loop-handle-preserved c =
     let i = c.loop-handle.handle-index in
     let so_far = names_of_handles (take i handles) in
     c.in_ok-add_variant_names.ensures so_far c.loop-handle.invariant
-    ∙ ap (λ (ns : List Name). each_once (so_far ++ ns)) (ap picked_names (c.resolution.ensures ∙ ap resolution_of c.handle-item.is))
+    ∙ ap (λ (ns : List Name). each_once (so_far ++ ns)) (ap selected_names (c.resolution.ensures ∙ ap resolution_of c.handle-item.is))
     ∙ ap each_once (sym (handle_more handles i c.handle-item.result c.loop-handle-test.true))
 
 pub returns : goal.returns

@@ -2,13 +2,13 @@ use Rattle.std.proofs.Common.{◌≡◌, ◌++◌, map}
 use Rattle.facet_solver_shape.specs.Names.{names_of}
 use Rattle.facet_solver.specs.KeyResult.{scored_view}
 use Rattle.facet_solver.specs.KeyPath.{whole_path}
-use Rattle.facet_solver.specs.Probe.{scored_at, shapes_at}
+use Rattle.facet_solver.specs.Probe.{scored_at, shapes_on_path}
 use Rattle.facet_solver.proofs.solver.path_search.PathSearch.by_shapes.Given as goal
 
 -- the shapes of the members so far, and the fields with their scores
 abbrev pub invariant-loop-index : goal.invariant-loop-index
 invariant-loop-index l = record {
   parts : l.yielded ++ l.index-iterator ≡ l.set.members;
-  shapes : l.shapes.items ≡ shapes_at (whole_path (names_of l.self.path.now) l.self.key.now) l.schema l.yielded;
+  shapes : l.shapes.items ≡ shapes_on_path (whole_path (names_of l.self.path.now) l.self.key.now) l.schema l.yielded;
   fields : map scored_view l.fields.items ≡ scored_at (whole_path (names_of l.self.path.now) l.self.key.now) l.schema l.yielded;
 }

@@ -9,7 +9,7 @@ use Rattle.facet_solver.proofs.solver.report.Report.no_match.Goals as goal
 pub returns : goal.returns
 returns c =
     let state = state_of_report c.args.self.now in
-    let names = c.in_ok-names_of.ensures
+    let names = c.in_ok-missing_names.ensures
     ∙ ap (λ fields. map (λ (m : MissingView). m.name) (map missing_view fields)) c.deref.ensures.value
     ∙ ap (map (λ (m : MissingView). m.name)) c.in_ok-missing.ensures
     ∙ told_names state.schema.build.catalogue state.seen (closest state) in

@@ -4,14 +4,14 @@ use Rattle.std.proofs.lemmas.List.{drop_more}
 use Rattle.std.proofs.Math.ListN.{drop_of_length-le}
 use Rattle.facet_solver_shape.specs.Names.{Name}
 use Rattle.facet_solver_shape.specs.Resolved.{Resolved}
-use Rattle.facet_solver.specs.Verdict.{field_names, resolutions_at}
+use Rattle.facet_solver.specs.Verdict.{resolution_field_names, resolutions_at}
 use Rattle.facet_solver.proofs.AtIndices.{got, none_at, one_at}
 use Rattle.facet_solver.proofs.NameSets.{Fills, fills_start, fills_union, filled_list, in_list}
 use Rattle.facet_solver.proofs.solver.report.viable.all_names.Goals as goal
 use Rattle.facet_solver.proofs.solver.report.viable.all_names.Goals.{in-Some+in_ok-add_names, in_default}
 
 abbrev names : List Resolved → List ℕ → List Name
-names resolutions indices = flat_map field_names (resolutions_at resolutions indices)
+names resolutions indices = flat_map resolution_field_names (resolutions_at resolutions indices)
 
 pub loop-index-init : goal.loop-index-init
 loop-index-init c = fills_start c.new-names.result.keys (names c.args.schema.now.resolutions c.args.indices.now) c.new-names.ensures.empty
@@ -27,13 +27,13 @@ loop-index-preserved c =
     elim c.match-get.branch [
       | in-Some+in_ok-add_names w ↦
           let found = got rs c.resolutions-resolutions.result.now same _ (Some w.in-Some.resolution) w.in-Some.ensures.lookup in
-          let left : names rs (drop i c.args.indices.now) ≡ field_names w.in-Some.resolution.now ++ names rs rest =
-          ap (names rs) step ∙ ap (flat_map field_names) (one_at rs _ rest w.in-Some.resolution.now found) in
-          rw w.names-is (fills_union c.loop-index.names.keys w.add_names.new.names.keys (field_names w.in-Some.resolution.now) (names rs rest) wanted
+          let left : names rs (drop i c.args.indices.now) ≡ resolution_field_names w.in-Some.resolution.now ++ names rs rest =
+          ap (names rs) step ∙ ap (flat_map resolution_field_names) (one_at rs _ rest w.in-Some.resolution.now found) in
+          rw w.names-is (fills_union c.loop-index.names.keys w.add_names.new.names.keys (resolution_field_names w.in-Some.resolution.now) (names rs rest) wanted
           (subst (λ (ns : List Name). Fills c.loop-index.names.keys ns wanted) left c.loop-index.invariant) w.in_ok-add_names.ensures)
       | in_default w ↦
           let missed = got rs c.resolutions-resolutions.result.now same _ None w.in_default.ensures.lookup in
-          let left : names rs (drop i c.args.indices.now) ≡ names rs rest = ap (names rs) step ∙ ap (flat_map field_names) (none_at rs _ rest missed) in
+          let left : names rs (drop i c.args.indices.now) ≡ names rs rest = ap (names rs) step ∙ ap (flat_map resolution_field_names) (none_at rs _ rest missed) in
           rw w.names-is (subst (λ (ns : List Name). Fills c.loop-index.names.keys ns wanted) left c.loop-index.invariant)
     ]
 

@@ -28,8 +28,8 @@ loop-index-preserved c =
           let r = w.in-Some.resolution.now in
           let found = got rs c.resolutions-resolutions.result.now same _ (Some w.in-Some.resolution) w.in-Some.ensures.lookup in
           rw w.texts-is (left_one (texts rs) (map string_bytes c.loop-index.texts.items) (drop i c.args.indices.now) rest _ _ c.loop-index.invariant step
-          (map string_bytes w.push.new.self.items) (description r.picks)
-          (map_pushed string_bytes c.loop-index.texts.items w.push.new.self.items w.in_ok-describe.field-0 (description r.picks) w.in_ok-push.ensures.items w.in_ok-describe.ensures)
+          (map string_bytes w.push.new.self.items) (description r.selections)
+          (map_pushed string_bytes c.loop-index.texts.items w.push.new.self.items w.in_ok-describe.field-0 (description r.selections) w.in_ok-push.ensures.items w.in_ok-describe.ensures)
           (ap descriptions (one_at rs _ rest r found)))
       | in_default w ↦
           let missed = got rs c.resolutions-resolutions.result.now same _ None w.in_default.ensures.lookup in

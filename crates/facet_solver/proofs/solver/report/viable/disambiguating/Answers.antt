@@ -3,7 +3,7 @@ use Rattle.std.specs.List.{flat_map}
 use Rattle.facet_solver_shape.specs.Names.{Name, names_of}
 use Rattle.facet_solver_shape.specs.Resolved.{Resolved}
 use Rattle.facet_solver.specs.Failure.{in_byte_order}
-use Rattle.facet_solver.specs.Verdict.{field_names, resolutions_at}
+use Rattle.facet_solver.specs.Verdict.{resolution_field_names, resolutions_at}
 use Rattle.facet_solver.proofs.AtIndices.{lacked_among, lacked_at, lacked_left, lacked_taken}
 use Rattle.facet_solver.proofs.ByteOrder.{list_in_order}
 use Rattle.facet_solver.proofs.Left.{left_end, left_none, left_one, left_start, map_pushed}
@@ -40,7 +40,7 @@ pub returns : goal.returns
 returns c =
     let rs = c.args.schema.now.resolutions in
     let is = c.args.indices.now in
-    let all = flat_map field_names (resolutions_at rs is) in
+    let all = flat_map resolution_field_names (resolutions_at rs is) in
     let gives = c.into_iter-name-iterator.ensures.into_iter_gives in
     left_end (lacked rs is) (map string_bytes c.loop-name.names.items) c.loop-name.name-iterator _ c.loop-name.invariant c.in-None.ensures.steps.0 refl
     ∙ ap (lacked_among rs is) (ap names_of gives.0 ∙ list_in_order c.in_ok-all.all.keys all gives.4 c.in_ok-all.ensures)

@@ -5,7 +5,8 @@ use Rattle.std.specs.Ordering.{is_le}
 use Rattle.facet_solver_shape.proofs.RepeatedNames.{ApartBelow, AtMostBelow, name_cmp, name_cmp_back}
 use Rattle.facet_solver_shape.proofs.shape.check.names.repeats_name.Given as goal
 
--- the names so far differ, and so do those that were compared; they are from the lowest to the highest
+-- the names so far differ, and so do those that were compared; they are from the lowest to the
+-- highest
 abbrev pub invariant-loop-index : goal.invariant-loop-index
 invariant-loop-index g l = record {
   apart : ApartBelow (map g.T.Named.name_of l.items) l.index;

@@ -11,7 +11,7 @@ use Rattle.facet_solver_shape.specs.Resolved.{with_key_path}
 use Rattle.facet_solver.specs.Nested.{KeyPaths, Under, paths_of_each, with_paths_behind}
 use Rattle.facet_solver.specs.NestedLevels.{names_left, paths_of_levels, shown}
 use Rattle.facet_solver.specs.NestedNames.{AreRising, Names, NamesLead, paths_of_names, shapes_behind}
-use Rattle.facet_solver.specs.NestedTable.{StandFor, is_filled, paths_by_name}
+use Rattle.facet_solver.specs.NestedTable.{EntriesStandFor, is_filled, paths_by_name}
 use Rattle.facet_solver.specs.declared.build.nested.names_left.Level.{Level}
 use Rattle.facet_solver.specs.declared.build.nested.names_left.NamesLeft.{NamesLeft}
 use Rattle.facet_solver.specs.declared.build.nested.shapes_behind.ShapesBehind.{ShapesBehind}
@@ -71,7 +71,7 @@ module _ (c : goal.Joined-shapes-7) where
   same_shapes : c.as_slice.result.now ≡ shapes_behind shapes
   same_shapes = c.as_slice.ensures ∙ ap shapes_behind c.deref.ensures
 
-  same_paths : (under : Under) → StandFor under c.args.self.now.by_index.items
+  same_paths : (under : Under) → EntriesStandFor under c.args.self.now.by_index.items
       → paths_of_levels under c.push-in-Some-2.new.self.items (paths_of_names under (names_left c.replace-beside.new.dest))
       ≡ paths_of_levels under c.loop-name.outer.items (paths_of_names under (names_left c.loop-name.names))
   same_paths under stand =

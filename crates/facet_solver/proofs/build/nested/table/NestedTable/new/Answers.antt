@@ -5,7 +5,7 @@ use Rattle.facet_solver_shape.specs.declared.shape.ShapeKind.{ShapeKind}
 use Rattle.facet_solver.specs.Build.{kind_at, kind_of}
 use Rattle.facet_solver.specs.Nested.{entered_view}
 use Rattle.facet_solver.specs.FieldCount.{field_count}
-use Rattle.facet_solver.specs.NestedTable.{AreEntries, AreFirstEntries, EntryLeadsTo, IsEntry, IsFilled, KindAsks, LeadEarlier, is_filled}
+use Rattle.facet_solver.specs.NestedTable.{AreEntries, AreFirstEntries, EntryLeadsTo, IsFilled, IsNestedEntry, KindAsks, LeadEarlier, is_filled}
 use Rattle.facet_solver.specs.declared.build.nested.table.Entry.{Entry}
 use Rattle.facet_solver.proofs.Counted.{no_fall-trans}
 use Rattle.facet_solver.proofs.Marks.{mark_at}
@@ -47,8 +47,8 @@ loop-entered-preserved c =
     let within : length ts < length marks = omega (arith, c.loop-entered-test.true, c.loop-entered.by_index.ok.0) in
     let mark = mark_at marks (length ts) (get_or marks c.len-index.result false) within (ap (λ (i : ℕ). get_or marks i false) (sym at)) in
     let right =
-    subst (λ (k : ShapeKind). IfSome entry (λ entry. IsEntry e cat k entry × EntryLeadsTo (is_filled ts) entry)) (sym (ap kind_of here))
-    (subst (λ (us : List (Option Entry)). IfSome entry (λ entry. IsEntry e cat s.kind entry × EntryLeadsTo (is_filled us) entry)) c.as_slice.ensures.value
+    subst (λ (k : ShapeKind). IfSome entry (λ entry. IsNestedEntry e cat k entry × EntryLeadsTo (is_filled ts) entry)) (sym (ap kind_of here))
+    (subst (λ (us : List (Option Entry)). IfSome entry (λ entry. IsNestedEntry e cat s.kind entry × EntryLeadsTo (is_filled us) entry)) c.as_slice.ensures.value
     (made_of _ _ entry c.in_ok-entry.ensures.entry)) in
     let longer = ap length c.in_ok-push.ensures.items ∙ length_push ts entry in (
       subst (λ (us : List (Option Entry)). AreFirstEntries e cat marks us) (sym c.in_ok-push.ensures.items)

@@ -16,7 +16,7 @@ returns-then-not-has c =
     record {
       ok = on_ok c.add_key_path.result
           (λ added. added
-          ∙ ap (λ (p : KeyPath). with_key_path r p) c.in_ok-key_path.ensures
+          ∙ ap (λ (p : KeyPath). with_key_path r p) c.in_ok-one_name_path.ensures
           ∙ sym (with-name r name)
           ∙ ap (λ (ps : KeyPaths). with_key_paths r (named name ps)) (sym none))
           c.add_key_path.ensures.ok;

@@ -1,6 +1,6 @@
 //! Sets of categories of catch-alls.
 ghost use Rattle.std.specs.Prelude.{◌≡◌};
-ghost use Rattle.facet_solver.specs.Brings as brings;
+ghost use Rattle.facet_solver.specs.Contribution as contribution;
 
 use facet_solver_shape::FieldCategory;
 
@@ -15,7 +15,7 @@ pub(crate) struct Categories {
 impl Categories {
     /// No category.
     pub(crate) fn none() -> Categories
-        ensures { result ≡ brings.none }
+        ensures { result ≡ contribution.none }
     {
         Categories {
             flat: false,
@@ -26,7 +26,7 @@ impl Categories {
 
     /// One category alone; none, where no catch-all is of the category.
     pub(crate) fn only(category: FieldCategory) -> Categories
-        ensures { result ≡ brings.only category }
+        ensures { result ≡ contribution.only category }
     {
         let mut categories = Categories::none();
         match category {
@@ -40,7 +40,7 @@ impl Categories {
 
     /// The categories of both.
     pub(crate) fn union(self, other: Categories) -> Categories
-        ensures { result ≡ brings.union self other }
+        ensures { result ≡ contribution.union self other }
     {
         Categories {
             flat: self.flat || other.flat,
@@ -51,7 +51,7 @@ impl Categories {
 
     /// Whether the category is among them.
     pub(crate) fn has(self, category: FieldCategory) -> bool
-        ensures { result ≡ brings.has self category }
+        ensures { result ≡ contribution.has self category }
     {
         match category {
             FieldCategory::Flat => self.flat,

@@ -1,5 +1,5 @@
 use Rattle.std.proofs.Common.{◌≤◌}
-use Rattle.facet_solver.proofs.build.brings.end_of_structs.Given as goal
+use Rattle.facet_solver.proofs.build.contribution.end_of_structs.Given as goal
 
 -- the end goes down from the root
 abbrev pub invariant-loop-end : goal.invariant-loop-end

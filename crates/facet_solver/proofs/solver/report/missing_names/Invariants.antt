@@ -1,7 +1,7 @@
 use Rattle.std.proofs.Common.{◌≡◌, ◌++◌, drop, map}
 use Rattle.facet_solver_shape.specs.Names.{names_of}
 use Rattle.facet_solver.specs.Report.{missing_view}
-use Rattle.facet_solver.proofs.solver.report.names_of.Given as goal
+use Rattle.facet_solver.proofs.solver.report.missing_names.Given as goal
 
 abbrev pub invariant-loop-field : goal.invariant-loop-field
 invariant-loop-field l =
