@@ -9,7 +9,7 @@ use Rattle.facet_solver_shape.specs.Names.{Name}
 use Rattle.facet_solver_shape.specs.Resolved.{Resolved}
 use Rattle.facet_solver_shape.proofs.Lists.{copied_item}
 use Rattle.facet_solver.specs.Resolutions.{has_field_named, passes}
-use Rattle.facet_solver.specs.Verdict.{resolutions_at}
+use Rattle.facet_solver.specs.solver.Report.{resolutions_at}
 
 -- what `get` of their list gives
 pub got : {X : Type 0} (all xs : List X) → xs ≡ all → (i : ℕ) (r : Option (Bor X)) → IsItemAt xs i r → slice_get all i ≡ option_copied r

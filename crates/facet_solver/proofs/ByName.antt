@@ -22,10 +22,10 @@ use Rattle.facet_solver_shape.proofs.Fields.{flat_by_name}
 use Rattle.facet_solver_shape.proofs.Finite.{equal, none_is_some, same_value}
 use Rattle.facet_solver_shape.proofs.Keys.{name_cmp_same}
 use Rattle.facet_solver_shape.proofs.Resolved.{first_part, less, second_part}
-use Rattle.facet_solver.specs.ByName.{is_viable_by_name, missing_by_name, unseen_names, names_among, unknown_by_name}
-use Rattle.facet_solver.specs.Failure.{in_byte_order, is_met, missing, names_where}
+use Rattle.facet_solver.specs.solver.ByName.{is_viable_by_name, missing_by_name, unseen_names, names_among, unknown_by_name}
+use Rattle.facet_solver.specs.solver.Failure.{in_byte_order, is_met, missing, names_where}
 use Rattle.facet_solver.specs.Resolutions.{has_field_named, has_key, is_known}
-use Rattle.facet_solver.specs.Verdict.{is_viable, unknown_names}
+use Rattle.facet_solver.specs.solver.Report.{is_viable, unknown_names}
 use Rattle.facet_solver.proofs.ByteOrder.{items_in_order, member-in_byte_order, same_sorted, sorted-in_byte_order}
 use Rattle.facet_solver.proofs.FieldCategories.{found_first, found_later}
 use Rattle.facet_solver.proofs.NameEntries.{is_some-found}

@@ -18,7 +18,7 @@ use Rattle.facet_solver_shape.specs.Names.{Name, name_ref_cmp, names_of}
 use Rattle.facet_solver_shape.specs.Resolved.{names_view}
 use Rattle.facet_solver_shape.proofs.Fields.{rising_seen, rising_test}
 use Rattle.facet_solver_shape.proofs.Keys.{name_cmp_same}
-use Rattle.facet_solver.specs.Failure.{in_byte_order}
+use Rattle.facet_solver.specs.solver.Failure.{in_byte_order}
 
 module _ {K : Type 0} {R : K → K → Ordering} (o : IsTotalOrder R) where
   -- the members after one more was put in

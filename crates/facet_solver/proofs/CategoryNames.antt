@@ -12,8 +12,8 @@ use Rattle.facet_solver_shape.specs.Fields.{FieldView, is_unnamed, means, takes_
 use Rattle.facet_solver_shape.specs.Keys.{Key, key_of}
 use Rattle.facet_solver_shape.specs.Names.{Name, name_eq}
 use Rattle.facet_solver_shape.specs.Resolved.{names_view}
-use Rattle.facet_solver.specs.Failure.{is_met}
-use Rattle.facet_solver.specs.SeenNames.{AreSeenNames, may_match, names_for, of_category}
+use Rattle.facet_solver.specs.solver.Failure.{is_met}
+use Rattle.facet_solver.specs.solver.SeenNames.{AreSeenNames, may_match, names_for, of_category}
 use Rattle.facet_solver.specs.declared.solver.report.seen.SeenNames.{SeenNames}
 use Rattle.facet_solver.proofs.Verdict.{contains-names_among}
 

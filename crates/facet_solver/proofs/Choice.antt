@@ -1,5 +1,5 @@
 -- The list of choices by parts lists the choices of the walk, and no other list does.
-use Rattle.facet_solver.specs.Build.{Build, repr_for}
+use Rattle.facet_solver.specs.build.Build.{Build, repr_for}
 use Rattle.std.proofs.Common.{◌≡◌, ℕ, zero, suc, ◌+◌, ◌<◌, ◌⊎◌, inl, inr, List, [], ◌∷◌, ◌++◌, map, Option, Some, None, Bool, true, false, sym, refl, ap, ◌∙◌, subst, slice_get, length, get_or, append-nil, arith}
 use Rattle.std.specs.Prelude.{⊤, if◌then◌else◌, Contains}
 use Rattle.facet_solver_shape.specs.declared.shape.Shape.{Shape}
@@ -7,13 +7,13 @@ use Rattle.facet_solver_shape.specs.declared.shape.ShapeKind.{ShapeKind}
 use Rattle.facet_solver_shape.specs.declared.shape.ShapeKind.TheVariants.{Struct, Enum}
 use Rattle.facet_solver_shape.specs.declared.shape.Field.{Field}
 use Rattle.facet_solver_shape.specs.declared.shape.Variant.{Variant}
-use Rattle.facet_solver.specs.Place.{at_root, choosing, variant_path, Path}
-use Rattle.facet_solver.specs.Emissions.{emit_variant, selection_of, Emission}
-use Rattle.facet_solver.specs.Walk.{Walk, emit, walk_variant_step, walk_content_step, walk_present, walk_role, walk_fields_step, walk_within, walk_fields, walk_root, walk_root_shape, walk_root_kind, walk_root_variant, walk_content}
-use Rattle.facet_solver.specs.Representation.{is_walked}
-use Rattle.facet_solver.specs.Roles.{Role, regular, block, alternatives, catch_all, leaf, role_of, may_be_absent}
-use Rattle.facet_solver.specs.Listing.{Choices, no_choice, product, indexed, choices_of_variant, choices_of_present, choices_of_optional, choices_of_role, choices_of_fields_step, choices_within, choices_of_fields, choices_of_root, choices_of_root_shape, choices_of_root_kind}
-use Rattle.facet_solver.specs.Choice.{ListsChoices, Emits, IsChoice, IsResolution, Enumerates, HasNoDuplicates, IsChoiceDuplicate, resolution_from}
+use Rattle.facet_solver.specs.build.Place.{at_root, choosing, variant_path, Path}
+use Rattle.facet_solver.specs.build.Emissions.{emit_variant, selection_of, Emission}
+use Rattle.facet_solver.specs.build.Walk.{Walk, emit, walk_variant_step, walk_content_step, walk_present, walk_role, walk_fields_step, walk_within, walk_fields, walk_root, walk_root_shape, walk_root_kind, walk_root_variant, walk_content}
+use Rattle.facet_solver.specs.build.Representation.{is_walked}
+use Rattle.facet_solver.specs.build.Roles.{Role, regular, block, alternatives, catch_all, leaf, role_of, may_be_absent}
+use Rattle.facet_solver.specs.build.Listing.{Choices, no_choice, product, indexed, choices_of_variant, choices_of_present, choices_of_optional, choices_of_role, choices_of_fields_step, choices_within, choices_of_fields, choices_of_root, choices_of_root_shape, choices_of_root_kind}
+use Rattle.facet_solver.specs.build.Choice.{ListsChoices, Emits, IsChoice, IsResolution, Enumerates, HasNoDuplicates, IsChoiceDuplicate, resolution_from}
 use Rattle.facet_solver.proofs.Listing.{In, In-append, In-map_from, In-product_from, IsExact, IsExact-none, IsExact-emit, IsExact-put_before, IsExact-and_then, IsExact-choose, IsExact-optional}
 use Rattle.std.specs.Cmp.Lexicographic.{slice_cmp}
 use Rattle.std.specs.Ordering.{nat_cmp, ordering_then, ordering_reverse}
@@ -22,7 +22,7 @@ use Rattle.std.specs.List.Sorted.{IsStrictlySortedBy}
 use Rattle.std.specs.Cmp.{nat_cmp_is}
 use Rattle.std.specs.declared.cmp.Ordering.{Ordering}
 use Rattle.std.specs.declared.cmp.Ordering.TheVariants.{Less, Equal, Greater}
-use Rattle.facet_solver.specs.Count.{count_of_root}
+use Rattle.facet_solver.specs.build.Count.{count_of_root}
 use Rattle.facet_solver.proofs.Count.{root_count}
 use Rattle.facet_solver_shape.specs.Resolved.{Resolved}
 use Rattle.facet_solver_shape.specs.Names.{Name}

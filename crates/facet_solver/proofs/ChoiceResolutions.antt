@@ -1,17 +1,17 @@
 -- What choices resolve to: one resolution for each, whose flat fields go by their names.
-use Rattle.facet_solver.specs.Build.{Build}
+use Rattle.facet_solver.specs.build.Build.{Build}
 use Rattle.std.proofs.Common.{◌≡◌, ◌+◌, ◌≤◌, ℕ, suc, List, [], ◌∷◌, ◌++◌, Some, sym, refl, ap, ◌∙◌, subst, length, arith, IsSome, slice_get, take}
 use Rattle.std.proofs.lemmas.List as lists
 use Rattle.std.proofs.lemmas.List.{take_more}
 use Rattle.std.proofs.lemmas.Option.{get_or_from_slice_get, slice_get_within}
 use Rattle.facet_solver_shape.specs.declared.resolution.error.SchemaError as schema
 use Rattle.facet_solver_shape.specs.declared.resolution.error.SchemaError.TheVariants.{DuplicateField, OutOfMemory}
-use Rattle.facet_solver.specs.Walk.{walk_root}
+use Rattle.facet_solver.specs.build.Walk.{walk_root}
 use Rattle.facet_solver_shape.specs.Resolved.{Resolved, nothing}
-use Rattle.facet_solver.specs.Outcome.{Duplicate, Outcome, resolved, duplicate, take_all, effect, StopsBy, duplicate_view}
-use Rattle.facet_solver.specs.Choice.{IsChoice, IsResolution, IsChoiceDuplicate, IsRefusal}
-use Rattle.facet_solver.specs.Count.{count_of_root}
-use Rattle.facet_solver.specs.Listing.{choices_of_root}
+use Rattle.facet_solver.specs.build.Outcome.{Duplicate, Outcome, resolved, duplicate, take_all, effect, StopsBy, duplicate_view}
+use Rattle.facet_solver.specs.build.Choice.{IsChoice, IsResolution, IsChoiceDuplicate, IsRefusal}
+use Rattle.facet_solver.specs.build.Count.{count_of_root}
+use Rattle.facet_solver.specs.build.Listing.{choices_of_root}
 use Rattle.facet_solver.proofs.Choice.{choices_listed}
 use Rattle.facet_solver.proofs.Count.{root_count}
 use Rattle.facet_solver.proofs.Outcome.{built, has_duplicates}

@@ -1,11 +1,11 @@
 -- Newtypes.
-use Rattle.facet_solver.specs.Build.{Catalogue, kind_of, kind_at}
+use Rattle.facet_solver.specs.build.Build.{Catalogue, kind_of, kind_at}
 use Rattle.std.proofs.Common.{◌≡◌, ℕ, List, [], ◌∷◌, Some, None, Bool, true, false, sym, refl, ap, ◌∙◌, slice_get, arith, subst, string_bytes}
 use Rattle.std.specs.Prelude.{if◌then◌else◌, IsSome, nat_eq, not}
 use Rattle.facet_solver_shape.specs.declared.shape.Shape.{Shape}
 use Rattle.facet_solver_shape.specs.declared.shape.Field.{Field}
 use Rattle.facet_solver_shape.specs.Catalogues.{NamesEarlier}
-use Rattle.facet_solver.specs.Content.{effective_of_only, newtype_fields, struct_fields, is_zero, IsNewtypeOf}
+use Rattle.facet_solver.specs.build.Content.{effective_of_only, newtype_fields, struct_fields, is_zero, IsNewtypeOf}
 use Rattle.facet_solver_shape.specs.EffectiveShapes.{effective}
 use Rattle.facet_solver_shape.proofs.EffectiveShapes.{effective-le}
 use Rattle.std.specs.Cmp.Lexicographic.{pointwise, same_text}

@@ -1,6 +1,6 @@
 -- The number of choices: it is the length of their list, it follows the fields, and a table holds
 -- it.
-use Rattle.facet_solver.specs.Build.{Build, repr_for, Catalogue, kind_of}
+use Rattle.facet_solver.specs.build.Build.{Build, repr_for, Catalogue, kind_of}
 use Rattle.std.proofs.Common.{◌≡◌, ℕ, zero, suc, ◌+◌, ◌*◌, List, [], ◌∷◌, ◌++◌, map, Option, Some, None, Bool, true, false, sym, refl, ap, ◌∙◌, slice_get, length, length-append, ◌⊎◌, inl, inr, ◌<◌, ◌≤◌, subst, arith, get_or, take, add-one}
 use Rattle.std.specs.Prelude.{Vec, sum_by, IsSome, if◌then◌else◌, ◌^◌, nat_lt}
 use Rattle.std.proofs.Common.{ltb-true}
@@ -12,18 +12,18 @@ use Rattle.facet_solver_shape.specs.declared.shape.ShapeKind.{ShapeKind}
 use Rattle.facet_solver_shape.specs.declared.shape.ShapeKind.TheVariants.{Struct, Enum}
 use Rattle.facet_solver_shape.specs.declared.shape.Field.{Field}
 use Rattle.facet_solver_shape.specs.declared.shape.Variant.{Variant}
-use Rattle.facet_solver.specs.Representation.{is_walked, Repr}
-use Rattle.facet_solver.specs.Roles.{Role, regular, block, alternatives, catch_all, leaf, role_of, target_of, role_of_target, role_by_kind, may_be_absent}
-use Rattle.facet_solver.specs.Content.{content_of, content_or, struct_fields, newtype_fields, IsNewtypeOf}
-use Rattle.facet_solver.specs.Listing.{Choices, product, indexed, choices_of_variant, choices_of_present, choices_of_optional, choices_of_role, choices_of_fields_step, choices_within, choices_of_fields, choices_of_root, choices_of_root_shape, choices_of_root_kind}
-use Rattle.facet_solver.specs.Count.{Count, count_variant, count_present, count_optional, count_role, count_fields_step, count_within, count_fields, count_of_root, count_of_shape, count_kind, below_2_64, IsCountOf, count_shape, count_field, count_content}
+use Rattle.facet_solver.specs.build.Representation.{is_walked, Repr}
+use Rattle.facet_solver.specs.build.Roles.{Role, regular, block, alternatives, catch_all, leaf, role_of, target_of, role_of_target, role_by_kind, may_be_absent}
+use Rattle.facet_solver.specs.build.Content.{content_of, content_or, struct_fields, newtype_fields, IsNewtypeOf}
+use Rattle.facet_solver.specs.build.Listing.{Choices, product, indexed, choices_of_variant, choices_of_present, choices_of_optional, choices_of_role, choices_of_fields_step, choices_within, choices_of_fields, choices_of_root, choices_of_root_shape, choices_of_root_kind}
+use Rattle.facet_solver.specs.build.Count.{Count, count_variant, count_present, count_optional, count_role, count_fields_step, count_within, count_fields, count_of_root, count_of_shape, count_kind, below_2_64, IsCountOf, count_shape, count_field, count_content}
 use Rattle.facet_solver_shape.specs.Catalogues.{FieldsBelow, VariantsBelow, NamesEarlier}
 use Rattle.facet_solver.proofs.Roles.{RoleBelow, role_of-below, content_of-below, IsLocal, one_step, target_in, target_in_role, target_in_role-le, FieldsBelow-mono}
 use Rattle.facet_solver.proofs.Outcome.{get_push}
-use Rattle.facet_solver.specs.declared.build.representation.Format.{Format}
+use Rattle.facet_solver.specs.declared.build.format.Format.{Format}
 use Rattle.std.proofs.lemmas.List.{length_push, take_all}
 use Rattle.facet_solver.specs.declared.build.count.saturating.SaturatingCount.{SaturatingCount}
-use Rattle.facet_solver.specs.Counts.{CountsTo, count_at, AreFirstCounts}
+use Rattle.facet_solver.specs.build.Counts.{CountsTo, count_at, AreFirstCounts}
 use Rattle.std.specs.Option.{option_map_or}
 use Rattle.std.specs.declared.alloc.Global.{Global}
 use Rattle.std.proofs.lemmas.Option.{slice_get-get_or}

@@ -9,8 +9,8 @@ use Rattle.facet_solver_shape.specs.declared.resolution.key.FieldKey.{FieldKey}
 use Rattle.facet_solver_shape.specs.Fields.{FieldView, entry_view, matches}
 use Rattle.facet_solver_shape.specs.Keys.{Key, key_cmp, key_of}
 use Rattle.facet_solver_shape.proofs.Lists.{list_any-map}
-use Rattle.facet_solver.specs.Failure.{is_met}
-use Rattle.facet_solver.specs.SeenNames.{IsSuffixOf, keys_from}
+use Rattle.facet_solver.specs.solver.Failure.{is_met}
+use Rattle.facet_solver.specs.solver.SeenNames.{IsSuffixOf, keys_from}
 
 -- what a cursor goes on to
 pub keys_on : (next : Option (Bor FieldKey)) (before after : List FieldKey)

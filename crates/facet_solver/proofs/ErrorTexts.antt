@@ -13,9 +13,9 @@ use Rattle.std.proofs.lemmas.List.{flat_map_more, take_more}
 use Rattle.std.proofs.lemmas.List.Folds.{list_all-append, list_all-map, flat_map-map}
 use Rattle.facet_solver_shape.specs.Names.{Name}
 use Rattle.facet_solver.specs.declared.error.MissingFieldInfo.{MissingFieldInfo}
-use Rattle.facet_solver.specs.ErrorTexts.{missing_names}
-use Rattle.facet_solver.specs.QuotedNames.{quoted, later_text, all_ascii, where_ascii}
-use Rattle.facet_solver.specs.Report.{missing_view}
+use Rattle.facet_solver.specs.error.ErrorTexts.{missing_names}
+use Rattle.facet_solver.specs.error.QuotedNames.{quoted, later_text, all_ascii, where_ascii}
+use Rattle.facet_solver.specs.error.ErrorView.{missing_view}
 use Rattle.facet_solver.proofs.QuotedNames.{debug_name}
 
 -- ---- texts that are stated where names are ASCII

@@ -1,5 +1,5 @@
 -- The categories that the fields of a resolution have in a format.
-use Rattle.facet_solver.specs.Build.{Build, repr_for}
+use Rattle.facet_solver.specs.build.Build.{Build, repr_for}
 use Rattle.std.proofs.Common.{◌≡◌, ◌≢◌, T, All, map, ℕ, zero, suc, List, [], ◌∷◌, ◌++◌, Option, Some, None, Bool, true, false, cond, sym, refl, ap, ◌∙◌, subst, slice_get, length}
 use Rattle.std.specs.Prelude.{if◌then◌else◌}
 use Rattle.std.specs.FinMap.{find as find_at}
@@ -23,18 +23,19 @@ use Rattle.facet_solver_shape.specs.Resolved.{Resolved, nothing}
 use Rattle.facet_solver_shape.proofs.Finite.{equal, none_is_some}
 use Rattle.facet_solver_shape.proofs.Resolved.{first_part, none_above, second_part}
 use Rattle.facet_solver_shape.proofs.Keys.{key_cmp_total, key_cmp_same}
-use Rattle.facet_solver.specs.declared.build.representation.Format.{Format}
-use Rattle.facet_solver.specs.declared.build.representation.Format.TheVariants.{Flat, Dom}
-use Rattle.facet_solver.specs.Representation.{category_of_mark, Repr, flattened, externally_tagged, internally_tagged, adjacently_tagged, is_walked, field_category, selector_category}
-use Rattle.facet_solver.specs.Content.{content_of}
-use Rattle.facet_solver.specs.Roles.{Role, regular, block, alternatives, catch_all, leaf, role_of, may_be_absent}
-use Rattle.facet_solver.specs.Nested.{with_key_paths}
-use Rattle.facet_solver.specs.Emissions.{Emission, a_field, some_key_paths, a_selection, a_catch_all, field_and_paths, selection_of, regular_field, leaf_field, selector_field, emit_regular, emit_catch_all, emit_leaf, emit_selector_by, emit_variant, emit_plain}
-use Rattle.facet_solver.specs.Place.{Chosen, at_root, at_root_variant, choosing, field_path, variant_path, Path}
-use Rattle.facet_solver.specs.Walk.{Walked, Walk, put_before, and_then, emit, choose, at_chosen, walk_variant_step, walk_content_step, Walking, walk_present, walk_optional, walk_role, walk_fields_step, walk_within, walk_fields, walk_root, walk_root_shape, walk_root_kind, walk_root_variant, walk_content}
-use Rattle.facet_solver.specs.Choice.{with_emission, resolution_from, IsResolution, GoesByName}
-use Rattle.facet_solver.specs.Indexed.{AreOfFormat, HasFormat, IsOfFormat}
-use Rattle.facet_solver.specs.Schema.{IsBuilt, SchemaView}
+use Rattle.facet_solver.specs.declared.build.format.Format.{Format}
+use Rattle.facet_solver.specs.declared.build.format.Format.TheVariants.{Flat, Dom}
+use Rattle.facet_solver.specs.build.Representation.{Repr, flattened, externally_tagged, internally_tagged, adjacently_tagged, is_walked}
+use Rattle.facet_solver.specs.build.Format.{category_of_mark, field_category, selector_category}
+use Rattle.facet_solver.specs.build.Content.{content_of}
+use Rattle.facet_solver.specs.build.Roles.{Role, regular, block, alternatives, catch_all, leaf, role_of, may_be_absent}
+use Rattle.facet_solver.specs.build.Nested.{with_key_paths}
+use Rattle.facet_solver.specs.build.Emissions.{Emission, a_field, some_key_paths, a_selection, a_catch_all, field_and_paths, selection_of, regular_field, leaf_field, selector_field, emit_regular, emit_catch_all, emit_leaf, emit_selector_by, emit_variant, emit_plain}
+use Rattle.facet_solver.specs.build.Place.{Chosen, at_root, at_root_variant, choosing, field_path, variant_path, Path}
+use Rattle.facet_solver.specs.build.Walk.{Walked, Walk, put_before, and_then, emit, choose, at_chosen, walk_variant_step, walk_content_step, Walking, walk_present, walk_optional, walk_role, walk_fields_step, walk_within, walk_fields, walk_root, walk_root_shape, walk_root_kind, walk_root_variant, walk_content}
+use Rattle.facet_solver.specs.build.Choice.{with_emission, resolution_from, IsResolution, GoesByName}
+use Rattle.facet_solver.specs.schema.Indexed.{AreOfFormat, HasFormat, IsOfFormat}
+use Rattle.facet_solver.specs.schema.Schema.{IsBuilt, SchemaView}
 
 -- all categories that fields and selectors get in a format
 pub record HasCategories (P : FieldCategory → Type 0) (format : Format) : Type 0 where

@@ -4,7 +4,7 @@ use Rattle.std.proofs.lemmas.Bool.{eqb-true}
 use Rattle.std.proofs.lemmas.Cmp.{nat_eq_equiv}
 use Rattle.std.proofs.lemmas.List.Elements.{filter-append}
 use Rattle.std.proofs.lemmas.Map.Views.{any-filter_same}
-use Rattle.facet_solver.specs.FirstOfEach.{first_of_each, is_among}
+use Rattle.facet_solver.specs.solver.FirstOfEach.{first_of_each, is_among}
 
 module _ {X : Type 0} (shape_of : X → ℕ) where
   one_more : (p : X → Bool) (xs : List X) (f g : X) (here same : Bool) → p g ≡ not same → f ∷ filter p (cond here xs (xs ++ g ∷ [])) ≡ cond (same || (not same && here)) (f ∷ filter p xs) ((f ∷ filter p xs) ++ g ∷ [])

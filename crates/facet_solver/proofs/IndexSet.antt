@@ -8,8 +8,8 @@ use Rattle.std.proofs.lemmas.List.Filters.{length-filter_both}
 use Rattle.std.proofs.lemmas.List.Folds.{list_any_none}
 use Rattle.std.proofs.lemmas.List.FromFn.{get_or-range_with_len, length-range_with_len}
 use Rattle.std.proofs.lemmas.List.Kept.{IsStrictlyIncreasing-filter}
-use Rattle.facet_solver.specs.IndexSet.{has_index, upto, no_index, one_index, how_many}
-pub use Rattle.facet_solver.specs.SharedBits.{IsNext}
+use Rattle.facet_solver.specs.set.IndexSet.{has_index, upto, no_index, one_index, how_many}
+pub use Rattle.facet_solver.specs.set.SharedBits.{IsNext}
 
 -- ---- the indices of a range that pass a test
 

@@ -8,11 +8,11 @@ use Rattle.std.proofs.lemmas.Bool.Decides.{Decides-eqb}
 use Rattle.std.proofs.lemmas.List.Folds.{find-append}
 use Rattle.facet_solver_shape.proofs.Resolved.{or_none}
 use Rattle.facet_solver_shape.specs.Fields.{FieldView}
-use Rattle.facet_solver.specs.IndexSet.{IndexSet, has_index, upto}
-use Rattle.facet_solver.specs.IndexEntries.{added, agreed, entry_at, entry_of_one, with_number, with_occurrence}
-use Rattle.facet_solver.specs.Indexed.{Meant, AgreesOn, Differs, IsIndexEntry, IsEntryIfAny, IsIndexOf, first_passing}
-use Rattle.facet_solver.specs.Slots.{Slot, is_at}
-use Rattle.facet_solver.specs.declared.schema.index.Entry.{Entry}
+use Rattle.facet_solver.specs.set.IndexSet.{IndexSet, has_index, upto}
+use Rattle.facet_solver.specs.schema.IndexEntries.{added, agreed, entry_at, entry_of_one, with_number, with_occurrence}
+use Rattle.facet_solver.specs.schema.Indexed.{Meant, AgreesOn, Differs, IsIndexEntry, IsEntryIfAny, IsIndexOf, first_passing}
+use Rattle.facet_solver.specs.schema.Slots.{Slot, is_at}
+use Rattle.facet_solver.specs.declared.schema.index.entry.Entry.{Entry}
 use Rattle.facet_solver.specs.declared.schema.index.Index.{Index}
 use Rattle.facet_solver.proofs.IndexSet.{filter_same, filter_none, has_inside}
 

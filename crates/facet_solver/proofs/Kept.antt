@@ -12,15 +12,15 @@ use Rattle.facet_solver_shape.specs.contracts.resolution.key.FieldKeyOrd.TheImpl
 use Rattle.facet_solver_shape.specs.declared.resolution.key.FieldKey.{FieldKey}
 use Rattle.facet_solver_shape.specs.Fields.{FieldView}
 use Rattle.facet_solver_shape.specs.Resolved.{Resolved, field_by_key}
-use Rattle.facet_solver.specs.IndexSet.{HowMany, no_index, one_index, several_indices, how_many, IndexSet, has_index}
-use Rattle.facet_solver.specs.Indexed.{AgreesOn, Differs, IsIndexEntry}
-use Rattle.facet_solver.specs.FirstOfEach.{first_of_each}
-use Rattle.facet_solver.specs.KeyResult.{HaveShape, unambiguous, unknown, solved_or, distinct_fields, fields_by_key, key_result, of_fields, with_score}
+use Rattle.facet_solver.specs.set.IndexSet.{HowMany, no_index, one_index, several_indices, how_many, IndexSet, has_index}
+use Rattle.facet_solver.specs.schema.Indexed.{AgreesOn, Differs, IsIndexEntry}
+use Rattle.facet_solver.specs.solver.FirstOfEach.{first_of_each}
+use Rattle.facet_solver.specs.solver.KeyResult.{HaveShape, unambiguous, unknown, solved_or, distinct_fields, fields_by_key, key_result, of_fields, with_score}
 use Rattle.facet_solver.specs.Resolutions.{field_at, has_key, passes}
-use Rattle.facet_solver.specs.Schema.{SchemaView}
-use Rattle.facet_solver.specs.State.{State, or_all, passing, see_key}
-use Rattle.facet_solver.specs.Build.{Catalogue}
-use Rattle.facet_solver.specs.declared.schema.index.Entry.{Entry}
+use Rattle.facet_solver.specs.schema.Schema.{SchemaView}
+use Rattle.facet_solver.specs.solver.State.{State, or_all, passing, see_key}
+use Rattle.facet_solver.specs.build.Build.{Catalogue}
+use Rattle.facet_solver.specs.declared.schema.index.entry.Entry.{Entry}
 use Rattle.facet_solver.proofs.IndexSet.{has_passing, none_of_none}
 use Rattle.facet_solver.proofs.LookUps.{has_field}
 use Rattle.facet_solver.proofs.State.{seen_with}

@@ -5,10 +5,10 @@ use Rattle.std.proofs.lemmas.List.{map-append}
 use Rattle.std.proofs.lemmas.List.Elements.{filter_map-append}
 use Rattle.facet_solver_shape.specs.Fields.{FieldView}
 use Rattle.facet_solver_shape.proofs.Lists.{list_any-map}
-use Rattle.facet_solver.specs.FirstOfEach.{first_of_each, is_among}
-use Rattle.facet_solver.specs.KeyResult.{score_at, scored_view, with_score}
+use Rattle.facet_solver.specs.solver.FirstOfEach.{first_of_each, is_among}
+use Rattle.facet_solver.specs.solver.KeyResult.{score_at, scored_view, with_score}
 use Rattle.facet_solver.proofs.FirstOfEach.{first_of_each-told}
-use Rattle.facet_solver.specs.Build.{Catalogue}
+use Rattle.facet_solver.specs.build.Build.{Catalogue}
 
 -- the shape of a field
 abbrev shape_of : FieldView → ℕ

@@ -1,15 +1,15 @@
 -- The list of choices by parts: which it lists, and the laws of its products.
 use Rattle.std.proofs.Common.{◌≡◌, ℕ, zero, suc, ◌+◌, ◌⊎◌, inl, inr, List, [], ◌∷◌, ◌++◌, map, Option, Some, None, sym, refl, ap, ◌∙◌, subst, append_assoc, slice_get, add-zero, zero-add, arith, ◌<◌, Bool, true, false, length, get_or, drop, append-nil}
 use Rattle.facet_solver_shape.specs.declared.shape.Variant.{Variant}
-use Rattle.facet_solver.specs.Emissions.{Emission}
-use Rattle.facet_solver.specs.Walk.{Walking, Walked, put_before, and_then, emit, choose, at_chosen, walk_optional}
-use Rattle.facet_solver.specs.Listing.{Choices, no_choice, product, indexed, choices_of_optional, choices_of_fields, choices_of_variants, choices_of_root, choices_of_root_shape, choices_of_root_kind}
-use Rattle.facet_solver.specs.Build.{Build, Catalogue}
+use Rattle.facet_solver.specs.build.Emissions.{Emission}
+use Rattle.facet_solver.specs.build.Walk.{Walking, Walked, put_before, and_then, emit, choose, at_chosen, walk_optional}
+use Rattle.facet_solver.specs.build.Listing.{Choices, no_choice, product, indexed, choices_of_optional, choices_of_fields, choices_of_variants, choices_of_root, choices_of_root_shape, choices_of_root_kind}
+use Rattle.facet_solver.specs.build.Build.{Build, Catalogue}
 use Rattle.std.proofs.lemmas.List.{drop_more}
 use Rattle.facet_solver_shape.specs.declared.shape.Field.{Field}
 use Rattle.facet_solver_shape.specs.Catalogues.{FieldsBelow, VariantsBelow, NamesEarlier}
 use Rattle.facet_solver.specs.declared.build.role.Target.{Target}
-use Rattle.facet_solver.specs.Roles.{block, alternatives, role_of}
+use Rattle.facet_solver.specs.build.Roles.{block, alternatives, role_of}
 use Rattle.std.specs.Prelude.{Vec}
 use Rattle.std.specs.declared.alloc.Global.{Global}
 use Rattle.facet_solver_shape.specs.declared.shape.Shape.{Shape}

@@ -16,12 +16,12 @@ use Rattle.facet_solver_shape.specs.Fields.{category_eq, is_unnamed, matches, me
 use Rattle.facet_solver_shape.specs.Names.{Name, name_eq}
 use Rattle.facet_solver_shape.specs.Resolved.{Resolved, field_by_key}
 use Rattle.facet_solver_shape.proofs.Keys.{category_cmp_same}
-use Rattle.facet_solver.specs.Indexed.{Meant, IsEntryIfAny, IsIndexOf, HasFormat, IsOfFormat, AreOfFormat, first_passing, fields_of_each}
+use Rattle.facet_solver.specs.schema.Indexed.{Meant, IsEntryIfAny, IsIndexOf, HasFormat, IsOfFormat, AreOfFormat, first_passing, fields_of_each}
 use Rattle.facet_solver.specs.Resolutions.{field_at, has_key, passes}
-use Rattle.facet_solver.specs.IndexEntries.{entry_at}
-use Rattle.facet_solver.specs.Slots.{dom_slot, is_at, is_named, slot_of}
-use Rattle.facet_solver.specs.declared.build.representation.Format.{Format}
-use Rattle.facet_solver.specs.declared.build.representation.Format.TheVariants.{Flat, Dom}
+use Rattle.facet_solver.specs.schema.IndexEntries.{entry_at}
+use Rattle.facet_solver.specs.schema.Slots.{dom_slot, is_at, is_named, slot_of}
+use Rattle.facet_solver.specs.declared.build.format.Format.{Format}
+use Rattle.facet_solver.specs.declared.build.format.Format.TheVariants.{Flat, Dom}
 use Rattle.facet_solver.specs.declared.schema.index.Index.{Index}
 
 same_category : (c d : FieldCategory) → category_eq c d ≡ true → c ≡ d

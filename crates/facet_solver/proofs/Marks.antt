@@ -6,9 +6,9 @@ use Rattle.std.proofs.lemmas.List.{get_or_default}
 use Rattle.std.proofs.lemmas.Option.{slice_get-get_or, slice_get_within}
 use Rattle.facet_solver_shape.specs.declared.shape.ShapeKind.{ShapeKind}
 use Rattle.facet_solver_shape.specs.declared.shape.ShapeKind.TheVariants.{Enum, Struct}
-use Rattle.facet_solver.specs.Build.{Catalogue}
-use Rattle.facet_solver.specs.Nested.{Entered}
-use Rattle.facet_solver.specs.NestedTable.{IsMarked, IsMarkedMore, KindAsks, MarksAmong}
+use Rattle.facet_solver.specs.build.Build.{Catalogue}
+use Rattle.facet_solver.specs.build.Nested.{Entered}
+use Rattle.facet_solver.specs.build.NestedTable.{IsMarked, IsMarkedMore, KindAsks, MarksAmong}
 
 pub more-refl : (limit : ℕ) (ms : List Bool) → IsMarkedMore limit ms ms
 more-refl limit ms = record { same_length = refl; kept = λ id m. m; below = λ id le m. m }

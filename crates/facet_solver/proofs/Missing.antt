@@ -4,9 +4,9 @@ use Rattle.std.specs.Option.{option_map_or}
 use Rattle.facet_solver_shape.specs.Fields.{FieldView}
 use Rattle.facet_solver_shape.specs.Keys.{Key}
 use Rattle.facet_solver_shape.specs.Resolved.{Resolved}
-use Rattle.facet_solver.specs.Build.{Catalogue}
-use Rattle.facet_solver.specs.Failure.{is_met, missing, missing_field, missing_fields}
-use Rattle.facet_solver.specs.Report.{MissingView}
+use Rattle.facet_solver.specs.build.Build.{Catalogue}
+use Rattle.facet_solver.specs.solver.Failure.{is_met, missing, missing_field, missing_fields}
+use Rattle.facet_solver.specs.error.ErrorView.{MissingView}
 
 -- what is told of those fields that the seen keys do not meet
 abbrev pub missing_among : Catalogue → List Key → List FieldView → List MissingView

@@ -12,12 +12,12 @@ use Rattle.facet_solver_shape.specs.Names.{Name, name_eq}
 use Rattle.facet_solver_shape.specs.Resolved.{Resolved, field_by_key}
 use Rattle.facet_solver_shape.proofs.Lists.{list_any-map}
 use Rattle.facet_solver.specs.Resolutions.{field_at, has_field_named, has_key, is_known, passes}
-use Rattle.facet_solver.specs.IndexEntries.{entry_at, holds, is_held}
-use Rattle.facet_solver.specs.IndexSet.{IndexSet, has_index}
-use Rattle.facet_solver.specs.Indexed.{AgreesOn, Differs, IsEntryIfAny, IsIndexOf, Meant, fields_of_each, first_passing}
-use Rattle.facet_solver.specs.Slots.{categories, is_at, slot_in}
+use Rattle.facet_solver.specs.schema.IndexEntries.{entry_at, holds, is_held}
+use Rattle.facet_solver.specs.set.IndexSet.{IndexSet, has_index}
+use Rattle.facet_solver.specs.schema.Indexed.{AgreesOn, Differs, IsEntryIfAny, IsIndexOf, Meant, fields_of_each, first_passing}
+use Rattle.facet_solver.specs.schema.Slots.{categories, is_at, slot_in}
 use Rattle.facet_solver_shape.specs.Keys.{Key}
-use Rattle.facet_solver.specs.declared.schema.index.Entry.{Entry}
+use Rattle.facet_solver.specs.declared.schema.index.entry.Entry.{Entry}
 use Rattle.facet_solver.specs.declared.schema.index.Index.{Index}
 use Rattle.facet_solver.proofs.IndexSet.{has_passing}
 use Rattle.facet_solver.proofs.LookUps.{has_field}

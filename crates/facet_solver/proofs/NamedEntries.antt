@@ -9,9 +9,9 @@ use Rattle.std.specs.Str.{bytes_eq}
 use Rattle.std.proofs.lemmas.Map.Text.{btree_map_updates_str}
 use Rattle.std.proofs.lemmas.Slice.Eq.{bytes_eq-Decides}
 use Rattle.facet_solver_shape.specs.Names.{Name, name_eq}
-use Rattle.facet_solver.specs.IndexEntries.{HasBound, added, named_entry}
-use Rattle.facet_solver.specs.declared.schema.index.Entry.{Entry}
-use Rattle.facet_solver.specs.declared.schema.index.Occurrence.{Occurrence}
+use Rattle.facet_solver.specs.schema.IndexEntries.{HasBound, added, named_entry}
+use Rattle.facet_solver.specs.declared.schema.index.entry.Entry.{Entry}
+use Rattle.facet_solver.specs.declared.schema.index.entry.Occurrence.{Occurrence}
 
 -- the entry that was lent is that of the name
 pub lent_entry : (m : BTreeMap (Bor Name) Entry) (name : Name) (r : Option (MutBor Entry)) (e : MutBor Entry) → r ≡ Some e → option_copied_mut r ≡ named_entry m name → named_entry m name ≡ Some e.now

@@ -12,9 +12,9 @@ use Rattle.facet_solver_shape.specs.declared.shape.ShapeKind.TheVariants.{Struct
 use Rattle.facet_solver_shape.specs.declared.shape.Field.{Field}
 use Rattle.facet_solver_shape.specs.declared.shape.Variant.{Variant}
 use Rattle.facet_solver_shape.specs.Catalogues.{FieldsBelow, VariantsBelow, KindBelow, NamesEarlier}
-use Rattle.facet_solver.specs.Build.{Catalogue, kind_of, kind_at}
-use Rattle.facet_solver.specs.Content.{is_zero}
-use Rattle.facet_solver.specs.Nested.{KeyPath, KeyPaths, no_paths, paths_of_each, behind_prefix, named, Under, Entered, structs_alone, every_kind, through_field_step, through_fields_step, under_fields_step, under_variant_step, under_struct, under_kind, if_entered_step, under_shape_step, under_within, under_shape, if_entered, under_variant, nested_paths, flattened_paths, variant_paths, content_paths_of_shape, content_paths, FollowsKinds, EndsByLength, HasNoGaps}
+use Rattle.facet_solver.specs.build.Build.{Catalogue, kind_of, kind_at}
+use Rattle.facet_solver.specs.build.Content.{is_zero}
+use Rattle.facet_solver.specs.build.Nested.{KeyPath, KeyPaths, no_paths, paths_of_each, behind_prefix, named, Under, Entered, structs_alone, every_kind, through_field_step, through_fields_step, under_fields_step, under_variant_step, under_struct, under_kind, if_entered_step, under_shape_step, under_within, under_shape, if_entered, under_variant, nested_paths, flattened_paths, variant_paths, content_paths_of_shape, content_paths, FollowsKinds, EndsByLength, HasNoGaps}
 use Rattle.facet_solver.proofs.Roles.{kind_of-below}
 use Rattle.facet_solver.proofs.NestedSets.{Has, Has-none, Has-union, Has-left, Has-right, Has-insert, Has-other, Has-itself, Has-behind, Has-behind_from}
 

@@ -5,11 +5,11 @@ use Rattle.std.specs.FinSet as set
 use Rattle.std.specs.List.{AllByRecursion}
 use Rattle.std.proofs.lemmas.Bool.{lt-ltb, ltb-true}
 use Rattle.facet_solver_shape.specs.Names.{Name}
-use Rattle.facet_solver.specs.Nested.{KeyPaths, no_paths, paths_of_each}
-use Rattle.facet_solver.specs.NestedTable.{EntryLeadsTo, LeadTo}
+use Rattle.facet_solver.specs.build.Nested.{KeyPaths, no_paths, paths_of_each}
+use Rattle.facet_solver.specs.build.NestedTable.{EntryLeadsTo, LeadTo}
 use Rattle.facet_solver.specs.declared.build.nested.by_name.FieldsByName.{FieldsByName}
 use Rattle.facet_solver.specs.declared.build.nested.table.Entry.{Entry}
-use Rattle.facet_solver.specs.NestedNames.{shapes_behind}
+use Rattle.facet_solver.specs.build.NestedNames.{shapes_behind}
 use Rattle.facet_solver.specs.declared.build.nested.shapes_behind.ShapesBehind.{ShapesBehind}
 use Rattle.facet_solver.proofs.NestedSets.{union_assoc, union_comm}
 

@@ -14,10 +14,10 @@ use Rattle.std.proofs.lemmas.Map.Text.{is_eq-slice_cmp}
 use Rattle.std.proofs.lemmas.Slice.Eq.{bytes_eq-Decides}
 use Rattle.facet_solver_shape.specs.Names.{Name, names_of, name_ref_cmp}
 use Rattle.facet_solver_shape.specs.Resolved.{Resolved, with_key_path}
-use Rattle.facet_solver.specs.Nested.{KeyPath, KeyPaths, Under, named, no_paths, paths_of_each, with_paths_behind}
-use Rattle.facet_solver.specs.NestedTable.{EntriesStandFor, LeadEarlier, is_filled, nested_entry_at, paths_by_name}
-use Rattle.facet_solver.specs.NestedLevels.{names_left, paths_of_levels}
-use Rattle.facet_solver.specs.NestedNames.{AreRising, Names, NamesLead, paths_of_names, shapes_behind}
+use Rattle.facet_solver.specs.build.Nested.{KeyPath, KeyPaths, Under, named, no_paths, paths_of_each, with_paths_behind}
+use Rattle.facet_solver.specs.build.NestedTable.{EntriesStandFor, LeadEarlier, is_filled, nested_entry_at, paths_by_name}
+use Rattle.facet_solver.specs.build.NestedLevels.{names_left, paths_of_levels}
+use Rattle.facet_solver.specs.build.NestedNames.{AreRising, Names, NamesLead, paths_of_names, shapes_behind}
 use Rattle.facet_solver.specs.declared.build.nested.names_left.Level.{Level}
 use Rattle.facet_solver.specs.declared.build.nested.table.Entry.{Entry}
 use Rattle.facet_solver.specs.declared.build.nested.shapes_behind.ShapesBehind.{ShapesBehind}

@@ -15,8 +15,8 @@ use Rattle.std.proofs.lemmas.List.Filters.{All-dedup}
 use Rattle.std.proofs.lemmas.Map.Keys.{sorted_from_all_adjacent}
 use Rattle.std.proofs.lemmas.Map.Text.{is_eq-slice_cmp}
 use Rattle.facet_solver_shape.specs.Names.{Name, name_ref_cmp}
-use Rattle.facet_solver.specs.Nested.{KeyPath, KeyPaths, Under, named, paths_of_each}
-use Rattle.facet_solver.specs.NestedNames.{AreRising, Names, paths_of_names, shapes_behind}
+use Rattle.facet_solver.specs.build.Nested.{KeyPath, KeyPaths, Under, named, paths_of_each}
+use Rattle.facet_solver.specs.build.NestedNames.{AreRising, Names, paths_of_names, shapes_behind}
 use Rattle.facet_solver.specs.declared.build.nested.shapes_behind.ShapesBehind.{ShapesBehind}
 use Rattle.facet_solver.proofs.NestedFields.{each-last, each_push}
 use Rattle.facet_solver.proofs.NestedSets.{Has, Has-left, Has-none, Has-right, Has-union, named-union, none-union, same_paths, union_assoc, union_within}

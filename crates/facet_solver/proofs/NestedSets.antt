@@ -10,7 +10,7 @@ use Rattle.facet_solver_shape.specs.Names.{Name}
 use Rattle.facet_solver_shape.specs.Resolved.{Resolved, with_key_path}
 use Rattle.facet_solver_shape.proofs.Finite.{equal}
 use Rattle.facet_solver_shape.proofs.Keys.{path_cmp_total, path_cmp_same}
-use Rattle.facet_solver.specs.Nested.{KeyPath, KeyPaths, no_paths, behind_prefix, named, with_key_paths, with_paths_behind}
+use Rattle.facet_solver.specs.build.Nested.{KeyPath, KeyPaths, no_paths, behind_prefix, named, with_key_paths, with_paths_behind}
 
 -- whether two key paths are equal
 abbrev is_path : KeyPath → KeyPath → Bool

@@ -19,12 +19,12 @@ use Rattle.facet_solver_shape.specs.declared.shape.ShapeKind.TheVariants.{Struct
 use Rattle.facet_solver_shape.specs.declared.shape.StructKind.{StructKind}
 use Rattle.facet_solver_shape.specs.declared.shape.Variant.{Variant}
 use Rattle.facet_solver_shape.specs.Catalogues.{FieldsBelow, KindBelow, NamesEarlier}
-use Rattle.facet_solver.specs.Build.{Catalogue, kind_at}
-use Rattle.facet_solver.specs.Content.{is_zero}
-use Rattle.facet_solver.specs.Nested.{KeyPaths, Entered, Under, no_paths, paths_of_each, named, through_field, through_fields_step, under_fields_step, under_kind, has_fields, if_entered, under_shape, entered_view}
-use Rattle.facet_solver.specs.FieldCount.{field_count, fields_of_kind}
-use Rattle.facet_solver.specs.NestedTable.{AreFieldsOf, AreFirstEntries, EntryLeadsTo, FieldAsks, HasMore, IsClosed, IsFilled, IsMade, IsMarked, IsNestedEntry, IsSound, KindAsks, LeadTo, entry_if_any, is_filled, nested_entry_at, paths_by_name, under_of}
-use Rattle.facet_solver.specs.NestedNames.{Names, NamesLead, paths_of_names, shapes_behind}
+use Rattle.facet_solver.specs.build.Build.{Catalogue, kind_at}
+use Rattle.facet_solver.specs.build.Content.{is_zero}
+use Rattle.facet_solver.specs.build.Nested.{KeyPaths, Entered, Under, no_paths, paths_of_each, named, through_field, through_fields_step, under_fields_step, under_kind, has_fields, if_entered, under_shape, entered_view}
+use Rattle.facet_solver.specs.build.FieldCount.{field_count, fields_of_kind}
+use Rattle.facet_solver.specs.build.NestedTable.{AreFieldsOf, AreFirstEntries, EntryLeadsTo, FieldAsks, HasMore, IsClosed, IsFilled, IsMade, IsMarked, IsNestedEntry, IsSound, KindAsks, LeadTo, entry_if_any, is_filled, nested_entry_at, paths_by_name, under_of}
+use Rattle.facet_solver.specs.build.NestedNames.{Names, NamesLead, paths_of_names, shapes_behind}
 use Rattle.facet_solver.specs.declared.build.nested.by_name.FieldsByName.{FieldsByName}
 use Rattle.facet_solver.specs.declared.build.nested.table.Earlier.{Earlier}
 use Rattle.facet_solver.specs.declared.build.nested.table.Entry.{Entry}

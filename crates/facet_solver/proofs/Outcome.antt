@@ -5,10 +5,10 @@ use Rattle.std.specs.FinMap as finite
 use Rattle.std.proofs.lemmas.Result.{err_from_is_err_and}
 use Rattle.facet_solver_shape.specs.declared.resolution.error.SchemaError as schema
 use Rattle.facet_solver_shape.specs.declared.resolution.error.SchemaError.TheVariants.{DuplicateField, OutOfMemory}
-use Rattle.facet_solver.specs.Outcome.{Gives, ErrorOf, duplicate_view, Outcome, Duplicate, resolved, duplicate, next, with_known, take_in, take_all, effect}
-use Rattle.facet_solver.specs.Nested.{KeyPaths, with_key_paths}
-use Rattle.facet_solver.specs.Emissions.{Emission, a_field, some_key_paths, a_selection, a_catch_all}
-use Rattle.facet_solver.specs.Walk.{Walked, put_before, and_then}
+use Rattle.facet_solver.specs.build.Outcome.{Gives, ErrorOf, duplicate_view, Outcome, Duplicate, resolved, duplicate, next, with_known, take_in, take_all, effect}
+use Rattle.facet_solver.specs.build.Nested.{KeyPaths, with_key_paths}
+use Rattle.facet_solver.specs.build.Emissions.{Emission, a_field, some_key_paths, a_selection, a_catch_all}
+use Rattle.facet_solver.specs.build.Walk.{Walked, put_before, and_then}
 use Rattle.facet_solver_shape.specs.Fields.{FieldView, key_of_field}
 use Rattle.std.specs.FinSet as set
 use Rattle.facet_solver_shape.proofs.Resolved.{names_kept, names_put, nothing_required}
@@ -22,7 +22,7 @@ use Rattle.std.proofs.lemmas.Bool.{false≢true}
 use Rattle.facet_solver_shape.specs.Keys.{Key, key_cmp}
 use Rattle.facet_solver_shape.proofs.Finite.{equal}
 use Rattle.facet_solver_shape.proofs.Keys.{key_cmp_total, key_cmp_same}
-use Rattle.facet_solver.specs.Choice.{AreDuplicates, HasNoDuplicates, with_emission, resolution_from}
+use Rattle.facet_solver.specs.build.Choice.{AreDuplicates, HasNoDuplicates, with_emission, resolution_from}
 
 -- ---- emissions one by one
 pub take_all-one : (r : Resolved) (e : Emission) → take_all r (e ∷ []) ≡ take_in r e

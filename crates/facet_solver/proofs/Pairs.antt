@@ -8,14 +8,14 @@ use Rattle.std.proofs.lemmas.Bool.{and_from, and_parts, false≢true, or_cases, 
 use Rattle.facet_solver_shape.specs.Fields.{FieldView, matches}
 use Rattle.facet_solver_shape.specs.Keys.{Key}
 use Rattle.facet_solver_shape.specs.Resolved.{Resolved}
-use Rattle.facet_solver.specs.Failure.{is_met}
-use Rattle.facet_solver.specs.IndexSet.{upto}
-use Rattle.facet_solver.specs.Pairs.{CanBothBeViable, HasKeyFor, HasKeysRequiredBy, LeavesBothViable}
-use Rattle.facet_solver.specs.Schema.{SchemaView}
-use Rattle.facet_solver.specs.State.{new_solver}
+use Rattle.facet_solver.specs.solver.Failure.{is_met}
+use Rattle.facet_solver.specs.set.IndexSet.{upto}
+use Rattle.facet_solver.specs.solver.Pairs.{CanBothBeViable, HasKeyFor, HasKeysRequiredBy, LeavesBothViable}
+use Rattle.facet_solver.specs.schema.Schema.{SchemaView}
+use Rattle.facet_solver.specs.solver.State.{new_solver}
 use Rattle.facet_solver.specs.Resolutions.{has_key, is_known, passes}
-use Rattle.facet_solver.specs.Told.{accept, accepted_keys, has_keys, known_keys, see_keys}
-use Rattle.facet_solver.specs.Verdict.{is_viable, viable}
+use Rattle.facet_solver.specs.solver.Told.{accept, accepted_keys, has_keys, known_keys, see_keys}
+use Rattle.facet_solver.specs.solver.Report.{is_viable, viable}
 use Rattle.facet_solver.proofs.Told.{accepted_left, at_index, one_viable, same_schema, viable_told}
 
 -- ---- what both have that are left

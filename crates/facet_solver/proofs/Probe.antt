@@ -5,9 +5,9 @@ use Rattle.std.specs.Option.{option_and_then}
 use Rattle.facet_solver_shape.specs.Fields.{FieldView}
 use Rattle.facet_solver_shape.specs.Names.{Name}
 use Rattle.facet_solver_shape.proofs.Lists.{list_any-map}
-use Rattle.facet_solver.specs.Build.{Catalogue}
-use Rattle.facet_solver.specs.ShapeAtPath.{shape_below, shape_of_member}
-use Rattle.facet_solver.specs.FirstOfEach.{first_of_each}
+use Rattle.facet_solver.specs.build.Build.{Catalogue}
+use Rattle.facet_solver.specs.solver.ShapeAtPath.{shape_below, shape_of_member}
+use Rattle.facet_solver.specs.solver.FirstOfEach.{first_of_each}
 use Rattle.facet_solver.proofs.FirstOfEach.{first_of_each-told}
 use Rattle.facet_solver.proofs.IndexSet.{filter_more}
 use Rattle.facet_solver.proofs.KeyResultFields.{filter_map_found, filter_map_none}

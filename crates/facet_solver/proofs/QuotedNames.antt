@@ -5,7 +5,7 @@ use Rattle.std.specs.Fmt.{debug_str, debug_list, debug_items, debug_escape, digi
 use Rattle.std.specs.List.{list_all, flat_map}
 use Rattle.std.proofs.lemmas.Fmt.{hex_one_digit, hex_two_digits}
 use Rattle.facet_solver_shape.specs.Names.{Name}
-use Rattle.facet_solver.specs.QuotedNames.{hex, escaped, quoted, later_text, all_ascii, where_ascii, list_output}
+use Rattle.facet_solver.specs.error.QuotedNames.{hex, escaped, quoted, later_text, all_ascii, where_ascii, list_output}
 
 -- a text, and then others
 joined : (b c : Bool) (lead x y : List ℕ) → Some lead ++? (cond b (Some x) None ++? cond c (Some y) None) ≡ cond (b && c) (Some (lead ++ (x ++ y))) None

@@ -1,9 +1,9 @@
 -- What a report says of the number of viable candidates.
 use Rattle.std.proofs.Common.{◌≡◌, [], Some, refl}
-use Rattle.facet_solver.specs.IndexSet.{HowMany, no_index, one_index, several_indices, how_many}
-use Rattle.facet_solver.specs.Report.{NoMatchView, no_match}
-use Rattle.facet_solver.specs.State.{State}
-use Rattle.facet_solver.specs.Verdict.{report_by, report_of, viable}
+use Rattle.facet_solver.specs.set.IndexSet.{HowMany, no_index, one_index, several_indices, how_many}
+use Rattle.facet_solver.specs.error.ErrorView.{NoMatchView, no_match}
+use Rattle.facet_solver.specs.solver.State.{State}
+use Rattle.facet_solver.specs.solver.Report.{report_by, report_of, viable}
 use Rattle.facet_solver.proofs.IndexSet.{none_of_none}
 
 -- that nothing matches is reported where none is viable

@@ -13,9 +13,9 @@ use Rattle.facet_solver_shape.specs.declared.shape.Variant.{Variant}
 use Rattle.facet_solver_shape.specs.Catalogues.{FieldsBelow, VariantsBelow, KindBelow, NamesEarlier}
 use Rattle.facet_solver_shape.specs.EffectiveShapes.{effective}
 use Rattle.facet_solver_shape.proofs.EffectiveShapes.{effective-le}
-use Rattle.facet_solver.specs.Build.{Catalogue, kind_of, kind_at}
-use Rattle.facet_solver.specs.Content.{struct_fields, newtype_fields, content_of, content_or, is_zero}
-use Rattle.facet_solver.specs.Roles.{Role, regular, block, alternatives, catch_all, leaf, target_of, target_by_kind, role_of, role_of_target, role_by_kind, role_view, may_be_absent, IsPlain}
+use Rattle.facet_solver.specs.build.Build.{Catalogue, kind_of, kind_at}
+use Rattle.facet_solver.specs.build.Content.{struct_fields, newtype_fields, content_of, content_or, is_zero}
+use Rattle.facet_solver.specs.build.Roles.{Role, regular, block, alternatives, catch_all, leaf, target_of, target_by_kind, role_of, role_of_target, role_by_kind, role_view, may_be_absent, IsPlain}
 use Rattle.facet_solver.specs.declared.build.role.Target.{Target}
 use Rattle.std.specs.Borrow.{Bor}
 use Rattle.facet_solver.specs.declared.build.role.Role as role

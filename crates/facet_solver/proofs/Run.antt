@@ -5,14 +5,14 @@ use Rattle.std.proofs.lemmas.List.Folds.{fold-map}
 use Rattle.std.proofs.lemmas.List.Sums.{fold-append, fold_push}
 use Rattle.facet_solver_shape.specs.Keys.{Key}
 use Rattle.facet_solver_shape.specs.Resolved.{description}
-use Rattle.facet_solver.specs.Run.{after_call, after_calls, call_view, call_views, CallView, FindsToldChoices, see_key, mark_seen, satisfy_shapes, satisfy_at_path, probe_key, hint_variant, hint_variant_for_tag}
+use Rattle.facet_solver.specs.solver.Run.{after_call, after_calls, call_view, call_views, CallView, FindsToldChoices, see_key, mark_seen, satisfy_shapes, satisfy_at_path, probe_key, hint_variant, hint_variant_for_tag}
 use Rattle.facet_solver.specs.KeyPath.{has_key_at}
-use Rattle.facet_solver.specs.Schema.{IsOwnBuild, SchemaView}
-use Rattle.facet_solver.specs.ShapeAtPath.{has_shape_at_path}
-use Rattle.facet_solver.specs.State as state
-use Rattle.facet_solver.specs.State.{State, has_shape_among, has_tag_field, passing, selects_variant, where_any}
+use Rattle.facet_solver.specs.schema.Schema.{IsOwnBuild, SchemaView}
+use Rattle.facet_solver.specs.solver.ShapeAtPath.{has_shape_at_path}
+use Rattle.facet_solver.specs.solver.State as state
+use Rattle.facet_solver.specs.solver.State.{State, has_shape_among, has_tag_field, passing, selects_variant, where_any}
 use Rattle.facet_solver.specs.Resolutions.{has_key}
-use Rattle.facet_solver.specs.Told.{see_keys, EndsWithOrNames, LeavesSome}
+use Rattle.facet_solver.specs.solver.Told.{see_keys, EndsWithOrNames, LeavesSome}
 use Rattle.facet_solver.proofs.IndexSet.{filter_filter}
 use Rattle.facet_solver.proofs.Told.{all_stay, choice_ends, narrow_leaves, retain_leaves}
 use Rattle.facet_solver.specs.declared.solver.run.Call.{Call}

@@ -1,7 +1,7 @@
 -- The names of the keys that pass a test, key by key.
 use Rattle.std.proofs.Common.{◌≡◌, Bool, true, false, List, [], ◌∷◌, map, refl, ap}
 use Rattle.facet_solver_shape.specs.Keys.{Key}
-use Rattle.facet_solver.specs.Failure.{names_where}
+use Rattle.facet_solver.specs.solver.Failure.{names_where}
 
 module _ (test : Key → Bool) (key : Key) (rest : List Key) where
   -- a key that passes

@@ -7,9 +7,9 @@ use Rattle.std.proofs.lemmas.Nat.{shr_le}
 use Rattle.std.specs.Int.{bit_at, trailing_zeros}
 use Rattle.std.specs.List.{range_with_len}
 use Rattle.std.specs.Prelude.{bit_and, bit_or}
-use Rattle.facet_solver.specs.IndexSet.{has_index, upto}
-use Rattle.facet_solver.specs.SharedBits.{IsNext, IsNextShared, NoneBetween, common_bit, common_from}
-use Rattle.facet_solver.specs.Words.{HoldBelow, IsClearFrom, bit_of, has_bit, members_of}
+use Rattle.facet_solver.specs.set.IndexSet.{has_index, upto}
+use Rattle.facet_solver.specs.set.SharedBits.{IsNext, IsNextShared, NoneBetween, common_bit, common_from}
+use Rattle.facet_solver.specs.set.Words.{HoldBelow, IsClearFrom, bit_of, has_bit, members_of}
 use Rattle.facet_solver.proofs.Words.{bit_at-shr, clear_of_zeros, clear_past, next_in_later, has_members, members_below}
 use Rattle.facet_solver.proofs.IndexSet.{filter-next, filter_filter, filter_none, filter_same}
 

@@ -14,15 +14,15 @@ use Rattle.facet_solver_shape.specs.declared.shape.Shape.{Shape}
 use Rattle.facet_solver_shape.specs.declared.shape.ShapeKind.{ShapeKind}
 use Rattle.facet_solver_shape.specs.declared.shape.ShapeKind.TheVariants.{Enum}
 use Rattle.facet_solver_shape.specs.declared.shape.Variant.{Variant}
-use Rattle.facet_solver.specs.Build.{Build, kind_of, repr_for}
-use Rattle.facet_solver.specs.ChoiceParts.{IsRank, choice_at}
-use Rattle.facet_solver.specs.Content.{content_of}
-use Rattle.facet_solver.specs.Count.{count_content, count_fields, count_variant, count_variants}
-use Rattle.facet_solver.specs.Counts.{CountsTo}
-use Rattle.facet_solver.specs.Listing.{Choices, choices_of_fields, choices_of_variant, choices_of_variants, indexed}
-use Rattle.facet_solver.specs.Representation.{is_walked}
-use Rattle.facet_solver.specs.Roles.{alternatives, role_of}
-use Rattle.facet_solver.specs.Starts.{AreStarts, AreStartsOf, HasStarts, HasWalkedStarts, IsLastStart, IsMoreStarts, count_before, starts_at}
+use Rattle.facet_solver.specs.build.Build.{Build, kind_of, repr_for}
+use Rattle.facet_solver.specs.build.ChoiceParts.{IsRank, choice_at}
+use Rattle.facet_solver.specs.build.Content.{content_of}
+use Rattle.facet_solver.specs.build.Count.{count_content, count_fields, count_variant, count_variants}
+use Rattle.facet_solver.specs.build.Counts.{CountsTo}
+use Rattle.facet_solver.specs.build.Listing.{Choices, choices_of_fields, choices_of_variant, choices_of_variants, indexed}
+use Rattle.facet_solver.specs.build.Representation.{is_walked}
+use Rattle.facet_solver.specs.build.Roles.{alternatives, role_of}
+use Rattle.facet_solver.specs.build.Starts.{AreStarts, AreStartsOf, HasStarts, HasWalkedStarts, IsLastStart, IsMoreStarts, count_before, starts_at}
 use Rattle.facet_solver.specs.declared.build.count.saturating.SaturatingCount.{SaturatingCount}
 use Rattle.facet_solver.specs.declared.build.role.Target.{Target}
 use Rattle.facet_solver.proofs.ChoiceParts.{at_variant, content_count, few_at_variant}

@@ -18,14 +18,14 @@ use Rattle.facet_solver_shape.specs.Fields.{FieldView, matches}
 use Rattle.facet_solver_shape.specs.Keys.{Key, key_cmp}
 use Rattle.facet_solver_shape.specs.Resolved.{description, Resolved}
 use Rattle.facet_solver_shape.proofs.Keys.{key_cmp_same}
-use Rattle.facet_solver.specs.Choice.{IsResolution, ListsChoices}
-use Rattle.facet_solver.specs.IndexSet.{has_index, how_many, upto}
-use Rattle.facet_solver.specs.KeyResult.{distinct_fields, key_result, of_fields, solved_or, unknown}
-use Rattle.facet_solver.specs.Schema.{IsOwnBuild, SchemaView}
-use Rattle.facet_solver.specs.State.{State, mark_seen, narrow, new_solver, or_all, passing, retain, see_key, state_of}
+use Rattle.facet_solver.specs.build.Choice.{IsResolution, ListsChoices}
+use Rattle.facet_solver.specs.set.IndexSet.{has_index, how_many, upto}
+use Rattle.facet_solver.specs.solver.KeyResult.{distinct_fields, key_result, of_fields, solved_or, unknown}
+use Rattle.facet_solver.specs.schema.Schema.{IsOwnBuild, SchemaView}
+use Rattle.facet_solver.specs.solver.State.{State, mark_seen, narrow, new_solver, or_all, passing, retain, see_key, state_of}
 use Rattle.facet_solver.specs.Resolutions.{has_key, is_known, passes}
-use Rattle.facet_solver.specs.Told.{accept, accepted_keys, EndsWithOrNames, has_keys, HasAllKnown, HaveSameKeys, indices_with, known_keys, see_keys, LeavesSome, TellsChoice}
-use Rattle.facet_solver.specs.Verdict.{is_viable, viable}
+use Rattle.facet_solver.specs.solver.Told.{accept, accepted_keys, EndsWithOrNames, has_keys, HasAllKnown, HaveSameKeys, indices_with, known_keys, see_keys, LeavesSome, TellsChoice}
+use Rattle.facet_solver.specs.solver.Report.{is_viable, viable}
 use Rattle.facet_solver.proofs.Choice.{one_list, resolution-one}
 use Rattle.facet_solver.proofs.IndexSet.{filter_all, filter_filter, filter_none, has_inside}
 use Rattle.facet_solver.proofs.Kept.{or_all_some}

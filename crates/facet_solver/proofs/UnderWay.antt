@@ -7,9 +7,9 @@ use Rattle.std.specs.Option.{option_map_or}
 use Rattle.facet_solver_shape.specs.declared.resolution.key.FieldKey.{FieldKey}
 use Rattle.facet_solver_shape.specs.Fields.{FieldView}
 use Rattle.facet_solver_shape.specs.Resolved.{Resolved}
-use Rattle.facet_solver.specs.IndexEntries.{added, entry_at}
-use Rattle.facet_solver.specs.Indexed.{IsIndexOf, fields_of_each}
-use Rattle.facet_solver.specs.Slots.{Slot, is_at}
+use Rattle.facet_solver.specs.schema.IndexEntries.{added, entry_at}
+use Rattle.facet_solver.specs.schema.Indexed.{IsIndexOf, fields_of_each}
+use Rattle.facet_solver.specs.schema.Slots.{Slot, is_at}
 use Rattle.facet_solver.specs.declared.schema.index.Index.{Index}
 use Rattle.facet_solver_shape.proofs.Fields.{fields_of}
 use Rattle.facet_solver.proofs.Indexing.{index_more, index_same}

@@ -1,5 +1,5 @@
 -- The walk part by part, and what each part makes of a resolution.
-use Rattle.facet_solver.specs.Build.{Build, repr_for}
+use Rattle.facet_solver.specs.build.Build.{Build, repr_for}
 use Rattle.std.proofs.Common.{◌≡◌, ℕ, zero, suc, ◌+◌, ◌<◌, List, [], ◌∷◌, ◌++◌, Option, Some, None, slice_get, Bool, true, false, sym, refl, ap, ◌∙◌, subst, length, append-nil, arith, IsSome}
 use Rattle.std.specs.Prelude.{if◌then◌else◌, Result, IsErrAnd, slice_index, Vec}
 use Rattle.std.specs.Borrow.{Bor}
@@ -8,13 +8,13 @@ use Rattle.facet_solver_shape.specs.declared.resolution.error.SchemaError as sch
 use Rattle.facet_solver_shape.specs.declared.resolution.error.SchemaError.TheVariants.{DuplicateField, OutOfMemory}
 use Rattle.facet_solver_shape.specs.Catalogues.{FieldsBelow, VariantsBelow, NamesEarlier}
 use Rattle.facet_solver_shape.specs.Resolved.{Resolved}
-use Rattle.facet_solver.specs.Outcome.{ErrorOf, StopsBy, Walks, duplicate_view, Outcome, resolved, take_all, effect, take_in}
-use Rattle.facet_solver.specs.Roles.{IsPlain, Role, regular, block, alternatives, catch_all, leaf, role_of, may_be_absent}
-use Rattle.facet_solver.specs.Representation.{is_walked}
-use Rattle.facet_solver.specs.Content.{content_of, newtype_fields, content_or}
-use Rattle.facet_solver.specs.Emissions.{Emission, emit_variant, emit_plain, selection_of}
-use Rattle.facet_solver.specs.Place.{Path, Chosen, choosing, field_path, variant_path, at_root, at_root_variant}
-use Rattle.facet_solver.specs.Walk.{Walked, put_before, and_then, emit, choose, at_chosen, walk_fields, walk_field, walk_present_field, walk_present, walk_optional, walk_variant, walk_content, walk_content_step, walk_fields_step, HasChoice, HasPresence, Walking, walk_root, walk_root_shape, walk_root_kind, walk_root_variant}
+use Rattle.facet_solver.specs.build.Outcome.{ErrorOf, StopsBy, Walks, duplicate_view, Outcome, resolved, take_all, effect, take_in}
+use Rattle.facet_solver.specs.build.Roles.{IsPlain, Role, regular, block, alternatives, catch_all, leaf, role_of, may_be_absent}
+use Rattle.facet_solver.specs.build.Representation.{is_walked}
+use Rattle.facet_solver.specs.build.Content.{content_of, newtype_fields, content_or}
+use Rattle.facet_solver.specs.build.Emissions.{Emission, emit_variant, emit_plain, selection_of}
+use Rattle.facet_solver.specs.build.Place.{Path, Chosen, choosing, field_path, variant_path, at_root, at_root_variant}
+use Rattle.facet_solver.specs.build.Walk.{Walked, put_before, and_then, emit, choose, at_chosen, walk_fields, walk_field, walk_present_field, walk_present, walk_optional, walk_variant, walk_content, walk_content_step, walk_fields_step, HasChoice, HasPresence, Walking, walk_root, walk_root_shape, walk_root_kind, walk_root_variant}
 use Rattle.facet_solver_shape.specs.declared.shape.Shape.{Shape}
 use Rattle.facet_solver_shape.specs.declared.shape.Field.{Field}
 use Rattle.facet_solver_shape.specs.declared.shape.Variant.{Variant}

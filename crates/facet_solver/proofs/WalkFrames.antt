@@ -15,17 +15,17 @@ use Rattle.facet_solver.specs.declared.build.place.Chosen as code
 use Rattle.facet_solver.specs.declared.build.role.Target.{Target}
 use Rattle.facet_solver.specs.declared.build.walk.Frame.{Frame}
 use Rattle.facet_solver.specs.declared.build.walk.Further.{Further}
-use Rattle.facet_solver.specs.Build.{Build, repr_for}
-use Rattle.facet_solver.specs.Content.{content_of}
-use Rattle.facet_solver.specs.Emissions.{Emission}
-use Rattle.facet_solver.specs.Outcome.{Outcome, StopsBy, effect, resolved}
-use Rattle.facet_solver.specs.Place.{Path}
-use Rattle.facet_solver.specs.Reached.{IsChosen, ServesEnum, ServesField, ServesFields}
-use Rattle.facet_solver.specs.Representation.{is_walked}
-use Rattle.facet_solver.specs.Roles.{block, role_of}
-use Rattle.facet_solver.specs.Walk.{Walked, and_then, put_before, walk_field, walk_fields, walk_fields_step}
-use Rattle.facet_solver.specs.Work.{work_of_field, work_of_fields, work_of_role, work_of_variant}
-use Rattle.facet_solver.specs.WalkFrames.{AreFrames, IsInside, IsReached, Leads, LeadsBelow, walk_frames, walk_inside}
+use Rattle.facet_solver.specs.build.Build.{Build, repr_for}
+use Rattle.facet_solver.specs.build.Content.{content_of}
+use Rattle.facet_solver.specs.build.Emissions.{Emission}
+use Rattle.facet_solver.specs.build.Outcome.{Outcome, StopsBy, effect, resolved}
+use Rattle.facet_solver.specs.build.Place.{Path}
+use Rattle.facet_solver.specs.build.Reached.{IsChosen, ServesEnum, ServesField, ServesFields}
+use Rattle.facet_solver.specs.build.Representation.{is_walked}
+use Rattle.facet_solver.specs.build.Roles.{block, role_of}
+use Rattle.facet_solver.specs.build.Walk.{Walked, and_then, put_before, walk_field, walk_fields, walk_fields_step}
+use Rattle.facet_solver.specs.build.Work.{work_of_field, work_of_fields, work_of_role, work_of_variant}
+use Rattle.facet_solver.specs.build.WalkFrames.{AreFrames, IsInside, IsReached, Leads, LeadsBelow, walk_frames, walk_inside}
 use Rattle.facet_solver.proofs.Outcome.{effect-then, take_all-nil}
 use Rattle.facet_solver.proofs.Listing.{block-below}
 use Rattle.facet_solver.proofs.Roles.{FieldsBelow-mono, content_of-below}

@@ -1,21 +1,21 @@
 -- The walk, the choices and the count of fields are made of those of what is flattened into them.
-use Rattle.facet_solver.specs.Build.{Build, repr_for}
+use Rattle.facet_solver.specs.build.Build.{Build, repr_for}
 use Rattle.std.proofs.Common.{◌⊎◌, inl, inr, ◌≡◌, ℕ, zero, suc, ◌<◌, List, [], ◌∷◌, ◌++◌, map, Option, Some, None, Bool, true, false, refl, ap, ◌∙◌, slice_get, length, arith, ◌*◌}
 use Rattle.std.specs.Prelude.{if◌then◌else◌}
 use Rattle.facet_solver_shape.specs.declared.shape.Shape.{Shape}
 use Rattle.facet_solver_shape.specs.declared.shape.Field.{Field}
 use Rattle.facet_solver_shape.specs.declared.shape.Variant.{Variant}
 use Rattle.facet_solver_shape.specs.Catalogues.{FieldsBelow, VariantsBelow, NamesEarlier}
-use Rattle.facet_solver.specs.Content.{content_of}
-use Rattle.facet_solver.specs.Place.{choosing, field_path, variant_path, Path}
-use Rattle.facet_solver.specs.Emissions.{emit_variant}
-use Rattle.facet_solver.specs.Walk.{Walked, Walk, put_before, and_then, emit, choose, at_chosen, walk_variant_step, walk_content_step, walk_present, walk_optional, walk_role, walk_fields_step, walk_within, walk_fields, Walking}
-use Rattle.facet_solver.specs.Representation.{is_walked}
-use Rattle.facet_solver.specs.Roles.{Role, regular, block, alternatives, catch_all, leaf, role_of, target_of, role_of_target, may_be_absent, IsPlain}
-use Rattle.facet_solver.specs.Listing.{Choices, product, indexed, choices_of_variant, choices_of_present, choices_of_optional, choices_of_role, choices_of_fields_step, choices_within, choices_of_fields}
+use Rattle.facet_solver.specs.build.Content.{content_of}
+use Rattle.facet_solver.specs.build.Place.{choosing, field_path, variant_path, Path}
+use Rattle.facet_solver.specs.build.Emissions.{emit_variant}
+use Rattle.facet_solver.specs.build.Walk.{Walked, Walk, put_before, and_then, emit, choose, at_chosen, walk_variant_step, walk_content_step, walk_present, walk_optional, walk_role, walk_fields_step, walk_within, walk_fields, Walking}
+use Rattle.facet_solver.specs.build.Representation.{is_walked}
+use Rattle.facet_solver.specs.build.Roles.{Role, regular, block, alternatives, catch_all, leaf, role_of, target_of, role_of_target, may_be_absent, IsPlain}
+use Rattle.facet_solver.specs.build.Listing.{Choices, product, indexed, choices_of_variant, choices_of_present, choices_of_optional, choices_of_role, choices_of_fields_step, choices_within, choices_of_fields}
 use Rattle.facet_solver.proofs.Roles.{RoleBelow, role_of-below, content_of-below, IsLocal, one_step, role_of_target-below, same_levels}
 use Rattle.std.proofs.lemmas.Option.{slice_get_within}
-use Rattle.facet_solver.specs.Count.{Count, count_role, count_fields_step, count_within, count_fields}
+use Rattle.facet_solver.specs.build.Count.{Count, count_role, count_fields_step, count_within, count_fields}
 use Rattle.facet_solver.proofs.Count.{count_role-same, count-local, count-step}
 
 -- ---- on a checked catalogue the walk and the choices of a list of fields are their own steps

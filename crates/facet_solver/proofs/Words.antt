@@ -8,8 +8,8 @@ use Rattle.std.specs.Int.Count.{ones}
 use Rattle.std.specs.List.{range_with_len}
 use Rattle.std.specs.Prelude.{bit_and}
 use Rattle.std.specs.Int.{bit_at, bit_not, trailing_zeros}
-use Rattle.facet_solver.specs.IndexSet.{upto, has_index}
-use Rattle.facet_solver.specs.Words.{IsFull, KeepsBits, bit_of, has_bit, HoldBelow, members_from, members_of}
+use Rattle.facet_solver.specs.set.IndexSet.{upto, has_index}
+use Rattle.facet_solver.specs.set.Words.{IsFull, KeepsBits, bit_of, has_bit, HoldBelow, members_from, members_of}
 use Rattle.facet_solver.proofs.IndexSet.{IsNext, filter_split, filter-below, filter-next, filter-rises, filter_all, filter_cut, filter_filter, filter_none, filter_same, has_passing}
 use Rattle.std.proofs.Math.Nat.{sub-zero}
 use Rattle.std.specs.List.Sorted.{IsStrictlyIncreasing}

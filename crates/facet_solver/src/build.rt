@@ -1,18 +1,18 @@
 //! The resolutions of a root: one for each choice of variants, in order.
 ghost use Rattle.std.specs.Prelude.{◌≡◌, ◌<◌, length, slice_get};
 ghost use Rattle.facet_solver_shape.specs.Catalogues.{NamesEarlier};
-ghost use Rattle.facet_solver.specs.Build.{build_of, repr_for};
-ghost use Rattle.facet_solver.specs.Representation as representation;
-ghost use Rattle.facet_solver.specs.Representation.{repr_view};
+ghost use Rattle.facet_solver.specs.build.Build.{build_of, repr_for};
+ghost use Rattle.facet_solver.specs.build.Representation as representation;
+ghost use Rattle.facet_solver.specs.build.Representation.{repr_view};
 
 pub(crate) mod catch_alls;
-pub(crate) mod category;
 pub(crate) mod choices;
 pub(crate) mod content;
 pub(crate) mod contribution;
 pub(crate) mod count;
 pub(crate) mod emit;
 pub(crate) mod field;
+pub mod format;
 pub(crate) mod nested;
 pub(crate) mod place;
 pub mod representation;
@@ -23,7 +23,8 @@ pub(crate) mod visit;
 pub(crate) mod walk;
 pub(crate) mod walker;
 
-use crate::build::representation::{EnumRepr, Format};
+use crate::build::format::Format;
+use crate::build::representation::EnumRepr;
 use facet_solver_shape::{Shape, ShapeId, Shapes};
 use std::alloc::Global;
 

@@ -1,8 +1,8 @@
 //! Why a document does not have exactly one resolution, and the text of that.
 ghost use Rattle.std.specs.Prelude.{◌≡◌};
 ghost use Rattle.facet_solver.specs.declared.error.SolverError.TheVariants.{OutOfMemory};
-ghost use Rattle.facet_solver.specs.ErrorTexts.{error_output};
-ghost use Rattle.facet_solver.specs.Report.{error_view};
+ghost use Rattle.facet_solver.specs.error.ErrorTexts.{error_output};
+ghost use Rattle.facet_solver.specs.error.ErrorView.{error_view};
 
 mod ambiguous;
 mod failure;

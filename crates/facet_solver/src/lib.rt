@@ -19,7 +19,8 @@ mod schema;
 mod set;
 mod solver;
 
-pub use build::representation::{EnumRepr, Format};
+pub use build::format::Format;
+pub use build::representation::EnumRepr;
 pub use error::{CandidateFailure, MissingFieldInfo, SolverError};
 pub use facet_solver_shape::{
     CatalogueError, DomMark, DuplicateFieldError, Field, FieldCategory, FieldInfo, FieldKey,

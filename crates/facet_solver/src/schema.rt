@@ -3,24 +3,26 @@ ghost use Rattle.std.specs.Prelude.{◌≡◌, ◌*◌, ◌+◌, ◌<◌, ◌≤
 ghost use Rattle.std.specs.Option.{option_copied};
 ghost use Rattle.facet_solver_shape.specs.Keys.{key_of};
 ghost use Rattle.facet_solver_shape.specs.Steps.{NoCountFalls};
-ghost use Rattle.facet_solver.specs.Build.{build_of, build_with, kind_at};
-ghost use Rattle.facet_solver.specs.Choice.{Enumerates, IsRefusal};
-ghost use Rattle.facet_solver.specs.Count.{IsCountOf, count_of_root};
-ghost use Rattle.facet_solver.specs.IndexEntries.{is_held};
-ghost use Rattle.facet_solver.specs.Indexed.{IsEntryIfAny};
+ghost use Rattle.facet_solver.specs.build.Build.{build_of, build_with, kind_at};
+ghost use Rattle.facet_solver.specs.build.Choice.{Enumerates, IsRefusal};
+ghost use Rattle.facet_solver.specs.build.Count.{IsCountOf, count_of_root};
+ghost use Rattle.facet_solver.specs.schema.IndexEntries.{is_held};
+ghost use Rattle.facet_solver.specs.schema.Indexed.{IsEntryIfAny};
 ghost use Rattle.facet_solver.specs.Resolutions.{field_at, has_field_named, has_key, is_known, passes};
-ghost use Rattle.facet_solver.specs.FieldCount.{field_count, fields_of_kind};
-ghost use Rattle.facet_solver.specs.Representation.{asked_view, externally_tagged, flattened, repr_view};
-ghost use Rattle.facet_solver.specs.Schema.{IsBuilt, IsOwnBuild, flat_build};
+ghost use Rattle.facet_solver.specs.build.FieldCount.{field_count, fields_of_kind};
+ghost use Rattle.facet_solver.specs.build.Representation.{asked_view, externally_tagged, flattened, repr_view};
+ghost use Rattle.facet_solver.specs.schema.Schema.{IsBuilt, IsOwnBuild, flat_build};
 
 pub(crate) mod handle;
 pub(crate) mod index;
 
 use crate::build::Build;
 use crate::build::count::count_of_root;
-use crate::build::representation::{EnumRepr, Format};
+use crate::build::format::Format;
+use crate::build::representation::EnumRepr;
 use crate::build::resolve::resolutions;
-use crate::schema::index::{Entry, Index, holds};
+use crate::schema::index::Index;
+use crate::schema::index::entry::{Entry, holds};
 use facet_solver_shape::{FieldKey, Resolution, SchemaError, ShapeId, Shapes, Steps};
 use std::alloc::{AllocError, Global};
 use std::marker::Model;
@@ -42,8 +44,9 @@ pub struct Schema<'c> {
 
 impl<'c> Model for Schema<'c> {
     ghost use Rattle.std.specs.Prelude.{length};
-    ghost use Rattle.facet_solver.specs.Indexed.{AreOfFormat, IsIndexOf, fields_of_each};
-    ghost use Rattle.facet_solver.specs.Schema.{IsOwnBuild, SchemaView, schema_code, schema_view};
+    ghost use Rattle.facet_solver.specs.schema.Indexed.{AreOfFormat, IsIndexOf, fields_of_each};
+    ghost use Rattle.facet_solver.specs.schema.Schema.{IsOwnBuild, SchemaView, schema_view};
+    ghost use Rattle.facet_solver.specs.schema.SchemaStorage.{schema_code};
 
     ghost Value = { SchemaView };
 

@@ -2,8 +2,8 @@
 ghost use Rattle.std.specs.Prelude.{◌≡◌, ◌↔◌, ◌+◌, ◌<◌, ◌≤◌, ◌||◌, [], All, IfOk, IsOk, IsTrue, filter, length, nat_eq, slice_get};
 ghost use Rattle.std.specs.List.Sorted.{IsStrictlyIncreasing};
 ghost use Rattle.facet_solver_shape.specs.Steps.{NoCountFalls};
-ghost use Rattle.facet_solver.specs.IndexSet.{IsWithin, how_many, matches_view, full, has_index, upto};
-ghost use Rattle.facet_solver.specs.Words.{word_count};
+ghost use Rattle.facet_solver.specs.set.IndexSet.{IsWithin, how_many, matches_view, full, has_index, upto};
+ghost use Rattle.facet_solver.specs.set.Words.{word_count};
 
 mod bits;
 mod common;
@@ -36,8 +36,8 @@ pub struct ResolutionSet {
 }
 
 impl Model for ResolutionSet {
-    ghost use Rattle.facet_solver.specs.IndexSet.{IndexSet};
-    ghost use Rattle.facet_solver.specs.Words.{HoldBelow, members_of, words_of};
+    ghost use Rattle.facet_solver.specs.set.IndexSet.{IndexSet};
+    ghost use Rattle.facet_solver.specs.set.Words.{HoldBelow, members_of, words_of};
 
     ghost Value = { IndexSet };
 

@@ -5,12 +5,12 @@ ghost use Rattle.std.specs.List.Sorted.{IsStrictlyIncreasing};
 ghost use Rattle.facet_solver_shape.specs.Keys.{dom_key, key_of};
 ghost use Rattle.facet_solver_shape.specs.declared.resolution.key.FieldCategory.TheVariants.{Attribute, Element, Text};
 ghost use Rattle.facet_solver_shape.specs.Steps.{NoCountFalls};
-ghost use Rattle.facet_solver.specs.Schema.{IsHandleOf, index_of};
-ghost use Rattle.facet_solver.specs.IndexSet.{IsWithin, how_many, matches_view};
-ghost use Rattle.facet_solver.specs.KeyResult.{HaveShape, IsKeyResultOf, IsUnknownOrSolved, key_result, key_result_view};
-ghost use Rattle.facet_solver.specs.State as state;
-ghost use Rattle.facet_solver.specs.State.{narrow, new_solver, passing, retain};
-ghost use Rattle.facet_solver.specs.Words.{begun_words};
+ghost use Rattle.facet_solver.specs.schema.ResolutionHandle.{IsHandleOf, index_of};
+ghost use Rattle.facet_solver.specs.set.IndexSet.{IsWithin, how_many, matches_view};
+ghost use Rattle.facet_solver.specs.solver.KeyResult.{HaveShape, IsKeyResultOf, IsUnknownOrSolved, key_result, key_result_view};
+ghost use Rattle.facet_solver.specs.solver.State as state;
+ghost use Rattle.facet_solver.specs.solver.State.{narrow, new_solver, passing, retain};
+ghost use Rattle.facet_solver.specs.set.Words.{begun_words};
 
 pub(crate) mod conditions;
 pub(crate) mod distinct_fields;
@@ -29,7 +29,8 @@ pub(crate) mod shaped;
 use crate::schema::Schema;
 use crate::schema::handle::ResolutionHandle;
 use crate::set::{Matches, ResolutionSet};
-use conditions::{AtIndex, Test, was_name_seen};
+use conditions::seen_name::was_name_seen;
+use conditions::{AtIndex, Test};
 use distinct_fields::KeySearch;
 use facet_solver_shape::{FieldKey, Steps};
 use key_result::{KeyResult, key_result};
@@ -48,7 +49,7 @@ pub struct Solver<'s, 'c, 'a> {
 impl<'s, 'c, 'a> Model for Solver<'s, 'c, 'a> {
     ghost use Rattle.std.specs.Prelude.{◌≡◌, length, map};
     ghost use Rattle.facet_solver_shape.specs.Keys.{key_of};
-    ghost use Rattle.facet_solver.specs.State.{State, state_code};
+    ghost use Rattle.facet_solver.specs.solver.State.{State, state_code};
 
     ghost Value = { State };
 

@@ -1,14 +1,14 @@
 -- The end of a step is the end of the one before it, where that goes on.
 use Rattle.std.proofs.Common.{◌≡◌, ◌∙◌, ◌<◌, ◌≤◌, ℕ, Bool, false, [], Some, ap, length, nat_lt, subst, sym, arith}
 use Rattle.serde_json.specs.Data.{Members}
-use Rattle.facet_solver.specs.Build.{Build, Catalogue}
+use Rattle.facet_solver.specs.build.Build.{Build, Catalogue}
 use Rattle.facet_solver.specs.Catalogues.{IsChecked}
-use Rattle.facet_solver.specs.Count.{count_of_root}
-use Rattle.facet_solver.specs.Choice.{IsChoiceDuplicate, IsRefusal}
-use Rattle.facet_solver.specs.Report.{error_view}
-use Rattle.facet_solver.specs.Schema.{IsBuilt, SchemaView}
-use Rattle.facet_solver.specs.State.{State, new_solver}
-use Rattle.facet_solver.specs.Verdict.{IsReportOn, report_of}
+use Rattle.facet_solver.specs.build.Count.{count_of_root}
+use Rattle.facet_solver.specs.build.Choice.{IsChoiceDuplicate, IsRefusal}
+use Rattle.facet_solver.specs.error.ErrorView.{error_view}
+use Rattle.facet_solver.specs.schema.Schema.{IsBuilt, SchemaView}
+use Rattle.facet_solver.specs.solver.State.{State, new_solver}
+use Rattle.facet_solver.specs.solver.Report.{IsReportOn, report_of}
 use Rattle.facet_solver.specs.declared.DuplicateFieldError.{DuplicateFieldError}
 use Rattle.facet_solver.specs.declared.SchemaError.{SchemaError}
 use Rattle.facet_solver.specs.declared.SchemaError.TheVariants.{DuplicateField}

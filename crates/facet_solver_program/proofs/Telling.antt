@@ -6,14 +6,15 @@ use Rattle.std.specs.Option.{option_map_or}
 use Rattle.std.proofs.lemmas.List.{map-append}
 use Rattle.std.proofs.lemmas.List.Elements.{recursion_from_All}
 use Rattle.serde_json.specs.Data.{Data}
-use Rattle.facet_solver.specs.Build.{Catalogue}
+use Rattle.facet_solver.specs.build.Build.{Catalogue}
 use Rattle.facet_solver.specs.KeyPath.{has_key_path}
 use Rattle.facet_solver.specs.Names.{Name, names_of}
-use Rattle.facet_solver.specs.Probe.{probe_key}
+use Rattle.facet_solver.specs.solver.Probe.{probe_key}
 use Rattle.facet_solver.specs.Resolved.{Resolved}
-use Rattle.facet_solver.specs.Schema.{SchemaView, IsHandleOf, index_of, resolution_of}
-use Rattle.facet_solver.specs.ShapeAtPath.{get_shapes_at_path, satisfy_at_path}
-use Rattle.facet_solver.specs.State.{State, retain}
+use Rattle.facet_solver.specs.schema.Schema.{SchemaView}
+use Rattle.facet_solver.specs.schema.ResolutionHandle.{IsHandleOf, index_of, resolution_of}
+use Rattle.facet_solver.specs.solver.ShapeAtPath.{get_shapes_at_path, satisfy_at_path}
+use Rattle.facet_solver.specs.solver.State.{State, retain}
 use Rattle.facet_solver.specs.Resolutions.{passes}
 use Rattle.facet_solver.specs.declared.schema.handle.ResolutionHandle.{ResolutionHandle}
 use Rattle.facet_solver_program.specs.Tell.{fits_some_not_all, fitting, is_known_path, probe_path, tell_path, tell_shapes, tell_value}

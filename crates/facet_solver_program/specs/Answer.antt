@@ -7,18 +7,18 @@ use Rattle.facet_solver.specs.declared.DuplicateFieldError.{DuplicateFieldError}
 use Rattle.facet_solver.specs.declared.SchemaError.TheVariants.{DuplicateField}
 use Rattle.facet_solver.specs.declared.error.SolverError.{SolverError}
 use Rattle.facet_solver.specs.declared.error.SolverError.TheVariants.{OutOfMemory}
-use Rattle.facet_solver.specs.Build.{Build, Catalogue}
+use Rattle.facet_solver.specs.build.Build.{Build, Catalogue}
 use Rattle.facet_solver.specs.Catalogues.{IsChecked, IsFirstFault, number_of}
-use Rattle.facet_solver.specs.Choice.{IsChoiceDuplicate}
-use Rattle.facet_solver.specs.Count.{count_of_root}
-use Rattle.facet_solver.specs.ErrorTexts.{error_output}
-use Rattle.facet_solver.specs.Report.{ErrorView}
-use Rattle.facet_solver.specs.Representation.{Repr, externally_tagged, flattened}
+use Rattle.facet_solver.specs.build.Choice.{IsChoiceDuplicate}
+use Rattle.facet_solver.specs.build.Count.{count_of_root}
+use Rattle.facet_solver.specs.error.ErrorTexts.{error_output}
+use Rattle.facet_solver.specs.error.ErrorView.{ErrorView}
+use Rattle.facet_solver.specs.build.Representation.{Repr, externally_tagged, flattened}
 use Rattle.facet_solver.specs.Resolved.{Resolved, description}
-use Rattle.facet_solver.specs.Schema.{IsBuilt, SchemaView, flat_build}
+use Rattle.facet_solver.specs.schema.Schema.{IsBuilt, SchemaView, flat_build}
 use Rattle.facet_solver.specs.SchemaErrorText.{schema_error_text}
-use Rattle.facet_solver.specs.State.{State, new_solver}
-use Rattle.facet_solver.specs.Verdict.{report_of, viable}
+use Rattle.facet_solver.specs.solver.State.{State, new_solver}
+use Rattle.facet_solver.specs.solver.Report.{report_of, viable}
 use Rattle.facet_solver_program.specs.declared.decode.word.Builder.{Builder}
 use Rattle.facet_solver_program.specs.declared.decode.word.Builder.TheVariants.{Flattened, Auto, External}
 use Rattle.facet_solver_program.specs.Document.{members_below}

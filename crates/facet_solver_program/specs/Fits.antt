@@ -13,7 +13,7 @@ use Rattle.facet_solver.specs.declared.ShapeKind.{ShapeKind}
 use Rattle.facet_solver.specs.declared.ShapeKind.TheVariants.{Scalar, Struct, Option as OptionOf, Map, List as ListOf, Array, Slice, Set}
 use Rattle.facet_solver.specs.declared.StructKind.{StructKind}
 use Rattle.facet_solver.specs.declared.StructKind.TheVariants.{Unit as NoFields, Struct as ByName, Tuple, TupleStruct}
-use Rattle.facet_solver.specs.Build.{Catalogue}
+use Rattle.facet_solver.specs.build.Build.{Catalogue}
 use Rattle.facet_solver.specs.EffectiveShapes.{effective}
 use Rattle.facet_solver.specs.Pointers.{end_of}
 

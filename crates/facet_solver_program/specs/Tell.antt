@@ -4,12 +4,12 @@ use Rattle.std.specs.List.{list_all, list_any}
 use Rattle.std.specs.Option.{option_map_or}
 use Rattle.serde_json.specs.Data.{Data}
 use Rattle.serde_json.specs.Find.{as_str}
-use Rattle.facet_solver.specs.Build.{Catalogue}
+use Rattle.facet_solver.specs.build.Build.{Catalogue}
 use Rattle.facet_solver.specs.KeyPath.{has_key_path}
 use Rattle.facet_solver.specs.Keys.{flat_key}
 use Rattle.facet_solver.specs.Names.{Name}
-use Rattle.facet_solver.specs.ShapeAtPath.{get_shapes_at_path, satisfy_at_path}
-use Rattle.facet_solver.specs.State.{State, hint_variant_for_tag, retain, see_key}
+use Rattle.facet_solver.specs.solver.ShapeAtPath.{get_shapes_at_path, satisfy_at_path}
+use Rattle.facet_solver.specs.solver.State.{State, hint_variant_for_tag, retain, see_key}
 use Rattle.facet_solver.specs.Resolutions.{passes}
 use Rattle.facet_solver_program.specs.Document.{Member}
 use Rattle.facet_solver_program.specs.Fits.{fits}

@@ -1,12 +1,13 @@
 //! What the program answers to an input, step by step.
 ghost use Rattle.std.specs.Prelude.{◌≡◌, ◌<◌, IfErr, IfOk, length, nat_lt, string_bytes};
 ghost use Rattle.serde_json.specs.View.{members_view, view};
-ghost use Rattle.facet_solver.specs.Choice.{IsRefusal};
-ghost use Rattle.facet_solver.specs.Count.{count_of_root};
-ghost use Rattle.facet_solver.specs.Report.{error_view};
-ghost use Rattle.facet_solver.specs.Representation.{asked_view};
+ghost use Rattle.facet_solver.specs.build.Choice.{IsRefusal};
+ghost use Rattle.facet_solver.specs.build.Count.{count_of_root};
+ghost use Rattle.facet_solver.specs.error.ErrorView.{error_view};
+ghost use Rattle.facet_solver.specs.build.Representation.{asked_view};
 ghost use Rattle.facet_solver.specs.declared.DuplicateFieldError.{DuplicateFieldError};
-ghost use Rattle.facet_solver.specs.Schema.{IsBuilt, index_of, resolution_of};
+ghost use Rattle.facet_solver.specs.schema.Schema.{IsBuilt};
+ghost use Rattle.facet_solver.specs.schema.ResolutionHandle.{index_of, resolution_of};
 ghost use Rattle.facet_solver_program.specs.Answer as answer;
 ghost use Rattle.facet_solver_program.specs.Answer.{Ending, IsAnswer, IsEndOfDocument, IsEndOfInput, IsEndOfRoot, IsReport, Says};
 ghost use Rattle.facet_solver_program.specs.Input as input;

@@ -4,7 +4,7 @@ ghost use Rattle.std.specs.List.{list_any};
 ghost use Rattle.serde_json.specs.View.{members_view, view};
 ghost use Rattle.facet_solver.specs.KeyPath.{has_key_path};
 ghost use Rattle.facet_solver.specs.Names.{names_of};
-ghost use Rattle.facet_solver.specs.Schema.{resolution_of};
+ghost use Rattle.facet_solver.specs.schema.ResolutionHandle.{resolution_of};
 ghost use Rattle.facet_solver_program.specs.Document.{member_view, members_below};
 ghost use Rattle.facet_solver_program.specs.Tell as tell;
 

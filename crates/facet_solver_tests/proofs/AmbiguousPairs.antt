@@ -8,16 +8,16 @@ use Rattle.std.specs.Option.{option_map}
 use Rattle.std.proofs.lemmas.Bool.{and_from, and_parts, false≢true, or_cases, or_left, or_right}
 use Rattle.std.proofs.lemmas.Bool.Decides.{Decides-eqb}
 use Rattle.std.proofs.lemmas.Option.{none-some, same_Some, slice_get-get_or, slice_get-map}
-use Rattle.facet_solver.specs.Failure.{is_met}
+use Rattle.facet_solver.specs.solver.Failure.{is_met}
 use Rattle.facet_solver.specs.Fields.{FieldView, category_eq, is_unnamed, matches, means, takes_any_name}
 use Rattle.facet_solver.specs.Keys.{Key, category_index, dom_key, flat_key, key_of}
 use Rattle.facet_solver.specs.Names.{Name, name_eq}
-use Rattle.facet_solver.specs.Pairs.{CanBothBeViable, HasKeyFor, HasKeysRequiredBy, LeavesBothViable}
+use Rattle.facet_solver.specs.solver.Pairs.{CanBothBeViable, HasKeyFor, HasKeysRequiredBy, LeavesBothViable}
 use Rattle.facet_solver.specs.Resolved.{Resolved, nothing}
-use Rattle.facet_solver.specs.Schema.{SchemaView}
+use Rattle.facet_solver.specs.schema.Schema.{SchemaView}
 use Rattle.facet_solver.specs.Resolutions.{has_key}
-use Rattle.facet_solver.specs.Told.{has_keys}
-use Rattle.facet_solver.specs.Verdict.{is_viable}
+use Rattle.facet_solver.specs.solver.Told.{has_keys}
+use Rattle.facet_solver.specs.solver.Report.{is_viable}
 use Rattle.facet_solver.specs.declared.FieldCategory.{FieldCategory}
 use Rattle.facet_solver.specs.declared.FieldCategory.TheVariants.{Flat, Attribute, Element, Text, Tag, Elements}
 use Rattle.facet_solver.specs.declared.FieldKey.{FieldKey}

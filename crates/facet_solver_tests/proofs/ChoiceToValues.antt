@@ -16,7 +16,7 @@ use Rattle.std.proofs.lemmas.List.Folds.{find_at, list_all-map, list_all_more}
 use Rattle.std.proofs.lemmas.List.FromFn.{get_or-range_with_len, length-range_with_len, map-range_with_len_more}
 use Rattle.std.proofs.lemmas.Option.{slice_get-get_or, slice_get-map}
 use Rattle.facet_solver.specs.Fields.{FieldView, IsStored, key_of_field, matches}
-use Rattle.facet_solver.specs.IndexSet.{upto}
+use Rattle.facet_solver.specs.set.IndexSet.{upto}
 use Rattle.facet_solver.specs.Keys.{Key, key_cmp, key_of, rank, stored_key}
 use Rattle.facet_solver.specs.Resolved.{Resolved, field_by_key}
 use Rattle.facet_solver.specs.declared.FieldKey.{FieldKey}

@@ -10,9 +10,9 @@ use Rattle.std.proofs.lemmas.List.Folds.{list_any-append}
 use Rattle.std.proofs.lemmas.List.Sums.{fold-append}
 use Rattle.std.proofs.Math.Bool.{or-false, or-true}
 use Rattle.facet_solver.specs.Names.{Name}
-use Rattle.facet_solver.specs.Run.{CallView, after_calls}
-use Rattle.facet_solver.specs.Schema.{SchemaView}
-use Rattle.facet_solver.specs.State.{new_solver}
+use Rattle.facet_solver.specs.solver.Run.{CallView, after_calls}
+use Rattle.facet_solver.specs.schema.Schema.{SchemaView}
+use Rattle.facet_solver.specs.solver.State.{new_solver}
 use Rattle.facet_solver_tests.specs.Documents.{Value, Members, Items, scalar, object, list, no_members, member, no_items, item, events_of, member_events, item_events, calls_of, member_calls, told_document, IsDocument}
 use Rattle.facet_solver_tests.specs.Stream.{PlaceView, IsFirstMisplaced, IsWhole, at, beginning, behind, calls_at, calls_from, in_list, innermost, is_list, key_call, may_stand, may_stand_in, place_behind, told, value_ended, value_ended_in, well_placed, without_last}
 use Rattle.facet_solver_tests.specs.declared.callers.stream.Event.{Event}

@@ -2,15 +2,15 @@
 use Rattle.std.proofs.Common.{◌≡◌, ℕ, zero, suc, arith, subst, ◌+◌, ◌<◌, List, [], ◌∷◌, ◌++◌, ap, sym, ◌∙◌, get_or, length, map, take}
 use Rattle.std.specs.Prelude.{Result, Ok, Err, Contains, Some, slice_get, string_bytes}
 use Rattle.std.proofs.lemmas.List.{map-append, take_more}
-use Rattle.facet_solver.specs.Build.{Build}
-use Rattle.facet_solver.specs.Choice.{ListsChoices}
-use Rattle.facet_solver.specs.Found.{GivesOrNames}
+use Rattle.facet_solver.specs.build.Build.{Build}
+use Rattle.facet_solver.specs.build.Choice.{ListsChoices}
+use Rattle.facet_solver.specs.solver.Found.{GivesOrNames}
 use Rattle.facet_solver.specs.Keys.{Key}
 use Rattle.facet_solver.specs.Names.{Name}
 use Rattle.facet_solver.specs.Resolved.{Resolved, description}
-use Rattle.facet_solver.specs.Schema.{IsBuilt, SchemaView}
-use Rattle.facet_solver.specs.State.{State, see_key}
-use Rattle.facet_solver.specs.Told.{TellsChoice, see_keys}
+use Rattle.facet_solver.specs.schema.Schema.{IsBuilt, SchemaView}
+use Rattle.facet_solver.specs.solver.State.{State, see_key}
+use Rattle.facet_solver.specs.solver.Told.{TellsChoice, see_keys}
 use Rattle.facet_solver.specs.declared.ResolutionHandle.{ResolutionHandle}
 use Rattle.facet_solver.specs.declared.SolverError.{SolverError}
 use Rattle.facet_solver.specs.declared.SolverError.TheVariants.{Ambiguous, OutOfMemory}

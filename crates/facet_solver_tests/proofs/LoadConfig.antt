@@ -9,8 +9,9 @@ use Rattle.std.proofs.lemmas.List.Elements.{filter-append, recursion_from_All}
 use Rattle.std.proofs.lemmas.Map.Views.{any-filter_same}
 use Rattle.facet_solver.specs.Names.{Name, name_eq, names_of}
 use Rattle.facet_solver.specs.Resolved.{Resolved, selection_view}
-use Rattle.facet_solver.specs.Schema.{IsHandleOf, SchemaView, index_of, resolution_of}
-use Rattle.facet_solver.specs.Verdict.{resolutions_at}
+use Rattle.facet_solver.specs.schema.Schema.{SchemaView}
+use Rattle.facet_solver.specs.schema.ResolutionHandle.{IsHandleOf, index_of, resolution_of}
+use Rattle.facet_solver.specs.solver.Report.{resolutions_at}
 use Rattle.facet_solver.specs.declared.ResolutionHandle.{ResolutionHandle}
 use Rattle.facet_solver.specs.declared.VariantSelection.{VariantSelection}
 use Rattle.facet_solver_tests.specs.LoadConfig.{each_once, selected_names}

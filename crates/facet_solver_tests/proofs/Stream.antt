@@ -6,9 +6,9 @@ use Rattle.std.proofs.lemmas.List.{append-nil, append_assoc, length-map, take-ma
 use Rattle.std.proofs.lemmas.List.Sums.{fold-append, fold_push}
 use Rattle.std.proofs.Math.Bool.{and-true}
 use Rattle.facet_solver.specs.Names.{Name, names_of}
-use Rattle.facet_solver.specs.Run.{CallView, after_call, after_calls}
-use Rattle.facet_solver.specs.Schema.{SchemaView}
-use Rattle.facet_solver.specs.State.{new_solver}
+use Rattle.facet_solver.specs.solver.Run.{CallView, after_call, after_calls}
+use Rattle.facet_solver.specs.schema.Schema.{SchemaView}
+use Rattle.facet_solver.specs.solver.State.{new_solver}
 use Rattle.facet_solver.specs.declared.ResolutionHandle.{ResolutionHandle}
 use Rattle.facet_solver.specs.declared.SolverError.TheVariants.{OutOfMemory}
 use Rattle.facet_solver_tests.specs.Stream.{Ends, PlaceView, Reading, Streams, beginning, behind, calls_at, calls_from, may_stand, place_behind, read, told, well_placed, without_last}

@@ -5,8 +5,8 @@ use denote.Bor.{Bor}
 use Rattle.facet_solver.specs.Names.{Name}
 use Rattle.std.proofs.lemmas.Bool.{and_parts, false≢true}
 use Rattle.std.proofs.lemmas.List.{append-nil, append_assoc}
-use Rattle.facet_solver.specs.Schema.{SchemaView}
-use Rattle.facet_solver.specs.State.{State}
+use Rattle.facet_solver.specs.schema.Schema.{SchemaView}
+use Rattle.facet_solver.specs.solver.State.{State}
 use Rattle.facet_solver.specs.declared.ResolutionHandle.{ResolutionHandle}
 use Rattle.facet_solver.specs.declared.SolverError.TheVariants.{OutOfMemory}
 use Rattle.facet_solver_tests.specs.KeysToChoice.{IsChoiceVerdict}

@@ -2,9 +2,9 @@
 use Rattle.std.specs.Prelude.{◌<◌, ◌≤◌, ℕ, Option, Some, None, Result, Ok, Err, ⊤}
 use Rattle.std.specs.declared.alloc.Global.{Global}
 use Rattle.std.specs.declared.string.String.{String}
-use Rattle.facet_solver.specs.Build.{Build}
-use Rattle.facet_solver.specs.Choice.{IsRefusal}
-use Rattle.facet_solver.specs.Count.{IsCountOf}
+use Rattle.facet_solver.specs.build.Build.{Build}
+use Rattle.facet_solver.specs.build.Choice.{IsRefusal}
+use Rattle.facet_solver.specs.build.Count.{IsCountOf}
 use Rattle.facet_solver_tests.specs.declared.callers.ambiguity_table.NoTable.{NoTable}
 use Rattle.facet_solver_tests.specs.declared.callers.ambiguity_table.NoTable.TheVariants.{Schema, TooMany}
 

@@ -3,12 +3,12 @@ use Rattle.std.specs.Prelude.{◌≡◌, ℕ, zero, suc, ◌++◌, ◌⊎◌, �
 use Rattle.facet_solver.specs.Fields.{FieldView, matches}
 use Rattle.facet_solver.specs.Keys.{Key, dom_key, flat_key, key_of}
 use Rattle.facet_solver.specs.Names.{Name, names_of}
-use Rattle.facet_solver.specs.Pairs.{CanBothBeViable, HasKeyFor, HasKeysRequiredBy, LeavesBothViable}
+use Rattle.facet_solver.specs.solver.Pairs.{CanBothBeViable, HasKeyFor, HasKeysRequiredBy, LeavesBothViable}
 use Rattle.facet_solver.specs.Resolved.{Resolved, field_by_name}
-use Rattle.facet_solver.specs.Schema.{SchemaView}
+use Rattle.facet_solver.specs.schema.Schema.{SchemaView}
 use Rattle.facet_solver.specs.Resolutions.{has_key}
-use Rattle.facet_solver.specs.Told.{has_keys}
-use Rattle.facet_solver.specs.Verdict.{is_viable, resolution_field_names}
+use Rattle.facet_solver.specs.solver.Told.{has_keys}
+use Rattle.facet_solver.specs.solver.Report.{is_viable, resolution_field_names}
 use Rattle.facet_solver.specs.declared.FieldCategory.TheVariants.{Flat, Attribute, Element, Text, Tag, Elements}
 use Rattle.facet_solver.specs.declared.FieldKey.{FieldKey}
 use Rattle.facet_solver_tests.specs.KeysToChoice.{keys_of}

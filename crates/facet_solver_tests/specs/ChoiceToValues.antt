@@ -6,7 +6,7 @@ use Rattle.std.specs.Option.{option_and_then, option_copied, option_or, unwrap_o
 use Rattle.std.specs.declared.alloc.Global.{Global}
 use denote.Bor.{Bor}
 use Rattle.facet_solver.specs.Fields.{FieldView}
-use Rattle.facet_solver.specs.IndexSet.{upto}
+use Rattle.facet_solver.specs.set.IndexSet.{upto}
 use Rattle.facet_solver.specs.Keys.{Key, key_of}
 use Rattle.facet_solver.specs.Resolved.{Resolved, field_by_key}
 use Rattle.facet_solver.specs.Resolutions.{has_key}

@@ -2,9 +2,9 @@
 use Rattle.std.specs.Prelude.{◌≡◌, ◌++◌, ℕ, List, [], ◌∷◌, Result, Ok, Err, ⊤}
 use denote.Bor.{Bor}
 use Rattle.facet_solver.specs.Names.{Name}
-use Rattle.facet_solver.specs.Run.{CallView, after_calls, satisfy_at_path}
-use Rattle.facet_solver.specs.Schema.{SchemaView}
-use Rattle.facet_solver.specs.State.{State, new_solver}
+use Rattle.facet_solver.specs.solver.Run.{CallView, after_calls, satisfy_at_path}
+use Rattle.facet_solver.specs.schema.Schema.{SchemaView}
+use Rattle.facet_solver.specs.solver.State.{State, new_solver}
 use Rattle.facet_solver.specs.declared.ResolutionHandle.{ResolutionHandle}
 use Rattle.facet_solver.specs.declared.SolverError.{SolverError}
 use Rattle.facet_solver.specs.declared.SolverError.TheVariants.{OutOfMemory}

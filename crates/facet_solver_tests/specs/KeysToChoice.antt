@@ -1,14 +1,15 @@
 -- What the keys of one choice come to.
 use Rattle.std.specs.Prelude.{◌≡◌, ℕ, List, [], ◌∷◌, Result, Ok, Err, Some, Contains, ⊤, map, slice_get, string_bytes}
-use Rattle.facet_solver.specs.Build.{Build}
-use Rattle.facet_solver.specs.Choice.{IsRefusal, ListsChoices}
+use Rattle.facet_solver.specs.build.Build.{Build}
+use Rattle.facet_solver.specs.build.Choice.{IsRefusal, ListsChoices}
 use Rattle.facet_solver.specs.Keys.{Key, key_of}
 use Rattle.facet_solver.specs.Names.{Name}
 use Rattle.facet_solver.specs.Resolved.{Resolved, description}
-use Rattle.facet_solver.specs.Schema.{IsBuilt, IsHandleOf, SchemaView, index_of}
-use Rattle.facet_solver.specs.State.{State, new_solver}
-use Rattle.facet_solver.specs.Told.{TellsChoice, see_keys}
-use Rattle.facet_solver.specs.Verdict.{IsReportOn, viable}
+use Rattle.facet_solver.specs.schema.Schema.{IsBuilt, SchemaView}
+use Rattle.facet_solver.specs.schema.ResolutionHandle.{IsHandleOf, index_of}
+use Rattle.facet_solver.specs.solver.State.{State, new_solver}
+use Rattle.facet_solver.specs.solver.Told.{TellsChoice, see_keys}
+use Rattle.facet_solver.specs.solver.Report.{IsReportOn, viable}
 use Rattle.facet_solver.specs.declared.FieldKey.{FieldKey}
 use Rattle.facet_solver.specs.declared.ResolutionHandle.{ResolutionHandle}
 use Rattle.facet_solver.specs.declared.SolverError.{SolverError}

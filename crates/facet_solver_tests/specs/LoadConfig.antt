@@ -4,11 +4,12 @@ use Rattle.std.specs.List.{flat_map}
 use Rattle.facet_solver.specs.Keys.{Key, key_of, flat_key}
 use Rattle.facet_solver.specs.Names.{Name, name_eq, names_of}
 use Rattle.facet_solver.specs.Resolved.{Resolved}
-use Rattle.facet_solver.specs.Schema.{IsHandleOf, SchemaView, index_of, resolution_of}
-use Rattle.facet_solver.specs.State.{State, has_tag_field, hint_variant_for_tag, new_solver, passing, see_key, selects_variant}
+use Rattle.facet_solver.specs.schema.Schema.{SchemaView}
+use Rattle.facet_solver.specs.schema.ResolutionHandle.{IsHandleOf, index_of, resolution_of}
+use Rattle.facet_solver.specs.solver.State.{State, has_tag_field, hint_variant_for_tag, new_solver, passing, see_key, selects_variant}
 use Rattle.facet_solver.specs.Resolutions.{has_key}
-use Rattle.facet_solver.specs.Told.{has_keys, see_keys}
-use Rattle.facet_solver.specs.Verdict.{IsReportOn, resolutions_at, viable}
+use Rattle.facet_solver.specs.solver.Told.{has_keys, see_keys}
+use Rattle.facet_solver.specs.solver.Report.{IsReportOn, resolutions_at, viable}
 use Rattle.facet_solver.specs.declared.FieldKey.{FieldKey}
 use Rattle.facet_solver.specs.declared.ResolutionHandle.{ResolutionHandle}
 use Rattle.facet_solver_tests.specs.declared.callers.load_config.Refused.{Refused}

@@ -3,9 +3,9 @@ use Rattle.std.specs.Prelude.{◌≡◌, ◌≢◌, ◌++◌, ◌+◌, ◌-◌, 
 use Rattle.std.specs.List.{list_any}
 use Rattle.facet_solver.specs.Keys.{flat_key}
 use Rattle.facet_solver.specs.Names.{Name}
-use Rattle.facet_solver.specs.Run.{CallView, after_calls, probe_key, satisfy_at_path, see_key}
-use Rattle.facet_solver.specs.Schema.{SchemaView}
-use Rattle.facet_solver.specs.State.{State, new_solver}
+use Rattle.facet_solver.specs.solver.Run.{CallView, after_calls, probe_key, satisfy_at_path, see_key}
+use Rattle.facet_solver.specs.schema.Schema.{SchemaView}
+use Rattle.facet_solver.specs.solver.State.{State, new_solver}
 use Rattle.facet_solver.specs.declared.ResolutionHandle.{ResolutionHandle}
 use Rattle.facet_solver.specs.declared.SolverError.TheVariants.{OutOfMemory}
 use Rattle.facet_solver_tests.specs.KeysToChoice.{IsChoiceVerdict}

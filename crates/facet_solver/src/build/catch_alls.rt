@@ -4,12 +4,12 @@
 ghost use Rattle.std.specs.Prelude.{◌≡◌, length, OnOk};
 ghost use Rattle.std.specs.Option.{option_copied};
 ghost use Rattle.facet_solver_shape.specs.Catalogues.{FieldsBelow};
-ghost use Rattle.facet_solver.specs.Contribution.{AreCatchAlls, contribution_of_fields};
-ghost use Rattle.facet_solver.specs.Build.{build_of};
-ghost use Rattle.facet_solver.specs.CatchAlls as last;
-ghost use Rattle.facet_solver.specs.CatchAlls.{emitted_by, last_catch_all, with_last};
-ghost use Rattle.facet_solver.specs.Counts.{IsReady};
-ghost use Rattle.facet_solver.specs.Outcome.{resolved, take_all};
+ghost use Rattle.facet_solver.specs.build.Contribution.{AreCatchAlls, contribution_of_fields};
+ghost use Rattle.facet_solver.specs.build.Build.{build_of};
+ghost use Rattle.facet_solver.specs.build.CatchAlls as last;
+ghost use Rattle.facet_solver.specs.build.CatchAlls.{emitted_by, last_catch_all, with_last};
+ghost use Rattle.facet_solver.specs.build.Counts.{IsReady};
+ghost use Rattle.facet_solver.specs.build.Outcome.{resolved, take_all};
 
 use crate::build::field::catch_all_field;
 use crate::build::place::Place;

@@ -1,13 +1,13 @@
 //! The choice of a rank among those of a root, as a list of indices.
 ghost use Rattle.std.specs.Prelude.{◌≡◌, ◌+◌, ◌<◌, ◌≤◌, ◌∷◌, Some, length, slice_get, true, [], IfOk, OnOk, ◌++◌};
 ghost use Rattle.facet_solver_shape.specs.Catalogues.{FieldsBelow, VariantsBelow};
-ghost use Rattle.facet_solver.specs.Build.{build_of};
-ghost use Rattle.facet_solver.specs.ChoiceParts.{Adds, IsRank, StandFor, choice_at, presence, present_rank};
-ghost use Rattle.facet_solver.specs.Count as count;
-ghost use Rattle.facet_solver.specs.Counts.{IsReady};
-ghost use Rattle.facet_solver.specs.Listing as listing;
-ghost use Rattle.facet_solver.specs.Starts.{AreStarts, HasStarts};
-ghost use Rattle.facet_solver.specs.Work as work;
+ghost use Rattle.facet_solver.specs.build.Build.{build_of};
+ghost use Rattle.facet_solver.specs.build.ChoiceParts.{Adds, IsRank, StandFor, choice_at, presence, present_rank};
+ghost use Rattle.facet_solver.specs.build.Count as count;
+ghost use Rattle.facet_solver.specs.build.Counts.{IsReady};
+ghost use Rattle.facet_solver.specs.build.Listing as listing;
+ghost use Rattle.facet_solver.specs.build.Starts.{AreStarts, HasStarts};
+ghost use Rattle.facet_solver.specs.build.Work as work;
 
 use crate::build::content::content_fields;
 use crate::build::contribution::Contribution;

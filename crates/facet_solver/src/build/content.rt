@@ -2,8 +2,8 @@
 ghost use Rattle.std.specs.Prelude.{◌≡◌, ◌∷◌, [], MatchOption};
 ghost use Rattle.std.specs.Option.{option_copied};
 ghost use Rattle.facet_solver_shape.specs.Catalogues.{NamesEarlier};
-ghost use Rattle.facet_solver.specs.Content as content;
-ghost use Rattle.facet_solver.specs.Content.{IsNewtypeOf};
+ghost use Rattle.facet_solver.specs.build.Content as content;
+ghost use Rattle.facet_solver.specs.build.Content.{IsNewtypeOf};
 
 use facet_solver_shape::{Field, ShapeId, ShapeKind, Shapes, Variant};
 

@@ -2,10 +2,10 @@
 //! gone through again and again whose fields emit nothing that stays, however often it is
 //! flattened.
 ghost use Rattle.std.specs.Prelude.{◌≡◌, ◌<◌, ◌≤◌, IfOk, length};
-ghost use Rattle.facet_solver.specs.Contribution as contribution;
-ghost use Rattle.facet_solver.specs.Contribution.{AreContributions};
-ghost use Rattle.facet_solver.specs.Build.{build_of, kind_at};
-ghost use Rattle.facet_solver.specs.Nested.{structs_alone};
+ghost use Rattle.facet_solver.specs.build.Contribution as contribution;
+ghost use Rattle.facet_solver.specs.build.Contribution.{AreContributions};
+ghost use Rattle.facet_solver.specs.build.Build.{build_of, kind_at};
+ghost use Rattle.facet_solver.specs.build.Nested.{structs_alone};
 
 pub(crate) mod categories;
 

@@ -2,11 +2,11 @@
 ghost use Rattle.std.specs.Prelude.{◌≡◌, ◌+◌, ◌<◌, ◌≤◌, length, take, IfOk, OnOk};
 ghost use Rattle.facet_solver_shape.specs.Catalogues.{NamesEarlier, FieldsBelow};
 ghost use Rattle.facet_solver_shape.specs.Steps.{NoCountFalls};
-ghost use Rattle.facet_solver.specs.Count as count;
-ghost use Rattle.facet_solver.specs.Count.{below_2_64};
-ghost use Rattle.facet_solver.specs.Counts.{AreCounts, AreFirstCounts, CountsTo};
-ghost use Rattle.facet_solver.specs.Build.{build_of, kind_at};
-ghost use Rattle.facet_solver.specs.FieldCount.{field_count, fields_of_kind};
+ghost use Rattle.facet_solver.specs.build.Count as count;
+ghost use Rattle.facet_solver.specs.build.Count.{below_2_64};
+ghost use Rattle.facet_solver.specs.build.Counts.{AreCounts, AreFirstCounts, CountsTo};
+ghost use Rattle.facet_solver.specs.build.Build.{build_of, kind_at};
+ghost use Rattle.facet_solver.specs.build.FieldCount.{field_count, fields_of_kind};
 
 pub(crate) mod saturating;
 pub(crate) mod table;

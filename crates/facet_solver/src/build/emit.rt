@@ -1,15 +1,15 @@
 //! What a walk emits, taken into a resolution.
 ghost use Rattle.std.specs.Prelude.{◌≡◌, ◌∷◌, [], map, IfOk, OnOk};
-ghost use Rattle.facet_solver.specs.Emissions as emissions;
-ghost use Rattle.facet_solver.specs.Nested.{no_paths};
-ghost use Rattle.facet_solver.specs.Place.{chosen_of};
-ghost use Rattle.facet_solver.specs.Outcome.{take_in, take_all, Gives};
-ghost use Rattle.facet_solver.specs.Build.{build_of};
-ghost use Rattle.facet_solver.specs.Representation.{externally_tagged};
-ghost use Rattle.facet_solver.specs.Roles.{role_view, IsPlain};
-ghost use Rattle.facet_solver.specs.Counts.{IsReady};
-ghost use Rattle.facet_solver.specs.NestedTable.{IsFilled};
-ghost use Rattle.facet_solver.specs.Reached.{IsChosen, ServesApart, ServesPlain, ServesRegular};
+ghost use Rattle.facet_solver.specs.build.Emissions as emissions;
+ghost use Rattle.facet_solver.specs.build.Nested.{no_paths};
+ghost use Rattle.facet_solver.specs.build.Place.{chosen_of};
+ghost use Rattle.facet_solver.specs.build.Outcome.{take_in, take_all, Gives};
+ghost use Rattle.facet_solver.specs.build.Build.{build_of};
+ghost use Rattle.facet_solver.specs.build.Representation.{externally_tagged};
+ghost use Rattle.facet_solver.specs.build.Roles.{role_view, IsPlain};
+ghost use Rattle.facet_solver.specs.build.Counts.{IsReady};
+ghost use Rattle.facet_solver.specs.build.NestedTable.{IsFilled};
+ghost use Rattle.facet_solver.specs.build.Reached.{IsChosen, ServesApart, ServesPlain, ServesRegular};
 
 use crate::build::field::{catch_all_field, leaf_field, regular_field, selector_field};
 use crate::build::nested::paths::one_name_path;
@@ -75,7 +75,7 @@ fn emit_catch_all<'c>(
 }
 
 /// What a flattened field emits that is no struct, enum, map or dynamic value.
-#[tactic(auto, unfolding(crate::specs::Emissions::emit_leaf))]
+#[tactic(auto, unfolding(crate::specs::build::Emissions::emit_leaf))]
 fn emit_leaf<'c>(
     walker: &Walker<'c>,
     field: &'c Field,
@@ -92,7 +92,7 @@ fn emit_leaf<'c>(
 }
 
 /// What a field emits that takes no index and has nothing below it.
-#[tactic(auto, unfolding(crate::specs::Emissions::emit_plain))]
+#[tactic(auto, unfolding(crate::specs::build::Emissions::emit_plain))]
 pub(crate) fn emit_plain<'c>(
     walker: &Walker<'c>,
     role: &Role<'c>,

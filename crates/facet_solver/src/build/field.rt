@@ -1,8 +1,8 @@
 //! The fields that a walk emits.
 ghost use Rattle.std.specs.Prelude.{◌≡◌, IfOk};
-ghost use Rattle.facet_solver.specs.Emissions as emissions;
-ghost use Rattle.facet_solver.specs.Place.{chosen_of};
-ghost use Rattle.facet_solver.specs.Build.{build_of};
+ghost use Rattle.facet_solver.specs.build.Emissions as emissions;
+ghost use Rattle.facet_solver.specs.build.Place.{chosen_of};
+ghost use Rattle.facet_solver.specs.build.Build.{build_of};
 
 use crate::build::Build;
 use crate::build::place::{Chosen, Place};
@@ -11,7 +11,7 @@ use facet_solver_shape::{Field, FieldInfo};
 use std::alloc::AllocError;
 
 /// A regular field: required without default, unless it is an option.
-#[tactic(auto, unfolding(crate::specs::Emissions::regular_field))]
+#[tactic(auto, unfolding(crate::specs::build::Emissions::regular_field))]
 pub(crate) fn regular_field<'c>(
     build: Build<'c>,
     field: &'c Field,
@@ -31,7 +31,7 @@ pub(crate) fn regular_field<'c>(
 }
 
 /// A flattened map or dynamic value: never required.
-#[tactic(auto, unfolding(crate::specs::Emissions::catch_all_field))]
+#[tactic(auto, unfolding(crate::specs::build::Emissions::catch_all_field))]
 pub(crate) fn catch_all_field<'c>(
     build: Build<'c>,
     field: &'c Field,
@@ -53,7 +53,7 @@ pub(crate) fn catch_all_field<'c>(
 
 /// Any other flattened field, with its target as its shape: never required where its own is an
 /// option.
-#[tactic(auto, unfolding(crate::specs::Emissions::leaf_field))]
+#[tactic(auto, unfolding(crate::specs::build::Emissions::leaf_field))]
 pub(crate) fn leaf_field<'c>(
     build: Build<'c>,
     field: &'c Field,
@@ -74,7 +74,7 @@ pub(crate) fn leaf_field<'c>(
 }
 
 /// The field by which a reader of a flattened enum learns the chosen variant: always required.
-#[tactic(auto, unfolding(crate::specs::Emissions::selector_field))]
+#[tactic(auto, unfolding(crate::specs::build::Emissions::selector_field))]
 pub(crate) fn selector_field<'c>(
     build: Build<'c>,
     name: &'c str,

@@ -2,8 +2,8 @@
 //! fields that they go through are found once for each shape that walks ask for, in tables, and the
 //! walks follow these from name to name.
 ghost use Rattle.std.specs.Prelude.{◌≡◌};
-ghost use Rattle.facet_solver.specs.Build.{kind_at};
-ghost use Rattle.facet_solver.specs.Nested.{entered_view, has_fields};
+ghost use Rattle.facet_solver.specs.build.Build.{kind_at};
+ghost use Rattle.facet_solver.specs.build.Nested.{entered_view, has_fields};
 
 pub(crate) mod by_name;
 pub(crate) mod marks;

@@ -1,8 +1,8 @@
 //! Where the walk of one choice stands, and what was chosen there.
 ghost use Rattle.std.specs.Prelude.{◌≡◌, ◌∷◌, ◌++◌, [], codes, length, map, take, IfOk, OnOk};
 ghost use Rattle.facet_solver_shape.specs.Paths.{by_field, segment_of};
-ghost use Rattle.facet_solver.specs.Place as places;
-ghost use Rattle.facet_solver.specs.Place.{chosen_of};
+ghost use Rattle.facet_solver.specs.build.Place as places;
+ghost use Rattle.facet_solver.specs.build.Place.{chosen_of};
 
 use crate::build::role::Target;
 use facet_solver_shape::{Field, FieldPath, PathSegment, Shape, Variant};
@@ -19,7 +19,7 @@ pub(crate) struct Place<'c> {
 impl<'c> Model for Place<'c> {
     ghost use Rattle.std.specs.Prelude.{map};
     ghost use Rattle.facet_solver_shape.specs.Paths.{segment_of};
-    ghost use Rattle.facet_solver.specs.Place as places;
+    ghost use Rattle.facet_solver.specs.build.Place as places;
 
     ghost Value = { places.Path };
 

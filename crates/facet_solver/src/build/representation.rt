@@ -1,19 +1,9 @@
-//! How enums are written in a document, and what kind of document it is.
+//! How enums are written in a document.
 ghost use Rattle.std.specs.Prelude.{◌≡◌};
-ghost use Rattle.facet_solver.specs.Representation as representation;
-ghost use Rattle.facet_solver.specs.Representation.{repr_view};
+ghost use Rattle.facet_solver.specs.build.Representation as representation;
+ghost use Rattle.facet_solver.specs.build.Representation.{repr_view};
 
 use facet_solver_shape::Shape;
-
-/// What kind of document is read.
-#[derive(Clone, Copy, PartialEq, Eq, Debug, Default)]
-pub enum Format {
-    /// Keys are names.
-    #[default]
-    Flat,
-    /// Keys are names of attributes, elements and text.
-    Dom,
-}
 
 /// How a flattened enum is written in a document.
 #[derive(Clone, Copy, PartialEq, Eq, Debug, Default)]

@@ -2,14 +2,14 @@
 ghost use Rattle.std.specs.Prelude.{◌≡◌, ◌*◌, ◌+◌, ◌<◌, ◌≤◌, ◌∷◌, [], IsSome, IfOk, IfErr, OnOk, length};
 ghost use Rattle.facet_solver_shape.specs.Catalogues.{FieldsBelow};
 ghost use Rattle.facet_solver_shape.specs.Steps.{NoCountFalls};
-ghost use Rattle.facet_solver.specs.Choice.{IsChoice, IsResolution, Enumerates, IsRefusal};
-ghost use Rattle.facet_solver.specs.Count.{count_of_root};
-ghost use Rattle.facet_solver.specs.FieldCount.{field_count, fields_of_kind};
-ghost use Rattle.facet_solver.specs.Outcome.{Walks, effect};
-ghost use Rattle.facet_solver.specs.Build.{build_of, kind_at};
-ghost use Rattle.facet_solver.specs.Walk as walk;
-ghost use Rattle.facet_solver.specs.Counts.{IsReady};
-ghost use Rattle.facet_solver.specs.Reached.{ServesRoot, ServesVariant};
+ghost use Rattle.facet_solver.specs.build.Choice.{IsChoice, IsResolution, Enumerates, IsRefusal};
+ghost use Rattle.facet_solver.specs.build.Count.{count_of_root};
+ghost use Rattle.facet_solver.specs.build.FieldCount.{field_count, fields_of_kind};
+ghost use Rattle.facet_solver.specs.build.Outcome.{Walks, effect};
+ghost use Rattle.facet_solver.specs.build.Build.{build_of, kind_at};
+ghost use Rattle.facet_solver.specs.build.Walk as walk;
+ghost use Rattle.facet_solver.specs.build.Counts.{IsReady};
+ghost use Rattle.facet_solver.specs.build.Reached.{ServesRoot, ServesVariant};
 
 use crate::build::Build;
 use crate::build::choices::choice_at;

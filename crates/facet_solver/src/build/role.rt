@@ -1,7 +1,7 @@
 //! What a field is to the fields that it stands among, by the kind of its target.
 ghost use Rattle.std.specs.Prelude.{◌≡◌};
-ghost use Rattle.facet_solver.specs.Roles as roles;
-ghost use Rattle.facet_solver.specs.Roles.{role_view};
+ghost use Rattle.facet_solver.specs.build.Roles as roles;
+ghost use Rattle.facet_solver.specs.build.Roles.{role_view};
 
 use facet_solver_shape::{Field, Shape, ShapeId, ShapeKind, Shapes, Variant};
 

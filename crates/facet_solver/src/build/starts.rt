@@ -3,9 +3,9 @@
 ghost use Rattle.std.specs.Prelude.{◌≡◌, ◌<◌, ◌≤◌, IfOk, OnOk, get_or, length, true};
 ghost use Rattle.std.specs.List.Sorted.{IsNonDecreasing};
 ghost use Rattle.facet_solver_shape.specs.Catalogues.{KindBelow, NamesEarlier, VariantsBelow};
-ghost use Rattle.facet_solver.specs.Build.{build_of};
-ghost use Rattle.facet_solver.specs.Counts.{AreCounts};
-ghost use Rattle.facet_solver.specs.Starts.{AreStarts, AreStartsOf, HasStarts, HasWalkedStarts, IsLastStart, IsMoreStarts, starts_at, starts_or_none};
+ghost use Rattle.facet_solver.specs.build.Build.{build_of};
+ghost use Rattle.facet_solver.specs.build.Counts.{AreCounts};
+ghost use Rattle.facet_solver.specs.build.Starts.{AreStarts, AreStartsOf, HasStarts, HasWalkedStarts, IsLastStart, IsMoreStarts, starts_at, starts_or_none};
 
 use crate::build::Build;
 use crate::build::count::Counts;

@@ -2,16 +2,16 @@
 //! loop over a stack of its own.
 ghost use Rattle.std.specs.Prelude.{◌≡◌, ◌<◌, ◌∷◌, ◌++◌, [], IfOk, IsSome, OnOk, if◌then◌else◌, length, slice_get, slice_index};
 ghost use Rattle.facet_solver_shape.specs.Catalogues.{FieldsBelow};
-ghost use Rattle.facet_solver.specs.Content.{content_of};
-ghost use Rattle.facet_solver.specs.Outcome.{Walks, effect};
-ghost use Rattle.facet_solver.specs.Build.{build_of};
-ghost use Rattle.facet_solver.specs.Place.{chosen_of};
-ghost use Rattle.facet_solver.specs.Walk as walk;
-ghost use Rattle.facet_solver.specs.Walk.{Walking};
-ghost use Rattle.facet_solver.specs.WalkFrames.{IsInside, Leads, LeadsBelow};
-ghost use Rattle.facet_solver.specs.Counts.{IsReady};
-ghost use Rattle.facet_solver.specs.Reached.{IsChosen, ServesEnum, ServesField, ServesFields};
-ghost use Rattle.facet_solver.specs.Work.{work_of_field, work_of_fields, work_of_variant};
+ghost use Rattle.facet_solver.specs.build.Content.{content_of};
+ghost use Rattle.facet_solver.specs.build.Outcome.{Walks, effect};
+ghost use Rattle.facet_solver.specs.build.Build.{build_of};
+ghost use Rattle.facet_solver.specs.build.Place.{chosen_of};
+ghost use Rattle.facet_solver.specs.build.Walk as walk;
+ghost use Rattle.facet_solver.specs.build.Walk.{Walking};
+ghost use Rattle.facet_solver.specs.build.WalkFrames.{IsInside, Leads, LeadsBelow};
+ghost use Rattle.facet_solver.specs.build.Counts.{IsReady};
+ghost use Rattle.facet_solver.specs.build.Reached.{IsChosen, ServesEnum, ServesField, ServesFields};
+ghost use Rattle.facet_solver.specs.build.Work.{work_of_field, work_of_fields, work_of_variant};
 
 use crate::build::catch_alls::set_catch_alls;
 use crate::build::content::newtype_fields;

@@ -1,7 +1,7 @@
 //! A part of the text of a report that several resolutions match.
 ghost use Rattle.std.specs.Prelude.{map, string_bytes};
-ghost use Rattle.facet_solver.specs.ErrorTexts.{hint_text};
-ghost use Rattle.facet_solver.specs.QuotedNames.{where_ascii};
+ghost use Rattle.facet_solver.specs.error.ErrorTexts.{hint_text};
+ghost use Rattle.facet_solver.specs.error.QuotedNames.{where_ascii};
 
 use crate::error::quoted::Quoted;
 use std::fmt;

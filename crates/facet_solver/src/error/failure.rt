@@ -1,8 +1,8 @@
 //! The line of a resolution that is not the answer.
 ghost use Rattle.std.specs.Prelude.{map, string_bytes};
-ghost use Rattle.facet_solver.specs.ErrorTexts.{missing_names, missing_text, listed_missing, unknown_text, failure_text, failure_names};
-ghost use Rattle.facet_solver.specs.QuotedNames.{later_text, list_output, where_ascii};
-ghost use Rattle.facet_solver.specs.Report.{missing_view, failure_view};
+ghost use Rattle.facet_solver.specs.error.ErrorTexts.{missing_names, missing_text, listed_missing, unknown_text, failure_text, failure_names};
+ghost use Rattle.facet_solver.specs.error.QuotedNames.{later_text, list_output, where_ascii};
+ghost use Rattle.facet_solver.specs.error.ErrorView.{missing_view, failure_view};
 
 use crate::error::quoted::Quoted;
 use crate::error::{CandidateFailure, MissingFieldInfo};

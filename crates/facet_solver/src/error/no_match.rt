@@ -2,9 +2,9 @@
 ghost use Rattle.std.specs.Prelude.{map, Some, string_bytes};
 ghost use Rattle.std.specs.List.{flat_map};
 ghost use Rattle.facet_solver_shape.specs.Names.{optional_name};
-ghost use Rattle.facet_solver.specs.ErrorTexts.{failure_text, failure_names, at_paths_text, closest_text, field_at_path, reasons_text, unknown_end};
-ghost use Rattle.facet_solver.specs.QuotedNames.{where_ascii};
-ghost use Rattle.facet_solver.specs.Report.{failure_view, missing_view};
+ghost use Rattle.facet_solver.specs.error.ErrorTexts.{failure_text, failure_names, at_paths_text, closest_text, field_at_path, reasons_text, unknown_end};
+ghost use Rattle.facet_solver.specs.error.QuotedNames.{where_ascii};
+ghost use Rattle.facet_solver.specs.error.ErrorView.{failure_view, missing_view};
 
 use crate::error::failure::FailureLine;
 use crate::error::quoted::Quoted;

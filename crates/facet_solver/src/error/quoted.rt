@@ -1,6 +1,6 @@
 //! Lists of names, as `{:?}` prints them.
 ghost use Rattle.std.specs.Prelude.{map, string_bytes};
-ghost use Rattle.facet_solver.specs.QuotedNames.{list_output};
+ghost use Rattle.facet_solver.specs.error.QuotedNames.{list_output};
 
 use std::fmt;
 

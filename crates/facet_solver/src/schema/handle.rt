@@ -15,7 +15,7 @@ pub struct ResolutionHandle<'s, 'c> {
 }
 
 impl PartialEq for ResolutionHandle<'_, '_> {
-    ghost use Rattle.facet_solver.specs.Schema.{same_index, same_index_equiv};
+    ghost use Rattle.facet_solver.specs.schema.ResolutionHandle.{same_index, same_index_equiv};
 
     ghost eq = { same_index };
 
@@ -27,13 +27,13 @@ impl PartialEq for ResolutionHandle<'_, '_> {
 }
 
 impl Eq for ResolutionHandle<'_, '_> {
-    ghost use Rattle.facet_solver.specs.Schema.{same_index_equiv};
+    ghost use Rattle.facet_solver.specs.schema.ResolutionHandle.{same_index_equiv};
 
     ghost laws = { same_index_equiv };
 }
 
 impl<'s, 'c> ResolutionHandle<'s, 'c> {
-    ghost use Rattle.facet_solver.specs.Schema.{index_of, resolution_of, IsHandleOf};
+    ghost use Rattle.facet_solver.specs.schema.ResolutionHandle.{index_of, resolution_of, IsHandleOf};
 
     /// The handle of the resolution at an index.
     pub(crate) fn new(schema: &'s Schema<'c>, index: usize) -> Self

@@ -1,20 +1,22 @@
 //! The index of a schema: which resolutions have a key.
-ghost use Rattle.std.specs.Prelude.{◌≡◌, ◌+◌, ◌<◌, ℕ, IfOk, List, None, OnOk, Option, Some, if◌then◌else◌, length, map, take};
+ghost use Rattle.std.specs.Prelude.{◌≡◌, ◌+◌, ◌<◌, ℕ, IfOk, List, None, OnOk, Some, if◌then◌else◌, length, map, take};
 ghost use Rattle.std.specs.List.{filter_map};
 ghost use Rattle.std.specs.Option.{option_copied};
 ghost use Rattle.facet_solver_shape.specs.Keys.{key_of};
-ghost use Rattle.facet_solver_shape.specs.Names.{Name, name_eq};
 ghost use Rattle.facet_solver_shape.specs.Resolved.{Resolved};
-ghost use Rattle.facet_solver.specs.IndexEntries.{HasBound, added, category_of, entry_at, entry_in, entry_of_one, holds, is_held, named_entry, with_occurrence};
-ghost use Rattle.facet_solver.specs.Indexed.{AreOfFormat, IsEntryIfAny, IsIndexOf, fields_of_each};
+ghost use Rattle.facet_solver.specs.schema.IndexEntries.{HasBound, added, category_of, entry_at, is_held};
+ghost use Rattle.facet_solver.specs.schema.Indexed.{AreOfFormat, IsEntryIfAny, IsIndexOf, fields_of_each};
 ghost use Rattle.facet_solver.specs.Resolutions.{field_at, has_field_named, passes};
-ghost use Rattle.facet_solver.specs.Slots.{Slot, categories, is_at, is_named, slot_in, slot_of};
+ghost use Rattle.facet_solver.specs.schema.Slots.{Slot, categories, is_at, slot_in, slot_of};
 
-use crate::build::representation::Format;
-use crate::set::ResolutionSet;
-use facet_solver_shape::{FieldCategory, FieldInfo, FieldKey, Resolution, ShapeId};
+pub(crate) mod category_index;
+pub(crate) mod entry;
+
+use crate::build::format::Format;
+use crate::schema::index::category_index::CategoryIndex;
+use crate::schema::index::entry::{Entry, Occurrence};
+use facet_solver_shape::{FieldCategory, FieldInfo, FieldKey, Resolution};
 use std::alloc::{AllocError, Global};
-use std::collections::BTreeMap;
 
 /// The categories of fields.
 const CATEGORIES: [FieldCategory; 6] = [
@@ -25,155 +27,6 @@ const CATEGORIES: [FieldCategory; 6] = [
     FieldCategory::Tag,
     FieldCategory::Elements,
 ];
-
-/// A field of a resolution: the index of the resolution, how many resolutions there are, and the
-/// shape of the field.
-#[derive(Clone, Copy)]
-struct Occurrence {
-    index: usize,
-    bound: usize,
-    shape: ShapeId,
-}
-
-/// The resolutions that have a key.
-#[derive(Debug, Drop)]
-pub(crate) struct Entry {
-    /// Their indices.
-    pub(crate) set: ResolutionSet,
-    /// The shape of the field that the key means, where they agree on it.
-    pub(crate) shape: Option<ShapeId>,
-}
-
-impl Entry {
-    /// The entry of one resolution.
-    fn of_one(alloc: Global, at: &Occurrence) -> Result<Self, AllocError>
-        requires { at.now.index < at.now.bound }
-        ensures { IfOk result (λ entry. entry ≡ entry_of_one at.now) }
-    {
-        let mut set = ResolutionSet::empty(alloc, at.bound)?;
-        set.insert(at.index);
-        Ok(Entry {
-            set,
-            shape: Some(at.shape),
-        })
-    }
-
-    /// Adds a resolution. Of one that is here the field that came first is meant.
-    fn add(&mut self, at: &Occurrence)
-        requires { at.now.index < self.old.set.bound }
-        ensures { self.new ≡ with_occurrence self.old at.now }
-    {
-        if self.set.contains(at.index) {
-            return;
-        }
-        self.set.insert(at.index);
-        if let Some(shape) = self.shape {
-            if shape != at.shape {
-                self.shape = None;
-            }
-        }
-    }
-}
-
-/// The entries of one category.
-#[derive(Debug, Drop)]
-struct CategoryIndex<'c> {
-    named: BTreeMap<&'c str, Entry>,
-    all: Option<Entry>,
-}
-
-impl<'c> CategoryIndex<'c> {
-    fn new(alloc: Global) -> Self
-        ensures { (name : Option Name) → entry_in result name ≡ None }
-    {
-        CategoryIndex {
-            named: BTreeMap::new(alloc),
-            all: None,
-        }
-    }
-
-    /// The entry of a name.
-    fn entry_of(&self, name: &str) -> Option<&Entry>
-        ensures { option_copied result ≡ entry_in self.now (Some name.now) }
-    {
-        self.named.get(name)
-    }
-
-    /// The entry of every name.
-    fn entry_of_all(&self) -> Option<&Entry>
-        ensures { option_copied result ≡ entry_in self.now None }
-    {
-        self.all.as_ref()
-    }
-
-    /// Adds a resolution to the entry of every name.
-    fn add_to_all(&mut self, alloc: Global, at: &Occurrence) -> Result<(), AllocError>
-        requires index { at.now.index < at.now.bound }
-        requires bound { HasBound at.now.bound self.old.all }
-        ensures { OnOk result
-            (self.new ≡ record self.old { all = Some (added self.old.all at.now) }) }
-    {
-        match &mut self.all {
-            Some(entry) => entry.add(at),
-            None => self.all = Some(Entry::of_one(alloc, at)?),
-        }
-        Ok(())
-    }
-
-    /// Adds a field.
-    fn add(
-        &mut self,
-        alloc: Global,
-        field: &FieldInfo<'c>,
-        at: &Occurrence,
-    ) -> Result<(), AllocError>
-        requires index { at.now.index < at.now.bound }
-        requires bounds { (name : Option Name) → HasBound at.now.bound (entry_in self.old name) }
-        ensures { OnOk result ((name : Option Name) → entry_in self.new name
-            ≡ (if is_named name field.now
-            then Some (added (entry_in self.old name) at.now)
-            else entry_in self.old name)) }
-    {
-        add_named(&mut self.named, alloc, field.serialized_name, at)?;
-        if field.category.takes_any_name() {
-            self.add_to_all(alloc, at)?;
-        }
-        Ok(())
-    }
-}
-
-/// Whether an entry has a resolution. Where there is no entry, no resolution has the key.
-pub(crate) fn holds(entry: Option<&Entry>, index: usize) -> bool
-    ensures { result ≡ holds (option_copied entry.entry) index }
-{
-    match entry {
-        Some(entry) => entry.set.contains(index),
-        None => false,
-    }
-}
-
-/// Adds a resolution to the entry of a name.
-fn add_named<'c>(
-    named: &mut BTreeMap<&'c str, Entry>,
-    alloc: Global,
-    name: &'c str,
-    at: &Occurrence,
-) -> Result<(), AllocError>
-    requires index { at.now.index < at.now.bound }
-    requires bounds { (n : Name) → HasBound at.now.bound (named_entry named.old n) }
-    ensures { OnOk result ((n : Name) → named_entry named.new n
-        ≡ (if name_eq n name.now
-        then Some (added (named_entry named.old n) at.now)
-        else named_entry named.old n)) }
-{
-    match named.get_mut(name) {
-        Some(entry) => entry.add(at),
-        None => {
-            named.insert(name, Entry::of_one(alloc, at)?)?;
-        }
-    }
-    Ok(())
-}
 
 /// The entries of a schema, by category.
 #[derive(Debug, Drop)]
@@ -238,6 +91,7 @@ impl<'c> Index<'c> {
         Ok(())
     }
 
+    /// The entries of a category.
     fn of_category(&self, category: FieldCategory) -> &CategoryIndex<'c>
         ensures { result.now ≡ category_of self.now category }
     {

@@ -2,9 +2,9 @@
 ghost use Rattle.std.specs.Prelude.{◌≡◌, ℕ, ◌∷◌, [], ◌+◌, ◌-◌, ◌*◌, ◌^◌, ◌<◌, ◌≤◌, ◌↔◌, ◌&&◌, IfOk, IfSome, IsTrue, MatchOption, length, nat_eq, replicate, slice_index, vec_len};
 ghost use Rattle.std.specs.Int.{bit_at};
 ghost use Rattle.facet_solver_shape.specs.Steps.{NoCountFalls};
-ghost use Rattle.facet_solver.specs.IndexSet.{has_index};
-ghost use Rattle.facet_solver.specs.SharedBits.{IsNext, IsNextShared, NoneBetween, common_word};
-ghost use Rattle.facet_solver.specs.Words.{IsClearFrom, IsFull, KeepsBits, bit_of, has_bit, members_from, members_of, word_count};
+ghost use Rattle.facet_solver.specs.set.IndexSet.{has_index};
+ghost use Rattle.facet_solver.specs.set.SharedBits.{IsNext, IsNextShared, NoneBetween, common_word};
+ghost use Rattle.facet_solver.specs.set.Words.{IsClearFrom, IsFull, KeepsBits, bit_of, has_bit, members_from, members_of, word_count};
 
 use crate::set::condition::Condition;
 use facet_solver_shape::Steps;

@@ -1,8 +1,8 @@
 //! The indices that two sets share, one after another.
 ghost use Rattle.std.specs.Prelude.{◌≡◌, ◌+◌, ◌-◌, ◌∷◌, ◌^◌, ◌<◌, ◌≤◌, [], IfSome, MatchOption, length};
 ghost use Rattle.facet_solver_shape.specs.Steps.{NoCountFalls};
-ghost use Rattle.facet_solver.specs.SharedBits.{common_from};
-ghost use Rattle.facet_solver.specs.Words.{IsClearFrom};
+ghost use Rattle.facet_solver.specs.set.SharedBits.{common_from};
+ghost use Rattle.facet_solver.specs.set.Words.{IsClearFrom};
 
 use crate::set::bits::{next_in_word, next_shared, read_word};
 use facet_solver_shape::Steps;
@@ -23,8 +23,8 @@ pub(crate) struct CommonIter<'s> {
 
 impl<'s> Model for CommonIter<'s> {
     ghost use Rattle.std.specs.Prelude.{◌≡◌, ◌≤◌, ◌<◌, ◌+◌, ◌*◌, ◌^◌, ◌-◌, length};
-    ghost use Rattle.facet_solver.specs.SharedBits.{CommonView, common_from, common_word};
-    ghost use Rattle.facet_solver.specs.Words.{IsClearFrom};
+    ghost use Rattle.facet_solver.specs.set.SharedBits.{CommonView, common_from, common_word};
+    ghost use Rattle.facet_solver.specs.set.Words.{IsClearFrom};
 
     ghost Value = { CommonView };
 

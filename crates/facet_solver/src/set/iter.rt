@@ -13,7 +13,7 @@ pub struct ResolutionSetIter<'s> {
 
 impl<'s> Model for ResolutionSetIter<'s> {
     ghost use Rattle.std.specs.Prelude.{List, ℕ, ◌-◌, ◌^◌};
-    ghost use Rattle.facet_solver.specs.Words.{IsClearFrom, members_from};
+    ghost use Rattle.facet_solver.specs.set.Words.{IsClearFrom, members_from};
 
     ghost Value = { List ℕ };
 

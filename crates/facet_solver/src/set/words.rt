@@ -1,8 +1,8 @@
 //! The words of a set. One word takes no memory of its own.
 ghost use Rattle.std.specs.Prelude.{◌≡◌, ℕ, ◌+◌, ◌*◌, ◌/◌, ◌%◌, ◌^◌, ◌<◌, ◌≤◌, ◌&&◌, IfOk, IsOk, bit_or, length, replicate, slice_index, slice_set};
 ghost use Rattle.facet_solver_shape.specs.Steps.{NoCountFalls};
-ghost use Rattle.facet_solver.specs.SharedBits.{common_word};
-ghost use Rattle.facet_solver.specs.Words.{IsFull, has_bit, word_count, words_of};
+ghost use Rattle.facet_solver.specs.set.SharedBits.{common_word};
+ghost use Rattle.facet_solver.specs.set.Words.{IsFull, has_bit, word_count, words_of};
 
 use crate::set::bits::{empty_words, full_words, keep_words, low_ones, read_word, retain_bits};
 use crate::set::condition::Condition;

@@ -3,8 +3,8 @@ ghost use Rattle.std.specs.Prelude.{◌≡◌, ◌+◌, ◌++◌, ◌∷◌, [],
 ghost use Rattle.std.specs.Option.{option_copied};
 ghost use Rattle.facet_solver_shape.specs.Keys.{key_of};
 ghost use Rattle.facet_solver_shape.specs.Steps.{NoCountFalls};
-ghost use Rattle.facet_solver.specs.KeyResult as key_result;
-ghost use Rattle.facet_solver.specs.KeyResult.{scored_view};
+ghost use Rattle.facet_solver.specs.solver.KeyResult as key_result;
+ghost use Rattle.facet_solver.specs.solver.KeyResult.{scored_view};
 ghost use Rattle.facet_solver.specs.Resolutions.{field_at};
 
 use crate::schema::Schema;

@@ -1,11 +1,11 @@
 //! The end of a solver: the one candidate that is viable, or why there is none.
 ghost use Rattle.std.specs.Prelude.{◌≡◌, ◌↔◌, ◌∷◌, [], ℕ, IfErr, IfOk, IsOk, length};
 ghost use Rattle.facet_solver_shape.specs.Names.{Name};
-ghost use Rattle.facet_solver.specs.Found.{GivesOrNames};
-ghost use Rattle.facet_solver.specs.IndexSet.{IsWithin, how_many, matches_view};
-ghost use Rattle.facet_solver.specs.Schema.{IsHandleOf, index_of};
-ghost use Rattle.facet_solver.specs.Told.{EndsWithOrNames};
-ghost use Rattle.facet_solver.specs.Verdict.{IsReportOn, state_of_report, viable};
+ghost use Rattle.facet_solver.specs.solver.Found.{GivesOrNames};
+ghost use Rattle.facet_solver.specs.set.IndexSet.{IsWithin, how_many, matches_view};
+ghost use Rattle.facet_solver.specs.schema.ResolutionHandle.{IsHandleOf, index_of};
+ghost use Rattle.facet_solver.specs.solver.Told.{EndsWithOrNames};
+ghost use Rattle.facet_solver.specs.solver.Report.{IsReportOn, state_of_report, viable};
 
 use crate::error::SolverError;
 use crate::schema::handle::ResolutionHandle;

@@ -1,12 +1,12 @@
 //! Hints: which variant the document means, told by its name.
 ghost use Rattle.std.specs.Prelude.{◌≡◌, ◌≢◌, ◌↔◌, [], IsTrue};
 ghost use Rattle.std.specs.Bool.{OnFalse};
-ghost use Rattle.facet_solver.specs.State as state;
-ghost use Rattle.facet_solver.specs.State.{has_tag_field, passing, selects_variant};
+ghost use Rattle.facet_solver.specs.solver.State as state;
+ghost use Rattle.facet_solver.specs.solver.State.{has_tag_field, passing, selects_variant};
 
 use crate::set::Matches;
 use crate::solver::Solver;
-use crate::solver::conditions::SelectsVariant;
+use crate::solver::conditions::selects_variant::SelectsVariant;
 use crate::solver::conditions::tag_field::HasTagField;
 
 impl Solver<'_, '_, '_> {

@@ -2,16 +2,16 @@
 ghost use Rattle.std.specs.Prelude.{◌≡◌, ◌↔◌, ◌+◌, ◌<◌, ◌≤◌, ℕ, IfOk, IsTrue, length, map};
 ghost use Rattle.facet_solver_shape.specs.Keys.{key_of};
 ghost use Rattle.facet_solver_shape.specs.Steps.{NoCountFalls};
-ghost use Rattle.facet_solver.specs.Indexed.{IsIndexEntry};
-ghost use Rattle.facet_solver.specs.KeyResult.{HaveShape, IsKeyResultOf, IsUnknownOrSolved, key_result, key_result_view, of_fields, scored_view, solved, unknown};
+ghost use Rattle.facet_solver.specs.schema.Indexed.{IsIndexEntry};
+ghost use Rattle.facet_solver.specs.solver.KeyResult.{HaveShape, IsKeyResultOf, IsUnknownOrSolved, key_result, key_result_view, of_fields, scored_view, solved, unknown};
 ghost use Rattle.facet_solver.specs.Resolutions.{field_at, has_key};
-ghost use Rattle.facet_solver.specs.Schema.{SchemaView};
-ghost use Rattle.facet_solver.specs.State.{passing, state_of};
-ghost use Rattle.facet_solver.specs.Words.{begun_words};
+ghost use Rattle.facet_solver.specs.schema.Schema.{SchemaView};
+ghost use Rattle.facet_solver.specs.solver.State.{passing, state_of};
+ghost use Rattle.facet_solver.specs.set.Words.{begun_words};
 
 use crate::schema::Schema;
 use crate::schema::handle::ResolutionHandle;
-use crate::schema::index::Entry;
+use crate::schema::index::entry::Entry;
 use crate::set::ResolutionSet;
 use crate::solver::distinct_fields::{KeySearch, distinct_fields};
 use facet_solver_shape::{FieldInfo, ShapeId, Steps};

@@ -2,10 +2,10 @@
 ghost use Rattle.std.specs.Prelude.{◌≡◌, ◌∷◌, ◌++◌, [], IfOk, OnOk, List, ℕ, filter, map, slice_get};
 ghost use Rattle.std.specs.Option.{option_and_then, option_copied, option_map};
 ghost use Rattle.facet_solver_shape.specs.Names.{names_of};
-ghost use Rattle.facet_solver.specs.KeyResult.{IsKeyResultOf, key_result_view, scored_view};
+ghost use Rattle.facet_solver.specs.solver.KeyResult.{IsKeyResultOf, key_result_view, scored_view};
 ghost use Rattle.facet_solver.specs.KeyPath.{has_key_at, has_key_path, whole_path};
-ghost use Rattle.facet_solver.specs.Probe.{below_first, by_shapes, field_on_path_at, fields_on_path, first_field, scored_at, shapes_on_path};
-ghost use Rattle.facet_solver.specs.ShapeAtPath as at_path;
+ghost use Rattle.facet_solver.specs.solver.Probe.{below_first, by_shapes, field_on_path_at, fields_on_path, first_field, scored_at, shapes_on_path};
+ghost use Rattle.facet_solver.specs.solver.ShapeAtPath as at_path;
 ghost use Rattle.facet_solver.specs.Resolutions.{passes};
 
 use crate::key_path::has_key_at;

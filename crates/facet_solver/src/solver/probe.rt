@@ -1,9 +1,9 @@
 //! The call that asks for a key at a path of names.
 ghost use Rattle.std.specs.Prelude.{◌≡◌, IfOk, OnErr, OnOk};
 ghost use Rattle.facet_solver_shape.specs.Names.{names_of};
-ghost use Rattle.facet_solver.specs.KeyResult.{IsKeyResultOf, key_result_view};
-ghost use Rattle.facet_solver.specs.Probe as probe;
-ghost use Rattle.facet_solver.specs.Probe.{key_path_result};
+ghost use Rattle.facet_solver.specs.solver.KeyResult.{IsKeyResultOf, key_result_view};
+ghost use Rattle.facet_solver.specs.solver.Probe as probe;
+ghost use Rattle.facet_solver.specs.solver.Probe.{key_path_result};
 
 use crate::schema::handle::ResolutionHandle;
 use crate::set::Matches;

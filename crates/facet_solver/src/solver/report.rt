@@ -3,11 +3,11 @@ ghost use Rattle.std.specs.Prelude.{◌≡◌, [], IfOk, map};
 ghost use Rattle.std.specs.Option.{option_copied, option_map, option_map_or};
 ghost use Rattle.facet_solver_shape.specs.Names.{names_of, optional_name};
 ghost use Rattle.facet_solver_shape.specs.Resolved.{description};
-ghost use Rattle.facet_solver.specs.Failure as spec;
-ghost use Rattle.facet_solver.specs.Report.{ambiguous, error_view, failure_view, missing_view, no_match};
-ghost use Rattle.facet_solver.specs.SeenNames.{AreSeenNames};
-ghost use Rattle.facet_solver.specs.Verdict as verdict;
-ghost use Rattle.facet_solver.specs.Verdict.{ambiguity_of, no_match_of, state_of_report};
+ghost use Rattle.facet_solver.specs.solver.Failure as spec;
+ghost use Rattle.facet_solver.specs.error.ErrorView.{ambiguous, error_view, failure_view, missing_view, no_match};
+ghost use Rattle.facet_solver.specs.solver.SeenNames.{AreSeenNames};
+ghost use Rattle.facet_solver.specs.solver.Report as reports;
+ghost use Rattle.facet_solver.specs.solver.Report.{ambiguity_of, no_match_of, state_of_report};
 
 pub(crate) mod failure;
 pub(crate) mod names;
@@ -73,14 +73,14 @@ impl<'r, 'c, 'a> Report<'r, 'c, 'a> {
 
     /// The first candidate.
     fn closest(&self) -> Option<&'r Resolution<'c>>
-        ensures { option_copied result ≡ verdict.closest (state_of_report self.now) }
+        ensures { option_copied result ≡ reports.closest (state_of_report self.now) }
     {
         self.schema.resolutions().get(self.candidates.first()?)
     }
 
     /// The description of the first candidate.
     fn closest_description(&self) -> Result<Option<String>, AllocError>
-        ensures { let closest = verdict.closest (state_of_report self.now) in
+        ensures { let closest = reports.closest (state_of_report self.now) in
             IfOk result (λ text.
             optional_name text ≡ option_map (λ r. description r.selections) closest) }
     {
@@ -99,7 +99,7 @@ impl<'r, 'c, 'a> Report<'r, 'c, 'a> {
         ensures { let state = state_of_report self.now in
             IfOk result (λ fields. map missing_view fields.items
             ≡ option_map_or (spec.missing_fields state.schema.build.catalogue state.seen)
-            (verdict.closest state) []) }
+            (reports.closest state) []) }
     {
         match self.closest() {
             Some(resolution) => missing_fields(self.alloc, self.schema.shapes(), names, resolution),
@@ -113,7 +113,7 @@ impl<'r, 'c, 'a> Report<'r, 'c, 'a> {
         ensures { let state = state_of_report self.now in
             IfOk result (λ failures. map failure_view failures.items
             ≡ map (spec.failure_of state.schema.build.catalogue state.seen)
-            (verdict.reported state)) }
+            (reports.reported state)) }
     {
         if self.candidates.is_empty() {
             let all = ResolutionSet::full(self.alloc, self.schema.resolutions().len())?;

@@ -1,8 +1,8 @@
 //! Calls of a solver as values, and runs of them.
 ghost use Rattle.std.specs.Prelude.{◌≡◌, ◌<◌, IfErr, List, OnErr, OnOk, length, map, take};
 ghost use Rattle.facet_solver_shape.specs.Keys.{Key};
-ghost use Rattle.facet_solver.specs.Run.{FindsToldChoices, after_call, after_calls, call_view, call_views, see_key};
-ghost use Rattle.facet_solver.specs.Told.{see_keys};
+ghost use Rattle.facet_solver.specs.solver.Run.{FindsToldChoices, after_call, after_calls, call_view, call_views, see_key};
+ghost use Rattle.facet_solver.specs.solver.Told.{see_keys};
 
 use crate::solver::Solver;
 use facet_solver_shape::{FieldKey, ShapeId};

@@ -1,13 +1,13 @@
 //! The calls that say which shapes a value fits.
 ghost use Rattle.std.specs.Prelude.{◌≡◌, IfOk};
 ghost use Rattle.facet_solver_shape.specs.Names.{names_of};
-ghost use Rattle.facet_solver.specs.SatisfyResult.{IsSatisfyResultOf, satisfy_result, satisfy_result_view};
-ghost use Rattle.facet_solver.specs.ShapeAtPath as at_path;
-ghost use Rattle.facet_solver.specs.State as state;
+ghost use Rattle.facet_solver.specs.solver.SatisfyResult.{IsSatisfyResultOf, satisfy_result, satisfy_result_view};
+ghost use Rattle.facet_solver.specs.solver.ShapeAtPath as at_path;
+ghost use Rattle.facet_solver.specs.solver.State as state;
 
 use crate::schema::handle::ResolutionHandle;
 use crate::solver::Solver;
-use crate::solver::conditions::HasShapeAmong;
+use crate::solver::conditions::shape_among::HasShapeAmong;
 use crate::solver::satisfy_result::SatisfyResult;
 use crate::solver::shape_at_path::{HasShapeAtPath, distinct_shapes};
 use facet_solver_shape::{FieldInfo, ShapeId};

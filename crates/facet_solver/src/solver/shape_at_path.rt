@@ -1,8 +1,8 @@
 //! The shape of a resolution at a path of names.
 ghost use Rattle.std.specs.Prelude.{◌≡◌, ◌++◌, ◌∷◌, [], IfOk, OnOk, List, ℕ};
 ghost use Rattle.facet_solver_shape.specs.Names.{names_of};
-ghost use Rattle.facet_solver.specs.ShapeAtPath as at_path;
-ghost use Rattle.facet_solver.specs.ShapeAtPath.{distinct, has_shape_at_path, shape_of_member};
+ghost use Rattle.facet_solver.specs.solver.ShapeAtPath as at_path;
+ghost use Rattle.facet_solver.specs.solver.ShapeAtPath.{distinct, has_shape_at_path, shape_of_member};
 
 use crate::schema::Schema;
 use crate::set::ResolutionSet;

@@ -1,6 +1,6 @@
 //! What has a shape.
 ghost use Rattle.std.specs.Prelude.{◌≡◌};
-ghost use Rattle.facet_solver.specs.FirstOfEach.{is_among};
+ghost use Rattle.facet_solver.specs.solver.FirstOfEach.{is_among};
 
 use facet_solver_shape::{FieldInfo, ShapeId};
 

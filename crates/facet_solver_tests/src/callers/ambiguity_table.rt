@@ -1,7 +1,7 @@
 //! The table of a checker of types: which choices of a type a document may leave both, for a person
 //! who reads it.
 ghost use Rattle.std.specs.Prelude.{◌≡◌, ◌<◌, None, length};
-ghost use Rattle.facet_solver.specs.Schema.{flat_build};
+ghost use Rattle.facet_solver.specs.schema.Schema.{flat_build};
 ghost use Rattle.facet_solver_tests.specs.AmbiguityTable.{GivesTable};
 
 use crate::callers::ambiguous_pairs::{AmbiguousPair, ambiguous_pairs};

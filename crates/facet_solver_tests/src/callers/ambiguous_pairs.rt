@@ -1,6 +1,6 @@
 //! A checker of types: which resolutions a document may leave both viable, with keys that do so.
 ghost use Rattle.std.specs.Prelude.{◌≡◌, ◌++◌, ◌<◌, ℕ, IfOk, List, OnOk, length};
-ghost use Rattle.facet_solver.specs.Failure.{is_met};
+ghost use Rattle.facet_solver.specs.solver.Failure.{is_met};
 ghost use Rattle.facet_solver.specs.Keys.{key_of};
 ghost use Rattle.facet_solver.specs.Names.{names_of};
 ghost use Rattle.facet_solver_tests.specs.AmbiguousPairs.{AddsKeys, IsKeyFor, ListsPairs, PairsIfAny, keys_for, names_beside, pairs_below, pairs_with, serves};

@@ -1,9 +1,9 @@
 //! From an element of a document to a choice: a solver is told its attributes, child elements and
 //! texts, in their order.
 ghost use Rattle.std.specs.Prelude.{◌≡◌, ◌<◌, None, OnOk, length};
-ghost use Rattle.facet_solver.specs.Build.{build_with};
-ghost use Rattle.facet_solver.specs.State.{new_solver, see_key};
-ghost use Rattle.facet_solver.specs.Told.{see_keys};
+ghost use Rattle.facet_solver.specs.build.Build.{build_with};
+ghost use Rattle.facet_solver.specs.solver.State.{new_solver, see_key};
+ghost use Rattle.facet_solver.specs.solver.Told.{see_keys};
 ghost use Rattle.facet_solver.specs.declared.Format.TheVariants as Format;
 ghost use Rattle.facet_solver_tests.specs.ElementToChoice.{key_of_part, keys_of_parts};
 ghost use Rattle.facet_solver_tests.specs.KeysToChoice.{FindsChoice, FindsInSchema, IsChoiceAnswer, IsChoiceVerdict};

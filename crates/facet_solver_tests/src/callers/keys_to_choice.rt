@@ -1,10 +1,10 @@
 //! From keys to a choice: the schema of a type is built, a solver is told the keys of a document,
 //! and its end is the answer.
 ghost use Rattle.std.specs.Prelude.{◌≡◌, ◌<◌, Some, length};
-ghost use Rattle.facet_solver.specs.Representation.{flattened};
-ghost use Rattle.facet_solver.specs.Schema.{flat_build};
-ghost use Rattle.facet_solver.specs.State.{new_solver};
-ghost use Rattle.facet_solver.specs.Told.{see_keys};
+ghost use Rattle.facet_solver.specs.build.Representation.{flattened};
+ghost use Rattle.facet_solver.specs.schema.Schema.{flat_build};
+ghost use Rattle.facet_solver.specs.solver.State.{new_solver};
+ghost use Rattle.facet_solver.specs.solver.Told.{see_keys};
 ghost use Rattle.facet_solver_tests.specs.KeysToChoice.{FindsChoice, FindsInSchema, IsChoiceAnswer, IsChoiceVerdict, keys_of};
 
 use facet_solver::laws::{calls_are_made_one_by_one, told_choices_are_found};

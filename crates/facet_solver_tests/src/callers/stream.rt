@@ -4,8 +4,8 @@
 //! deeper ones, and is told the shapes that scalars fit. What lies in lists is passed over.
 ghost use Rattle.std.specs.Prelude.{◌≡◌, ◌↔◌, ◌++◌, ◌∷◌, [], Err, IfOk, IsTrue, OnErr, OnOk, Option, Some, false, true};
 ghost use Rattle.facet_solver.specs.Names.{names_of};
-ghost use Rattle.facet_solver.specs.Run.{after_call};
-ghost use Rattle.facet_solver.specs.State.{new_solver};
+ghost use Rattle.facet_solver.specs.solver.Run.{after_call};
+ghost use Rattle.facet_solver.specs.solver.State.{new_solver};
 ghost use Rattle.facet_solver_tests.specs.Documents.{ReadsDocuments};
 ghost use Rattle.facet_solver_tests.specs.Stream.{at, beginning, behind, Ends, in_list, key_call, may_stand, may_stand_in, read, Streams, value_ended, without_last};
 ghost use Rattle.facet_solver_tests.specs.declared.callers.stream.Refusal.TheVariants.{Misplaced};
@@ -262,7 +262,7 @@ pub struct Reader<'s, 'c, 'd> {
 
 impl<'s, 'c, 'd> Model for Reader<'s, 'c, 'd> {
     ghost use Rattle.std.specs.Coded.{codes};
-    ghost use Rattle.facet_solver.specs.State.{state_code};
+    ghost use Rattle.facet_solver.specs.solver.State.{state_code};
     ghost use Rattle.facet_solver_tests.specs.Stream.{Reading};
 
     ghost Value = { Reading };

@@ -1,6 +1,6 @@
 use Rattle.std.proofs.lemmas.List.Sums.{fold_push}
-use Rattle.facet_solver.specs.Run.{after_call}
-use Rattle.facet_solver.specs.State.{see_key}
+use Rattle.facet_solver.specs.solver.Run.{after_call}
+use Rattle.facet_solver.specs.solver.State.{see_key}
 use Rattle.facet_solver.proofs.Told.{same_schema}
 use Rattle.facet_solver.proofs.laws.calls_are_made_one_by_one.Goals as goal
 

@@ -4,13 +4,13 @@ use Rattle.std.specs.List.{AllByRecursion, AllZip}
 use Rattle.std.proofs.lemmas.List.Elements.{All-from_recursion, recursion_from_All}
 use Rattle.facet_solver_shape.specs.Fields.{IsStored}
 use Rattle.facet_solver_shape.specs.Resolved.{AreRequiredNames, Resolved}
-use Rattle.facet_solver.specs.Build.{Build}
-use Rattle.facet_solver.specs.ByName.{is_viable_by_name, missing_by_name}
-use Rattle.facet_solver.specs.Choice.{IsResolution}
-use Rattle.facet_solver.specs.Failure.{missing}
-use Rattle.facet_solver.specs.Schema.{IsOwnBuild, SchemaView}
-use Rattle.facet_solver.specs.Verdict.{is_viable}
-use Rattle.facet_solver.specs.declared.build.representation.Format.TheVariants.{Flat}
+use Rattle.facet_solver.specs.build.Build.{Build}
+use Rattle.facet_solver.specs.solver.ByName.{is_viable_by_name, missing_by_name}
+use Rattle.facet_solver.specs.build.Choice.{IsResolution}
+use Rattle.facet_solver.specs.solver.Failure.{missing}
+use Rattle.facet_solver.specs.schema.Schema.{IsOwnBuild, SchemaView}
+use Rattle.facet_solver.specs.solver.Report.{is_viable}
+use Rattle.facet_solver.specs.declared.build.format.Format.TheVariants.{Flat}
 use Rattle.facet_solver.proofs.ByName.{IsFlat, missing_alike, unknown_alike, viable_alike}
 use Rattle.facet_solver.proofs.FieldCategories.{fields-stored, flat_fields}
 use Rattle.facet_solver.proofs.Outcome.{required_names}

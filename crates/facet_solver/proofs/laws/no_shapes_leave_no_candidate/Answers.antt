@@ -4,8 +4,8 @@ use Rattle.std.specs.FinMap as finite
 use Rattle.std.specs.List.{list_any}
 use Rattle.std.specs.Option.{option_map_or}
 use Rattle.facet_solver_shape.specs.Resolved.{Resolved}
-use Rattle.facet_solver.specs.ShapeAtPath.{has_shape_at_path, shape_at_path}
-use Rattle.facet_solver.specs.State.{State, has_shape_among, retain}
+use Rattle.facet_solver.specs.solver.ShapeAtPath.{has_shape_at_path, shape_at_path}
+use Rattle.facet_solver.specs.solver.State.{State, has_shape_among, retain}
 use Rattle.facet_solver.specs.Resolutions.{passes}
 use Rattle.facet_solver.proofs.laws.no_shapes_leave_no_candidate.Goals as goal
 

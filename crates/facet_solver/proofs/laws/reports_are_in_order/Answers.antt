@@ -4,9 +4,9 @@ use Rattle.std.specs.FinMap as finite
 use Rattle.std.specs.List.{flat_map, list_all}
 use Rattle.std.specs.Ordering.{nat_cmp}
 use Rattle.std.proofs.lemmas.List.Kept.{IsStrictlySortedBy-filter}
-use Rattle.facet_solver.specs.Failure.{in_byte_order, is_met}
+use Rattle.facet_solver.specs.solver.Failure.{in_byte_order, is_met}
 use Rattle.facet_solver.specs.Resolutions.{has_field_named}
-use Rattle.facet_solver.specs.Verdict.{resolution_field_names}
+use Rattle.facet_solver.specs.solver.Report.{resolution_field_names}
 use Rattle.facet_solver.proofs.ByteOrder.{sorted-in_byte_order}
 use Rattle.facet_solver.proofs.FieldCategories.{fields-stored}
 use Rattle.facet_solver.proofs.StoredOrder.{stored_rise}

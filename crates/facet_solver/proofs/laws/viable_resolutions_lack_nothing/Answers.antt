@@ -1,5 +1,5 @@
 use Rattle.std.specs.FinMap as finite
-use Rattle.facet_solver.specs.Failure.{is_met}
+use Rattle.facet_solver.specs.solver.Failure.{is_met}
 use Rattle.facet_solver.proofs.ByName.{all_passed, none_left}
 use Rattle.facet_solver.proofs.laws.viable_resolutions_lack_nothing.Goals as goal
 

@@ -1,6 +1,6 @@
 //! Sets of categories of catch-alls.
 ghost use Rattle.std.specs.Prelude.{◌≡◌};
-ghost use Rattle.facet_solver.specs.Contribution as contribution;
+ghost use Rattle.facet_solver.specs.build.Contribution as contribution;
 
 use facet_solver_shape::FieldCategory;
 

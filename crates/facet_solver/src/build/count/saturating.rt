@@ -1,7 +1,7 @@
 //! A number that is exact as long as it is small.
 ghost use Rattle.std.specs.Prelude.{◌≡◌, ℕ, ◌+◌, ◌*◌, ◌^◌, ◌<◌};
-ghost use Rattle.facet_solver.specs.Count.{below_2_64};
-ghost use Rattle.facet_solver.specs.Counts.{CountsTo, saturating_of};
+ghost use Rattle.facet_solver.specs.build.Count.{below_2_64};
+ghost use Rattle.facet_solver.specs.build.Counts.{CountsTo, saturating_of};
 
 /// A number without bound: exact below 2^64, or else only known to be larger.
 #[derive(Clone, Copy)]

@@ -2,10 +2,10 @@
 ghost use Rattle.std.specs.Prelude.{◌≡◌, ◌+◌, ◌<◌, ◌≤◌, ℕ, length, sum_by, true};
 ghost use Rattle.facet_solver_shape.specs.Catalogues.{NamesEarlier, FieldsBelow, VariantsBelow, KindBelow};
 ghost use Rattle.facet_solver_shape.specs.Steps.{NoCountFalls};
-ghost use Rattle.facet_solver.specs.Count as count;
-ghost use Rattle.facet_solver.specs.Counts.{CountsTo, AreFirstCounts};
-ghost use Rattle.facet_solver.specs.Build.{build_of};
-ghost use Rattle.facet_solver.specs.FieldCount.{fields_of_kind};
+ghost use Rattle.facet_solver.specs.build.Count as count;
+ghost use Rattle.facet_solver.specs.build.Counts.{CountsTo, AreFirstCounts};
+ghost use Rattle.facet_solver.specs.build.Build.{build_of};
+ghost use Rattle.facet_solver.specs.build.FieldCount.{fields_of_kind};
 
 use crate::build::Build;
 use crate::build::content::newtype_of;

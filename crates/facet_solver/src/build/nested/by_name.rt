@@ -3,8 +3,8 @@ ghost use Rattle.std.specs.Prelude.{◌≡◌, [], ℕ, Bool, IfOk, IsTrue, OnOk
 ghost use Rattle.std.specs.List.Sorted.{IsSortedByKey, IsStrictlySortedBy-prop};
 ghost use Rattle.std.specs.FinSet as set;
 ghost use Rattle.facet_solver_shape.specs.Names.{name_ref_cmp};
-ghost use Rattle.facet_solver.specs.Nested.{Under};
-ghost use Rattle.facet_solver.specs.NestedNames.{AreRising, NamesLead, paths_of_names};
+ghost use Rattle.facet_solver.specs.build.Nested.{Under};
+ghost use Rattle.facet_solver.specs.build.NestedNames.{AreRising, NamesLead, paths_of_names};
 
 use crate::build::nested::shapes_behind::ShapesBehind;
 use std::alloc::{AllocError, Global};

@@ -1,10 +1,10 @@
 //! Marks of the shapes that nested key paths reach, by index.
 ghost use Rattle.std.specs.Prelude.{◌≡◌, ◌+◌, ◌<◌, ◌≤◌, ℕ, All, Bool, List, length};
 ghost use Rattle.facet_solver_shape.specs.Catalogues.{FieldsBelow, VariantsBelow};
-ghost use Rattle.facet_solver.specs.Build.{kind_at};
-ghost use Rattle.facet_solver.specs.Nested.{entered_view};
-ghost use Rattle.facet_solver.specs.NestedTable as table;
-ghost use Rattle.facet_solver.specs.NestedTable.{FieldAsks, IsClosed, IsMarked, IsMarkedMore, KindAsks, MarksAmong, VariantAsks};
+ghost use Rattle.facet_solver.specs.build.Build.{kind_at};
+ghost use Rattle.facet_solver.specs.build.Nested.{entered_view};
+ghost use Rattle.facet_solver.specs.build.NestedTable as table;
+ghost use Rattle.facet_solver.specs.build.NestedTable.{FieldAsks, IsClosed, IsMarked, IsMarkedMore, KindAsks, MarksAmong, VariantAsks};
 
 use crate::build::nested::Entered;
 use facet_solver_shape::{Field, ShapeId, ShapeKind, Shapes, Variant};

@@ -1,8 +1,8 @@
 //! The names of fields that are still to be gone through, as key paths are made from name to name.
 ghost use Rattle.std.specs.Prelude.{◌≡◌};
 ghost use Rattle.std.specs.Map.Iter.{TakesLast};
-ghost use Rattle.facet_solver.specs.NestedLevels.{names_left, shown};
-ghost use Rattle.facet_solver.specs.NestedNames.{AreRising};
+ghost use Rattle.facet_solver.specs.build.NestedLevels.{names_left, shown};
+ghost use Rattle.facet_solver.specs.build.NestedNames.{AreRising};
 
 use crate::build::nested::by_name::{FieldsByName, NamedShapes};
 use crate::build::nested::shapes_behind::ShapesBehind;

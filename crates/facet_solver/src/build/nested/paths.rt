@@ -2,10 +2,10 @@
 ghost use Rattle.std.specs.Prelude.{◌≡◌, ◌∷◌, [], map, ◌&&◌, ◌<◌, ◌≤◌, ℕ, IfNone, IfOk, IfSome, OnOk, length, nat_lt, true};
 ghost use Rattle.std.specs.List.{AllByRecursion};
 ghost use Rattle.facet_solver_shape.specs.Names.{names_of};
-ghost use Rattle.facet_solver.specs.Nested.{Under, named, paths_of_each, with_key_paths, with_paths_behind};
-ghost use Rattle.facet_solver.specs.NestedLevels.{names_left};
-ghost use Rattle.facet_solver.specs.NestedNames.{AreRising, NamesLead, paths_of_names};
-ghost use Rattle.facet_solver.specs.NestedTable.{is_filled, LeadEarlier, LeadTo, EntriesStandFor, paths_by_name};
+ghost use Rattle.facet_solver.specs.build.Nested.{Under, named, paths_of_each, with_key_paths, with_paths_behind};
+ghost use Rattle.facet_solver.specs.build.NestedLevels.{names_left};
+ghost use Rattle.facet_solver.specs.build.NestedNames.{AreRising, NamesLead, paths_of_names};
+ghost use Rattle.facet_solver.specs.build.NestedTable.{is_filled, LeadEarlier, LeadTo, EntriesStandFor, paths_by_name};
 
 use crate::build::nested::by_name::{FieldsByName, add_copies};
 use crate::build::nested::names_left::{Level, NamesLeft};

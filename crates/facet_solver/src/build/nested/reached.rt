@@ -3,11 +3,11 @@
 ghost use Rattle.std.specs.Prelude.{◌≡◌, ◌+◌, ◌<◌, ℕ, All, Bool, List, true, length, sum_by};
 ghost use Rattle.facet_solver_shape.specs.Catalogues.{FieldsBelow, NamesEarlier, VariantsBelow};
 ghost use Rattle.facet_solver_shape.specs.Steps.{NoCountFalls};
-ghost use Rattle.facet_solver.specs.Build.{build_of, kind_at};
-ghost use Rattle.facet_solver.specs.FieldCount.{fields_of_kind};
-ghost use Rattle.facet_solver.specs.Nested.{structs_alone};
-ghost use Rattle.facet_solver.specs.NestedTable.{IsMarked, IsMarkedMore, MarksAmong};
-ghost use Rattle.facet_solver.specs.Reached.{AreReached, Asked, AskedAmong, ContentReached, FieldReached, HoldAsked, IsReachedAt, IsReachedMore, Reach, ReachAmong, RootReached, VariantReached, asked, reach};
+ghost use Rattle.facet_solver.specs.build.Build.{build_of, kind_at};
+ghost use Rattle.facet_solver.specs.build.FieldCount.{fields_of_kind};
+ghost use Rattle.facet_solver.specs.build.Nested.{structs_alone};
+ghost use Rattle.facet_solver.specs.build.NestedTable.{IsMarked, IsMarkedMore, MarksAmong};
+ghost use Rattle.facet_solver.specs.build.Reached.{AreReached, Asked, AskedAmong, ContentReached, FieldReached, HoldAsked, IsReachedAt, IsReachedMore, Reach, ReachAmong, RootReached, VariantReached, asked, reach};
 
 use crate::build::Build;
 use crate::build::content::newtype_of;

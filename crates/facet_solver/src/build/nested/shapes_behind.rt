@@ -1,8 +1,8 @@
 //! The shapes behind a name of regular fields.
 ghost use Rattle.std.specs.Prelude.{◌≡◌, ◌++◌, ℕ, Bool, IfOk, OnOk, true};
 ghost use Rattle.std.specs.List.{AllByRecursion};
-ghost use Rattle.facet_solver.specs.Nested.{Under, paths_of_each};
-ghost use Rattle.facet_solver.specs.NestedNames.{shapes_behind};
+ghost use Rattle.facet_solver.specs.build.Nested.{Under, paths_of_each};
+ghost use Rattle.facet_solver.specs.build.NestedNames.{shapes_behind};
 
 use facet_solver_shape::ShapeId;
 use std::alloc::{AllocError, Global};

@@ -5,12 +5,12 @@ ghost use Rattle.std.specs.Prelude.{◌≡◌, ◌&&◌, ◌+◌, ◌∷◌, [],
 ghost use Rattle.std.specs.List.{AllByRecursion};
 ghost use Rattle.std.specs.Option.{is_some};
 ghost use Rattle.facet_solver_shape.specs.Steps.{NoCountFalls};
-ghost use Rattle.facet_solver.specs.Build.{kind_at};
-ghost use Rattle.facet_solver.specs.Content.{is_zero};
-ghost use Rattle.facet_solver.specs.Nested as nested;
-ghost use Rattle.facet_solver.specs.Nested.{entered_view, has_fields, if_entered, no_paths, Under, under_fields_step, under_shape};
-ghost use Rattle.facet_solver.specs.FieldCount.{field_count, fields_of_kind};
-ghost use Rattle.facet_solver.specs.NestedTable.{AreEntries, AreFieldsOf, FieldAsks, HasMore, nested_entry_at, IsClosed, is_filled, IsFilled, IsMade, IsMarked, IsSound, KindAsks, LeadEarlier, LeadTo, VariantAsks, paths_by_name, under_of};
+ghost use Rattle.facet_solver.specs.build.Build.{kind_at};
+ghost use Rattle.facet_solver.specs.build.Content.{is_zero};
+ghost use Rattle.facet_solver.specs.build.Nested as nested;
+ghost use Rattle.facet_solver.specs.build.Nested.{entered_view, has_fields, if_entered, no_paths, Under, under_fields_step, under_shape};
+ghost use Rattle.facet_solver.specs.build.FieldCount.{field_count, fields_of_kind};
+ghost use Rattle.facet_solver.specs.build.NestedTable.{AreEntries, AreFieldsOf, FieldAsks, HasMore, nested_entry_at, IsClosed, is_filled, IsFilled, IsMade, IsMarked, IsSound, KindAsks, LeadEarlier, LeadTo, VariantAsks, paths_by_name, under_of};
 
 use crate::build::Build;
 use crate::build::nested::by_name::{FieldsByName, NamedShapes, add_copies};

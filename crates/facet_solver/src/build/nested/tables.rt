@@ -2,11 +2,11 @@
 ghost use Rattle.std.specs.Prelude.{◌≡◌, ◌*◌, ◌+◌, ◌<◌, ◌≤◌, IfOk, IfSome, IsSome, OnOk, length};
 ghost use Rattle.facet_solver_shape.specs.Catalogues.{NamesEarlier};
 ghost use Rattle.facet_solver_shape.specs.Steps.{NoCountFalls};
-ghost use Rattle.facet_solver.specs.Build.{build_of, kind_at};
-ghost use Rattle.facet_solver.specs.Nested.{content_paths, named, nested_paths, with_key_paths};
-ghost use Rattle.facet_solver.specs.FieldCount.{field_count, fields_of_kind};
-ghost use Rattle.facet_solver.specs.NestedTable.{IsFilled, variant_at};
-ghost use Rattle.facet_solver.specs.Reached.{AreTables, Asked, HaveOnly, HoldAsked, ServesRegular, ServesRoot};
+ghost use Rattle.facet_solver.specs.build.Build.{build_of, kind_at};
+ghost use Rattle.facet_solver.specs.build.Nested.{content_paths, named, nested_paths, with_key_paths};
+ghost use Rattle.facet_solver.specs.build.FieldCount.{field_count, fields_of_kind};
+ghost use Rattle.facet_solver.specs.build.NestedTable.{IsFilled, variant_at};
+ghost use Rattle.facet_solver.specs.build.Reached.{AreTables, Asked, HaveOnly, HoldAsked, ServesRegular, ServesRoot};
 
 use crate::build::Build;
 use crate::build::nested::Entered;

@@ -1,7 +1,7 @@
 //! Whether a resolution has a field that holds the tag of an enum.
 ghost use Rattle.std.specs.Prelude.{◌≡◌};
 ghost use Rattle.std.specs.List.{list_any};
-ghost use Rattle.facet_solver.specs.State.{has_tag_alone, has_tag_field, is_tag_field};
+ghost use Rattle.facet_solver.specs.solver.State.{has_tag_alone, has_tag_field, is_tag_field};
 
 use crate::solver::conditions::Test;
 use facet_solver_shape::{FieldInfo, FieldKey, Resolution, Shape, Shapes};

@@ -3,9 +3,9 @@ ghost use Rattle.std.specs.Prelude.{◌≡◌, IsTrue, map, true};
 ghost use Rattle.std.specs.List.{list_all, list_any};
 ghost use Rattle.facet_solver_shape.specs.Fields.{matches};
 ghost use Rattle.facet_solver_shape.specs.Keys.{key_of};
-ghost use Rattle.facet_solver.specs.Failure as failure;
-ghost use Rattle.facet_solver.specs.SeenNames.{IsSuffixOf, left};
-ghost use Rattle.facet_solver.specs.Verdict as verdict;
+ghost use Rattle.facet_solver.specs.solver.Failure as failure;
+ghost use Rattle.facet_solver.specs.solver.SeenNames.{IsSuffixOf, left};
+ghost use Rattle.facet_solver.specs.solver.Report as reports;
 
 use crate::solver::conditions::Test;
 use facet_solver_shape::{FieldCategory, FieldInfo, FieldKey, Resolution};
@@ -19,7 +19,7 @@ pub(crate) struct IsViable<'k, 'a> {
 }
 
 impl Test for IsViable<'_, '_> {
-    ghost is_passed = { λ t. verdict.is_viable (map key_of t.seen.now.keys) };
+    ghost is_passed = { λ t. reports.is_viable (map key_of t.seen.now.keys) };
 
     fn is_passed(&self, resolution: &Resolution<'_>) -> bool {
         is_viable(self.seen, resolution)
@@ -27,7 +27,7 @@ impl Test for IsViable<'_, '_> {
 }
 
 fn is_viable(seen: &BTreeSet<FieldKey<'_>>, resolution: &Resolution<'_>) -> bool
-    ensures { result ≡ verdict.is_viable (map key_of seen.now.keys) resolution.now }
+    ensures { result ≡ reports.is_viable (map key_of seen.now.keys) resolution.now }
 {
     are_met(seen, resolution.fields())
 }

@@ -1,12 +1,12 @@
 //! Why resolutions are not the answer.
 ghost use Rattle.std.specs.Prelude.{◌≡◌, ◌<◌, IfOk, List, Some, map, slice_get, string_bytes};
 ghost use Rattle.facet_solver_shape.specs.Keys.{Key};
-ghost use Rattle.facet_solver.specs.Failure as spec;
-ghost use Rattle.facet_solver.specs.Build.{type_identifier};
-ghost use Rattle.facet_solver.specs.Failure.{failure_of};
-ghost use Rattle.facet_solver.specs.Report.{failure_view, missing_view};
-ghost use Rattle.facet_solver.specs.SeenNames.{AreSeenNames};
-ghost use Rattle.facet_solver.specs.Verdict.{resolutions_at, state_of_report};
+ghost use Rattle.facet_solver.specs.solver.Failure as spec;
+ghost use Rattle.facet_solver.specs.build.Build.{type_identifier};
+ghost use Rattle.facet_solver.specs.solver.Failure.{failure_of};
+ghost use Rattle.facet_solver.specs.error.ErrorView.{failure_view, missing_view};
+ghost use Rattle.facet_solver.specs.solver.SeenNames.{AreSeenNames};
+ghost use Rattle.facet_solver.specs.solver.Report.{resolutions_at, state_of_report};
 
 use crate::error::{CandidateFailure, MissingFieldInfo};
 use crate::set::ResolutionSet;

@@ -1,7 +1,7 @@
 //! The names of seen keys.
 ghost use Rattle.std.specs.Prelude.{◌≡◌, IfOk, map, not, string_bytes};
 ghost use Rattle.facet_solver_shape.specs.Keys.{key_of};
-ghost use Rattle.facet_solver.specs.Failure as spec;
+ghost use Rattle.facet_solver.specs.solver.Failure as spec;
 ghost use Rattle.facet_solver.specs.Resolutions.{has_key, is_known, passes};
 
 use crate::schema::Schema;

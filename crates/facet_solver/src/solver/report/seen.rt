@@ -2,8 +2,8 @@
 ghost use Rattle.std.specs.Prelude.{◌≡◌, IfOk, List, map};
 ghost use Rattle.facet_solver_shape.specs.Keys.{Key, key_of};
 ghost use Rattle.facet_solver_shape.specs.Resolved.{names_view};
-ghost use Rattle.facet_solver.specs.Failure.{is_met};
-ghost use Rattle.facet_solver.specs.SeenNames.{AreSeenNames, may_match, names_for, of_category};
+ghost use Rattle.facet_solver.specs.solver.Failure.{is_met};
+ghost use Rattle.facet_solver.specs.solver.SeenNames.{AreSeenNames, may_match, names_for, of_category};
 
 use facet_solver_shape::{FieldCategory, FieldInfo, FieldKey};
 use std::alloc::{AllocError, Global};

@@ -4,12 +4,12 @@ ghost use Rattle.std.specs.FinSet as set;
 ghost use Rattle.std.specs.List.{flat_map, list_all};
 ghost use Rattle.facet_solver_shape.specs.Resolved.{names_view};
 ghost use Rattle.facet_solver.specs.Resolutions.{has_field_named, passes};
-ghost use Rattle.facet_solver.specs.IndexEntries.{is_held};
-ghost use Rattle.facet_solver.specs.Verdict as verdict;
-ghost use Rattle.facet_solver.specs.Verdict.{resolution_field_names, resolutions_at, state_of_report, viable};
+ghost use Rattle.facet_solver.specs.schema.IndexEntries.{is_held};
+ghost use Rattle.facet_solver.specs.solver.Report as reports;
+ghost use Rattle.facet_solver.specs.solver.Report.{resolution_field_names, resolutions_at, state_of_report, viable};
 
 use crate::schema::Schema;
-use crate::schema::index::Entry;
+use crate::schema::index::entry::Entry;
 use crate::set::Condition;
 use crate::solver::conditions::AtIndex;
 use crate::solver::conditions::viable::IsViable;
@@ -44,7 +44,7 @@ pub(crate) fn descriptions(
     indices: &[usize],
 ) -> Result<Vec<String>, AllocError>
     ensures { IfOk result (λ texts. map string_bytes texts.items
-        ≡ verdict.descriptions (resolutions_at schema.now.resolutions indices.now)) }
+        ≡ reports.descriptions (resolutions_at schema.now.resolutions indices.now)) }
 {
     let resolutions = schema.resolutions();
     let mut texts = Vec::new(alloc);
@@ -67,7 +67,7 @@ pub(crate) fn disambiguating(
 ) -> Result<Vec<String>, AllocError>
     requires { All (λ index. index < length schema.now.resolutions) indices.now }
     ensures { IfOk result (λ names. map string_bytes names.items
-        ≡ verdict.disambiguating (resolutions_at schema.now.resolutions indices.now)) }
+        ≡ reports.disambiguating (resolutions_at schema.now.resolutions indices.now)) }
 {
     let all = all_names(alloc, schema, indices)?;
     let mut names = Vec::new(alloc);

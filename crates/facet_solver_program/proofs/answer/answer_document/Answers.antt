@@ -1,7 +1,7 @@
 use Rattle.std.proofs.lemmas.Result.{IfOk-weaker}
 use Rattle.serde_json.specs.View.{members_view}
-use Rattle.facet_solver.specs.Report.{error_view}
-use Rattle.facet_solver.specs.Schema.{index_of, resolution_of}
+use Rattle.facet_solver.specs.error.ErrorView.{error_view}
+use Rattle.facet_solver.specs.schema.ResolutionHandle.{index_of, resolution_of}
 use Rattle.facet_solver_program.specs.Answer.{reported, resolved}
 use Rattle.facet_solver_program.proofs.Endings.{end_of_document, is_report}
 use Rattle.facet_solver_program.proofs.answer.answer_document.Goals as goal

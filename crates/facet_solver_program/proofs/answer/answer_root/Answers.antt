@@ -1,6 +1,6 @@
 use Rattle.std.proofs.lemmas.Result.{IfOk-weaker}
 use Rattle.serde_json.specs.View.{members_view}
-use Rattle.facet_solver.specs.Count.{count_of_root}
+use Rattle.facet_solver.specs.build.Count.{count_of_root}
 use Rattle.facet_solver_program.specs.Answer.{build, duplicate_field}
 use Rattle.facet_solver_program.proofs.Endings.{end_of_root, is_choice_duplicate, not_too_many}
 use Rattle.facet_solver_program.proofs.answer.answer_root.Goals as goal

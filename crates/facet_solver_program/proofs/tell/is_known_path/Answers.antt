@@ -2,7 +2,7 @@ use Rattle.std.proofs.Common.{ap, ◌∙◌, List}
 use Rattle.std.specs.List.{list_any}
 use Rattle.facet_solver.specs.KeyPath.{has_key_path}
 use Rattle.facet_solver.specs.Names.{names_of}
-use Rattle.facet_solver.specs.Schema.{resolution_of}
+use Rattle.facet_solver.specs.schema.ResolutionHandle.{resolution_of}
 use Rattle.facet_solver.specs.Resolutions.{passes}
 use Rattle.facet_solver.specs.declared.schema.handle.ResolutionHandle.{ResolutionHandle}
 use Rattle.facet_solver_program.proofs.Telling.{any_of_handles}

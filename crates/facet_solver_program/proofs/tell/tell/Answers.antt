@@ -1,7 +1,7 @@
 use Rattle.std.proofs.Common.{◌+◌, ◌∷◌, ap, sym, ◌∙◌, drop, map}
 use Rattle.std.proofs.lemmas.List.{drop_more}
 use Rattle.std.proofs.Math.ListN.{drop_of_length-le}
-use Rattle.facet_solver.specs.State.{State}
+use Rattle.facet_solver.specs.solver.State.{State}
 use Rattle.facet_solver_program.specs.Document.{member_view}
 use Rattle.facet_solver_program.specs.Tell.{tell}
 use Rattle.facet_solver_program.proofs.tell.tell.Goals as goal

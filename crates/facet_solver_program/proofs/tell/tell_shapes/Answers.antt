@@ -1,7 +1,7 @@
 use Rattle.std.proofs.Common.{ap, ◌∙◌}
 use Rattle.serde_json.specs.View.{view}
 use Rattle.facet_solver.specs.Names.{names_of}
-use Rattle.facet_solver.specs.ShapeAtPath.{satisfy_at_path}
+use Rattle.facet_solver.specs.solver.ShapeAtPath.{satisfy_at_path}
 use Rattle.facet_solver_program.specs.Tell.{fits_some_not_all, fitting}
 use Rattle.facet_solver_program.proofs.Telling.{shapes_told}
 use Rattle.facet_solver_program.proofs.tell.tell_shapes.Goals as goal

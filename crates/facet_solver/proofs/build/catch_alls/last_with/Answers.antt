@@ -1,9 +1,9 @@
 use Rattle.std.proofs.Common.{ap, sym, ◌∙◌, ◌≡◌, Bool, Some, drop, ◌+◌}
 use Rattle.std.specs.Prelude.{if◌then◌else◌}
 use Rattle.std.specs.Option.{option_copied, option_or}
-use Rattle.facet_solver.specs.Contribution.{contribution_of_field, has_last}
-use Rattle.facet_solver.specs.Build.{build_of}
-use Rattle.facet_solver.specs.CatchAlls.{last_with}
+use Rattle.facet_solver.specs.build.Contribution.{contribution_of_field, has_last}
+use Rattle.facet_solver.specs.build.Build.{build_of}
+use Rattle.facet_solver.specs.build.CatchAlls.{last_with}
 use Rattle.facet_solver_shape.proofs.Resolved.{or_none}
 use Rattle.facet_solver.proofs.CatchAlls.{with-end, with-more}
 use Rattle.facet_solver.proofs.build.catch_alls.last_with.Goals as goal

@@ -1,7 +1,7 @@
 use Rattle.std.proofs.Common.{◌≡◌, drop}
 use Rattle.std.specs.Option.{option_copied, option_or}
-use Rattle.facet_solver.specs.Build.{build_of}
-use Rattle.facet_solver.specs.CatchAlls as last
+use Rattle.facet_solver.specs.build.Build.{build_of}
+use Rattle.facet_solver.specs.build.CatchAlls as last
 use Rattle.facet_solver.proofs.build.catch_alls.last_with.Given as goal
 
 -- the last of those that are left, or else of those so far

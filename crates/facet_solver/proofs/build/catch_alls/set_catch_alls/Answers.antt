@@ -1,8 +1,8 @@
 use Rattle.std.proofs.Common.{ap, ◌∙◌}
 use Rattle.facet_solver_shape.specs.declared.resolution.key.FieldCategory.TheVariants.{Attribute, Element}
-use Rattle.facet_solver.specs.Build.{build_of}
-use Rattle.facet_solver.specs.CatchAlls.{emitted_by, last_catch_all, with_last}
-use Rattle.facet_solver.specs.Place.{Path}
+use Rattle.facet_solver.specs.build.Build.{build_of}
+use Rattle.facet_solver.specs.build.CatchAlls.{emitted_by, last_catch_all, with_last}
+use Rattle.facet_solver.specs.build.Place.{Path}
 use Rattle.facet_solver.proofs.CatchAlls.{all_set}
 use Rattle.facet_solver.proofs.build.catch_alls.set_catch_alls.Goals as goal
 

@@ -1,9 +1,9 @@
 use Rattle.std.proofs.Common.{◌≡◌, Option, Some, None, ap, arith, length, sym, ◌∙◌, refl, take, ℕ}
 use Rattle.std.specs.Option.{option_copied}
 use Rattle.facet_solver_shape.specs.Fields.{FieldView}
-use Rattle.facet_solver.specs.Build.{build_of}
-use Rattle.facet_solver.specs.CatchAlls.{emitted_by, last_catch_all, last_with, with_last}
-use Rattle.facet_solver.specs.Place.{Path}
+use Rattle.facet_solver.specs.build.Build.{build_of}
+use Rattle.facet_solver.specs.build.CatchAlls.{emitted_by, last_catch_all, last_with, with_last}
+use Rattle.facet_solver.specs.build.Place.{Path}
 use Rattle.facet_solver.proofs.CatchAlls.{at-block, at-catch_all, found-alone, found-below, found-has, last-is, last_at, last_at-none, no_other_role, block-alone}
 use Rattle.facet_solver.proofs.Listing.{block-below}
 use Rattle.facet_solver.proofs.Roles.{FieldsBelow-mono, FieldsBelow-limit, limit_of, limit_of-le}

@@ -1,9 +1,9 @@
 use Rattle.std.proofs.Common.{◌≡◌, length}
 use Rattle.facet_solver_shape.specs.Catalogues.{FieldsBelow}
-use Rattle.facet_solver.specs.Contribution.{AreCatchAlls, contribution_of_fields}
-use Rattle.facet_solver.specs.Build.{build_of}
-use Rattle.facet_solver.specs.CatchAlls.{emitted_by, last_catch_all}
-use Rattle.facet_solver.specs.WalkFrames.{IsInside}
+use Rattle.facet_solver.specs.build.Contribution.{AreCatchAlls, contribution_of_fields}
+use Rattle.facet_solver.specs.build.Build.{build_of}
+use Rattle.facet_solver.specs.build.CatchAlls.{emitted_by, last_catch_all}
+use Rattle.facet_solver.specs.build.WalkFrames.{IsInside}
 use Rattle.facet_solver.proofs.Roles.{limit_of}
 use Rattle.facet_solver.proofs.build.catch_alls.set_last.Given as goal
 

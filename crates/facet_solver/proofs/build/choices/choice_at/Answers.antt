@@ -1,5 +1,5 @@
 use Rattle.std.proofs.Common.{◌∷◌, ◌++◌, ◌∙◌, [], ap, arith}
-use Rattle.facet_solver.specs.Build.{build_of}
+use Rattle.facet_solver.specs.build.Build.{build_of}
 use Rattle.facet_solver.specs.declared.build.choices.Part.{Part}
 use Rattle.facet_solver.specs.declared.build.choices.Part.TheVariants.{Fields}
 use Rattle.facet_solver.proofs.ChoiceParts.{all_out, last_part, root_choice, under_way}

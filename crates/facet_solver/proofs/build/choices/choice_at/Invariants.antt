@@ -1,7 +1,7 @@
 use Rattle.std.proofs.Common.{sum_by}
-use Rattle.facet_solver.specs.Build.{build_of}
-use Rattle.facet_solver.specs.ChoiceParts.{choice_at, work_of_part}
-use Rattle.facet_solver.specs.Listing.{choices_of_root}
+use Rattle.facet_solver.specs.build.Build.{build_of}
+use Rattle.facet_solver.specs.build.ChoiceParts.{choice_at, work_of_part}
+use Rattle.facet_solver.specs.build.Listing.{choices_of_root}
 use Rattle.facet_solver.proofs.ChoiceParts.{IsUnderWay}
 use Rattle.facet_solver.proofs.build.choices.choice_at.Given as goal
 

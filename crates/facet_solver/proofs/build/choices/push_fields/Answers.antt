@@ -1,10 +1,10 @@
 use Rattle.std.proofs.Common.{◌≡◌, ◌+◌, ◌/◌, ◌∷◌, ◌++◌, ◌∙◌, [], ap, arith, length, refl, subst, sym}
 use Rattle.std.proofs.lemmas.Result.{on_ok_weaker}
 use Rattle.facet_solver_shape.specs.Catalogues.{FieldsBelow}
-use Rattle.facet_solver.specs.Build.{build_of}
-use Rattle.facet_solver.specs.ChoiceParts.{IsRank, choice_at}
-use Rattle.facet_solver.specs.Listing.{Choices, choices_of_fields}
-use Rattle.facet_solver.specs.Work.{work_of_field, work_of_fields}
+use Rattle.facet_solver.specs.build.Build.{build_of}
+use Rattle.facet_solver.specs.build.ChoiceParts.{IsRank, choice_at}
+use Rattle.facet_solver.specs.build.Listing.{Choices, choices_of_fields}
+use Rattle.facet_solver.specs.build.Work.{work_of_field, work_of_fields}
 use Rattle.facet_solver.specs.declared.build.choices.Part.TheVariants.{Fields}
 use Rattle.facet_solver.proofs.ChoiceParts.{adds-none, adds-one, adds-then, as_many, last_ranks, no_fields}
 use Rattle.facet_solver.proofs.Work.{last_below, work_of_fields-last}

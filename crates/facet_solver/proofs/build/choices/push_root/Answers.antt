@@ -1,10 +1,10 @@
 use Rattle.std.proofs.Common.{◌≡◌, ◌∷◌, ◌++◌, ◌∙◌, [], List, ap, length, subst, sym, true}
 use Rattle.std.proofs.lemmas.Result.{on_ok_weaker}
 use Rattle.facet_solver_shape.specs.Catalogues.{FieldsBelow}
-use Rattle.facet_solver.specs.Build.{build_of}
-use Rattle.facet_solver.specs.ChoiceParts.{IsRank, StandFor, choice_at}
-use Rattle.facet_solver.specs.Count.{count_fields, count_kind}
-use Rattle.facet_solver.specs.Listing.{Choices, choices_of_fields, choices_of_root, choices_of_variants}
+use Rattle.facet_solver.specs.build.Build.{build_of}
+use Rattle.facet_solver.specs.build.ChoiceParts.{IsRank, StandFor, choice_at}
+use Rattle.facet_solver.specs.build.Count.{count_fields, count_kind}
+use Rattle.facet_solver.specs.build.Listing.{Choices, choices_of_fields, choices_of_root, choices_of_variants}
 use Rattle.facet_solver.specs.declared.build.choices.Part.{Part}
 use Rattle.facet_solver.specs.declared.build.choices.Part.TheVariants.{Fields}
 use Rattle.facet_solver.proofs.Count.{root-count}

@@ -1,8 +1,8 @@
 use Rattle.std.proofs.Common.{◌+◌, ◌∷◌, ◌∙◌, [], Bool, ap, arith, refl, sym}
-use Rattle.facet_solver.specs.Build.{build_of}
-use Rattle.facet_solver.specs.ChoiceParts.{choice_at}
-use Rattle.facet_solver.specs.Listing.{choices_of_fields, choices_of_variants}
-use Rattle.facet_solver.specs.Work.{work_of_fields}
+use Rattle.facet_solver.specs.build.Build.{build_of}
+use Rattle.facet_solver.specs.build.ChoiceParts.{choice_at}
+use Rattle.facet_solver.specs.build.Listing.{choices_of_fields, choices_of_variants}
+use Rattle.facet_solver.specs.build.Work.{work_of_fields}
 use Rattle.facet_solver.specs.declared.build.choices.Part.TheVariants.{Fields, Index}
 use Rattle.facet_solver.proofs.ChoiceParts.{adds-one, adds-then, at_index, variants_work}
 use Rattle.facet_solver.proofs.build.choices.push_variant.Goals as goal

@@ -1,8 +1,8 @@
 use Rattle.std.proofs.Common.{◌≡◌, ◌⊎◌, inl, inr, ◌∷◌, ◌++◌, ◌∙◌, [], ap, arith, length, subst, sym}
 use Rattle.facet_solver_shape.specs.Catalogues.{FieldsBelow}
-use Rattle.facet_solver.specs.Build.{build_of}
-use Rattle.facet_solver.specs.Listing.{choices_of_fields}
-use Rattle.facet_solver.specs.Work.{work_of_fields}
+use Rattle.facet_solver.specs.build.Build.{build_of}
+use Rattle.facet_solver.specs.build.Listing.{choices_of_fields}
+use Rattle.facet_solver.specs.build.Work.{work_of_fields}
 use Rattle.facet_solver.specs.declared.build.contribution.Contribution.{Contribution}
 use Rattle.facet_solver.specs.declared.build.contribution.Contribution.TheVariants.{CatchAlls, Emissions, Choices as ContributesChoices}
 use Rattle.facet_solver.specs.declared.build.contribution.categories.Categories.{Categories}

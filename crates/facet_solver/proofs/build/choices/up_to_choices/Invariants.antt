@@ -1,8 +1,8 @@
 use Rattle.std.proofs.Common.{◌≡◌, ◌≤◌, length}
 use Rattle.facet_solver_shape.specs.Catalogues.{FieldsBelow}
-use Rattle.facet_solver.specs.Build.{build_of}
-use Rattle.facet_solver.specs.Listing.{choices_of_fields}
-use Rattle.facet_solver.specs.Work.{work_of_fields}
+use Rattle.facet_solver.specs.build.Build.{build_of}
+use Rattle.facet_solver.specs.build.Listing.{choices_of_fields}
+use Rattle.facet_solver.specs.build.Work.{work_of_fields}
 use Rattle.facet_solver.proofs.build.choices.up_to_choices.Given as goal
 
 -- the fields that were left out have nothing to choose

@@ -3,13 +3,13 @@ use Rattle.std.proofs.lemmas.List.Sums.{get_or-le-sum_by}
 use Rattle.facet_solver_shape.specs.declared.shape.Field.{Field}
 use Rattle.facet_solver_shape.specs.declared.shape.Variant.{Variant}
 use Rattle.facet_solver_shape.specs.Catalogues.{FieldsBelow}
-use Rattle.facet_solver.specs.Build.{build_of}
-use Rattle.facet_solver.specs.ChoiceParts.{IsRank, choice_at}
-use Rattle.facet_solver.specs.Content.{content_of}
-use Rattle.facet_solver.specs.Count.{count_fields}
-use Rattle.facet_solver.specs.Listing.{choices_of_fields}
-use Rattle.facet_solver.specs.Starts.{count_before}
-use Rattle.facet_solver.specs.Work.{work_of_fields, work_of_variant}
+use Rattle.facet_solver.specs.build.Build.{build_of}
+use Rattle.facet_solver.specs.build.ChoiceParts.{IsRank, choice_at}
+use Rattle.facet_solver.specs.build.Content.{content_of}
+use Rattle.facet_solver.specs.build.Count.{count_fields}
+use Rattle.facet_solver.specs.build.Listing.{choices_of_fields}
+use Rattle.facet_solver.specs.build.Starts.{count_before}
+use Rattle.facet_solver.specs.build.Work.{work_of_fields, work_of_variant}
 use Rattle.facet_solver.proofs.Roles.{VariantsBelow-at, content_of-below}
 use Rattle.facet_solver.proofs.Starts.{choice_in_content, exact_start, first_start, last_stands, rank_in_content, some_start, starts_rise}
 use Rattle.facet_solver.proofs.build.choices.variant_at.Goals as goal

@@ -1,6 +1,6 @@
 use Rattle.std.proofs.Common.{◌∷◌, [], ap, refl, sym}
 use Rattle.std.specs.Prelude.{is_some}
-use Rattle.facet_solver.specs.Content.{struct_fields}
+use Rattle.facet_solver.specs.build.Content.{struct_fields}
 use Rattle.facet_solver.proofs.Content.{newtype_of, zero_named}
 use Rattle.facet_solver.proofs.build.content.newtype_of.Goals as goal
 

@@ -1,7 +1,7 @@
 use Rattle.std.proofs.Common.{ap, sym, ◌∙◌, drop, ◌+◌}
 use Rattle.facet_solver.specs.declared.build.contribution.Contribution.{Contribution}
-use Rattle.facet_solver.specs.Build.{build_of}
-use Rattle.facet_solver.specs.Contribution.{both, contribution_of_fields}
+use Rattle.facet_solver.specs.build.Build.{build_of}
+use Rattle.facet_solver.specs.build.Contribution.{both, contribution_of_fields}
 use Rattle.facet_solver.proofs.Contribution.{both_end, both_more}
 use Rattle.facet_solver.proofs.build.contribution.contribution_of_fields.Goals as goal
 

@@ -1,6 +1,6 @@
 use Rattle.std.proofs.Common.{◌≡◌, drop}
-use Rattle.facet_solver.specs.Build.{build_of}
-use Rattle.facet_solver.specs.Contribution.{both, contribution_of_fields}
+use Rattle.facet_solver.specs.build.Build.{build_of}
+use Rattle.facet_solver.specs.build.Contribution.{both, contribution_of_fields}
 use Rattle.facet_solver.proofs.build.contribution.contribution_of_fields.Given as goal
 
 -- what those so far contribute, and those that are left

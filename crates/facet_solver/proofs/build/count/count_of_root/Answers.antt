@@ -1,9 +1,9 @@
 use Rattle.std.proofs.Common.{◌+◌, ◌≤◌, ℕ, length, subst, sym, take, ap, ◌∙◌}
 use Rattle.facet_solver_shape.specs.Catalogues.{KindBelow}
-use Rattle.facet_solver.specs.Build.{build_of}
-use Rattle.facet_solver.specs.Count.{count_of_root}
-use Rattle.facet_solver.specs.Counts.{CountsTo}
-use Rattle.facet_solver.specs.FieldCount.{field_count}
+use Rattle.facet_solver.specs.build.Build.{build_of}
+use Rattle.facet_solver.specs.build.Count.{count_of_root}
+use Rattle.facet_solver.specs.build.Counts.{CountsTo}
+use Rattle.facet_solver.specs.build.FieldCount.{field_count}
 use Rattle.facet_solver.proofs.Count.{root-count}
 use Rattle.facet_solver.proofs.NestedTable.{shape_visits_at_most}
 use Rattle.facet_solver.proofs.build.count.count_of_root.Goals as goal

@@ -1,5 +1,5 @@
-use Rattle.facet_solver.specs.Build.{build_of}
-use Rattle.facet_solver.specs.Place.{chosen_of}
+use Rattle.facet_solver.specs.build.Build.{build_of}
+use Rattle.facet_solver.specs.build.Place.{chosen_of}
 use Rattle.facet_solver.proofs.Outcome.{refused-field_and_paths, taken-field_and_paths}
 use Rattle.facet_solver.proofs.Emissions.{selector-external}
 use Rattle.facet_solver.proofs.Serving.{chosen_paths}

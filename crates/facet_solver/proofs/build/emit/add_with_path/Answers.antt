@@ -1,8 +1,8 @@
 use Rattle.std.proofs.Common.{◌∷◌, [], ◌∙◌, ap, sym}
 use Rattle.facet_solver_shape.specs.Fields.{FieldView}
 use Rattle.facet_solver_shape.specs.Resolved.{with_key_path}
-use Rattle.facet_solver.specs.Nested.{KeyPath, no_paths, named}
-use Rattle.facet_solver.specs.Emissions.{field_and_paths}
+use Rattle.facet_solver.specs.build.Nested.{KeyPath, no_paths, named}
+use Rattle.facet_solver.specs.build.Emissions.{field_and_paths}
 use Rattle.facet_solver.proofs.NestedSets.{with-name}
 use Rattle.facet_solver.proofs.Outcome.{refused-field_and_paths, taken-field_and_paths}
 use Rattle.facet_solver.proofs.build.emit.add_with_path.Goals as goal

@@ -1,7 +1,7 @@
 use Rattle.std.proofs.Common.{◌∙◌, ap}
 use Rattle.facet_solver_shape.specs.Fields.{FieldView}
 use Rattle.facet_solver_shape.specs.Resolved.{with_catch_all}
-use Rattle.facet_solver.specs.Build.{build_of}
+use Rattle.facet_solver.specs.build.Build.{build_of}
 use Rattle.facet_solver.proofs.Outcome.{taken-catch_all, take_all-one}
 use Rattle.facet_solver.proofs.Emissions.{catch_all-part}
 use Rattle.facet_solver.proofs.build.emit.emit_catch_all.Goals as goal

@@ -1,4 +1,4 @@
-use Rattle.facet_solver.specs.Build.{build_of}
+use Rattle.facet_solver.specs.build.Build.{build_of}
 use Rattle.facet_solver.proofs.Outcome.{refused-field_and_paths, taken-field_and_paths}
 use Rattle.facet_solver.proofs.Emissions.{regular-part}
 use Rattle.facet_solver.proofs.build.emit.emit_regular.Goals as goal

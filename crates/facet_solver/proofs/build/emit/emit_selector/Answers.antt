@@ -1,9 +1,9 @@
 use Rattle.std.proofs.Common.{◌∙◌, subst}
-use Rattle.facet_solver.specs.Emissions.{emit_selector_by}
-use Rattle.facet_solver.specs.Outcome.{Gives, take_all}
-use Rattle.facet_solver.specs.Representation.{Repr}
-use Rattle.facet_solver.specs.Place.{chosen_of}
-use Rattle.facet_solver.specs.Build.{build_of, repr_for}
+use Rattle.facet_solver.specs.build.Emissions.{emit_selector_by}
+use Rattle.facet_solver.specs.build.Outcome.{Gives, take_all}
+use Rattle.facet_solver.specs.build.Representation.{Repr}
+use Rattle.facet_solver.specs.build.Place.{chosen_of}
+use Rattle.facet_solver.specs.build.Build.{build_of, repr_for}
 use Rattle.facet_solver.proofs.Outcome.{gives-stopped, take_all-both, take_all-nil, take_all-one, taken-paths}
 use Rattle.facet_solver.proofs.Emissions.{selector-flattened, selector-internal, selector-adjacent}
 use Rattle.facet_solver.proofs.Serving.{chosen_paths}

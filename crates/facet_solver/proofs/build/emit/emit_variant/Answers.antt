@@ -1,4 +1,4 @@
-use Rattle.facet_solver.specs.Emissions.{emit_variant}
+use Rattle.facet_solver.specs.build.Emissions.{emit_variant}
 use Rattle.facet_solver.proofs.Outcome.{gives-exit, gives-next, error-next}
 use Rattle.facet_solver.proofs.build.emit.emit_variant.Goals as goal
 

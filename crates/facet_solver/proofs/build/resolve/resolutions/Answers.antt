@@ -1,10 +1,10 @@
 use Rattle.std.proofs.Common.{◌+◌, ◌<◌, ◌∙◌, ℕ, List, arith, subst, sym, take}
 use Rattle.std.specs.List.{AllZip}
 use Rattle.facet_solver_shape.specs.Resolved.{Resolved}
-use Rattle.facet_solver.specs.Build.{build_of}
-use Rattle.facet_solver.specs.Choice.{IsChoice, IsResolution}
-use Rattle.facet_solver.specs.Count.{count_of_root}
-use Rattle.facet_solver.specs.Listing.{choices_of_root}
+use Rattle.facet_solver.specs.build.Build.{build_of}
+use Rattle.facet_solver.specs.build.Choice.{IsChoice, IsResolution}
+use Rattle.facet_solver.specs.build.Count.{count_of_root}
+use Rattle.facet_solver.specs.build.Listing.{choices_of_root}
 use Rattle.facet_solver.proofs.Choice.{choices_listed}
 use Rattle.facet_solver.proofs.Count.{exactly, root_count}
 use Rattle.facet_solver.proofs.ChoiceResolutions.{choice_of_rank, resolved-more, resolved-end, resolves-length}

@@ -1,8 +1,8 @@
 use Rattle.std.proofs.Common.{take}
 use Rattle.std.specs.List.{AllZip}
-use Rattle.facet_solver.specs.Build.{build_of}
-use Rattle.facet_solver.specs.Choice.{IsResolution}
-use Rattle.facet_solver.specs.Listing.{choices_of_root}
+use Rattle.facet_solver.specs.build.Build.{build_of}
+use Rattle.facet_solver.specs.build.Choice.{IsResolution}
+use Rattle.facet_solver.specs.build.Listing.{choices_of_root}
 use Rattle.facet_solver.proofs.build.resolve.resolutions.Given as goal
 
 -- the choices of the ranks so far have their resolutions

@@ -1,9 +1,9 @@
 use Rattle.std.proofs.Common.{ap, ◌∙◌, sym, subst}
 use Rattle.std.proofs.lemmas.Result.{err_from_is_err_and}
-use Rattle.facet_solver.specs.Walk.{walk_root}
+use Rattle.facet_solver.specs.build.Walk.{walk_root}
 use Rattle.facet_solver_shape.specs.Resolved.{Resolved}
-use Rattle.facet_solver.specs.Outcome.{effect, StopsBy}
-use Rattle.facet_solver.specs.Build.{build_of}
+use Rattle.facet_solver.specs.build.Outcome.{effect, StopsBy}
+use Rattle.facet_solver.specs.build.Build.{build_of}
 use Rattle.facet_solver.proofs.ChoiceResolutions.{choice-walked, resolution-is, stops-duplicate}
 use Rattle.facet_solver.proofs.build.resolve.resolve.Goals as goal
 

@@ -1,10 +1,10 @@
 use Rattle.std.proofs.Common.{ap, ◌∙◌, sym, subst, List, length, Some, IsSome}
 use Rattle.facet_solver_shape.specs.declared.shape.Field.{Field}
 use Rattle.facet_solver_shape.specs.declared.shape.Variant.{Variant}
-use Rattle.facet_solver.specs.Place.{Path, at_root}
-use Rattle.facet_solver.specs.Walk.{Walked, walk_fields, choose, walk_root_variant}
-use Rattle.facet_solver.specs.Outcome.{Outcome, effect}
-use Rattle.facet_solver.specs.Build.{build_of}
+use Rattle.facet_solver.specs.build.Place.{Path, at_root}
+use Rattle.facet_solver.specs.build.Walk.{Walked, walk_fields, choose, walk_root_variant}
+use Rattle.facet_solver.specs.build.Outcome.{Outcome, effect}
+use Rattle.facet_solver.specs.build.Build.{build_of}
 use Rattle.facet_solver.proofs.Outcome.{take_all-nil}
 use Rattle.facet_solver.proofs.Walk.{walks-same, has_choice, choose-is, VariantsBelow-get, root-fields, root-variants, root-nothing}
 use Rattle.facet_solver.proofs.Roles.{struct-below, enum-below}

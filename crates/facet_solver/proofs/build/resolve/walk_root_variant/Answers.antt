@@ -1,9 +1,9 @@
 use Rattle.std.proofs.Common.{length, ap, sym, ◌∙◌, subst, IsSome}
 use Rattle.facet_solver_shape.specs.Catalogues.{FieldsBelow}
-use Rattle.facet_solver.specs.Build.{build_of}
-use Rattle.facet_solver.specs.Outcome.{effect}
-use Rattle.facet_solver.specs.Reached.{ServesFields}
-use Rattle.facet_solver.specs.Walk.{Walked}
+use Rattle.facet_solver.specs.build.Build.{build_of}
+use Rattle.facet_solver.specs.build.Outcome.{effect}
+use Rattle.facet_solver.specs.build.Reached.{ServesFields}
+use Rattle.facet_solver.specs.build.Walk.{Walked}
 use Rattle.facet_solver.proofs.Roles.{content_of-below}
 use Rattle.facet_solver.proofs.Serving.{content_served}
 use Rattle.facet_solver.proofs.Walk.{content-at, selected, selected-some, selected-stops, walks-exit, walks-same}

@@ -1,6 +1,6 @@
 use Rattle.std.proofs.Common.{◌<◌, ◌-◌, arith, leb, rules}
 use Rattle.std.proofs.lemmas.List.Sorted.{IsPartitionPoint-from_clause, IsPartitionedBy-leb}
-use Rattle.facet_solver.specs.Starts.{IsLastStart}
+use Rattle.facet_solver.specs.build.Starts.{IsLastStart}
 use Rattle.facet_solver.proofs.Starts.{before_point}
 use Rattle.facet_solver.proofs.build.starts.last_start.Goals as goal
 

@@ -1,5 +1,5 @@
 use Rattle.std.proofs.Common.{◌≡◌, ◌≤◌, ◌-◌, ℕ, length}
-use Rattle.facet_solver.specs.Starts.{starts_at}
+use Rattle.facet_solver.specs.build.Starts.{starts_at}
 use Rattle.facet_solver.proofs.build.starts.push_at.Given as goal
 
 -- the entries that were added have none

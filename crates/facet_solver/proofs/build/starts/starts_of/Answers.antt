@@ -1,7 +1,7 @@
 use Rattle.std.proofs.Common.{◌+◌, length, subst, sym}
 use Rattle.facet_solver_shape.specs.declared.shape.Variant.{Variant}
 use Rattle.facet_solver_shape.specs.Catalogues.{FieldsBelow}
-use Rattle.facet_solver.specs.Build.{build_of}
+use Rattle.facet_solver.specs.build.Build.{build_of}
 use Rattle.facet_solver.proofs.Roles.{VariantsBelow-at}
 use Rattle.facet_solver.proofs.Starts.{AreFirstStarts, all_starts, counted_more, one_more_start}
 use Rattle.facet_solver.proofs.build.starts.starts_of.Goals as goal

@@ -1,6 +1,6 @@
-use Rattle.facet_solver.specs.Build.{build_of}
-use Rattle.facet_solver.specs.Counts.{CountsTo}
-use Rattle.facet_solver.specs.Starts.{count_before}
+use Rattle.facet_solver.specs.build.Build.{build_of}
+use Rattle.facet_solver.specs.build.Counts.{CountsTo}
+use Rattle.facet_solver.specs.build.Starts.{count_before}
 use Rattle.facet_solver.proofs.Starts.{AreFirstStarts}
 use Rattle.facet_solver.proofs.build.starts.starts_of.Given as goal
 

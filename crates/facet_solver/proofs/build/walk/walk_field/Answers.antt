@@ -1,12 +1,12 @@
 use Rattle.std.proofs.Common.{◌≡◌, List, [], ap, arith, get_or, inr, length, slice_get, sym, ◌∙◌, subst, IsSome}
 use Rattle.facet_solver_shape.specs.declared.shape.Variant.{Variant}
-use Rattle.facet_solver.specs.Build.{build_of}
-use Rattle.facet_solver.specs.CatchAlls.{emitted_by}
-use Rattle.facet_solver.specs.Outcome.{effect}
-use Rattle.facet_solver.specs.Place.{Path}
-use Rattle.facet_solver.specs.Roles.{alternatives, block, may_be_absent, role_of, role_view}
-use Rattle.facet_solver.specs.Walk.{Walked, walk_fields}
-use Rattle.facet_solver.specs.Work.{work_of_field}
+use Rattle.facet_solver.specs.build.Build.{build_of}
+use Rattle.facet_solver.specs.build.CatchAlls.{emitted_by}
+use Rattle.facet_solver.specs.build.Outcome.{effect}
+use Rattle.facet_solver.specs.build.Place.{Path}
+use Rattle.facet_solver.specs.build.Roles.{alternatives, block, may_be_absent, role_of, role_view}
+use Rattle.facet_solver.specs.build.Walk.{Walked, walk_fields}
+use Rattle.facet_solver.specs.build.Work.{work_of_field}
 use Rattle.facet_solver.proofs.CatchAlls.{fields_walked, struct-alone}
 use Rattle.facet_solver.proofs.Listing.{block-below}
 use Rattle.facet_solver.proofs.Outcome.{take_all-nil}

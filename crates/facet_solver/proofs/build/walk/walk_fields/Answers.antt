@@ -5,12 +5,12 @@ use Rattle.std.specs.Prelude.{IfSome}
 use Rattle.std.proofs.lemmas.List.{nil_from_length}
 use Rattle.facet_solver_shape.specs.declared.shape.Field.{Field}
 use Rattle.facet_solver.specs.declared.build.walk.Frame.{Frame}
-use Rattle.facet_solver.specs.Build.{build_of}
-use Rattle.facet_solver.specs.Outcome.{StopsBy, effect}
-use Rattle.facet_solver.specs.Place.{Path}
-use Rattle.facet_solver.specs.Walk.{walk_field, walk_fields}
-use Rattle.facet_solver.specs.WalkFrames.{AreFrames, IsInside, IsReached, walk_frames, walk_inside}
-use Rattle.facet_solver.specs.Work.{work_of_field}
+use Rattle.facet_solver.specs.build.Build.{build_of}
+use Rattle.facet_solver.specs.build.Outcome.{StopsBy, effect}
+use Rattle.facet_solver.specs.build.Place.{Path}
+use Rattle.facet_solver.specs.build.Walk.{walk_field, walk_fields}
+use Rattle.facet_solver.specs.build.WalkFrames.{AreFrames, IsInside, IsReached, walk_frames, walk_inside}
+use Rattle.facet_solver.specs.build.Work.{work_of_field}
 use Rattle.facet_solver.proofs.Walk.{walks-exit}
 use Rattle.facet_solver.proofs.WalkFrames.{frames-start, none-are, none-left, over-are, over-left, some-are, some-left, stack-popped, stack-pushed, turn-served, turn-stops, turn-walked, walk-done, walk-start, work-none, work-over, work-some, work_of_frames}
 use Rattle.facet_solver.proofs.build.walk.walk_fields.Goals as goal

@@ -1,8 +1,8 @@
 use Rattle.std.proofs.Common.{◌≡◌, length, reverse}
-use Rattle.facet_solver.specs.Build.{build_of}
-use Rattle.facet_solver.specs.Outcome.{effect}
-use Rattle.facet_solver.specs.Walk.{walk_fields}
-use Rattle.facet_solver.specs.WalkFrames.{AreFrames, walk_frames}
+use Rattle.facet_solver.specs.build.Build.{build_of}
+use Rattle.facet_solver.specs.build.Outcome.{effect}
+use Rattle.facet_solver.specs.build.Walk.{walk_fields}
+use Rattle.facet_solver.specs.build.WalkFrames.{AreFrames, walk_frames}
 use Rattle.facet_solver.proofs.WalkFrames.{work_of_frames}
 use Rattle.facet_solver.proofs.build.walk.walk_fields.Given as goal
 

@@ -1,13 +1,13 @@
 use Rattle.std.proofs.Common.{ap, sym, ◌∙◌, subst}
 use Rattle.std.proofs.lemmas.Bool.{eqb-true}
 use Rattle.std.proofs.lemmas.List.{nil_from_length}
-use Rattle.facet_solver.specs.Build.{build_of}
-use Rattle.facet_solver.specs.Outcome.{effect}
-use Rattle.facet_solver.specs.Place.{chosen_of}
+use Rattle.facet_solver.specs.build.Build.{build_of}
+use Rattle.facet_solver.specs.build.Outcome.{effect}
+use Rattle.facet_solver.specs.build.Place.{chosen_of}
 use Rattle.facet_solver.proofs.Walk.{content-at, stops-chosen, then-alone, then-inside, then-nothing}
 use Rattle.facet_solver.proofs.WalkFrames.{chosen-reached, leads-exit, leads-nothing}
-use Rattle.facet_solver.specs.WalkFrames.{IsReached}
-use Rattle.facet_solver.specs.Work.{work_of_fields, work_of_variant}
+use Rattle.facet_solver.specs.build.WalkFrames.{IsReached}
+use Rattle.facet_solver.specs.build.Work.{work_of_fields, work_of_variant}
 use Rattle.facet_solver.proofs.build.walk.walk_variant.Goals as goal
 use Rattle.facet_solver.proofs.build.walk.walk_variant.Goals.{then-is_empty-via-then-is_empty, then-is_empty-via-else-is_empty+then-not-walks_content}
 

@@ -1,7 +1,7 @@
 use Rattle.std.proofs.Common.{◌≡◌, subst}
 use Rattle.facet_solver.specs.Resolutions.{has_field_named, passes}
-use Rattle.facet_solver.specs.IndexEntries.{is_held}
-use Rattle.facet_solver.specs.Schema.{SchemaView}
+use Rattle.facet_solver.specs.schema.IndexEntries.{is_held}
+use Rattle.facet_solver.specs.schema.Schema.{SchemaView}
 use Rattle.facet_solver.proofs.Results.{ok_more}
 use Rattle.facet_solver.proofs.schema.Schema.entries_named.Goals as goal
 

@@ -1,8 +1,8 @@
 use Rattle.std.proofs.Common.{List, length, rules, subst}
 use Rattle.facet_solver_shape.specs.Resolved.{Resolved}
-use Rattle.facet_solver.specs.Build.{build_of}
-use Rattle.facet_solver.specs.Indexed.{IsIndexOf, fields_of_each}
-use Rattle.facet_solver.specs.Schema.{IsBuilt, SchemaView, schema_view}
+use Rattle.facet_solver.specs.build.Build.{build_of}
+use Rattle.facet_solver.specs.schema.Indexed.{IsIndexOf, fields_of_each}
+use Rattle.facet_solver.specs.schema.Schema.{IsBuilt, SchemaView, schema_view}
 use Rattle.facet_solver.proofs.FieldCategories.{built_of_format}
 use Rattle.facet_solver.proofs.schema.Schema.indexed.Goals as goal
 

@@ -1,9 +1,9 @@
 use Rattle.std.proofs.Common.{length, subst}
 use Rattle.std.specs.Option.{option_copied}
 use Rattle.facet_solver_shape.specs.Keys.{key_of}
-use Rattle.facet_solver.specs.Indexed.{IsEntryIfAny}
+use Rattle.facet_solver.specs.schema.Indexed.{IsEntryIfAny}
 use Rattle.facet_solver.specs.Resolutions.{field_at}
-use Rattle.facet_solver.specs.Schema.{SchemaView}
+use Rattle.facet_solver.specs.schema.Schema.{SchemaView}
 use Rattle.facet_solver.proofs.schema.Schema.look_up.Goals as goal
 
 pub returns : goal.returns

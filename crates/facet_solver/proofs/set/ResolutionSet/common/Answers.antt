@@ -1,7 +1,7 @@
 use Rattle.std.proofs.Common.{◌≡◌, ◌<◌, List, ℕ, All, filter, subst, ◌∙◌}
-use Rattle.facet_solver.specs.IndexSet.{IndexSet, has_index}
-use Rattle.facet_solver.specs.SharedBits.{common_from}
-use Rattle.facet_solver.specs.Words.{members_of, words_of}
+use Rattle.facet_solver.specs.set.IndexSet.{IndexSet, has_index}
+use Rattle.facet_solver.specs.set.SharedBits.{common_from}
+use Rattle.facet_solver.specs.set.Words.{members_of, words_of}
 use Rattle.facet_solver.proofs.Words.{members_within}
 use Rattle.facet_solver.proofs.SharedBits.{members_common}
 use Rattle.facet_solver.proofs.set.ResolutionSet.common.Goals as goal

@@ -1,7 +1,7 @@
 use Rattle.std.proofs.Common.{ℕ, List, ap, ◌∙◌}
 use Rattle.std.proofs.lemmas.List.{length-replicate}
-use Rattle.facet_solver.specs.IndexSet.{IndexSet}
-use Rattle.facet_solver.specs.Words.{members_of, word_count}
+use Rattle.facet_solver.specs.set.IndexSet.{IndexSet}
+use Rattle.facet_solver.specs.set.Words.{members_of, word_count}
 use Rattle.facet_solver.proofs.SharedBits.{no_members_of_zeros, zeros_clear}
 use Rattle.facet_solver.proofs.set.ResolutionSet.empty.Goals as goal
 

@@ -1,6 +1,6 @@
 use Rattle.std.proofs.Common.{ℕ, List, ap, ◌∙◌, le-ltb}
-use Rattle.facet_solver.specs.IndexSet.{IndexSet}
-use Rattle.facet_solver.specs.Words.{words_of}
+use Rattle.facet_solver.specs.set.IndexSet.{IndexSet}
+use Rattle.facet_solver.specs.set.Words.{words_of}
 use Rattle.facet_solver.proofs.Words.{full_members}
 use Rattle.facet_solver.proofs.set.ResolutionSet.full.Goals as goal
 

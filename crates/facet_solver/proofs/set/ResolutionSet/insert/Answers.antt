@@ -1,7 +1,7 @@
 use Rattle.std.proofs.Common.{◌≡◌, ℕ, List, ◌||◌, ◌<◌, ◌/◌, nat_eq, filter, length, ap, subst, ◌∙◌, arith, ne_eqb}
 use Rattle.std.proofs.Math.ListN.{length-set}
-use Rattle.facet_solver.specs.IndexSet.{IndexSet, has_index, upto}
-use Rattle.facet_solver.specs.Words.{has_bit, members_of, words_of}
+use Rattle.facet_solver.specs.set.IndexSet.{IndexSet, has_index, upto}
+use Rattle.facet_solver.specs.set.Words.{has_bit, members_of, words_of}
 use Rattle.facet_solver.proofs.SharedBits.{insert_has, members_more}
 use Rattle.facet_solver.proofs.set.ResolutionSet.insert.Goals as goal
 

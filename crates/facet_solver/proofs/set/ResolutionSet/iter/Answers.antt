@@ -1,7 +1,7 @@
 use Rattle.std.proofs.Common.{◌<◌, All, subst}
 use Rattle.std.specs.List.Sorted.{IsStrictlyIncreasing}
-use Rattle.facet_solver.specs.IndexSet.{IndexSet}
-use Rattle.facet_solver.specs.Words.{words_of}
+use Rattle.facet_solver.specs.set.IndexSet.{IndexSet}
+use Rattle.facet_solver.specs.set.Words.{words_of}
 use Rattle.facet_solver.proofs.Words.{members_rise, members_within}
 use Rattle.facet_solver.proofs.set.ResolutionSet.iter.Goals as goal
 

@@ -1,7 +1,7 @@
 use Rattle.std.proofs.Common.{◌≡◌, ℕ, List, ◌&&◌, filter, get_or, ap, subst, ◌∙◌}
 use Rattle.std.proofs.lemmas.Bool.{and_left}
-use Rattle.facet_solver.specs.IndexSet.{IndexSet, has_index}
-use Rattle.facet_solver.specs.Words.{has_bit, members_of, words_of}
+use Rattle.facet_solver.specs.set.IndexSet.{IndexSet, has_index}
+use Rattle.facet_solver.specs.set.Words.{has_bit, members_of, words_of}
 use Rattle.facet_solver.proofs.Words.{has_members, members_kept}
 use Rattle.facet_solver.proofs.SharedBits.{bit_of_and}
 use Rattle.facet_solver.proofs.set.ResolutionSet.keep_common.Goals as goal

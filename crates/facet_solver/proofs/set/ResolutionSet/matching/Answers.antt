@@ -1,5 +1,5 @@
 use Rattle.std.proofs.Common.{◌<◌, ap, sym, ◌∙◌}
-use Rattle.facet_solver.specs.IndexSet.{matches_view}
+use Rattle.facet_solver.specs.set.IndexSet.{matches_view}
 use Rattle.facet_solver.proofs.IndexSet.{rest_more, item_passes, first_passes}
 use Rattle.facet_solver.proofs.set.ResolutionSet.matching.Goals as goal
 

@@ -1,5 +1,5 @@
 use Rattle.std.proofs.Common.{◌≡◌, ◌++◌, filter}
-use Rattle.facet_solver.specs.IndexSet.{IsWithin, how_many, matches_view}
+use Rattle.facet_solver.specs.set.IndexSet.{IsWithin, how_many, matches_view}
 use Rattle.facet_solver.proofs.set.ResolutionSet.matching.Given as goal
 
 abbrev pub invariant-loop-index : goal.invariant-loop-index

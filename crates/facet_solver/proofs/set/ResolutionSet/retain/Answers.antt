@@ -1,6 +1,6 @@
 use Rattle.std.proofs.Common.{◌≡◌, List, ℕ, filter, ap, subst}
-use Rattle.facet_solver.specs.IndexSet.{IndexSet}
-use Rattle.facet_solver.specs.Words.{members_of, words_of}
+use Rattle.facet_solver.specs.set.IndexSet.{IndexSet}
+use Rattle.facet_solver.specs.set.Words.{members_of, words_of}
 use Rattle.facet_solver.proofs.Words.{members_kept}
 use Rattle.facet_solver.proofs.set.ResolutionSet.retain.Goals as goal
 

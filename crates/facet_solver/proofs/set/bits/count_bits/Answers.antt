@@ -1,7 +1,7 @@
 use Rattle.std.proofs.Common.{◌≡◌, ◌+◌, ◌-◌, ◌*◌, ◌^◌, get_or, length, filter, sym, ap, ◌∙◌, arith, rules}
 use Rattle.std.specs.Int.Count.{ones}
-use Rattle.facet_solver.specs.IndexSet.{upto}
-use Rattle.facet_solver.specs.Words.{has_bit}
+use Rattle.facet_solver.specs.set.IndexSet.{upto}
+use Rattle.facet_solver.specs.set.Words.{has_bit}
 use Rattle.facet_solver.proofs.Words.{count_more, members_upto}
 use Rattle.facet_solver.proofs.IndexSet.{count_within}
 use Rattle.facet_solver.proofs.set.bits.count_bits.Goals as goal

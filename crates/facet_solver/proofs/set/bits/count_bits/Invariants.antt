@@ -1,6 +1,6 @@
 use Rattle.std.proofs.Common.{◌≡◌, ◌*◌, filter, length}
-use Rattle.facet_solver.specs.Words.{has_bit}
-use Rattle.facet_solver.specs.IndexSet.{upto}
+use Rattle.facet_solver.specs.set.Words.{has_bit}
+use Rattle.facet_solver.specs.set.IndexSet.{upto}
 use Rattle.facet_solver.proofs.set.bits.count_bits.Given as goal
 
 abbrev pub invariant-loop-word : goal.invariant-loop-word

@@ -1,7 +1,7 @@
 use Rattle.std.proofs.Common.{ℕ, ◌+◌, ◌*◌, ◌/◌, ◌%◌, ◌^◌, ◌<◌, ◌-◌, get_or, inl, inr, sym, arith, rules, w64}
 use Rattle.std.specs.Int.{trailing_zeros}
 use Rattle.std.proofs.lemmas.Bool.{cases_lt}
-use Rattle.facet_solver.specs.Words.{has_bit}
+use Rattle.facet_solver.specs.set.Words.{has_bit}
 use Rattle.facet_solver.proofs.Words.{not_set, next_in_word, none_in_word, next_in_later, none_in_later, next_member, no_members}
 use Rattle.facet_solver.proofs.IndexSet.{next_below}
 use Rattle.facet_solver.proofs.set.bits.next_bit.Goals as goal

@@ -1,7 +1,7 @@
 use Rattle.std.proofs.Common.{◌≡◌, ℕ, ◌+◌, ◌*◌, ◌/◌, ◌%◌, ◌^◌, ◌<◌, ap, sym, subst, ◌∙◌, ◌≤◌, arith, w64}
 use Rattle.std.specs.Int.{trailing_zeros}
-use Rattle.facet_solver.specs.SharedBits.{IsNext}
-use Rattle.facet_solver.specs.Words.{bit_of}
+use Rattle.facet_solver.specs.set.SharedBits.{IsNext}
+use Rattle.facet_solver.specs.set.Words.{bit_of}
 use Rattle.facet_solver.proofs.Words.{next_in_word, none_in_word}
 use Rattle.facet_solver.proofs.SharedBits.{lowest_within}
 use Rattle.facet_solver.proofs.set.bits.next_in_word.Goals as goal

@@ -1,5 +1,5 @@
 use Rattle.std.proofs.Common.{◌≡◌, ℕ, ◌+◌, ◌<◌, ◌≤◌, length}
-use Rattle.facet_solver.specs.SharedBits.{common_word}
+use Rattle.facet_solver.specs.set.SharedBits.{common_word}
 use Rattle.facet_solver.proofs.set.bits.next_shared.Given as goal
 
 abbrev pub invariant-loop-place : goal.invariant-loop-place

@@ -1,5 +1,5 @@
 use Rattle.std.proofs.Common.{◌≡◌, ℕ, ◌*◌, ◌<◌, ◌≤◌, ◌&&◌, get_or}
-use Rattle.facet_solver.specs.Words.{has_bit}
+use Rattle.facet_solver.specs.set.Words.{has_bit}
 use Rattle.facet_solver.proofs.set.bits.retain_bits.Given as goal
 
 abbrev pub invariant-loop-k : goal.invariant-loop-k

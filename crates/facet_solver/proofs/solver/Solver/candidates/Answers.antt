@@ -1,7 +1,7 @@
 use Rattle.std.proofs.Common.{◌++◌, ◌∷◌, [], map, ap, ◌∙◌}
 use Rattle.std.proofs.lemmas.List.{map-append}
 use Rattle.std.proofs.lemmas.List.Elements.{All-push}
-use Rattle.facet_solver.specs.Schema.{IsHandleOf, index_of}
+use Rattle.facet_solver.specs.schema.ResolutionHandle.{IsHandleOf, index_of}
 use Rattle.facet_solver.proofs.IndexSet.{rest_more}
 use Rattle.facet_solver.proofs.solver.Solver.candidates.Goals as goal
 

@@ -1,5 +1,5 @@
 use Rattle.std.proofs.Common.{◌≡◌, ◌++◌, All, map}
-use Rattle.facet_solver.specs.Schema.{IsHandleOf, index_of}
+use Rattle.facet_solver.specs.schema.ResolutionHandle.{IsHandleOf, index_of}
 use Rattle.facet_solver.proofs.solver.Solver.candidates.Given as goal
 
 abbrev pub invariant-loop-index : goal.invariant-loop-index

@@ -1,13 +1,13 @@
 use Rattle.std.proofs.Common.{◌≡◌, ℕ, ◌∷◌, [], Some, Result, Ok, Err, IfErr, IfOk, IsOk, length, slice_get, ap, sym, ◌∙◌}
 use Rattle.std.proofs.lemmas.Option.{none-some}
 use Rattle.facet_solver_shape.specs.Names.{Name}
-use Rattle.facet_solver.specs.Found.{GivesOrNames}
-use Rattle.facet_solver.specs.IndexSet.{HowMany, how_many, no_index, one_index, several_indices}
-use Rattle.facet_solver.specs.Report.{AmbiguityView, ambiguous}
-use Rattle.facet_solver.specs.Schema.{index_of}
-use Rattle.facet_solver.specs.State.{State}
-use Rattle.facet_solver.specs.Told.{EndsWithOrNames}
-use Rattle.facet_solver.specs.Verdict.{IsReportOn, ambiguity_of, report_by, viable}
+use Rattle.facet_solver.specs.solver.Found.{GivesOrNames}
+use Rattle.facet_solver.specs.set.IndexSet.{HowMany, how_many, no_index, one_index, several_indices}
+use Rattle.facet_solver.specs.error.ErrorView.{AmbiguityView, ambiguous}
+use Rattle.facet_solver.specs.schema.ResolutionHandle.{index_of}
+use Rattle.facet_solver.specs.solver.State.{State}
+use Rattle.facet_solver.specs.solver.Told.{EndsWithOrNames}
+use Rattle.facet_solver.specs.solver.Report.{IsReportOn, ambiguity_of, report_by, viable}
 use Rattle.facet_solver.specs.declared.error.SolverError.{SolverError}
 use Rattle.facet_solver.specs.declared.error.SolverError.TheVariants.{NoMatch, Ambiguous, OutOfMemory}
 use Rattle.facet_solver.specs.declared.schema.handle.ResolutionHandle.{ResolutionHandle}

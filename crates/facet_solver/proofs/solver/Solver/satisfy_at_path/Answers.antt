@@ -1,8 +1,8 @@
 use Rattle.std.proofs.Common.{ap, ◌∙◌}
 use Rattle.facet_solver_shape.specs.Names.{names_of}
-use Rattle.facet_solver.specs.Build.{Catalogue}
-use Rattle.facet_solver.specs.ShapeAtPath.{has_shape_at_path}
-use Rattle.facet_solver.specs.State.{State, retain}
+use Rattle.facet_solver.specs.build.Build.{Catalogue}
+use Rattle.facet_solver.specs.solver.ShapeAtPath.{has_shape_at_path}
+use Rattle.facet_solver.specs.solver.State.{State, retain}
 use Rattle.facet_solver.proofs.solver.Solver.satisfy_at_path.Goals as goal
 
 pub returns-clause-narrowed : goal.returns-clause-narrowed

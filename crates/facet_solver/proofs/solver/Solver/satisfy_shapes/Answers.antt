@@ -1,6 +1,6 @@
 use Rattle.std.proofs.Common.{ℕ, List, ap, ◌∙◌}
 use Rattle.std.proofs.lemmas.List.{map-id}
-use Rattle.facet_solver.specs.State.{has_shape_among, retain}
+use Rattle.facet_solver.specs.solver.State.{has_shape_among, retain}
 use Rattle.facet_solver.proofs.solver.Solver.satisfy_shapes.Goals as goal
 
 pub returns-clause-narrowed : goal.returns-clause-narrowed

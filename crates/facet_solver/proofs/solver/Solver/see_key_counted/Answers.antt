@@ -2,9 +2,9 @@ use Rattle.std.proofs.Common.{◌≡◌, ap, arith, length, map, refl, subst, sy
 use Rattle.std.proofs.lemmas.Bool.{false≢true}
 use Rattle.facet_solver_shape.specs.Keys.{key_of}
 use Rattle.facet_solver_shape.specs.Steps.{StepCounts}
-use Rattle.facet_solver.specs.IndexSet.{IndexSet}
-use Rattle.facet_solver.specs.KeyResult.{HaveShape, key_result, unknown}
-use Rattle.facet_solver.specs.State.{State, see_key}
+use Rattle.facet_solver.specs.set.IndexSet.{IndexSet}
+use Rattle.facet_solver.specs.solver.KeyResult.{HaveShape, key_result, unknown}
+use Rattle.facet_solver.specs.solver.State.{State, see_key}
 use Rattle.facet_solver.proofs.Kept.{left_known, left_long, left_unknown, members_pass, passing_long, seen_from, unknown_key}
 use Rattle.facet_solver.proofs.solver.Solver.see_key_counted.Goals as goal
 use Rattle.facet_solver.proofs.solver.Solver.see_key_counted.Goals.{then-not-is_unknown, else-not-is_unknown}

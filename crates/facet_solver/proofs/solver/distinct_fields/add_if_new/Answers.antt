@@ -2,7 +2,7 @@ use Rattle.std.proofs.Common.{◌≡◌, ℕ, Bool, List, Bor, nat_eq, map, sym,
 use Rattle.std.specs.List.{list_any}
 use Rattle.facet_solver_shape.specs.Fields.{FieldView}
 use Rattle.facet_solver_shape.specs.Keys.{key_of}
-use Rattle.facet_solver.specs.KeyResult.{scored_view}
+use Rattle.facet_solver.specs.solver.KeyResult.{scored_view}
 use Rattle.facet_solver.specs.Resolutions.{field_at}
 use Rattle.facet_solver.proofs.KeyResultFields.{firsts_new, firsts_old, firsts_none}
 use Rattle.facet_solver.proofs.solver.distinct_fields.add_if_new.Goals as goal

@@ -1,6 +1,6 @@
 use Rattle.std.proofs.Common.{◌∷◌, ◌++◌, [], length, map, ap, refl, arith}
 use Rattle.facet_solver_shape.specs.Steps.{StepCounts}
-use Rattle.facet_solver.specs.KeyResult.{scored_view}
+use Rattle.facet_solver.specs.solver.KeyResult.{scored_view}
 use Rattle.facet_solver.proofs.IndexSet.{rest_more}
 use Rattle.facet_solver.proofs.Counted.{no_fall-trans, searched}
 use Rattle.facet_solver.proofs.solver.distinct_fields.distinct_fields.Goals as goal

@@ -1,7 +1,7 @@
 use Rattle.std.proofs.Common.{◌≡◌, ◌≤◌, ◌+◌, ℕ, List, ◌∷◌, ◌++◌, length, map}
 use Rattle.facet_solver_shape.specs.Keys.{key_of}
 use Rattle.facet_solver_shape.specs.Steps.{NoCountFalls}
-use Rattle.facet_solver.specs.KeyResult.{distinct_fields, scored_view}
+use Rattle.facet_solver.specs.solver.KeyResult.{distinct_fields, scored_view}
 use Rattle.facet_solver.proofs.solver.distinct_fields.distinct_fields.Given as goal
 
 abbrev pub invariant-loop-index : goal.invariant-loop-index

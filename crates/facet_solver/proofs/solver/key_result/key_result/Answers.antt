@@ -1,8 +1,8 @@
 use Rattle.std.proofs.Common.{ℕ, List, [], ◌∷◌, ap, sym, ◌∙◌, arith}
 use Rattle.facet_solver_shape.specs.Keys.{key_of}
-use Rattle.facet_solver.specs.IndexSet.{has_index}
-use Rattle.facet_solver.specs.KeyResult.{of_fields}
-use Rattle.facet_solver.specs.State.{State, state_of}
+use Rattle.facet_solver.specs.set.IndexSet.{has_index}
+use Rattle.facet_solver.specs.solver.KeyResult.{of_fields}
+use Rattle.facet_solver.specs.solver.State.{State, state_of}
 use Rattle.facet_solver.proofs.Kept.{first_kept, first_within, kept_count, knows_shape, result_agreed, result_by}
 use Rattle.facet_solver.proofs.solver.key_result.key_result.Goals as goal
 

@@ -1,6 +1,6 @@
 use Rattle.std.proofs.Common.{◌≡◌, ◌++◌, drop, map}
 use Rattle.facet_solver_shape.specs.Names.{names_of}
-use Rattle.facet_solver.specs.Report.{missing_view}
+use Rattle.facet_solver.specs.error.ErrorView.{missing_view}
 use Rattle.facet_solver.proofs.solver.report.missing_names.Given as goal
 
 abbrev pub invariant-loop-field : goal.invariant-loop-field

@@ -1,7 +1,7 @@
 use Rattle.std.proofs.Common.{◌≡◌, ◌++◌, append-nil, ap, sym, ◌∙◌}
 use Rattle.std.specs.List.{filter_map}
 use Rattle.facet_solver_shape.specs.Names.{names_of}
-use Rattle.facet_solver.specs.ShapeAtPath.{distinct, distinct_shapes, shape_at}
+use Rattle.facet_solver.specs.solver.ShapeAtPath.{distinct, distinct_shapes, shape_at}
 use Rattle.facet_solver.proofs.IndexSet.{rest_more}
 use Rattle.facet_solver.proofs.KeyResultFields.{filter_map_found, filter_map_none}
 use Rattle.facet_solver.proofs.solver.shape_at_path.distinct_shapes.Goals as goal

@@ -1,6 +1,6 @@
 use Rattle.std.proofs.Common.{◌≡◌, ◌++◌}
 use Rattle.facet_solver_shape.specs.Names.{names_of}
-use Rattle.facet_solver.specs.ShapeAtPath.{distinct_shapes}
+use Rattle.facet_solver.specs.solver.ShapeAtPath.{distinct_shapes}
 use Rattle.facet_solver.proofs.solver.shape_at_path.distinct_shapes.Given as goal
 
 -- the shapes of the members so far

@@ -3,7 +3,7 @@ use Rattle.std.proofs.lemmas.List.{drop_more}
 use Rattle.std.proofs.Math.ListN.{drop_of_length-le}
 use Rattle.std.specs.Option.{option_and_then}
 use Rattle.facet_solver_shape.specs.Names.{names_of}
-use Rattle.facet_solver.specs.ShapeAtPath.{shape_below}
+use Rattle.facet_solver.specs.solver.ShapeAtPath.{shape_below}
 use Rattle.facet_solver.proofs.solver.shape_at_path.shape_below.Goals as goal
 
 pub loop-name-preserved : goal.loop-name-preserved

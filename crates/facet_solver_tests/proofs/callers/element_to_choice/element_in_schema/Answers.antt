@@ -1,8 +1,8 @@
 use Rattle.std.proofs.Common.{◌≡◌, List, [], ap, sym, ◌∙◌, subst, map}
 use Rattle.std.proofs.lemmas.List.{take_all}
 use Rattle.facet_solver.specs.Resolved.{description}
-use Rattle.facet_solver.specs.State.{State, new_solver}
-use Rattle.facet_solver.specs.Told.{EndsWithOrNames, see_keys}
+use Rattle.facet_solver.specs.solver.State.{State, new_solver}
+use Rattle.facet_solver.specs.solver.Told.{EndsWithOrNames, see_keys}
 use Rattle.facet_solver_tests.specs.declared.callers.element_to_choice.Part.{Part}
 use Rattle.facet_solver_tests.specs.declared.callers.element_to_choice.Part.TheVariants.{Attribute}
 use Rattle.facet_solver_tests.specs.ElementToChoice.{key_of_part, keys_of_parts}

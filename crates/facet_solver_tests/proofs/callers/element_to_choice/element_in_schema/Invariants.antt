@@ -1,6 +1,6 @@
 use Rattle.std.proofs.Common.{◌≡◌, map, take}
-use Rattle.facet_solver.specs.State.{new_solver}
-use Rattle.facet_solver.specs.Told.{see_keys}
+use Rattle.facet_solver.specs.solver.State.{new_solver}
+use Rattle.facet_solver.specs.solver.Told.{see_keys}
 use Rattle.facet_solver_tests.specs.ElementToChoice.{key_of_part}
 use Rattle.facet_solver_tests.proofs.callers.element_to_choice.element_in_schema.Given as goal
 

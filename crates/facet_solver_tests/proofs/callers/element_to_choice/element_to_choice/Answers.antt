@@ -1,10 +1,11 @@
 use Rattle.std.proofs.Common.{◌≡◌, ℕ, None, ◌∙◌, [], ◌∷◌, ap, slice_get, subst, sym}
 use Rattle.std.proofs.lemmas.Result.{err_from_is_err_and}
-use Rattle.facet_solver.specs.Build.{build_with}
+use Rattle.facet_solver.specs.build.Build.{build_with}
 use Rattle.facet_solver.specs.Names.{Name}
 use Rattle.facet_solver.specs.Resolved.{Resolved, description}
-use Rattle.facet_solver.specs.State.{new_solver}
-use Rattle.facet_solver.specs.Schema.{IsHandleOf, SchemaView, index_of, resolution_of}
+use Rattle.facet_solver.specs.solver.State.{new_solver}
+use Rattle.facet_solver.specs.schema.Schema.{SchemaView}
+use Rattle.facet_solver.specs.schema.ResolutionHandle.{IsHandleOf, index_of, resolution_of}
 use Rattle.facet_solver.specs.declared.Format.TheVariants.{Dom}
 use Rattle.facet_solver_tests.specs.ElementToChoice.{keys_of_parts}
 use Rattle.facet_solver_tests.specs.KeysToChoice.{Lists}

@@ -2,8 +2,8 @@ use Rattle.std.proofs.Common.{◌≡◌, List, [], ap, sym, ◌∙◌, subst, ma
 use Rattle.std.proofs.lemmas.List.{take_all}
 use Rattle.facet_solver.specs.Keys.{key_of}
 use Rattle.facet_solver.specs.Resolved.{description}
-use Rattle.facet_solver.specs.State.{State, new_solver}
-use Rattle.facet_solver.specs.Told.{EndsWithOrNames, see_keys}
+use Rattle.facet_solver.specs.solver.State.{State, new_solver}
+use Rattle.facet_solver.specs.solver.Told.{EndsWithOrNames, see_keys}
 use Rattle.facet_solver.specs.declared.FieldKey.{FieldKey}
 use Rattle.facet_solver.specs.declared.FieldKey.TheVariants.{Flat}
 use Rattle.facet_solver_tests.specs.KeysToChoice.{keys_of}

@@ -1,10 +1,11 @@
 use Rattle.std.proofs.Common.{◌≡◌, ℕ, Some, ◌∙◌, [], ◌∷◌, ap, slice_get, subst, sym}
 use Rattle.std.proofs.lemmas.Result.{err_from_is_err_and}
 use Rattle.facet_solver.specs.Names.{Name}
-use Rattle.facet_solver.specs.Representation.{flattened}
+use Rattle.facet_solver.specs.build.Representation.{flattened}
 use Rattle.facet_solver.specs.Resolved.{Resolved, description}
-use Rattle.facet_solver.specs.State.{new_solver}
-use Rattle.facet_solver.specs.Schema.{IsHandleOf, SchemaView, flat_build, index_of, resolution_of}
+use Rattle.facet_solver.specs.solver.State.{new_solver}
+use Rattle.facet_solver.specs.schema.Schema.{SchemaView, flat_build}
+use Rattle.facet_solver.specs.schema.ResolutionHandle.{IsHandleOf, index_of, resolution_of}
 use Rattle.facet_solver_tests.specs.KeysToChoice.{Lists, keys_of}
 use Rattle.facet_solver_tests.proofs.KeysToChoice.{of_root}
 use Rattle.facet_solver_tests.proofs.callers.keys_to_choice.keys_to_choice.Goals as goal

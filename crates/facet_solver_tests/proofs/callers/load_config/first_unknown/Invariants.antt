@@ -1,7 +1,7 @@
 use Rattle.std.proofs.Common.{◌≡◌, map, take}
 use Rattle.std.specs.Prelude.{true}
 use Rattle.facet_solver.specs.Keys.{key_of}
-use Rattle.facet_solver.specs.Told.{has_keys}
+use Rattle.facet_solver.specs.solver.Told.{has_keys}
 use Rattle.facet_solver_tests.proofs.callers.load_config.first_unknown.Given as goal
 
 -- the resolution has the keys so far

@@ -2,9 +2,9 @@ use Rattle.std.proofs.Common.{◌≡◌, List, ap, map, subst, sym, ◌∙◌}
 use Rattle.std.proofs.lemmas.List.{take_all}
 use Rattle.facet_solver.specs.Keys.{key_of}
 use Rattle.facet_solver.specs.Names.{Name}
-use Rattle.facet_solver.specs.Schema.{IsHandleOf, index_of, resolution_of}
-use Rattle.facet_solver.specs.State.{State}
-use Rattle.facet_solver.specs.Verdict.{viable}
+use Rattle.facet_solver.specs.schema.ResolutionHandle.{IsHandleOf, index_of, resolution_of}
+use Rattle.facet_solver.specs.solver.State.{State}
+use Rattle.facet_solver.specs.solver.Report.{viable}
 use Rattle.facet_solver.specs.declared.FieldKey.{FieldKey}
 use Rattle.facet_solver_tests.specs.KeysToChoice.{keys_of}
 use Rattle.facet_solver_tests.specs.LoadConfig.{told}

@@ -1,7 +1,7 @@
 use Rattle.std.proofs.Common.{List, ◌++◌, ap, sym, take, ◌∙◌}
 use Rattle.std.proofs.lemmas.List.{take_all}
 use Rattle.facet_solver.specs.Names.{Name}
-use Rattle.facet_solver.specs.Schema.{resolution_of}
+use Rattle.facet_solver.specs.schema.ResolutionHandle.{resolution_of}
 use Rattle.facet_solver.specs.declared.ResolutionHandle.{ResolutionHandle}
 use Rattle.facet_solver_tests.specs.LoadConfig.{each_once, selected_names}
 use Rattle.facet_solver_tests.proofs.LoadConfig.{handle_more, names_at, names_of_handles}

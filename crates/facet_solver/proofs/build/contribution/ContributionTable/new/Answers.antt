@@ -1,8 +1,8 @@
 use Rattle.std.proofs.Common.{◌≡◌, List, ap, arith, length, slice_get, subst, sym, ◌∙◌}
 use Rattle.std.proofs.lemmas.Option.{slice_get_within}
 use Rattle.facet_solver.specs.declared.build.contribution.Contribution.{Contribution}
-use Rattle.facet_solver.specs.Contribution.{contribution_of_kind}
-use Rattle.facet_solver.specs.Build.{build_of, kind_at, kind_of}
+use Rattle.facet_solver.specs.build.Contribution.{contribution_of_kind}
+use Rattle.facet_solver.specs.build.Build.{build_of, kind_at, kind_of}
 use Rattle.facet_solver.proofs.Contribution.{AreFirstContributions, one_contributed}
 use Rattle.facet_solver.proofs.build.contribution.ContributionTable.new.Goals as goal
 

@@ -1,5 +1,5 @@
 use Rattle.std.proofs.Common.{◌-◌, length}
-use Rattle.facet_solver.specs.Build.{build_of}
+use Rattle.facet_solver.specs.build.Build.{build_of}
 use Rattle.facet_solver.proofs.Contribution.{AreFirstContributions}
 use Rattle.facet_solver.proofs.build.contribution.ContributionTable.new.Given as goal
 

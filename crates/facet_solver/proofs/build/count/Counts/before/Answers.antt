@@ -1,10 +1,10 @@
 use Rattle.std.proofs.Common.{◌≡◌, ◌+◌, ◌≤◌, Bool, List, ℕ, length, slice_get, subst, sym, take, ap, ◌∙◌, arith}
 use Rattle.std.proofs.lemmas.List.{length_push}
 use Rattle.std.proofs.lemmas.Option.{slice_get_within}
-use Rattle.facet_solver.specs.Build.{build_of}
-use Rattle.facet_solver.specs.Count.{count_kind}
-use Rattle.facet_solver.specs.Counts.{AreFirstCounts, CountsTo}
-use Rattle.facet_solver.specs.FieldCount.{field_count}
+use Rattle.facet_solver.specs.build.Build.{build_of}
+use Rattle.facet_solver.specs.build.Count.{count_kind}
+use Rattle.facet_solver.specs.build.Counts.{AreFirstCounts, CountsTo}
+use Rattle.facet_solver.specs.build.FieldCount.{field_count}
 use Rattle.facet_solver.specs.declared.build.count.saturating.SaturatingCount.{SaturatingCount}
 use Rattle.facet_solver.proofs.Counted.{no_fall-trans}
 use Rattle.facet_solver.proofs.Count.{one_more_entry}

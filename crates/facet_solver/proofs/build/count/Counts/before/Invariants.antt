@@ -1,8 +1,8 @@
 use Rattle.std.proofs.Common.{◌+◌, ◌-◌, ◌≤◌, length, take}
 use Rattle.facet_solver_shape.specs.Steps.{NoCountFalls}
-use Rattle.facet_solver.specs.Build.{build_of}
-use Rattle.facet_solver.specs.Counts.{AreFirstCounts}
-use Rattle.facet_solver.specs.FieldCount.{field_count}
+use Rattle.facet_solver.specs.build.Build.{build_of}
+use Rattle.facet_solver.specs.build.Counts.{AreFirstCounts}
+use Rattle.facet_solver.specs.build.FieldCount.{field_count}
 use Rattle.facet_solver.proofs.build.count.Counts.before.Given as goal
 
 -- the shapes so far are counted, and their fields visited

@@ -1,6 +1,6 @@
 use Rattle.std.proofs.Common.{◌∙◌, ap, arith, length, subst, sym}
-use Rattle.facet_solver.specs.Build.{build_of}
-use Rattle.facet_solver.specs.Counts.{AreFirstCounts, CountsTo, count_at}
+use Rattle.facet_solver.specs.build.Build.{build_of}
+use Rattle.facet_solver.specs.build.Counts.{AreFirstCounts, CountsTo, count_at}
 use Rattle.facet_solver.proofs.Count.{entry_counted, root-count, root_counted}
 use Rattle.facet_solver.proofs.Roles.{KindBelow-mono}
 use Rattle.facet_solver.proofs.build.count.Counts.of_root.Goals as goal

@@ -1,8 +1,8 @@
 use Rattle.std.proofs.Common.{◌≡◌, ◌∷◌, [], ◌∙◌, List, Some, ap, arith, length, slice_get, subst, sym}
 use Rattle.facet_solver_shape.specs.declared.shape.Field.{Field}
 use Rattle.facet_solver_shape.specs.Catalogues.{FieldsBelow}
-use Rattle.facet_solver.specs.Content.{IsNewtypeOf}
-use Rattle.facet_solver.specs.Build.{build_of}
+use Rattle.facet_solver.specs.build.Content.{IsNewtypeOf}
+use Rattle.facet_solver.specs.build.Build.{build_of}
 use Rattle.facet_solver.proofs.Counted.{visited}
 use Rattle.facet_solver.proofs.Count.{newtype_counted, only_field_counted}
 use Rattle.facet_solver.proofs.NestedTable.{one_item}

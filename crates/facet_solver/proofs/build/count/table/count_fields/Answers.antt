@@ -1,9 +1,9 @@
 use Rattle.std.proofs.Common.{◌<◌, ℕ, length, sym, subst, refl, ap, arith}
 use Rattle.std.proofs.lemmas.Option.{get_or_from_slice_get}
 use Rattle.facet_solver_shape.specs.declared.shape.Field.{Field}
-use Rattle.facet_solver.specs.Count.{count_fields_step, count_fields, count_field}
-use Rattle.facet_solver.specs.Counts.{CountsTo}
-use Rattle.facet_solver.specs.Build.{build_of}
+use Rattle.facet_solver.specs.build.Count.{count_fields_step, count_fields, count_field}
+use Rattle.facet_solver.specs.build.Counts.{CountsTo}
+use Rattle.facet_solver.specs.build.Build.{build_of}
 use Rattle.facet_solver.proofs.Roles.{FieldsBelow-at}
 use Rattle.facet_solver.proofs.Counted.{no_fall-refl, no_fall-trans, visited}
 use Rattle.facet_solver.proofs.Count.{count_fields_step-more, count_fields_step-all}

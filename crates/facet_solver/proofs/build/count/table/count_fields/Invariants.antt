@@ -1,8 +1,8 @@
 use Rattle.std.proofs.Common.{◌≡◌, ◌+◌, take}
 use Rattle.facet_solver_shape.specs.Steps.{NoCountFalls}
-use Rattle.facet_solver.specs.Count.{count_fields_step, count_fields}
-use Rattle.facet_solver.specs.Counts.{CountsTo}
-use Rattle.facet_solver.specs.Build.{build_of}
+use Rattle.facet_solver.specs.build.Count.{count_fields_step, count_fields}
+use Rattle.facet_solver.specs.build.Counts.{CountsTo}
+use Rattle.facet_solver.specs.build.Build.{build_of}
 use Rattle.facet_solver.proofs.build.count.table.count_fields.Given as goal
 
 -- the product over the fields so far, each visited once

@@ -1,5 +1,5 @@
 use Rattle.std.proofs.Common.{◌≡◌, ◌+◌, suc, arith, refl, subst}
-use Rattle.facet_solver.specs.Counts.{CountsTo}
+use Rattle.facet_solver.specs.build.Counts.{CountsTo}
 use Rattle.facet_solver.proofs.build.count.table.count_optional.Goals as goal
 
 pub returns-then-may_be_absent : goal.returns-then-may_be_absent

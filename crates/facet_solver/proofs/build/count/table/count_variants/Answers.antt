@@ -4,9 +4,9 @@ use Rattle.std.proofs.lemmas.List.Sums.{sum_by_more}
 use Rattle.facet_solver_shape.specs.declared.shape.Variant.{Variant}
 use Rattle.facet_solver_shape.specs.Catalogues.{FieldsBelow}
 use Rattle.facet_solver_shape.specs.Steps.{NoCountFalls}
-use Rattle.facet_solver.specs.Count.{count_variant, count_fields, count_variants}
-use Rattle.facet_solver.specs.Counts.{CountsTo}
-use Rattle.facet_solver.specs.Build.{build_of}
+use Rattle.facet_solver.specs.build.Count.{count_variant, count_fields, count_variants}
+use Rattle.facet_solver.specs.build.Counts.{CountsTo}
+use Rattle.facet_solver.specs.build.Build.{build_of}
 use Rattle.facet_solver.proofs.Counted.{no_fall-refl, no_fall-trans}
 use Rattle.facet_solver.proofs.Roles.{VariantsBelow-at}
 use Rattle.facet_solver.proofs.NestedTable.{visits_more, visits_so_far}

@@ -3,8 +3,8 @@ use Rattle.std.specs.FinSet.{union}
 use Rattle.std.specs.List.{AllByRecursion}
 use Rattle.std.proofs.lemmas.Option.{slice_get-get_or}
 use Rattle.facet_solver_shape.specs.Names.{Name}
-use Rattle.facet_solver.specs.Nested.{KeyPaths, named, paths_of_each}
-use Rattle.facet_solver.specs.NestedNames.{Names, NamesLead, paths_of_names, shapes_behind}
+use Rattle.facet_solver.specs.build.Nested.{KeyPaths, named, paths_of_each}
+use Rattle.facet_solver.specs.build.NestedNames.{Names, NamesLead, paths_of_names, shapes_behind}
 use Rattle.facet_solver.specs.declared.build.nested.shapes_behind.ShapesBehind.{ShapesBehind}
 use Rattle.facet_solver.proofs.NestedFields.{each_at, each_push, of_each-push}
 use Rattle.facet_solver.proofs.NestedTable.{no_more, one_more}

@@ -1,7 +1,7 @@
 use Rattle.std.proofs.Common.{◌≡◌, ℕ, Bool, drop}
 use Rattle.std.specs.FinSet.{union}
-use Rattle.facet_solver.specs.Nested.{Under}
-use Rattle.facet_solver.specs.NestedNames.{NamesLead, paths_of_names}
+use Rattle.facet_solver.specs.build.Nested.{Under}
+use Rattle.facet_solver.specs.build.NestedNames.{NamesLead, paths_of_names}
 use Rattle.facet_solver.proofs.build.nested.by_name.add_copies.Given as goal
 
 -- those so far and those that are left

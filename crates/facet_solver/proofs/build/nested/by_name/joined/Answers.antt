@@ -2,8 +2,8 @@ use Rattle.std.proofs.Common.{◌≡◌, ◌∷◌, [], ◌++◌, List, ℕ, Bor
 use Rattle.std.specs.List.{AllByRecursion}
 use Rattle.std.proofs.lemmas.Slice.Eq.{bytes_eq-Decides}
 use Rattle.facet_solver_shape.specs.Names.{Name}
-use Rattle.facet_solver.specs.Nested.{paths_of_each}
-use Rattle.facet_solver.specs.NestedNames.{AreRising, Names, NamesLead, paths_of_names, shapes_behind}
+use Rattle.facet_solver.specs.build.Nested.{paths_of_each}
+use Rattle.facet_solver.specs.build.NestedNames.{AreRising, Names, NamesLead, paths_of_names, shapes_behind}
 use Rattle.facet_solver.specs.declared.build.nested.shapes_behind.ShapesBehind.{ShapesBehind}
 use Rattle.facet_solver.proofs.NestedNames.{AreSorted, each-append, each-joined, each-other, next_after, no_names_rise, paths-append, paths-joined, paths-other, rise-first, rise-last_other, rise-push, sorted_rest}
 use Rattle.facet_solver.proofs.NestedTable.{no_items}

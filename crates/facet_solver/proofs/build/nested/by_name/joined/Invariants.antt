@@ -1,6 +1,6 @@
 use Rattle.std.proofs.Common.{◌≡◌, ◌∷◌, [], ◌++◌, ℕ, Bool}
-use Rattle.facet_solver.specs.Nested.{Under}
-use Rattle.facet_solver.specs.NestedNames.{AreRising, NamesLead, paths_of_names}
+use Rattle.facet_solver.specs.build.Nested.{Under}
+use Rattle.facet_solver.specs.build.NestedNames.{AreRising, NamesLead, paths_of_names}
 use Rattle.facet_solver.proofs.NestedNames.{AreSorted}
 use Rattle.facet_solver.proofs.build.nested.by_name.joined.Given as goal
 

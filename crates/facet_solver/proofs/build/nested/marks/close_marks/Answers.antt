@@ -1,8 +1,8 @@
 use Rattle.std.proofs.Common.{◌≡◌, ◌+◌, ◌-◌, ◌∙◌, inl, inr, arith, subst, true}
 use Rattle.std.proofs.lemmas.Bool.{cases_lt}
-use Rattle.facet_solver.specs.Build.{kind_at}
-use Rattle.facet_solver.specs.Nested.{entered_view}
-use Rattle.facet_solver.specs.NestedTable.{IsMarked, KindAsks}
+use Rattle.facet_solver.specs.build.Build.{kind_at}
+use Rattle.facet_solver.specs.build.Nested.{entered_view}
+use Rattle.facet_solver.specs.build.NestedTable.{IsMarked, KindAsks}
 use Rattle.facet_solver.proofs.Marks.{asks_kept, mark_at, not_marked}
 use Rattle.facet_solver.proofs.build.nested.marks.close_marks.Goals as goal
 

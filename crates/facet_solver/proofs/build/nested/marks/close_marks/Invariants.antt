@@ -1,7 +1,7 @@
 use Rattle.std.proofs.Common.{◌≡◌, ◌≤◌, ℕ, Bool, List, length}
-use Rattle.facet_solver.specs.Build.{kind_at}
-use Rattle.facet_solver.specs.Nested.{entered_view}
-use Rattle.facet_solver.specs.NestedTable.{IsClosed, IsMarked, KindAsks, MarksAmong}
+use Rattle.facet_solver.specs.build.Build.{kind_at}
+use Rattle.facet_solver.specs.build.Nested.{entered_view}
+use Rattle.facet_solver.specs.build.NestedTable.{IsClosed, IsMarked, KindAsks, MarksAmong}
 use Rattle.facet_solver.proofs.build.nested.marks.close_marks.Given as goal
 
 -- what the marked shapes from an index on ask for is marked

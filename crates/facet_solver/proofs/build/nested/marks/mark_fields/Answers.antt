@@ -1,7 +1,7 @@
 use Rattle.std.proofs.Common.{◌+◌, ap, arith, subst, sym, ◌∙◌}
 use Rattle.facet_solver_shape.specs.declared.shape.Field.{Field}
-use Rattle.facet_solver.specs.Nested.{entered_view}
-use Rattle.facet_solver.specs.NestedTable.{FieldAsks, IsMarked}
+use Rattle.facet_solver.specs.build.Nested.{entered_view}
+use Rattle.facet_solver.specs.build.NestedTable.{FieldAsks, IsMarked}
 use Rattle.facet_solver.proofs.Marks.{more-mono, more-trans, up_to_one}
 use Rattle.facet_solver.proofs.Roles.{FieldsBelow-at}
 use Rattle.facet_solver.proofs.build.nested.marks.mark_fields.Goals as goal

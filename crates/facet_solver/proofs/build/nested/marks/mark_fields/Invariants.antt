@@ -2,8 +2,8 @@ use Rattle.std.proofs.Common.{◌≡◌, ◌<◌, ℕ, Bool, List, length, get_o
 use Rattle.std.specs.Prelude.{All}
 use Rattle.facet_solver_shape.specs.Catalogues.{FieldsBelow}
 use Rattle.facet_solver_shape.specs.declared.shape.Field.{Field}
-use Rattle.facet_solver.specs.Nested.{entered_view}
-use Rattle.facet_solver.specs.NestedTable.{FieldAsks, IsMarked, IsMarkedMore, MarksAmong}
+use Rattle.facet_solver.specs.build.Nested.{entered_view}
+use Rattle.facet_solver.specs.build.NestedTable.{FieldAsks, IsMarked, IsMarkedMore, MarksAmong}
 use Rattle.facet_solver.proofs.build.nested.marks.mark_fields.Given as goal
 
 -- what those so far ask for is marked

@@ -3,8 +3,8 @@ use Rattle.std.specs.Prelude.{All}
 use Rattle.facet_solver_shape.specs.Catalogues.{FieldsBelow, VariantsBelow}
 use Rattle.facet_solver_shape.specs.declared.shape.Field.{Field}
 use Rattle.facet_solver_shape.specs.declared.shape.Variant.{Variant}
-use Rattle.facet_solver.specs.Nested.{entered_view}
-use Rattle.facet_solver.specs.NestedTable.{FieldAsks, IsMarked, VariantAsks}
+use Rattle.facet_solver.specs.build.Nested.{entered_view}
+use Rattle.facet_solver.specs.build.NestedTable.{FieldAsks, IsMarked, VariantAsks}
 use Rattle.facet_solver.proofs.Marks.{more-trans, up_to_one}
 use Rattle.facet_solver.proofs.Roles.{VariantsBelow-at}
 use Rattle.facet_solver.proofs.build.nested.marks.mark_variants.Goals as goal

@@ -2,8 +2,8 @@ use Rattle.std.proofs.Common.{◌≡◌, ◌<◌, ℕ, Bool, List, length, get_o
 use Rattle.std.specs.Prelude.{All}
 use Rattle.facet_solver_shape.specs.Catalogues.{VariantsBelow}
 use Rattle.facet_solver_shape.specs.declared.shape.Variant.{Variant}
-use Rattle.facet_solver.specs.Nested.{entered_view}
-use Rattle.facet_solver.specs.NestedTable.{VariantAsks, IsMarked, IsMarkedMore, MarksAmong}
+use Rattle.facet_solver.specs.build.Nested.{entered_view}
+use Rattle.facet_solver.specs.build.NestedTable.{VariantAsks, IsMarked, IsMarkedMore, MarksAmong}
 use Rattle.facet_solver.proofs.build.nested.marks.mark_variants.Given as goal
 
 -- what those so far ask for is marked

@@ -1,10 +1,10 @@
 use Rattle.std.proofs.Common.{◌≡◌, ◌∷◌, ◌<◌, ◌+◌, [], ℕ, List, Some, arith, length, set, slice_get, subst, sym, true}
 use Rattle.facet_solver_shape.specs.Catalogues.{FieldsBelow}
 use Rattle.facet_solver_shape.specs.declared.shape.Field.{Field}
-use Rattle.facet_solver.specs.Build.{Catalogue}
-use Rattle.facet_solver.specs.Content.{IsNewtypeOf}
-use Rattle.facet_solver.specs.NestedTable.{IsMarked}
-use Rattle.facet_solver.specs.Reached.{ContentReached, reach}
+use Rattle.facet_solver.specs.build.Build.{Catalogue}
+use Rattle.facet_solver.specs.build.Content.{IsNewtypeOf}
+use Rattle.facet_solver.specs.build.NestedTable.{IsMarked}
+use Rattle.facet_solver.specs.build.Reached.{ContentReached, reach}
 use Rattle.facet_solver.proofs.Marks.{set_same}
 use Rattle.facet_solver.proofs.NestedTable.{one_item}
 use Rattle.facet_solver.proofs.Reached.{newtype_marked, own_reached, reached-mono, reached-set}

@@ -1,7 +1,7 @@
 use Rattle.std.proofs.Common.{◌+◌, ap, arith, length, subst, sym}
 use Rattle.std.proofs.lemmas.Option.{get_or_from_slice_get}
 use Rattle.facet_solver_shape.specs.declared.shape.Field.{Field}
-use Rattle.facet_solver.specs.Reached.{FieldReached, reach}
+use Rattle.facet_solver.specs.build.Reached.{FieldReached, reach}
 use Rattle.facet_solver.proofs.Counted.{no_fall-trans, visited}
 use Rattle.facet_solver.proofs.Marks.{up_to_one}
 use Rattle.facet_solver.proofs.Reached.{field_kept, reached-mono, reached-trans}

@@ -3,7 +3,7 @@ use Rattle.std.specs.Prelude.{All}
 use Rattle.facet_solver_shape.specs.Catalogues.{FieldsBelow}
 use Rattle.facet_solver_shape.specs.Steps.{NoCountFalls}
 use Rattle.facet_solver_shape.specs.declared.shape.Field.{Field}
-use Rattle.facet_solver.specs.Reached.{FieldReached, IsReachedMore, Reach, ReachAmong, reach}
+use Rattle.facet_solver.specs.build.Reached.{FieldReached, IsReachedMore, Reach, ReachAmong, reach}
 use Rattle.facet_solver.proofs.build.nested.reached.mark_fields.Given as goal
 
 -- what those so far lead to is marked

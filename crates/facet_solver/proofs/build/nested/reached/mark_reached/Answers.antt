@@ -1,8 +1,8 @@
 use Rattle.std.proofs.Common.{slice_get, true}
 use Rattle.std.specs.Prelude.{⊤}
-use Rattle.facet_solver.specs.Build.{build_of, kind_at}
-use Rattle.facet_solver.specs.NestedTable.{IsMarked}
-use Rattle.facet_solver.specs.Reached.{reach}
+use Rattle.facet_solver.specs.build.Build.{build_of, kind_at}
+use Rattle.facet_solver.specs.build.NestedTable.{IsMarked}
+use Rattle.facet_solver.specs.build.Reached.{reach}
 use Rattle.facet_solver.proofs.Reached.{kind_kept, shape_kept}
 use Rattle.facet_solver.proofs.build.nested.reached.mark_reached.Goals as goal
 

@@ -2,10 +2,10 @@ use Rattle.std.proofs.Common.{◌≡◌, ℕ, List, Some, arith, length, set, sl
 use Rattle.facet_solver_shape.specs.Catalogues.{FieldsBelow, KindBelow, VariantsBelow}
 use Rattle.facet_solver_shape.specs.declared.shape.Field.{Field}
 use Rattle.facet_solver_shape.specs.declared.shape.Variant.{Variant}
-use Rattle.facet_solver.specs.Build.{build_of, repr_for}
-use Rattle.facet_solver.specs.NestedTable.{IsMarked}
-use Rattle.facet_solver.specs.Reached.{reach}
-use Rattle.facet_solver.specs.Representation.{is_walked}
+use Rattle.facet_solver.specs.build.Build.{build_of, repr_for}
+use Rattle.facet_solver.specs.build.NestedTable.{IsMarked}
+use Rattle.facet_solver.specs.build.Reached.{reach}
+use Rattle.facet_solver.specs.build.Representation.{is_walked}
 use Rattle.facet_solver.proofs.Marks.{more-set, set_same}
 use Rattle.facet_solver.proofs.Reached.{apart_marked, shape_marked}
 use Rattle.facet_solver.proofs.Roles.{FieldsBelow-mono, VariantsBelow-mono}

@@ -2,7 +2,7 @@ use Rattle.std.proofs.Common.{◌≡◌, ◌<◌, ◌+◌, ℕ, List, arith, get
 use Rattle.facet_solver_shape.specs.Catalogues.{FieldsBelow, VariantsBelow}
 use Rattle.facet_solver_shape.specs.declared.shape.Field.{Field}
 use Rattle.facet_solver_shape.specs.declared.shape.Variant.{Variant}
-use Rattle.facet_solver.specs.Reached.{ContentReached, VariantReached, reach}
+use Rattle.facet_solver.specs.build.Reached.{ContentReached, VariantReached, reach}
 use Rattle.facet_solver.proofs.Counted.{no_fall-trans}
 use Rattle.facet_solver.proofs.Marks.{up_to_one}
 use Rattle.facet_solver.proofs.NestedTable.{visits_so_far}

@@ -3,7 +3,7 @@ use Rattle.std.specs.Prelude.{All, sum_by}
 use Rattle.facet_solver_shape.specs.Steps.{NoCountFalls}
 use Rattle.facet_solver_shape.specs.Catalogues.{VariantsBelow}
 use Rattle.facet_solver_shape.specs.declared.shape.Variant.{Variant}
-use Rattle.facet_solver.specs.Reached.{IsReachedMore, Reach, ReachAmong, VariantReached, reach}
+use Rattle.facet_solver.specs.build.Reached.{IsReachedMore, Reach, ReachAmong, VariantReached, reach}
 use Rattle.facet_solver.proofs.build.nested.reached.mark_variants.Given as goal
 
 -- what those so far lead to is marked

@@ -1,7 +1,7 @@
 use Rattle.std.proofs.Common.{◌≡◌, ◌≤◌, ◌+◌, ◌-◌, ◌∙◌, inl, inr, arith, length, true}
 use Rattle.std.proofs.lemmas.Bool.{cases_lt}
-use Rattle.facet_solver.specs.Build.{build_of}
-use Rattle.facet_solver.specs.Reached.{reach}
+use Rattle.facet_solver.specs.build.Build.{build_of}
+use Rattle.facet_solver.specs.build.Reached.{reach}
 use Rattle.facet_solver.proofs.Marks.{mark_at, not_marked}
 use Rattle.facet_solver.proofs.Reached.{one_less, reached-mono, reached-trans}
 use Rattle.facet_solver.proofs.build.nested.reached.mark_walked.Goals as goal

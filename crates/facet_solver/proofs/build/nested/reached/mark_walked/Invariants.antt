@@ -1,7 +1,7 @@
 use Rattle.std.proofs.Common.{◌≡◌, ◌≤◌, ℕ, length}
-use Rattle.facet_solver.specs.Build.{build_of}
-use Rattle.facet_solver.specs.NestedTable.{IsMarked}
-use Rattle.facet_solver.specs.Reached.{AreReached, Asked, AskedAmong, IsReachedAt, IsReachedMore, asked, reach}
+use Rattle.facet_solver.specs.build.Build.{build_of}
+use Rattle.facet_solver.specs.build.NestedTable.{IsMarked}
+use Rattle.facet_solver.specs.build.Reached.{AreReached, Asked, AskedAmong, IsReachedAt, IsReachedMore, asked, reach}
 use Rattle.facet_solver.proofs.build.nested.reached.mark_walked.Given as goal
 
 -- what the marked shapes from an index on lead to is marked

@@ -2,7 +2,7 @@ use Rattle.std.proofs.Common.{ap, sym, take, map, ◌∙◌, List}
 use Rattle.std.proofs.lemmas.List.{take-map}
 use Rattle.facet_solver_shape.specs.Paths.{segment_of}
 use Rattle.facet_solver_shape.specs.declared.resolution.path.PathSegment.{PathSegment}
-use Rattle.facet_solver.specs.Place.{Path}
+use Rattle.facet_solver.specs.build.Place.{Path}
 use Rattle.facet_solver.proofs.build.place.Place.cut.Goals as goal
 
 pub returns : goal.returns

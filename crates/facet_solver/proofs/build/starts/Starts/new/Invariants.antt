@@ -1,4 +1,4 @@
-use Rattle.facet_solver.specs.Build.{build_of}
+use Rattle.facet_solver.specs.build.Build.{build_of}
 use Rattle.facet_solver.proofs.Starts.{AreFirstTables}
 use Rattle.facet_solver.proofs.build.starts.Starts.new.Given as goal
 

@@ -4,9 +4,9 @@ use Rattle.std.proofs.lemmas.List.{take_all}
 use Rattle.std.specs.Char.{is_ascii}
 use Rattle.std.specs.Fmt.{◌++?◌}
 use Rattle.std.specs.List.{list_all, flat_map}
-use Rattle.facet_solver.specs.ErrorTexts.{missing_names}
-use Rattle.facet_solver.specs.QuotedNames.{quoted, later_text}
-use Rattle.facet_solver.specs.Report.{missing_view}
+use Rattle.facet_solver.specs.error.ErrorTexts.{missing_names}
+use Rattle.facet_solver.specs.error.QuotedNames.{quoted, later_text}
+use Rattle.facet_solver.specs.error.ErrorView.{missing_view}
 use Rattle.facet_solver.proofs.ErrorTexts.{owed_when, all_at, text_of_name, written, flat_map_next, ascii_each, later_each}
 use Rattle.facet_solver.proofs.error.failure.LaterNamesDisplay.fmt.Goals as goal
 

@@ -1,9 +1,9 @@
 use Rattle.std.proofs.Common.{◌≡◌, true, map, take, ◌++◌, codes}
 use Rattle.std.specs.Fmt.{HasWritten, IsPlainFormatter}
 use Rattle.std.specs.List.{flat_map}
-use Rattle.facet_solver.specs.ErrorTexts.{missing_names}
-use Rattle.facet_solver.specs.QuotedNames.{quoted, all_ascii}
-use Rattle.facet_solver.specs.Report.{missing_view}
+use Rattle.facet_solver.specs.error.ErrorTexts.{missing_names}
+use Rattle.facet_solver.specs.error.QuotedNames.{quoted, all_ascii}
+use Rattle.facet_solver.specs.error.ErrorView.{missing_view}
 use Rattle.facet_solver.proofs.error.failure.LaterNamesDisplay.fmt.Given as goal
 
 -- the names so far are written

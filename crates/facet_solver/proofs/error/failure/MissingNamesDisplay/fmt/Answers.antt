@@ -1,8 +1,8 @@
 use Rattle.std.proofs.Common.{map, sym, ◌∙◌, ap}
 use Rattle.std.proofs.Output.{displays_on_ok_of_eq}
-use Rattle.facet_solver.specs.ErrorTexts.{missing_names}
-use Rattle.facet_solver.specs.QuotedNames.{list_output}
-use Rattle.facet_solver.specs.Report.{missing_view}
+use Rattle.facet_solver.specs.error.ErrorTexts.{missing_names}
+use Rattle.facet_solver.specs.error.QuotedNames.{list_output}
+use Rattle.facet_solver.specs.error.ErrorView.{missing_view}
 use Rattle.facet_solver.proofs.QuotedNames.{first_and_later}
 use Rattle.facet_solver.proofs.error.failure.MissingNamesDisplay.fmt.Goals as goal
 

@@ -3,8 +3,8 @@ use Rattle.std.proofs.Output.{has_written_append, has_written_of_eq}
 use Rattle.std.proofs.lemmas.List.{take_all}
 use Rattle.std.proofs.lemmas.List.Folds.{flat_map-map}
 use Rattle.std.specs.List.{flat_map}
-use Rattle.facet_solver.specs.ErrorTexts.{field_at_path}
-use Rattle.facet_solver.specs.Report.{missing_view}
+use Rattle.facet_solver.specs.error.ErrorTexts.{field_at_path}
+use Rattle.facet_solver.specs.error.ErrorView.{missing_view}
 use Rattle.facet_solver.proofs.ErrorTexts.{written, flat_map_next}
 use Rattle.facet_solver.proofs.error.no_match.AtPathsDisplay.fmt.Goals as goal
 

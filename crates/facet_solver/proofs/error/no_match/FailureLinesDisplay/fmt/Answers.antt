@@ -3,9 +3,9 @@ use Rattle.std.proofs.Output.{has_written_append, has_written_of_eq}
 use Rattle.std.proofs.lemmas.List.{take_all}
 use Rattle.std.proofs.lemmas.List.Folds.{flat_map-map}
 use Rattle.std.specs.List.{flat_map}
-use Rattle.facet_solver.specs.ErrorTexts.{failure_text, failure_names}
-use Rattle.facet_solver.specs.QuotedNames.{all_ascii}
-use Rattle.facet_solver.specs.Report.{failure_view}
+use Rattle.facet_solver.specs.error.ErrorTexts.{failure_text, failure_names}
+use Rattle.facet_solver.specs.error.QuotedNames.{all_ascii}
+use Rattle.facet_solver.specs.error.ErrorView.{failure_view}
 use Rattle.facet_solver.proofs.ErrorTexts.{owed_when, ascii_at, text_of, written, flat_map_next}
 use Rattle.facet_solver.proofs.error.no_match.FailureLinesDisplay.fmt.Goals as goal
 

@@ -1,9 +1,9 @@
 use Rattle.std.proofs.Common.{◌≡◌, true, map, take}
 use Rattle.std.specs.Fmt.{HasWritten, IsPlainFormatter}
 use Rattle.std.specs.List.{flat_map}
-use Rattle.facet_solver.specs.ErrorTexts.{failure_text, failure_names}
-use Rattle.facet_solver.specs.QuotedNames.{all_ascii}
-use Rattle.facet_solver.specs.Report.{failure_view}
+use Rattle.facet_solver.specs.error.ErrorTexts.{failure_text, failure_names}
+use Rattle.facet_solver.specs.error.QuotedNames.{all_ascii}
+use Rattle.facet_solver.specs.error.ErrorView.{failure_view}
 use Rattle.facet_solver.proofs.error.no_match.FailureLinesDisplay.fmt.Given as goal
 
 -- the lines so far are written

@@ -1,6 +1,6 @@
 use Rattle.std.proofs.Common.{map, take, length, ap, sym, ◌∙◌}
 use Rattle.facet_solver_shape.specs.Fields.{entry_view, FieldView}
-use Rattle.facet_solver.specs.Indexed.{fields_of_each}
+use Rattle.facet_solver.specs.schema.Indexed.{fields_of_each}
 use Rattle.facet_solver.proofs.UnderWay.{each_more, count_before, fields_at, fields_at_is, way_start, way_more, way_end}
 use Rattle.facet_solver.proofs.schema.index.Index.add_all.Goals as goal
 

@@ -1,5 +1,5 @@
 use Rattle.std.proofs.Common.{length, take}
-use Rattle.facet_solver.specs.Indexed.{fields_of_each}
+use Rattle.facet_solver.specs.schema.Indexed.{fields_of_each}
 use Rattle.facet_solver.proofs.UnderWay.{IsUnderWay, fields_at}
 use Rattle.facet_solver.proofs.schema.index.Index.add_all.Given as goal
 

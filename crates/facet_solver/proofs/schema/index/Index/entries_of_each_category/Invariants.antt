@@ -1,8 +1,8 @@
 use Rattle.std.proofs.Common.{◌≡◌, ◌++◌, Bor, drop, map}
 use Rattle.std.specs.List.{filter_map}
-use Rattle.facet_solver.specs.IndexEntries.{entry_at}
-use Rattle.facet_solver.specs.Slots.{categories, slot_in}
-use Rattle.facet_solver.specs.declared.schema.index.Entry.{Entry}
+use Rattle.facet_solver.specs.schema.IndexEntries.{entry_at}
+use Rattle.facet_solver.specs.schema.Slots.{categories, slot_in}
+use Rattle.facet_solver.specs.declared.schema.index.entry.Entry.{Entry}
 use Rattle.facet_solver.proofs.schema.index.Index.entries_of_each_category.Given as goal
 
 abbrev pub invariant-loop-category : goal.invariant-loop-category

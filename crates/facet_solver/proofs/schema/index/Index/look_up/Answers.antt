@@ -1,6 +1,6 @@
 use Rattle.std.proofs.Common.{length, subst, sym}
 use Rattle.facet_solver_shape.specs.Keys.{key_of}
-use Rattle.facet_solver.specs.Indexed.{IsEntryIfAny}
+use Rattle.facet_solver.specs.schema.Indexed.{IsEntryIfAny}
 use Rattle.facet_solver.specs.Resolutions.{field_at}
 use Rattle.facet_solver.proofs.LookUps.{entry_exact}
 use Rattle.facet_solver.proofs.schema.index.Index.look_up.Goals as goal

@@ -1,7 +1,7 @@
 use Rattle.std.proofs.Common.{◌≡◌, ℕ, [], ◌+◌, ◌-◌, ◌*◌, ◌^◌, ◌<◌, ◌≤◌, length, ap, sym, ◌∙◌, arith, w64}
 use Rattle.std.proofs.lemmas.Nat.Bits.{bit_at-trailing_zeros}
 use Rattle.std.specs.Int.{trailing_zeros}
-use Rattle.facet_solver.specs.SharedBits.{CommonView, common_bit, common_word}
+use Rattle.facet_solver.specs.set.SharedBits.{CommonView, common_bit, common_word}
 use Rattle.facet_solver.proofs.IndexSet.{next_below}
 use Rattle.facet_solver.proofs.SharedBits.{common_clear, next_by_words, next_common, none_by_words, none_common}
 use Rattle.facet_solver.proofs.set.common.CommonIter.next.Goals as goal

@@ -1,5 +1,5 @@
 use Rattle.std.proofs.Common.{◌∙◌}
-use Rattle.facet_solver.specs.State.{is_tag_field}
+use Rattle.facet_solver.specs.solver.State.{is_tag_field}
 use Rattle.facet_solver.proofs.State.{any_field}
 use Rattle.facet_solver.proofs.solver.conditions.tag_field.has_tag_field.Goals as goal
 

@@ -2,7 +2,7 @@ use Rattle.std.proofs.Common.{◌≡◌}
 use Rattle.std.specs.List.{list_any}
 use Rattle.facet_solver_shape.specs.Fields.{FieldView}
 use Rattle.facet_solver_shape.specs.declared.resolution.key.FieldKey.{FieldKey}
-use Rattle.facet_solver.specs.State.{is_tag_field}
+use Rattle.facet_solver.specs.solver.State.{is_tag_field}
 use Rattle.facet_solver.proofs.solver.conditions.tag_field.have_tag_field.Given as goal
 
 -- what is left decides

@@ -3,8 +3,8 @@ use Rattle.std.specs.List.{list_all}
 use Rattle.facet_solver_shape.specs.Fields.{FieldView}
 use Rattle.facet_solver_shape.specs.Keys.{key_of}
 use Rattle.facet_solver_shape.specs.declared.resolution.key.FieldKey.{FieldKey}
-use Rattle.facet_solver.specs.Failure.{is_met}
-use Rattle.facet_solver.specs.SeenNames.{IsSuffixOf, left}
+use Rattle.facet_solver.specs.solver.Failure.{is_met}
+use Rattle.facet_solver.specs.solver.SeenNames.{IsSuffixOf, left}
 use Rattle.facet_solver.proofs.solver.conditions.viable.are_met.Given as goal
 
 -- what is left decides, and the cursors go through the seen keys

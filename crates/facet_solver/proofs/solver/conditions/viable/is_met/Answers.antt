@@ -1,6 +1,6 @@
 use Rattle.std.proofs.Common.{ap, sym, ◌∙◌}
 use Rattle.facet_solver_shape.specs.Fields.{FieldView}
-use Rattle.facet_solver.specs.SeenNames.{left}
+use Rattle.facet_solver.specs.solver.SeenNames.{left}
 use Rattle.facet_solver.proofs.Cursor.{end_of_end, met_behind, met_by_match}
 use Rattle.facet_solver.proofs.solver.conditions.viable.is_met.Goals as goal
 use Rattle.facet_solver.proofs.solver.conditions.viable.is_met.Goals.{then-eq+else-finds-2, else-eq}

@@ -1,6 +1,6 @@
 use Rattle.std.proofs.Common.{map, ◌∙◌}
 use Rattle.facet_solver_shape.specs.Keys.{key_of}
-use Rattle.facet_solver.specs.Failure.{is_met}
+use Rattle.facet_solver.specs.solver.Failure.{is_met}
 use Rattle.facet_solver.proofs.Cursor.{each_of_fields}
 use Rattle.facet_solver.proofs.solver.conditions.viable.is_viable.Goals as goal
 

@@ -2,10 +2,10 @@ use Rattle.std.proofs.Common.{Bool, Option, List, filter, map, ap, sym, ◌∙�
 use Rattle.std.proofs.lemmas.List.{map-append}
 use Rattle.facet_solver_shape.specs.Fields.{FieldView}
 use Rattle.facet_solver_shape.specs.Names.{Name, names_of}
-use Rattle.facet_solver.specs.KeyResult.{scored_view}
+use Rattle.facet_solver.specs.solver.KeyResult.{scored_view}
 use Rattle.facet_solver.specs.KeyPath.{has_key_path, whole_path}
-use Rattle.facet_solver.specs.Probe.{field_on_path_at, fields_on_path, scored}
-use Rattle.facet_solver.specs.Schema.{SchemaView}
+use Rattle.facet_solver.specs.solver.Probe.{field_on_path_at, fields_on_path, scored}
+use Rattle.facet_solver.specs.schema.Schema.{SchemaView}
 use Rattle.facet_solver.specs.Resolutions.{passes}
 use Rattle.facet_solver.proofs.Probe.{firsts_new, firsts_old, firsts_none, firsts_failed, told_of}
 use Rattle.facet_solver.proofs.solver.path_search.PathSearch.add_if_new.Goals as goal

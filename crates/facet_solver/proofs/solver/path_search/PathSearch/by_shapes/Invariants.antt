@@ -1,8 +1,8 @@
 use Rattle.std.proofs.Common.{◌≡◌, ◌++◌, map}
 use Rattle.facet_solver_shape.specs.Names.{names_of}
-use Rattle.facet_solver.specs.KeyResult.{scored_view}
+use Rattle.facet_solver.specs.solver.KeyResult.{scored_view}
 use Rattle.facet_solver.specs.KeyPath.{whole_path}
-use Rattle.facet_solver.specs.Probe.{scored_at, shapes_on_path}
+use Rattle.facet_solver.specs.solver.Probe.{scored_at, shapes_on_path}
 use Rattle.facet_solver.proofs.solver.path_search.PathSearch.by_shapes.Given as goal
 
 -- the shapes of the members so far, and the fields with their scores

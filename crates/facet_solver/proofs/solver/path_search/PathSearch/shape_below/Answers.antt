@@ -2,8 +2,8 @@ use Rattle.std.proofs.Common.{ap, sym, ◌∙◌}
 use Rattle.std.specs.Option.{option_and_then}
 use Rattle.facet_solver_shape.specs.Names.{names_of}
 use Rattle.facet_solver.specs.KeyPath.{whole_path}
-use Rattle.facet_solver.specs.Probe.{below_first}
-use Rattle.facet_solver.specs.ShapeAtPath.{shape_below, shape_of_member}
+use Rattle.facet_solver.specs.solver.Probe.{below_first}
+use Rattle.facet_solver.specs.solver.ShapeAtPath.{shape_below, shape_of_member}
 use Rattle.facet_solver.proofs.Probe.{shape_below-push}
 use Rattle.facet_solver.proofs.solver.path_search.PathSearch.shape_below.Goals as goal
 

@@ -1,7 +1,7 @@
 use Rattle.std.proofs.Common.{map, ap, ◌∙◌}
 use Rattle.facet_solver_shape.specs.Keys.{key_of}
-use Rattle.facet_solver.specs.Report.{MissingView, missing_view, no_match}
-use Rattle.facet_solver.specs.Verdict.{closest, state_of_report}
+use Rattle.facet_solver.specs.error.ErrorView.{MissingView, missing_view, no_match}
+use Rattle.facet_solver.specs.solver.Report.{closest, state_of_report}
 use Rattle.facet_solver.proofs.Missing.{told_names}
 use Rattle.facet_solver.proofs.SeenNames.{names_of_all}
 use Rattle.facet_solver.proofs.solver.report.Report.no_match.Goals as goal

@@ -1,8 +1,8 @@
 use Rattle.std.proofs.Common.{ap, false, map, not, ◌∙◌}
 use Rattle.std.specs.Option.{option_map_or}
 use Rattle.facet_solver_shape.specs.Keys.{key_of}
-use Rattle.facet_solver.specs.Build.{Catalogue}
-use Rattle.facet_solver.specs.Failure.{missing_fields, names_where}
+use Rattle.facet_solver.specs.build.Build.{Catalogue}
+use Rattle.facet_solver.specs.solver.Failure.{missing_fields, names_where}
 use Rattle.facet_solver.specs.Resolutions.{has_key}
 use Rattle.facet_solver.proofs.solver.report.failure.failure.Goals as goal
 

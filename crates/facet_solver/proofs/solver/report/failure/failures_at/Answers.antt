@@ -1,8 +1,8 @@
 use Rattle.std.proofs.Common.{◌≡◌, ℕ, List, Some, None, map, ap}
 use Rattle.facet_solver_shape.specs.Resolved.{Resolved}
-use Rattle.facet_solver.specs.Failure.{failure_of}
-use Rattle.facet_solver.specs.Report.{FailureView, failure_view}
-use Rattle.facet_solver.specs.Verdict.{resolutions_at, state_of_report}
+use Rattle.facet_solver.specs.solver.Failure.{failure_of}
+use Rattle.facet_solver.specs.error.ErrorView.{FailureView, failure_view}
+use Rattle.facet_solver.specs.solver.Report.{resolutions_at, state_of_report}
 use Rattle.facet_solver.proofs.AtIndices.{got, none_at, one_at}
 use Rattle.facet_solver.proofs.Left.{left_none, left_one, map_pushed}
 use Rattle.facet_solver.proofs.solver.report.failure.failures_at.Goals as goal

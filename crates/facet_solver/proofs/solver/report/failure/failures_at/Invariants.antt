@@ -1,7 +1,7 @@
 use Rattle.std.proofs.Common.{◌≡◌, ◌++◌, map}
-use Rattle.facet_solver.specs.Failure.{failure_of}
-use Rattle.facet_solver.specs.Report.{failure_view}
-use Rattle.facet_solver.specs.Verdict.{resolutions_at, state_of_report}
+use Rattle.facet_solver.specs.solver.Failure.{failure_of}
+use Rattle.facet_solver.specs.error.ErrorView.{failure_view}
+use Rattle.facet_solver.specs.solver.Report.{resolutions_at, state_of_report}
 use Rattle.facet_solver.proofs.solver.report.failure.failures_at.Given as goal
 
 abbrev pub invariant-loop-index : goal.invariant-loop-index

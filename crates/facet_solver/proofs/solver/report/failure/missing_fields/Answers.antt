@@ -2,9 +2,9 @@ use Rattle.std.proofs.Common.{List, map, ap, refl, sym, ◌∙◌}
 use Rattle.facet_solver_shape.specs.Fields.{FieldView, entry_view}
 use Rattle.facet_solver_shape.specs.Keys.{Key}
 use Rattle.facet_solver_shape.specs.declared.resolution.key.FieldKey.{FieldKey}
-use Rattle.facet_solver.specs.Build.{Catalogue}
-use Rattle.facet_solver.specs.Failure.{missing_field}
-use Rattle.facet_solver.specs.Report.{MissingView, missing_view}
+use Rattle.facet_solver.specs.build.Build.{Catalogue}
+use Rattle.facet_solver.specs.solver.Failure.{missing_field}
+use Rattle.facet_solver.specs.error.ErrorView.{MissingView, missing_view}
 use Rattle.facet_solver.proofs.Left.{left_end, left_none, left_one, left_start, map_pushed}
 use Rattle.facet_solver.proofs.Missing.{met_left, missing_among, missing_left}
 use Rattle.facet_solver.proofs.solver.report.failure.missing_fields.Goals as goal

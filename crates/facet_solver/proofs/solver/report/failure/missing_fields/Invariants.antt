@@ -2,8 +2,8 @@ use Rattle.std.proofs.Common.{◌≡◌, ◌++◌, List, map}
 use Rattle.facet_solver_shape.specs.Fields.{entry_view}
 use Rattle.facet_solver_shape.specs.Keys.{Key}
 use Rattle.std.specs.FinMap as finite
-use Rattle.facet_solver.specs.Report.{missing_view}
-use Rattle.facet_solver.specs.SeenNames.{AreSeenNames}
+use Rattle.facet_solver.specs.error.ErrorView.{missing_view}
+use Rattle.facet_solver.specs.solver.SeenNames.{AreSeenNames}
 use Rattle.facet_solver.proofs.Missing.{missing_among}
 use Rattle.facet_solver.proofs.solver.report.failure.missing_fields.Given as goal
 

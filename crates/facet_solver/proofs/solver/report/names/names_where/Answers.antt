@@ -2,7 +2,7 @@ use Rattle.std.proofs.Common.{Bool, List, map, ap, refl, sym, ◌∙◌, string_
 use Rattle.facet_solver_shape.specs.declared.resolution.key.FieldKey.{FieldKey}
 use Rattle.facet_solver_shape.specs.Keys.{Key, key_of}
 use Rattle.facet_solver_shape.specs.Names.{Name}
-use Rattle.facet_solver.specs.Failure.{names_where}
+use Rattle.facet_solver.specs.solver.Failure.{names_where}
 use Rattle.facet_solver.proofs.Left.{left_end, left_none, left_one, left_start, map_pushed}
 use Rattle.facet_solver.proofs.SeenNames.{name_left, name_taken}
 use Rattle.facet_solver.proofs.solver.report.names.names_where.Goals as goal

@@ -1,6 +1,6 @@
 use Rattle.std.proofs.Common.{◌≡◌, ◌++◌, map, string_bytes}
 use Rattle.facet_solver_shape.specs.Keys.{key_of}
-use Rattle.facet_solver.specs.Failure.{names_where}
+use Rattle.facet_solver.specs.solver.Failure.{names_where}
 use Rattle.facet_solver.proofs.solver.report.names.names_where.Given as goal
 
 abbrev pub invariant-loop-key : goal.invariant-loop-key

@@ -2,7 +2,7 @@ use Rattle.std.proofs.Common.{map, ap, ◌∙◌}
 use Rattle.facet_solver_shape.specs.Fields.{entry_view, FieldView}
 use Rattle.facet_solver_shape.specs.Names.{Name}
 use Rattle.std.proofs.Common.{List}
-use Rattle.facet_solver.specs.Verdict.{resolution_field_names}
+use Rattle.facet_solver.specs.solver.Report.{resolution_field_names}
 use Rattle.facet_solver.proofs.NameSets.{fills_more, filled_both, in_both, names_of_entries}
 use Rattle.facet_solver.proofs.solver.report.viable.add_names.Goals as goal
 

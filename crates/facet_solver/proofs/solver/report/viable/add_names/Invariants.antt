@@ -1,6 +1,6 @@
 use Rattle.std.proofs.Common.{map}
 use Rattle.facet_solver_shape.specs.Fields.{entry_view}
-use Rattle.facet_solver.specs.Verdict.{resolution_field_names}
+use Rattle.facet_solver.specs.solver.Report.{resolution_field_names}
 use Rattle.facet_solver.proofs.NameSets.{Fills, in_both, names_of_entries}
 use Rattle.facet_solver.proofs.solver.report.viable.add_names.Given as goal
 

@@ -4,7 +4,7 @@ use Rattle.std.proofs.lemmas.List.{drop_more}
 use Rattle.std.proofs.Math.ListN.{drop_of_length-le}
 use Rattle.facet_solver_shape.specs.Names.{Name}
 use Rattle.facet_solver_shape.specs.Resolved.{Resolved}
-use Rattle.facet_solver.specs.Verdict.{resolution_field_names, resolutions_at}
+use Rattle.facet_solver.specs.solver.Report.{resolution_field_names, resolutions_at}
 use Rattle.facet_solver.proofs.AtIndices.{got, none_at, one_at}
 use Rattle.facet_solver.proofs.NameSets.{Fills, fills_start, fills_union, filled_list, in_list}
 use Rattle.facet_solver.proofs.solver.report.viable.all_names.Goals as goal

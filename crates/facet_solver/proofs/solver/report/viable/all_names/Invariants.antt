@@ -1,6 +1,6 @@
 use Rattle.std.proofs.Common.{drop}
 use Rattle.std.specs.List.{flat_map}
-use Rattle.facet_solver.specs.Verdict.{resolution_field_names, resolutions_at}
+use Rattle.facet_solver.specs.solver.Report.{resolution_field_names, resolutions_at}
 use Rattle.facet_solver.proofs.NameSets.{Fills, in_list}
 use Rattle.facet_solver.proofs.solver.report.viable.all_names.Given as goal
 

@@ -3,7 +3,7 @@ use Rattle.std.proofs.lemmas.List.{drop_more}
 use Rattle.std.proofs.Math.ListN.{drop_of_length-le}
 use Rattle.facet_solver_shape.specs.Names.{Name}
 use Rattle.facet_solver_shape.specs.Resolved.{Resolved, description}
-use Rattle.facet_solver.specs.Verdict.{descriptions, resolutions_at}
+use Rattle.facet_solver.specs.solver.Report.{descriptions, resolutions_at}
 use Rattle.facet_solver.proofs.AtIndices.{got, none_at, one_at}
 use Rattle.facet_solver.proofs.Left.{left_end, left_none, left_one, left_start, map_pushed}
 use Rattle.facet_solver.proofs.solver.report.viable.descriptions.Goals as goal

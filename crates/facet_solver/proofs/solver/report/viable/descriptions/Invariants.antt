@@ -1,5 +1,5 @@
 use Rattle.std.proofs.Common.{◌≡◌, ◌++◌, drop, map, string_bytes}
-use Rattle.facet_solver.specs.Verdict.{descriptions, resolutions_at}
+use Rattle.facet_solver.specs.solver.Report.{descriptions, resolutions_at}
 use Rattle.facet_solver.proofs.solver.report.viable.descriptions.Given as goal
 
 abbrev pub invariant-loop-index : goal.invariant-loop-index

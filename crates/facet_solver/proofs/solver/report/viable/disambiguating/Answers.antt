@@ -2,8 +2,8 @@ use Rattle.std.proofs.Common.{Bor, ℕ, List, map, ap, refl, sym, ◌∙◌, str
 use Rattle.std.specs.List.{flat_map}
 use Rattle.facet_solver_shape.specs.Names.{Name, names_of}
 use Rattle.facet_solver_shape.specs.Resolved.{Resolved}
-use Rattle.facet_solver.specs.Failure.{in_byte_order}
-use Rattle.facet_solver.specs.Verdict.{resolution_field_names, resolutions_at}
+use Rattle.facet_solver.specs.solver.Failure.{in_byte_order}
+use Rattle.facet_solver.specs.solver.Report.{resolution_field_names, resolutions_at}
 use Rattle.facet_solver.proofs.AtIndices.{lacked_among, lacked_at, lacked_left, lacked_taken}
 use Rattle.facet_solver.proofs.ByteOrder.{list_in_order}
 use Rattle.facet_solver.proofs.Left.{left_end, left_none, left_one, left_start, map_pushed}

@@ -1,6 +1,6 @@
 use Rattle.std.proofs.Common.{◌<◌, ℕ, List, All, filter, length, refl, subst, sym}
 use Rattle.facet_solver.specs.Resolutions.{passes}
-use Rattle.facet_solver.specs.Verdict.{is_viable, state_of_report}
+use Rattle.facet_solver.specs.solver.Report.{is_viable, state_of_report}
 use Rattle.facet_solver.proofs.AtIndices.{all_within}
 use Rattle.facet_solver.proofs.Left.{left_end}
 use Rattle.facet_solver.proofs.solver.report.viable.viable_indices.Goals as goal

@@ -1,6 +1,6 @@
 use Rattle.std.proofs.Common.{◌≡◌, ◌++◌, filter}
 use Rattle.facet_solver.specs.Resolutions.{passes}
-use Rattle.facet_solver.specs.Verdict.{is_viable, state_of_report}
+use Rattle.facet_solver.specs.solver.Report.{is_viable, state_of_report}
 use Rattle.facet_solver.proofs.solver.report.viable.viable_indices.Given as goal
 
 abbrev pub invariant-loop-index : goal.invariant-loop-index

@@ -1,5 +1,5 @@
 use Rattle.std.proofs.Common.{sym, subst}
-use Rattle.facet_solver.specs.NestedNames.{AreRising}
+use Rattle.facet_solver.specs.build.NestedNames.{AreRising}
 use Rattle.facet_solver.proofs.NestedNames.{no_names_rise}
 use Rattle.facet_solver.proofs.build.nested.by_name.FieldsByName.empty.Goals as goal
 

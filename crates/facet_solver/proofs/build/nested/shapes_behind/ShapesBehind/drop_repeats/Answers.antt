@@ -1,8 +1,8 @@
 use Rattle.std.proofs.Common.{◌≡◌, ℕ, true, ap, sym, ◌∙◌, subst, nat_eq}
 use Rattle.std.specs.List.{AllByRecursion, dedup}
 use Rattle.std.proofs.lemmas.List.Filters.{dedup_is}
-use Rattle.facet_solver.specs.Nested.{paths_of_each}
-use Rattle.facet_solver.specs.NestedNames.{shapes_behind}
+use Rattle.facet_solver.specs.build.Nested.{paths_of_each}
+use Rattle.facet_solver.specs.build.NestedNames.{shapes_behind}
 use Rattle.facet_solver.proofs.NestedNames.{each-dedup, each_permuted, paths-dedup, paths-permutation}
 use Rattle.facet_solver.proofs.build.nested.shapes_behind.ShapesBehind.drop_repeats.Goals as goal
 

@@ -2,10 +2,10 @@ use Rattle.std.proofs.Common.{◌≡◌, [], ◌∷◌, ap, sym, ◌∙◌, subs
 use Rattle.std.specs.Prelude.{OnOk}
 use Rattle.std.specs.List.{AllByRecursion}
 use Rattle.facet_solver_shape.specs.Names.{Name}
-use Rattle.facet_solver.specs.Nested.{KeyPaths, entered_view, has_fields, if_entered, named, paths_of_each}
-use Rattle.facet_solver.specs.Build.{kind_at}
-use Rattle.facet_solver.specs.NestedNames.{shapes_behind}
-use Rattle.facet_solver.specs.NestedTable.{HasMore, IsFilled, is_filled, under_of}
+use Rattle.facet_solver.specs.build.Nested.{KeyPaths, entered_view, has_fields, if_entered, named, paths_of_each}
+use Rattle.facet_solver.specs.build.Build.{kind_at}
+use Rattle.facet_solver.specs.build.NestedNames.{shapes_behind}
+use Rattle.facet_solver.specs.build.NestedTable.{HasMore, IsFilled, is_filled, under_of}
 use Rattle.facet_solver.specs.declared.build.nested.table.Earlier.{Earlier}
 use Rattle.facet_solver.proofs.NestedFields.{first_of}
 use Rattle.facet_solver.proofs.NestedSets.{union-none}

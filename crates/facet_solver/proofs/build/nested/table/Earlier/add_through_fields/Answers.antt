@@ -1,8 +1,8 @@
 use Rattle.std.proofs.Common.{◌+◌, ◌∙◌, ap, arith, drop, sym}
 use Rattle.std.specs.FinSet.{union}
-use Rattle.facet_solver.specs.Nested.{KeyPaths, entered_view, through_field, through_fields}
-use Rattle.facet_solver.specs.NestedNames.{paths_of_names}
-use Rattle.facet_solver.specs.NestedTable.{FieldAsks, IsFilled, under_of}
+use Rattle.facet_solver.specs.build.Nested.{KeyPaths, entered_view, through_field, through_fields}
+use Rattle.facet_solver.specs.build.NestedNames.{paths_of_names}
+use Rattle.facet_solver.specs.build.NestedTable.{FieldAsks, IsFilled, under_of}
 use Rattle.facet_solver.proofs.Counted.{no_fall-trans, visited}
 use Rattle.facet_solver.proofs.NestedTable.{all_at, no_more, one_more}
 use Rattle.facet_solver.proofs.build.nested.table.Earlier.add_through_fields.Goals as goal

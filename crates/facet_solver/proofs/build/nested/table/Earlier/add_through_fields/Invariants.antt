@@ -1,9 +1,9 @@
 use Rattle.std.proofs.Common.{◌≡◌, ◌+◌, drop}
 use Rattle.std.specs.FinSet.{union}
 use Rattle.facet_solver_shape.specs.Steps.{NoCountFalls}
-use Rattle.facet_solver.specs.Nested.{entered_view, through_fields}
-use Rattle.facet_solver.specs.NestedNames.{NamesLead, paths_of_names}
-use Rattle.facet_solver.specs.NestedTable.{is_filled, under_of}
+use Rattle.facet_solver.specs.build.Nested.{entered_view, through_fields}
+use Rattle.facet_solver.specs.build.NestedNames.{NamesLead, paths_of_names}
+use Rattle.facet_solver.specs.build.NestedTable.{is_filled, under_of}
 use Rattle.facet_solver.proofs.build.nested.table.Earlier.add_through_fields.Given as goal
 
 -- those so far and those through the fields that are left

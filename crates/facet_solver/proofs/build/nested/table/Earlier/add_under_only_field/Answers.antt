@@ -1,7 +1,7 @@
 use Rattle.std.proofs.Common.{sym, ◌∙◌, subst}
 use Rattle.std.specs.Prelude.{OnOk}
-use Rattle.facet_solver.specs.Nested.{KeyPaths, entered_view, if_entered, under_shape, through_field}
-use Rattle.facet_solver.specs.NestedTable.{HasMore, under_of}
+use Rattle.facet_solver.specs.build.Nested.{KeyPaths, entered_view, if_entered, under_shape, through_field}
+use Rattle.facet_solver.specs.build.NestedTable.{HasMore, under_of}
 use Rattle.facet_solver.proofs.NestedFields.{second_of}
 use Rattle.facet_solver.proofs.NestedSets.{union-none}
 use Rattle.facet_solver.proofs.NestedTable.{by_field, by_shape, more_if_ok, when_entered}

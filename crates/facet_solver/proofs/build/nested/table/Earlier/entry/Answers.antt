@@ -4,9 +4,9 @@ use Rattle.std.specs.List.{AllByRecursion}
 use Rattle.facet_solver_shape.specs.declared.shape.Field.{Field}
 use Rattle.facet_solver_shape.specs.declared.shape.ShapeKind.{ShapeKind}
 use Rattle.facet_solver_shape.specs.declared.shape.Variant.{Variant}
-use Rattle.facet_solver.specs.Nested.{entered_view, through_fields, under_variant, under_variants}
-use Rattle.facet_solver.specs.FieldCount.{fields_of_kind}
-use Rattle.facet_solver.specs.NestedTable.{FieldAsks, IsFilled, IsMade, KindAsks, LeadTo, VariantAsks, is_filled, paths_by_name, under_of}
+use Rattle.facet_solver.specs.build.Nested.{entered_view, through_fields, under_variant, under_variants}
+use Rattle.facet_solver.specs.build.FieldCount.{fields_of_kind}
+use Rattle.facet_solver.specs.build.NestedTable.{FieldAsks, IsFilled, IsMade, KindAsks, LeadTo, VariantAsks, is_filled, paths_by_name, under_of}
 use Rattle.facet_solver.specs.declared.build.nested.by_name.FieldsByName.{FieldsByName}
 use Rattle.facet_solver.proofs.NestedTable.{all_ok, both_ok, entry_of_other}
 use Rattle.facet_solver.proofs.build.nested.table.Earlier.entry.Goals as goal

@@ -3,9 +3,9 @@ use Rattle.std.specs.FinSet.{union}
 use Rattle.std.specs.List.{AllByRecursion}
 use Rattle.std.proofs.lemmas.List.{map_more}
 use Rattle.std.proofs.lemmas.Option.{slice_get-get_or}
-use Rattle.facet_solver.specs.Nested.{KeyPaths, entered_view, under_variant, under_variants}
-use Rattle.facet_solver.specs.NestedNames.{Names, NamesLead, paths_of_names}
-use Rattle.facet_solver.specs.NestedTable.{AreFieldsOf, LeadTo, is_filled, paths_by_name, under_of}
+use Rattle.facet_solver.specs.build.Nested.{KeyPaths, entered_view, under_variant, under_variants}
+use Rattle.facet_solver.specs.build.NestedNames.{Names, NamesLead, paths_of_names}
+use Rattle.facet_solver.specs.build.NestedTable.{AreFieldsOf, LeadTo, is_filled, paths_by_name, under_of}
 use Rattle.facet_solver.proofs.Counted.{no_fall-refl, no_fall-trans}
 use Rattle.facet_solver.proofs.NestedFields.{each_push}
 use Rattle.facet_solver.proofs.NestedSets.{none-union}

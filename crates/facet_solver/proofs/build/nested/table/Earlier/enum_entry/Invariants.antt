@@ -3,9 +3,9 @@ use Rattle.std.specs.Prelude.{sum_by}
 use Rattle.std.specs.FinSet.{union}
 use Rattle.std.specs.List.{AllByRecursion}
 use Rattle.facet_solver_shape.specs.Steps.{NoCountFalls}
-use Rattle.facet_solver.specs.Nested.{entered_view, under_variant, under_variants}
-use Rattle.facet_solver.specs.NestedNames.{NamesLead, paths_of_names}
-use Rattle.facet_solver.specs.NestedTable.{LeadTo, is_filled, paths_by_name, under_of}
+use Rattle.facet_solver.specs.build.Nested.{entered_view, under_variant, under_variants}
+use Rattle.facet_solver.specs.build.NestedNames.{NamesLead, paths_of_names}
+use Rattle.facet_solver.specs.build.NestedTable.{LeadTo, is_filled, paths_by_name, under_of}
 use Rattle.facet_solver.proofs.build.nested.table.Earlier.enum_entry.Given as goal
 
 -- those so far and those under the variants that are left

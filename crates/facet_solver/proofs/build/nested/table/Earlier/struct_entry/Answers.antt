@@ -1,4 +1,4 @@
-use Rattle.facet_solver.specs.NestedTable.{is_filled, under_of}
+use Rattle.facet_solver.specs.build.NestedTable.{is_filled, under_of}
 use Rattle.facet_solver.proofs.NestedTable.{all_fields}
 use Rattle.facet_solver.proofs.build.nested.table.Earlier.struct_entry.Goals as goal
 

@@ -1,5 +1,5 @@
 use Rattle.std.proofs.Common.{◌≡◌, [], ◌∷◌, ap, arith, sym, ◌∙◌, length}
-use Rattle.facet_solver.specs.Nested.{entered_view, if_entered, under_shape, under_fields_step, through_fields}
+use Rattle.facet_solver.specs.build.Nested.{entered_view, if_entered, under_shape, under_fields_step, through_fields}
 use Rattle.facet_solver.proofs.NestedTable.{all_fields, both_ok, by_all_fields, by_only_field, same_fields}
 use Rattle.facet_solver.proofs.build.nested.table.Earlier.under_variant.Goals as goal
 

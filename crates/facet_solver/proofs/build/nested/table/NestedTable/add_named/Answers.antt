@@ -1,8 +1,8 @@
 use Rattle.std.proofs.Common.{◌≡◌, ◌∷◌, ◌++◌, [], ◌∙◌, Bor, List, ap, sym}
 use Rattle.facet_solver_shape.specs.Names.{Name, names_of}
 use Rattle.facet_solver_shape.specs.Resolved.{Resolved, with_key_path}
-use Rattle.facet_solver.specs.Nested.{KeyPath, with_paths_behind}
-use Rattle.facet_solver.specs.NestedTable.{paths_by_name}
+use Rattle.facet_solver.specs.build.Nested.{KeyPath, with_paths_behind}
+use Rattle.facet_solver.specs.build.NestedTable.{paths_by_name}
 use Rattle.facet_solver.proofs.NestedSets.{named_last}
 use Rattle.facet_solver.proofs.NestedTable.{on_ok}
 use Rattle.facet_solver.proofs.build.nested.table.NestedTable.add_named.Goals as goal

@@ -8,10 +8,10 @@ use Rattle.std.proofs.Math.Seq.{take-append_seam}
 use Rattle.std.proofs.lemmas.List.{length_push}
 use Rattle.facet_solver_shape.specs.Names.{Name, names_of}
 use Rattle.facet_solver_shape.specs.Resolved.{with_key_path}
-use Rattle.facet_solver.specs.Nested.{KeyPaths, Under, paths_of_each, with_paths_behind}
-use Rattle.facet_solver.specs.NestedLevels.{names_left, paths_of_levels, shown}
-use Rattle.facet_solver.specs.NestedNames.{AreRising, Names, NamesLead, paths_of_names, shapes_behind}
-use Rattle.facet_solver.specs.NestedTable.{EntriesStandFor, is_filled, paths_by_name}
+use Rattle.facet_solver.specs.build.Nested.{KeyPaths, Under, paths_of_each, with_paths_behind}
+use Rattle.facet_solver.specs.build.NestedLevels.{names_left, paths_of_levels, shown}
+use Rattle.facet_solver.specs.build.NestedNames.{AreRising, Names, NamesLead, paths_of_names, shapes_behind}
+use Rattle.facet_solver.specs.build.NestedTable.{EntriesStandFor, is_filled, paths_by_name}
 use Rattle.facet_solver.specs.declared.build.nested.names_left.Level.{Level}
 use Rattle.facet_solver.specs.declared.build.nested.names_left.NamesLeft.{NamesLeft}
 use Rattle.facet_solver.specs.declared.build.nested.shapes_behind.ShapesBehind.{ShapesBehind}

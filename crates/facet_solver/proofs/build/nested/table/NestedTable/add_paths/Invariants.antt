@@ -1,10 +1,10 @@
 use Rattle.std.proofs.Common.{◌≡◌, ◌++◌}
 use Rattle.std.specs.List.{AllByRecursion}
 use Rattle.facet_solver_shape.specs.Names.{names_of}
-use Rattle.facet_solver.specs.Nested.{Under, with_paths_behind}
-use Rattle.facet_solver.specs.NestedLevels.{names_left, paths_of_levels}
-use Rattle.facet_solver.specs.NestedNames.{paths_of_names}
-use Rattle.facet_solver.specs.NestedTable.{EntriesStandFor, paths_by_name}
+use Rattle.facet_solver.specs.build.Nested.{Under, with_paths_behind}
+use Rattle.facet_solver.specs.build.NestedLevels.{names_left, paths_of_levels}
+use Rattle.facet_solver.specs.build.NestedNames.{paths_of_names}
+use Rattle.facet_solver.specs.build.NestedTable.{EntriesStandFor, paths_by_name}
 use Rattle.facet_solver.proofs.NestedFields.{limit_of_names}
 use Rattle.facet_solver.proofs.NestedLevels.{AreOpen, IsOpen, entry_paths, level_names, steps_left}
 use Rattle.facet_solver.proofs.build.nested.table.NestedTable.add_paths.Given as goal

@@ -2,9 +2,9 @@ use Rattle.std.proofs.Common.{◌≡◌, ◌+◌, ◌≤◌, Some, ℕ, ap, drop
 use Rattle.std.specs.Prelude.{◌&&◌, nat_lt}
 use Rattle.std.specs.FinSet.{union}
 use Rattle.std.proofs.lemmas.Option.{slice_get-get_or}
-use Rattle.facet_solver.specs.Nested.{KeyPaths, paths_of_each}
-use Rattle.facet_solver.specs.NestedNames.{Names, NamesLead, paths_of_names}
-use Rattle.facet_solver.specs.NestedTable.{is_filled}
+use Rattle.facet_solver.specs.build.Nested.{KeyPaths, paths_of_each}
+use Rattle.facet_solver.specs.build.NestedNames.{Names, NamesLead, paths_of_names}
+use Rattle.facet_solver.specs.build.NestedTable.{is_filled}
 use Rattle.facet_solver.proofs.NestedFields.{each_at, leads_below}
 use Rattle.facet_solver.proofs.NestedSets.{none-union}
 use Rattle.facet_solver.proofs.NestedTable.{if_ok, no_more, one_more}

@@ -2,9 +2,9 @@ use Rattle.std.proofs.Common.{◌≡◌, ◌≤◌, ℕ, drop}
 use Rattle.std.specs.Prelude.{◌&&◌, nat_lt}
 use Rattle.std.specs.FinSet.{union}
 use Rattle.std.specs.List.{AllByRecursion}
-use Rattle.facet_solver.specs.Nested.{Under, paths_of_each}
-use Rattle.facet_solver.specs.NestedNames.{NamesLead, paths_of_names}
-use Rattle.facet_solver.specs.NestedTable.{EntriesStandFor, is_filled}
+use Rattle.facet_solver.specs.build.Nested.{Under, paths_of_each}
+use Rattle.facet_solver.specs.build.NestedNames.{NamesLead, paths_of_names}
+use Rattle.facet_solver.specs.build.NestedTable.{EntriesStandFor, is_filled}
 use Rattle.facet_solver.proofs.build.nested.table.NestedTable.fields_under.Given as goal
 
 -- those so far and those under the shapes that are left

@@ -1,9 +1,9 @@
 use Rattle.std.proofs.Common.{◌≡◌, ◌∷◌, [], ◌≤◌, ℕ, Some, ap, arith, nat_lt, slice_get, subst, sym, ◌∙◌}
 use Rattle.std.specs.Prelude.{◌&&◌}
 use Rattle.std.proofs.lemmas.Option.{slice_get-get_or}
-use Rattle.facet_solver.specs.Nested.{paths_of_each}
-use Rattle.facet_solver.specs.NestedNames.{NamesLead, paths_of_names}
-use Rattle.facet_solver.specs.NestedTable.{is_filled}
+use Rattle.facet_solver.specs.build.Nested.{paths_of_each}
+use Rattle.facet_solver.specs.build.NestedNames.{NamesLead, paths_of_names}
+use Rattle.facet_solver.specs.build.NestedTable.{is_filled}
 use Rattle.facet_solver.proofs.NestedFields.{each_at, leads_below}
 use Rattle.facet_solver.proofs.NestedSets.{union-none}
 use Rattle.facet_solver.proofs.NestedTable.{one_item}

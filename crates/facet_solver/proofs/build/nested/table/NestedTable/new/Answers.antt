@@ -2,10 +2,10 @@ use Rattle.std.proofs.Common.{◌≡◌, ◌<◌, ◌≤◌, ◌+◌, true, ℕ,
 use Rattle.std.specs.Prelude.{IfSome}
 use Rattle.std.proofs.lemmas.List.{length_push}
 use Rattle.facet_solver_shape.specs.declared.shape.ShapeKind.{ShapeKind}
-use Rattle.facet_solver.specs.Build.{kind_at, kind_of}
-use Rattle.facet_solver.specs.Nested.{entered_view}
-use Rattle.facet_solver.specs.FieldCount.{field_count}
-use Rattle.facet_solver.specs.NestedTable.{AreEntries, AreFirstEntries, EntryLeadsTo, IsFilled, IsNestedEntry, KindAsks, LeadEarlier, is_filled}
+use Rattle.facet_solver.specs.build.Build.{kind_at, kind_of}
+use Rattle.facet_solver.specs.build.Nested.{entered_view}
+use Rattle.facet_solver.specs.build.FieldCount.{field_count}
+use Rattle.facet_solver.specs.build.NestedTable.{AreEntries, AreFirstEntries, EntryLeadsTo, IsFilled, IsNestedEntry, KindAsks, LeadEarlier, is_filled}
 use Rattle.facet_solver.specs.declared.build.nested.table.Entry.{Entry}
 use Rattle.facet_solver.proofs.Counted.{no_fall-trans}
 use Rattle.facet_solver.proofs.Marks.{mark_at}

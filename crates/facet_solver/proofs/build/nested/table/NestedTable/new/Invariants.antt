@@ -1,8 +1,8 @@
 use Rattle.std.proofs.Common.{◌+◌, ◌-◌, ◌≤◌, length, take}
 use Rattle.facet_solver_shape.specs.Steps.{NoCountFalls}
-use Rattle.facet_solver.specs.Nested.{entered_view}
-use Rattle.facet_solver.specs.FieldCount.{field_count}
-use Rattle.facet_solver.specs.NestedTable.{AreFirstEntries}
+use Rattle.facet_solver.specs.build.Nested.{entered_view}
+use Rattle.facet_solver.specs.build.FieldCount.{field_count}
+use Rattle.facet_solver.specs.build.NestedTable.{AreFirstEntries}
 use Rattle.facet_solver.proofs.build.nested.table.NestedTable.new.Given as goal
 
 -- the entries so far, and the visits that they took

@@ -2,8 +2,8 @@ use Rattle.std.proofs.Common.{◌≡◌, ◌∙◌, Option, Some, None, IsSome, 
 use Rattle.std.specs.Prelude.{IfSome}
 use Rattle.std.proofs.lemmas.Option.{get_or_from_slice_get}
 use Rattle.facet_solver_shape.specs.declared.shape.Variant.{Variant}
-use Rattle.facet_solver.specs.Nested.{KeyPaths, content_paths, every_kind, named, under_shape, with_key_paths}
-use Rattle.facet_solver.specs.NestedTable.{LeadTo, is_filled, paths_by_name, variant_at}
+use Rattle.facet_solver.specs.build.Nested.{KeyPaths, content_paths, every_kind, named, under_shape, with_key_paths}
+use Rattle.facet_solver.specs.build.NestedTable.{LeadTo, is_filled, paths_by_name, variant_at}
 use Rattle.facet_solver.proofs.NestedFields.{each_at}
 use Rattle.facet_solver.proofs.NestedTable.{on_ok}
 use Rattle.facet_solver.proofs.Serving.{entries_stand, entry_filled, variant_entry}

@@ -1,7 +1,7 @@
 use Rattle.std.proofs.Common.{◌≡◌, ◌∙◌, ap, sym}
 use Rattle.facet_solver_shape.specs.Resolved.{with_key_path}
-use Rattle.facet_solver.specs.Nested.{KeyPath, KeyPaths, named, nested_paths, structs_alone, under_shape, with_key_paths}
-use Rattle.facet_solver.specs.NestedTable.{paths_by_name}
+use Rattle.facet_solver.specs.build.Nested.{KeyPath, KeyPaths, named, nested_paths, structs_alone, under_shape, with_key_paths}
+use Rattle.facet_solver.specs.build.NestedTable.{paths_by_name}
 use Rattle.facet_solver.proofs.NestedSets.{with-name}
 use Rattle.facet_solver.proofs.NestedTable.{on_ok}
 use Rattle.facet_solver.proofs.Serving.{entries_stand, entry_filled, regular_entry, regular_nothing}

@@ -1,8 +1,8 @@
 use Rattle.std.proofs.Common.{◌≡◌, ◌++◌, ◌+◌, ◌*◌, ◌<◌, ◌≤◌, ◌∙◌, ℕ, ap, arith, length, slice_get, subst, take}
-use Rattle.facet_solver.specs.Build.{Catalogue, build_of, kind_at}
-use Rattle.facet_solver.specs.FieldCount.{field_count, fields_of_kind}
-use Rattle.facet_solver.specs.NestedTable.{IsFilled, IsMarked}
-use Rattle.facet_solver.specs.Reached.{AskedAmong, asked, reach}
+use Rattle.facet_solver.specs.build.Build.{Catalogue, build_of, kind_at}
+use Rattle.facet_solver.specs.build.FieldCount.{field_count, fields_of_kind}
+use Rattle.facet_solver.specs.build.NestedTable.{IsFilled, IsMarked}
+use Rattle.facet_solver.specs.build.Reached.{AskedAmong, asked, reach}
 use Rattle.facet_solver.proofs.Marks.{NoMark, among-none, none_before, none_behind, none_marked}
 use Rattle.facet_solver.proofs.NestedTable.{fields_with_earlier}
 use Rattle.facet_solver.proofs.Reached.{shape_kept}

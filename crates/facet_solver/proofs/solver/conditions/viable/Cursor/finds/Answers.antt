@@ -1,5 +1,5 @@
 use Rattle.std.proofs.Common.{◌∷◌, ◌++◌, [], ap, refl, sym, ◌∙◌}
-use Rattle.facet_solver.specs.SeenNames.{keys_from, left}
+use Rattle.facet_solver.specs.solver.SeenNames.{keys_from, left}
 use Rattle.facet_solver.proofs.Cursor.{keys_on}
 use Rattle.facet_solver.proofs.IndexSet.{rest_more}
 use Rattle.facet_solver.proofs.solver.conditions.viable.Cursor.finds.Goals as goal

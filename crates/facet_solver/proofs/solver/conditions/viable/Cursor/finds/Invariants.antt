@@ -1,5 +1,5 @@
 use Rattle.std.proofs.Common.{length}
-use Rattle.facet_solver.specs.SeenNames.{IsSuffixOf, left}
+use Rattle.facet_solver.specs.solver.SeenNames.{IsSuffixOf, left}
 use Rattle.facet_solver.proofs.solver.conditions.viable.Cursor.finds.Given as goal
 
 -- the keys from the cursor on are the last of those at first

@@ -2,7 +2,7 @@ use Rattle.std.proofs.Common.{◌≡◌, ◌&&◌, true, false, [], ap, sym, ◌
 use Rattle.std.specs.FinSet.{contains}
 use Rattle.facet_solver_shape.specs.Fields.{FieldView, takes_any_name}
 use Rattle.facet_solver_shape.specs.Resolved.{names_view}
-use Rattle.facet_solver.specs.SeenNames.{of_category}
+use Rattle.facet_solver.specs.solver.SeenNames.{of_category}
 use Rattle.facet_solver.proofs.CategoryNames.{met_by_kept, met_by_name, met_by_rest}
 use Rattle.facet_solver.proofs.NameSets.{contains_name}
 use Rattle.facet_solver.proofs.solver.report.seen.SeenNames.meet.Goals as goal

@@ -1,0 +1,26 @@
+-- What a build makes of a catalogue.
+pub mod Build
+pub mod Format
+pub mod Representation
+pub mod Roles
+pub mod Content
+pub mod Place
+pub mod Emissions
+pub mod Walk
+pub mod WalkFrames
+pub mod CatchAlls
+pub mod Contribution
+pub mod Choice
+pub mod Listing
+pub mod Count
+pub mod Counts
+pub mod Starts
+pub mod Work
+pub mod ChoiceParts
+pub mod Outcome
+pub mod FieldCount
+pub mod Nested
+pub mod NestedNames
+pub mod NestedTable
+pub mod NestedLevels
+pub mod Reached

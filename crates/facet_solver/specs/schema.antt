@@ -1,0 +1,7 @@
+-- A schema, the handles of its resolutions, and its index.
+pub mod Schema
+pub mod SchemaStorage
+pub mod ResolutionHandle
+pub mod Slots
+pub mod IndexEntries
+pub mod Indexed

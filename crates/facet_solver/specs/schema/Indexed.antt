@@ -1,0 +1,76 @@
+-- What the entries of an index say of the resolutions.
+use Rattle.std.specs.Prelude.{◌≡◌, ◌≢◌, ℕ, Bool, List, Option, Some, None, MatchOption, All, filter, find, is_some, map, slice_get}
+use Rattle.std.specs.FinMap as finite
+use Rattle.std.specs.Option.{option_and_then}
+use Rattle.facet_solver_shape.specs.declared.resolution.key.FieldCategory.{FieldCategory}
+use Rattle.facet_solver_shape.specs.declared.resolution.key.FieldCategory.TheVariants.{Flat as FlatCategory}
+use Rattle.facet_solver_shape.specs.Fields.{FieldView}
+use Rattle.facet_solver_shape.specs.Resolved.{Resolved}
+use Rattle.facet_solver.specs.set.IndexSet.{upto}
+use Rattle.facet_solver.specs.schema.IndexEntries.{entry_at}
+use Rattle.facet_solver.specs.schema.Slots.{Slot, is_at}
+use Rattle.facet_solver.specs.declared.build.format.Format.{Format}
+use Rattle.facet_solver.specs.declared.build.format.Format.TheVariants.{Flat, Dom}
+use Rattle.facet_solver.specs.declared.schema.index.entry.Entry.{Entry}
+use Rattle.facet_solver.specs.declared.schema.index.Index.{Index}
+
+-- the field that is meant in each resolution, by its number, if there is one
+abbrev pub Meant : Type 0
+Meant = ℕ → Option FieldView
+
+-- the fields that are meant have one shape, and there is one
+pub record AgreesOn (shape : ℕ) (meant : Meant) : Type 0 where
+  pub index : ℕ
+  pub field : FieldView
+  pub present : meant index ≡ Some field
+  pub same : field.shape ≡ shape
+  pub all : (i : ℕ) (f : FieldView) → meant i ≡ Some f → f.shape ≡ shape
+
+-- two of the fields that are meant have different shapes
+pub record Differs (meant : Meant) : Type 0 where
+  pub first : ℕ
+  pub second : ℕ
+  pub one : FieldView
+  pub other : FieldView
+  pub one_present : meant first ≡ Some one
+  pub other_present : meant second ≡ Some other
+  pub apart : one.shape ≢ other.shape
+
+-- an entry has the resolutions below a bound in which a field is meant, and the shape of these
+-- fields, if they agree on it
+pub record IsIndexEntry (bound : ℕ) (meant : Meant) (entry : Entry) : Type 0 where
+  pub set : entry.set
+      ≡ record { bound = bound; members = filter (λ i. is_some (meant i)) (upto bound) }
+  pub shape : MatchOption entry.shape (Differs meant) (λ shape. AgreesOn shape meant)
+
+-- there is an entry, or no field is meant
+abbrev pub IsEntryIfAny : ℕ → Meant → Option Entry → Type 0
+IsEntryIfAny bound meant entry =
+    MatchOption entry ((i : ℕ) → meant i ≡ None) (IsIndexEntry bound meant)
+
+-- the first field that passes a test, of the fields of each resolution
+abbrev pub first_passing : (FieldView → Bool) → List (List FieldView) → Meant
+first_passing test lists i = option_and_then (find test) (slice_get lists i)
+
+-- the fields of each resolution, in the order of their stored keys
+abbrev pub fields_of_each : List Resolved → List (List FieldView)
+fields_of_each resolutions = map (λ r. finite.values r.fields) resolutions
+
+-- the entry of each slot is that of the fields that stand there
+abbrev pub IsIndexOf : ℕ → List (List FieldView) → Index → Type 0
+IsIndexOf bound lists index =
+    (slot : Slot) → IsEntryIfAny bound (first_passing (is_at slot) lists) (entry_at index slot)
+
+-- whether a field may have the category in a format: names alone have none, and in categories each
+-- field has one
+abbrev pub IsOfFormat : Format → FieldCategory → Type 0
+IsOfFormat Flat category = category ≡ FlatCategory
+IsOfFormat Dom category = category ≢ FlatCategory
+
+-- the fields of a resolution are of the format
+abbrev pub HasFormat : Format → Resolved → Type 0
+HasFormat format r = All (λ f. IsOfFormat format f.category) (finite.values r.fields)
+
+-- the fields of each resolution are
+abbrev pub AreOfFormat : Format → List Resolved → Type 0
+AreOfFormat format resolutions = All (HasFormat format) resolutions

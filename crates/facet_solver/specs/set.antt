@@ -1,0 +1,4 @@
+-- Sets of indices.
+pub mod IndexSet
+pub mod Words
+pub mod SharedBits
