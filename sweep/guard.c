@@ -1,28 +1,32 @@
-// Watches the memory of the program that it is loaded into, and refuses one request for it: the one whose number REFUSE
-// gives, from 1. It also has reads of standard input and writes on standard output take few bytes, or fail. What it
-// sees it writes on standard error, each in a line:
+// Watches the memory of the program that it is loaded into, and refuses one request for memory: the
+// one whose number REFUSE gives, from 1. It also has reads of standard input and writes on standard
+// output take few bytes, or fail. What it sees it writes on standard error, each in a line:
 //   refused                          the request of that number is refused
 //   asked N where none is needed     a call that promises to take no memory made N requests
-//   held N                           the most bytes that a call held at once, beside those that were held before it
+//   held N                           the most bytes that a call held at once, beside those that
+//                                    were held before it
 //   out of memory without a refusal  a call said that memory was refused, and none was
-//   leaked N                         at the end of the program: how many blocks it has not given back. There need be
-//                                    none: a program that does nothing leaves none either
+//   leaked N                         at the end of the program: how many blocks it has not given
+//                                    back. There need be none: a program that does nothing leaves
+//                                    none either
 //
-// The tests say where a call begins and ends, and they do so by marks: requests of sizes that nothing else asks for. A
-// mark is neither refused nor counted. The sizes, BEGIN to OUT_OF_MEMORY, are those of marks.rt in facet_solver_tests,
-// and sweep/run hands them to the compiler.
+// The tests say where a call begins and ends. They do so by marks: requests of sizes that nothing
+// else asks for. A mark is neither refused nor counted. The sizes, BEGIN to OUT_OF_MEMORY, are
+// those of marks.rt in facet_solver_tests, and sweep/run hands them to the compiler.
 //
-// How reads of standard input go is said by two numbers of the environment, and by two more how writes on standard
-// output go:
-//   READS, WRITES            the most bytes that one takes: the first takes a byte, the next two, and so on up to this
-//                            number, then a byte again. Where it is not set, each takes all that it is asked for
-//   READS_LEFT, WRITES_LEFT  how many are made before all others fail. Where it is not set, none fails
-// A read takes less only where the input ends, and not where a pipe has no more bytes yet. So the number of a request
-// goes by the input alone.
+// Two more numbers of the environment say how reads of standard input go, and two how writes on
+// standard output go:
+//   READS, WRITES            the most bytes that one takes: the first takes a byte, the next two,
+//                            and so on up to this number, then a byte again. Where it is not set,
+//                            each takes all that it is asked for
+//   READS_LEFT, WRITES_LEFT  how many are made before all others fail. Where it is not set, none
+//                            fails
+// A read takes less only where the input ends, and not where a pipe has no more bytes yet. So the
+// number of a request goes by the input alone.
 //
-// The programs call malloc, realloc and free, and no other function that gives or takes blocks. They call read for what
-// they read, and write for what they write. The guard stands on nothing but the C library that they stand on, so it
-// needs no headers.
+// The programs call malloc, realloc and free, and no other function that gives or takes blocks.
+// They call read for what they read, and write for what they write. The guard stands on nothing but
+// the C library that they stand on, so it needs no headers.
 extern void *dlsym(void *, const char *);
 extern char *getenv(const char *);
 extern long atol(const char *);
@@ -46,7 +50,8 @@ static char marked;
 // What is held now.
 static unsigned long blocks, bytes;
 
-// The requests since the last mark BEGIN, the bytes that were held there, and the most that were held since.
+// The requests since the last mark BEGIN, the bytes that were held there, and the most that were
+// held since.
 static unsigned long requests, begun, most;
 
 // Whether a request was refused.
@@ -149,7 +154,8 @@ __attribute__((constructor)) static void begin(void) {
   writes = (struct way){number("WRITES", 0), 1, number("WRITES_LEFT", -1)};
 }
 
-// How many bytes a read or a write takes that is asked for so many, or -1 where it fails, with an error.
+// How many bytes a read or a write takes that is asked for so many. Where it fails, this is -1, and
+// the error is set.
 static long taken(struct way *way, unsigned long asked, int error) {
   if (way->left == 0) {
     *__errno_location() = error;
