@@ -1,6 +1,6 @@
 -- The choice of a rank: among products, variants and what may be absent, and by parts that are
 -- taken from the end.
-use Rattle.std.proofs.Common.{◌≡◌, ◌+◌, ◌-◌, ◌*◌, ◌/◌, ◌%◌, ◌^◌, ◌<◌, ◌≤◌, ℕ, zero, suc, List, [], ◌∷◌, ◌++◌, map, reverse, flat_map, sum_by, Some, None, Bool, true, false, ap, append-nil, append_assoc, arith, drop, get_or, length, refl, subst, sym, ◌∙◌, suc-mul, zero-mul, mul-zero, mul_comm, slice_get, get_or-append-add}
+use Rattle.std.proofs.Common.{◌≡◌, ◌+◌, ◌*◌, ◌/◌, ◌%◌, ◌^◌, ◌<◌, ◌≤◌, ℕ, zero, suc, List, [], ◌∷◌, ◌++◌, map, reverse, flat_map, sum_by, Some, None, Bool, true, false, ap, append-nil, append_assoc, arith, drop, get_or, length, refl, subst, sym, ◌∙◌, suc-mul, zero-mul, mul-zero, mul_comm, slice_get, get_or-append-add}
 use Rattle.std.specs.List.{AllByRecursion}
 use Rattle.std.proofs.lemmas.List.{get_or_append_left}
 use Rattle.std.proofs.lemmas.List.Concat.{flat_map-append}

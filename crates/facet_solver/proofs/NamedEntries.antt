@@ -1,9 +1,8 @@
 -- Entries by their names.
-use Rattle.std.proofs.Common.{◌≡◌, ℕ, Bool, true, false, cond, Option, Some, None, MutBor, Bor, refl, ap, sym, ◌∙◌}
+use Rattle.std.proofs.Common.{◌≡◌, ℕ, Bool, true, false, cond, Option, Some, Bor, refl, ap, ◌∙◌}
 use Rattle.std.specs.Prelude.{if◌then◌else◌, ◌<◌}
 use Rattle.std.specs.BTreeMap.{BTreeMap, UpdatesBy}
 use Rattle.std.specs.Cmp.Lexicographic.{slice_cmp, nat_list_eq_equiv}
-use Rattle.std.specs.Option.{option_copied_mut}
 use Rattle.std.specs.Ordering.{nat_cmp}
 use Rattle.std.specs.Str.{bytes_eq}
 use Rattle.std.proofs.lemmas.Map.Text.{btree_map_updates_str}
@@ -12,14 +11,6 @@ use Rattle.facet_solver_shape.specs.Names.{Name, name_eq}
 use Rattle.facet_solver.specs.schema.IndexEntries.{HasBound, added, named_entry}
 use Rattle.facet_solver.specs.declared.schema.index.entry.Entry.{Entry}
 use Rattle.facet_solver.specs.declared.schema.index.entry.Occurrence.{Occurrence}
-
--- the entry that was lent is that of the name
-pub lent_entry : (m : BTreeMap (Bor Name) Entry) (name : Name) (r : Option (MutBor Entry)) (e : MutBor Entry) → r ≡ Some e → option_copied_mut r ≡ named_entry m name → named_entry m name ≡ Some e.now
-lent_entry m name r e is value = sym value ∙ ap option_copied_mut is
-
--- and where none was, there is none
-pub no_entry : (m : BTreeMap (Bor Name) Entry) (name : Name) (r : Option (MutBor Entry)) → r ≡ None → option_copied_mut r ≡ named_entry m name → named_entry m name ≡ None
-no_entry m name r is value = sym value ∙ ap option_copied_mut is
 
 -- an entry is over the numbers below the bound
 pub bound_of : (bound index : ℕ) (o : Option Entry) (e : Entry) → o ≡ Some e → HasBound bound o → index < bound → index < e.set.bound

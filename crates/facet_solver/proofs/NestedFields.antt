@@ -1,14 +1,14 @@
 -- Fields by name: which key paths they stand for as they grow, and where they lead.
 use Rattle.std.proofs.Common.{◌≡◌, ℕ, zero, suc, ◌≤◌, ◌<◌, List, [], ◌∷◌, ◌++◌, Some, Bool, true, false, refl, sym, ap, ◌∙◌, subst, slice_get, length, arith, max, Bor}
-use Rattle.std.specs.Prelude.{◌&&◌, nat_lt}
+use Rattle.std.specs.Prelude.{◌&&◌, Vec, nat_lt}
+use Rattle.std.specs.declared.alloc.Global.{Global}
 use Rattle.std.specs.FinSet as set
 use Rattle.std.specs.List.{AllByRecursion}
 use Rattle.std.proofs.lemmas.Bool.{lt-ltb, ltb-true}
 use Rattle.facet_solver_shape.specs.Names.{Name}
 use Rattle.facet_solver.specs.build.Nested.{KeyPaths, no_paths, paths_of_each}
-use Rattle.facet_solver.specs.build.NestedTable.{EntryLeadsTo, LeadTo}
+use Rattle.facet_solver.specs.build.NestedTable.{AllLeadTo, LeadTo}
 use Rattle.facet_solver.specs.declared.build.nested.by_name.FieldsByName.{FieldsByName}
-use Rattle.facet_solver.specs.declared.build.nested.table.Entry.{Entry}
 use Rattle.facet_solver.specs.build.NestedNames.{shapes_behind}
 use Rattle.facet_solver.specs.declared.build.nested.shapes_behind.ShapesBehind.{ShapesBehind}
 use Rattle.facet_solver.proofs.NestedSets.{union_assoc, union_comm}
@@ -52,8 +52,8 @@ module _ (p q : ℕ → Bool) (also : (id : ℕ) → p id ≡ true → q id ≡ 
   pub leads_also : (fields : FieldsByName) → LeadTo p fields → LeadTo q fields
   leads_also fields h = each_also _ _ (λ e. each_also _ _ also (shapes_behind e.1)) fields.by_name.items h
 
-  pub entry_leads_also : (entry : Entry) → EntryLeadsTo p entry → EntryLeadsTo q entry
-  entry_leads_also entry h = record { under = leads_also entry.under h.under; variants = each_also (LeadTo p) (LeadTo q) leads_also entry.variants.items h.variants }
+  pub all_lead_also : (each : Vec FieldsByName Global) → AllLeadTo p each → AllLeadTo q each
+  all_lead_also each h = each_also (LeadTo p) (LeadTo q) leads_also each.items h
 
 -- ---- how far the shapes behind names reach: less than this
 unfoldable pub limit_of_shapes : List ℕ → ℕ

@@ -15,9 +15,10 @@ use Rattle.std.proofs.lemmas.Slice.Eq.{bytes_eq-Decides}
 use Rattle.facet_solver_shape.specs.Names.{Name, names_of, name_ref_cmp}
 use Rattle.facet_solver_shape.specs.Resolved.{Resolved, with_key_path}
 use Rattle.facet_solver.specs.build.Nested.{KeyPath, KeyPaths, Under, named, no_paths, paths_of_each, with_paths_behind}
-use Rattle.facet_solver.specs.build.NestedTable.{EntriesStandFor, LeadEarlier, is_filled, nested_entry_at, paths_by_name}
+use Rattle.facet_solver.specs.build.NestedTable.{EntriesStandFor, LeadEarlier, is_filled, paths_by_name, under_at}
 use Rattle.facet_solver.specs.build.NestedLevels.{names_left, paths_of_levels}
 use Rattle.facet_solver.specs.build.NestedNames.{AreRising, Names, NamesLead, paths_of_names, shapes_behind}
+use Rattle.facet_solver.specs.declared.build.nested.by_name.FieldsByName.{FieldsByName}
 use Rattle.facet_solver.specs.declared.build.nested.names_left.Level.{Level}
 use Rattle.facet_solver.specs.declared.build.nested.table.Entry.{Entry}
 use Rattle.facet_solver.specs.declared.build.nested.shapes_behind.ShapesBehind.{ShapesBehind}
@@ -30,17 +31,17 @@ Item = Bor Name × ShapesBehind
 
 -- ---- the paths under the shapes of a table
 -- what an entry stands for, if there is one
-abbrev paths_if_any : Under → Option Entry → KeyPaths
+abbrev paths_if_any : Under → Option FieldsByName → KeyPaths
 paths_if_any under None = no_paths
-paths_if_any under (Some entry) = paths_by_name under entry.under
+paths_if_any under (Some fields) = paths_by_name under fields
 
 -- the key paths under a shape by its entry, down to n levels
-unfoldable pub entry_paths_within : List (Option Entry) → ℕ → Under
+unfoldable pub entry_paths_within : List Entry → ℕ → Under
 entry_paths_within entries zero id = no_paths
-entry_paths_within entries (suc n) id = paths_if_any (entry_paths_within entries n) (nested_entry_at entries id)
+entry_paths_within entries (suc n) id = paths_if_any (entry_paths_within entries n) (under_at entries id)
 
 -- the key paths under a shape by its entry, which leads to earlier shapes alone
-unfoldable pub entry_paths : List (Option Entry) → Under
+unfoldable pub entry_paths : List Entry → Under
 entry_paths entries id = entry_paths_within entries (suc id) id
 
 module _ (g h : Under) (limit : ℕ) (passes : ℕ → Bool) (agree : (id : ℕ) → id < limit → g id ≡ h id) where
@@ -56,23 +57,23 @@ module _ (g h : Under) (limit : ℕ) (passes : ℕ → Bool) (agree : (id : ℕ)
       ap (λ (ps : KeyPaths). set.union (named e.0.now ps) (paths_of_names g es)) (each_same (shapes_behind e.1) lead.0)
       ∙ ap (set.union (named e.0.now (paths_of_each h (shapes_behind e.1)))) (names_same es lead.1)
 
-module _ (entries : List (Option Entry)) (earlier : LeadEarlier entries) where
-  entry_same : (id : ℕ) (g h : Under) → ((k : ℕ) → k < id → g k ≡ h k) → (o : Option Entry) → nested_entry_at entries id ≡ o → paths_if_any g o ≡ paths_if_any h o
+module _ (entries : List Entry) (earlier : LeadEarlier entries) where
+  entry_same : (id : ℕ) (g h : Under) → ((k : ℕ) → k < id → g k ≡ h k) → (o : Option FieldsByName) → under_at entries id ≡ o → paths_if_any g o ≡ paths_if_any h o
   entry_same id g h agree None at = refl
-  entry_same id g h agree (Some entry) at = names_same g h id (is_filled entries) agree entry.under.by_name.items (earlier id entry at).under
+  entry_same id g h agree (Some fields) at = names_same g h id (is_filled entries) agree fields.by_name.items (earlier.under id fields at)
 
   within_same : (n m id : ℕ) → id < n → id < m → entry_paths_within entries n id ≡ entry_paths_within entries m id
   unfolding entry_paths_within
   within_same zero m id p q = absurd (omega arith)
   within_same (suc n) zero id p q = absurd (omega arith)
   within_same (suc n) (suc m) id p q =
-      entry_same id (entry_paths_within entries n) (entry_paths_within entries m) (λ k lt. within_same n m k (omega arith) (omega arith)) (nested_entry_at entries id) refl
+      entry_same id (entry_paths_within entries n) (entry_paths_within entries m) (λ k lt. within_same n m k (omega arith) (omega arith)) (under_at entries id) refl
 
   pub entry_paths-stand : EntriesStandFor (entry_paths entries) entries
   unfolding entry_paths entry_paths_within
-  entry_paths-stand id entry at =
+  entry_paths-stand id fields at =
       let within = entry_paths_within entries id in
-      entry_same id (entry_paths entries) within (λ k lt. within_same (suc k) id k (omega arith) lt) (Some entry) at
+      entry_same id (entry_paths entries) within (λ k lt. within_same (suc k) id k (omega arith) lt) (Some fields) at
       ∙ ap (paths_if_any within) (sym at)
 
 -- ---- names in rising order
@@ -106,17 +107,17 @@ rise-last names e h =
 
 -- ---- levels that are under way
 -- names that lead to entries below a limit
-pub record AreOpen (entries : List (Option Entry)) (limit : ℕ) (names : Names) : Type 0 where
+pub record AreOpen (entries : List Entry) (limit : ℕ) (names : Names) : Type 0 where
   pub lead : NamesLead (is_filled entries) names
   pub within : limit_of_names names ≤ limit
   pub rise : AreRising names
 
 -- a level whose name is not among those beside it
-pub record IsOpen (entries : List (Option Entry)) (limit : ℕ) (level : Level) : Type 0 where
+pub record IsOpen (entries : List Entry) (limit : ℕ) (level : Level) : Type 0 where
   pub beside : AreOpen entries limit (names_left level.beside)
   pub absent : IsAbsent level.name.now (names_left level.beside)
 
-module _ (entries : List (Option Entry)) (limit : ℕ) (names : Names) (e : Item) (all : AreOpen entries limit (names ++ e ∷ [])) where
+module _ (entries : List Entry) (limit : ℕ) (names : Names) (e : Item) (all : AreOpen entries limit (names ++ e ∷ [])) where
   pub open-others : AreOpen entries limit names
   open-others = record {
     lead = (each-last _ names e all.lead).1;
@@ -199,7 +200,7 @@ module _ (under : Under) where
       head_same e = cc
 
   -- the path of a name that was taken is not left
-  not_left : (entries : List (Option Entry)) (limit : ℕ) (levels : List Level) → AllByRecursion (IsOpen entries limit) levels → (names : Names) (name : Name) → IsAbsent name names
+  not_left : (entries : List Entry) (limit : ℕ) (levels : List Level) → AllByRecursion (IsOpen entries limit) levels → (names : Names) (name : Name) → IsAbsent name names
       → Has (paths_of_levels under levels (paths_of_names under names)) (names_of (level_names levels) ++ name ∷ []) → ⊥
   unfolding paths_of_levels
   not_left entries limit [] opened names name absent h = no_path name names absent [] h
@@ -218,7 +219,7 @@ module _ (under : Under) where
       tail_same e = cc
 
   -- what is left falls by one path
-  pub left-less : (entries : List (Option Entry)) (limit : ℕ) (levels : List Level) → AllByRecursion (IsOpen entries limit) levels → (names : Names) (name : Name) → IsAbsent name names
+  pub left-less : (entries : List Entry) (limit : ℕ) (levels : List Level) → AllByRecursion (IsOpen entries limit) levels → (names : Names) (name : Name) → IsAbsent name names
       → (before : KeyPaths) → before ≡ set.insert (paths_of_levels under levels (paths_of_names under names)) (names_of (level_names levels) ++ name ∷ [])
       → set.len before ≡ set.len (paths_of_levels under levels (paths_of_names under names)) + 1
   left-less entries limit levels opened names name absent before is =
@@ -241,13 +242,13 @@ steps-less_far limit n m a b is lt =
 
 -- ---- a name is gone into
 -- what was left is a level, and other names are inside it, which lead less far
-pub record IsInside (entries : List (Option Entry)) (limit : ℕ) (base prefix : List (Bor Name)) (levels : List Level) (old_names names : Names) : Type 0 where
+pub record IsInside (entries : List Entry) (limit : ℕ) (base prefix : List (Bor Name)) (levels : List Level) (old_names names : Names) : Type 0 where
   pub prefix_is : prefix ≡ base ++ level_names levels
   pub opened : AreOpen entries limit names
   pub levels_open : AllByRecursion (IsOpen entries limit) levels
   pub less_far : limit_of_names names < limit_of_names old_names
 
-module _ (entries : List (Option Entry)) (limit : ℕ) (base old_prefix prefix : List (Bor Name)) (old_levels levels : List Level) (level : Level) (old_names names : Names) (shapes : ShapesBehind)
+module _ (entries : List Entry) (limit : ℕ) (base old_prefix prefix : List (Bor Name)) (old_levels levels : List Level) (level : Level) (old_names names : Names) (shapes : ShapesBehind)
     (opened : AreOpen entries limit old_names) (levels_open : AllByRecursion (IsOpen entries limit) old_levels) (is : old_names ≡ names_left level.beside ++ (level.name, shapes) ∷ []) where
   pub is_inside : old_prefix ≡ base ++ level_names old_levels → prefix ≡ old_prefix ++ level.name ∷ [] → levels ≡ old_levels ++ level ∷ [] → 0 < length (shapes_behind shapes)
       → ((top : ℕ) → AllByRecursion (λ id. id ≤ top) (shapes_behind shapes) → NamesLead (λ t. nat_lt t top && is_filled entries t) names) → AreRising names
@@ -290,7 +291,7 @@ path_of base names full name is =
     ∙ ap (λ (ns : List Name). names_of base ++ ns) (map-append (λ (n : Bor Name). n.now) names (name ∷ []))
 
 -- a name was taken or a level ended, and its path is the next to be added
-pub record IsNext (entries : List (Option Entry)) (limit : ℕ) (base prefix : List (Bor Name)) (old_levels levels : List Level) (old_names names : Names) : Type 0 where
+pub record IsNext (entries : List Entry) (limit : ℕ) (base prefix : List (Bor Name)) (old_levels levels : List Level) (old_names names : Names) : Type 0 where
   pub name : Bor Name
   pub prefix_is : prefix ≡ (base ++ level_names levels) ++ name ∷ []
   pub absent : IsAbsent name.now names
@@ -299,7 +300,7 @@ pub record IsNext (entries : List (Option Entry)) (limit : ℕ) (base prefix : L
   pub left : (under : Under) → paths_of_levels under old_levels (paths_of_names under old_names)
       ≡ set.insert (paths_of_levels under levels (paths_of_names under names)) (names_of (level_names levels) ++ name.now ∷ [])
 
-module _ (entries : List (Option Entry)) (limit : ℕ) (base : List (Bor Name)) where
+module _ (entries : List Entry) (limit : ℕ) (base : List (Bor Name)) where
   -- a name that leads nowhere
   pub next_taken : (old_prefix prefix : List (Bor Name)) (old_levels levels : List Level) (old_names names : Names) (e : Item)
       → old_prefix ≡ base ++ level_names old_levels → AreOpen entries limit old_names → AllByRecursion (IsOpen entries limit) old_levels

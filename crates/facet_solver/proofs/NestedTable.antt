@@ -1,13 +1,14 @@
 -- Tables of nested key paths: what is under a shape, from what is under those that its fields name.
 use Rattle.std.proofs.Common.{◌≡◌, ◌⊎◌, inl, inr, map, take, ◌<◌, ◌≤◌, ◌+◌, ℕ, zero, suc, List, [], ◌∷◌, ◌++◌, Option, Some, None, Bool, true, false, sym, refl, ap, ◌∙◌, subst, slice_get, length, get_or, drop, arith, Bor}
 use Rattle.std.specs.List.{AllByRecursion}
-use Rattle.std.specs.Prelude.{All, IfOk, IfSome, OnOk, ⊤, Vec, ◌↔◌, if◌then◌else◌, ◌&&◌, is_some, nat_lt, string_bytes, sum_by}
+use Rattle.std.specs.Prelude.{All, IfOk, IfSome, OnOk, ⊤, Vec, ◌↔◌, if◌then◌else◌, ◌&&◌, ◌||◌, IsSome, is_some, nat_lt, string_bytes, sum_by, unwrap_or}
+use Rattle.std.specs.Bool.{then_some}
 use Rattle.std.specs.declared.alloc.Global.{Global}
 use Rattle.std.specs.declared.result.Result.{Result}
 use Rattle.std.specs.declared.result.Result.TheVariants.{Ok, Err}
 use Rattle.std.specs.FinSet as set
 use Rattle.std.proofs.Math.ListN.{drop_of_length-le}
-use Rattle.std.proofs.lemmas.Bool.{cases_lt, lt-ltb}
+use Rattle.std.proofs.lemmas.Bool.{cases_lt, lt-ltb, or_cases}
 use Rattle.std.proofs.lemmas.List.{drop_more, length_push}
 use Rattle.std.proofs.lemmas.List.Sums.{sum_by-cons, sum_by-take-le, sum_by_more}
 use Rattle.std.proofs.lemmas.Option.{slice_get-get_or, slice_get_past, slice_get_within}
@@ -21,25 +22,26 @@ use Rattle.facet_solver_shape.specs.declared.shape.Variant.{Variant}
 use Rattle.facet_solver_shape.specs.Catalogues.{FieldsBelow, KindBelow, NamesEarlier}
 use Rattle.facet_solver.specs.build.Build.{Catalogue, kind_at}
 use Rattle.facet_solver.specs.build.Content.{is_zero}
-use Rattle.facet_solver.specs.build.Nested.{KeyPaths, Entered, Under, no_paths, paths_of_each, named, through_field, through_fields_step, under_fields_step, under_kind, has_fields, if_entered, under_shape, entered_view}
+use Rattle.facet_solver.specs.build.Nested.{KeyPaths, Entered, Under, no_paths, paths_of_each, named, through_field, through_fields_step, under_fields_step, under_kind, under_variant, has_fields, if_entered, under_shape, entered_view}
 use Rattle.facet_solver.specs.build.FieldCount.{field_count, fields_of_kind}
-use Rattle.facet_solver.specs.build.NestedTable.{AreFieldsOf, AreFirstEntries, EntryLeadsTo, FieldAsks, HasMore, IsClosed, IsFilled, IsMade, IsMarked, IsNestedEntry, IsSound, KindAsks, LeadTo, entry_if_any, is_filled, nested_entry_at, paths_by_name, under_of}
+use Rattle.facet_solver.specs.build.NestedTable.{AllLeadTo, AreFieldsOf, AreFieldsOfEach, AreFirstEntries, AskedBy, FieldAsks, HasMore, IsClosed, IsFilled, IsMade, IsMarked, IsSound, KindAsks, LeadTo, StandForVariants, StandsForKind, is_filled, is_marked, part_of, paths_by_name, under_at, under_kind_of, under_of, variants_at, variants_of}
 use Rattle.facet_solver.specs.build.NestedNames.{Names, NamesLead, paths_of_names, shapes_behind}
 use Rattle.facet_solver.specs.declared.build.nested.by_name.FieldsByName.{FieldsByName}
 use Rattle.facet_solver.specs.declared.build.nested.table.Earlier.{Earlier}
 use Rattle.facet_solver.specs.declared.build.nested.table.Entry.{Entry}
+use Rattle.facet_solver.specs.declared.build.nested.table.Wanted.{Wanted}
 use Rattle.facet_solver.specs.declared.build.nested.shapes_behind.ShapesBehind.{ShapesBehind}
 use Rattle.facet_solver.proofs.Nested.{kind_at-below, under_shape-step}
 use Rattle.facet_solver.proofs.Outcome.{get_push}
 use Rattle.facet_solver.proofs.Roles.{FieldsBelow-at, VariantsBelow-at}
-use Rattle.facet_solver.proofs.NestedFields.{both_of, each_push, entry_leads_also, first_of, leads_also, of_each-push, second_of}
+use Rattle.facet_solver.proofs.NestedFields.{all_lead_also, both_of, each_push, first_of, leads_also, of_each-push, second_of}
 use Rattle.facet_solver.proofs.NestedSets.{none-union, or-right, union-none, union_assoc}
 
 -- an entry stands for what is under the shape at its index
-pub entry_stands : (earlier : Earlier) (id : ℕ) (entry : Entry) → IsSound earlier → slice_get earlier.entries.now id ≡ Some (Some entry) → AreFieldsOf earlier (under_of earlier id) entry.under
-entry_stands earlier id entry sound e = record {
-  stand = (sound.entries id entry (ap entry_if_any e)).under ∙ sym (under_shape-step (entered_view earlier.entered) earlier.shapes.now sound.checked id);
-  lead = leads_also _ _ (λ t h. second_of (nat_lt t id) (is_filled earlier.entries.now t) h) entry.under (sound.leads id entry (ap entry_if_any e)).under;
+pub entry_stands : (earlier : Earlier) (id : ℕ) (fields : FieldsByName) → IsSound earlier → under_at earlier.entries.now id ≡ Some fields → AreFieldsOf earlier (under_of earlier id) fields
+entry_stands earlier id fields sound e = record {
+  stand = sound.entries.under id fields e ∙ sym (under_shape-step (entered_view earlier.entered) earlier.shapes.now sound.checked id);
+  lead = leads_also _ _ (λ t h. second_of (nat_lt t id) (is_filled earlier.entries.now t) h) fields (sound.leads.under id fields e);
 }
 
 -- ---- through one field
@@ -74,9 +76,21 @@ module _ (entered : Entered) (cat : Catalogue) where
   pub through_regular : (f : Field) → f.flattened ≡ false → through_field entered cat f ≡ named (effective_name f) (if_entered entered cat f.shape)
   through_regular f e = if_false f.flattened (under_shape entered cat f.shape) (named (effective_name f) (if_entered entered cat f.shape)) e
 
--- a field asks for what is under its shape where that is entered
-pub asked_where_entered : (Holds : ℕ → Type 0) (entered : Entered) (cat : Catalogue) (f : Field) → FieldAsks Holds entered cat f → entered (kind_at cat f.shape) ≡ true → Holds f.shape
-asked_where_entered Holds entered cat f asked e = asked (or-right f.flattened (entered (kind_at cat f.shape)) e)
+or_left : (a b : Bool) → a ≡ true → (a || b) ≡ true
+or_left true b e = refl
+or_left false b e = absurd (cc)
+
+-- a field asks for what is under its shape, if that has fields, where it is flattened or entered
+module _ (Holds : ℕ → Type 0) (entered : Entered) (cat : Catalogue) (f : Field) (asked : FieldAsks Holds entered cat f) where
+  pub asked_where_flattened : f.flattened ≡ true → has_fields (kind_at cat f.shape) ≡ true → Holds f.shape
+  asked_where_flattened is has = asked (both_of _ _ (or_left f.flattened (entered (kind_at cat f.shape)) is) has)
+
+  pub asked_where_entered : entered (kind_at cat f.shape) ≡ true → has_fields (kind_at cat f.shape) ≡ true → Holds f.shape
+  asked_where_entered is has = asked (both_of _ _ (or-right f.flattened (entered (kind_at cat f.shape)) is) has)
+
+-- nothing is under a kind of shape without fields
+pub nothing_under : (entered : Entered) (cat : Catalogue) (id : ℕ) → NamesEarlier cat → has_fields (kind_at cat id) ≡ false → under_shape entered cat id ≡ no_paths
+nothing_under entered cat id checked e = under_shape-step entered cat checked id ∙ under_none entered cat _ _ (kind_at cat id) e
 
 -- ---- fields that stand for more
 module _ (earlier : Earlier) (paths : KeyPaths) where
@@ -236,18 +250,54 @@ pub all_ok : {X E : Type 0} (P Q R S : X → Type 0) (r : Result X E) → ((x : 
 all_ok P Q R S (Ok x) f p q r = f x p q r
 all_ok P Q R S (Err e) f p q r = tt
 
--- what an entry is made of
-pub made_of : (earlier : Earlier) (kind : ShapeKind) (o : Option Entry) → IfSome o (IsMade earlier kind)
-    → IfSome o (λ entry. IsNestedEntry (entered_view earlier.entered) earlier.shapes.now kind entry × EntryLeadsTo (is_filled earlier.entries.now) entry)
-made_of earlier kind None h = tt
-made_of earlier kind (Some entry) h = (h.is_entry, h.lead)
+-- ---- what is wanted of an entry
+module _ {X : Type 0} (b : Bool) (x : X) where
+  pub is_some-then_some : (o : Option X) → o ≡ then_some b x → is_some o ≡ b
+  is_some-then_some o e = ap is_some e ∙ go b
+    where
+      go : (b : Bool) → is_some (then_some b x) ≡ b
+      go true = refl
+      go false = refl
+
+  pub if_wanted : (P : X → Type 0) (o : Option X) → o ≡ then_some b x → (b ≡ true → P x) → IfSome o P
+  if_wanted P o e h = subst (λ (o : Option X). IfSome o P) (sym e) (go b h)
+    where
+      go : (b : Bool) → (b ≡ true → P x) → IfSome (then_some b x) P
+      go true h = h refl
+      go false h = tt
+
+-- what some have, others have that it follows for
+pub if_some_also : {X : Type 0} (P Q : X → Type 0) (o : Option X) → ((x : X) → P x → Q x) → IfSome o P → IfSome o Q
+if_some_also P Q None f h = tt
+if_some_also P Q (Some x) f h = f x h
+
+pub at_some : {X : Type 0} (P : X → Type 0) (o : Option X) (x : X) → o ≡ Some x → IfSome o P → P x
+at_some P None x e h = absurd (cc)
+at_some P (Some y) x e h = let same : y ≡ x = cc in subst P same h
+
+-- a kind of shape without fields has no key paths under it, and no variants
+pub other_kind : (earlier : Earlier) (k : ShapeKind) → ((kind : StructKind) (fs : Vec Field Global) → k ≡ Struct kind fs → ⊥) → ((vs : Vec Variant Global) → k ≡ Enum vs → ⊥)
+    → (under_kind_of earlier k ≡ no_paths) × (variants_of k ≡ [])
+other_kind earlier (Struct kind fs) p q = absurd (p kind fs refl)
+other_kind earlier (Enum vs) p q = absurd (q vs refl)
+other_kind earlier _ p q = (refl, refl)
+
+-- no fields stand for those of no variants
+pub no_variants : (earlier : Earlier) (variants : List Variant) (each : Vec FieldsByName Global) → variants ≡ [] → each.items ≡ [] → AreFieldsOfEach earlier variants each
+no_variants earlier variants each none is = record {
+  stand = ap (map (paths_by_name (under_of earlier))) is ∙ sym (ap (map (under_variant (entered_view earlier.entered) earlier.shapes.now)) none);
+  lead = subst (AllByRecursion (LeadTo (is_filled earlier.entries.now))) (sym is) tt;
+}
+
+-- the key paths of all items together, item by item
+pub of_each-map : {X Y : Type 0} (f : X → KeyPaths) (g : Y → KeyPaths) (xs : List X) (ys : List Y) → map f xs ≡ map g ys → paths_of_each f xs ≡ paths_of_each g ys
+of_each-map f g xs ys e = together f xs ∙ ap (paths_of_each (λ (ps : KeyPaths). ps)) e ∙ sym (together g ys)
+  where
+    together : {Z : Type 0} (h : Z → KeyPaths) (zs : List Z) → paths_of_each h zs ≡ paths_of_each (λ (ps : KeyPaths). ps) (map h zs)
+    together h [] = refl
+    together h (z ∷ zs) = ap (set.union (h z)) (together h zs)
 
 module _ (entered : Entered) (cat : Catalogue) where
-  pub entry_of_other : (k : ShapeKind) (entry : Entry) → paths_by_name (under_shape entered cat) entry.under ≡ no_paths → entry.variants.items ≡ [] → ((kind : StructKind) (fs : Vec Field Global) → k ≡ Struct kind fs → ⊥) → ((vs : Vec Variant Global) → k ≡ Enum vs → ⊥) → IsNestedEntry entered cat k entry
-  entry_of_other (Struct kind fs) entry u v p q = absurd (p kind fs refl)
-  entry_of_other (Enum vs) entry u v p q = absurd (q vs refl)
-  entry_of_other _ entry u v p q = record { under = u; variants = ap (λ (fs : List FieldsByName). map (paths_by_name (under_shape entered cat)) fs) v }
-
   -- what is asked of one property is asked of another that holds where the first does
   module _ (P Q : ℕ → Type 0) (limit : ℕ) (also : (id : ℕ) → id < limit → P id → Q id) where
     fields_ask : (fs : List Field) → FieldsBelow limit fs → All (FieldAsks P entered cat) fs → All (FieldAsks Q entered cat) fs
@@ -259,6 +309,10 @@ module _ (entered : Entered) (cat : Catalogue) where
     kind_asks _ below h = tt
 
 -- ---- a table grows index by index
+marked_true : (o : Option Bool) → unwrap_or o false ≡ true → o ≡ Some true
+marked_true None e = absurd (cc)
+marked_true (Some b) e = ap Some e
+
 before_end : {X : Type 0} (ts : List X) (x : X) (k : ℕ) → k < length ts → slice_get (ts ++ x ∷ []) k ≡ slice_get ts k
 before_end [] x k h = absurd (omega arith)
 before_end (t ∷ ts) x zero h = refl
@@ -268,78 +322,128 @@ at_end : {X : Type 0} (ts : List X) (x : X) → slice_get (ts ++ x ∷ []) (leng
 at_end [] x = refl
 at_end (t ∷ ts) x = at_end ts x
 
-has_entry : (o : Option (Option Entry)) (entry : Entry) → entry_if_any o ≡ Some entry → o ≡ Some (Some entry)
-has_entry None entry e = absurd (cc)
-has_entry (Some o) entry e = ap Some e
+-- ---- a part of the entries
+module _ {X : Type 0} (part : Entry → Option X) where
+  has_part : (o : Option Entry) (x : X) → part_of part o ≡ Some x → (entry : Entry) × (o ≡ Some entry) × (part entry ≡ Some x)
+  has_part None x e = absurd (cc)
+  has_part (Some entry) x e = (entry, refl, e)
 
-module _ (entered : Entered) (cat : Catalogue) (marks : List Bool) where
-  module _ (ts : List (Option Entry)) (first : AreFirstEntries entered cat marks ts) where
-    -- what the next shape asks for is there, if that is marked
-    pub asked_next : NamesEarlier cat → IsClosed entered cat marks → IsMarked marks (length ts) → KindAsks (IsFilled ts) entered cat (kind_at cat (length ts))
-    asked_next checked closed marked =
+  module _ (ts : List Entry) where
+    -- what a later table has, an earlier one had, or it is that of the last entry
+    part_push : (o : Entry) (id : ℕ) (x : X) → part_of part (slice_get (ts ++ o ∷ []) id) ≡ Some x → (part_of part (slice_get ts id) ≡ Some x) ⊎ ((id ≡ length ts) × (part o ≡ Some x))
+    part_push o id x e =
+        let has = has_part (slice_get (ts ++ o ∷ []) id) x e in
+        elim (get_push ts o has.0 id has.1) [
+          | inl before ↦ inl (ap (part_of part) before ∙ has.2)
+          | inr last ↦ inr (last.0, ap part last.1 ∙ has.2)
+        ]
+
+    -- the marked indices have the part, and no others
+    abbrev pub HaveMarked : List Bool → Type 0
+    HaveMarked marks = (id : ℕ) → id < length ts → IsMarked marks id ↔ IsSome (part_of part (slice_get ts id))
+
+    module _ (marks : List Bool) (have : HaveMarked marks) where
+      one_marked : (o : Entry) → is_some (part o) ≡ is_marked marks (length ts) → (id : ℕ) → id < length (ts ++ o ∷ []) → IsMarked marks id ↔ IsSome (part_of part (slice_get (ts ++ o ∷ []) id))
+      one_marked o some id h = elim (cases_lt id (length ts)) [
+        | inl lt ↦
+            (let e = ap (λ (p : Option Entry). is_some (part_of part p)) (before_end ts o id lt) in
+            (λ m. e ∙ (have id lt).0 m, λ f. (have id lt).1 (sym e ∙ f)))
+        | inr le ↦
+            (let same : id ≡ length ts = (let l = length_push ts o in omega (arith, l, h, le)) in
+            let e = ap (λ (i : ℕ). is_some (part_of part (slice_get (ts ++ o ∷ []) i))) same ∙ ap (λ (p : Option Entry). is_some (part_of part p)) (at_end ts o) ∙ some ∙ ap (is_marked marks) (sym same) in
+            (λ m. e ∙ ap (λ (b : Option Bool). unwrap_or b false) m, λ f. marked_true (slice_get marks id) (sym e ∙ f)))
+      ]
+
+      pub all_marked : length marks ≤ length ts → (id : ℕ) → IsMarked marks id ↔ IsSome (part_of part (slice_get ts id))
+      all_marked all id = elim (cases_lt id (length ts)) [
+        | inl lt ↦ have id lt
+        | inr past ↦ (λ m. absurd (let e = slice_get_past marks id (omega (arith, all, past)) in cc), λ f. absurd (let e = ap (λ (p : Option Entry). is_some (part_of part p)) (slice_get_past ts id past) in cc))
+      ]
+
+-- nothing is marked in no marks
+pub no_marks : (id : ℕ) → IsMarked [] id → ⊥
+no_marks id m = let e : slice_get {X = Bool} [] id ≡ None = slice_get_past [] id (omega arith) in cc
+
+module _ (entered : Entered) (cat : Catalogue) (marks apart : List Bool) where
+  module _ (ts : List Entry) (first : AreFirstEntries entered cat marks apart ts) where
+    -- what the next shape asks for is there, if anything is wanted of it
+    pub asked_next : NamesEarlier cat → IsClosed entered cat marks → AskedBy entered cat apart marks → (is_marked marks (length ts) || is_marked apart (length ts)) ≡ true → KindAsks (IsFilled ts) entered cat (kind_at cat (length ts))
+    asked_next checked closed asked wanted =
         kind_asks entered cat (IsMarked marks) (IsFilled ts) (length ts) (λ id lt m. (first.marked id lt).0 m) (kind_at cat (length ts))
         (kind_at-below entered cat checked (length ts))
-        (closed (length ts) marked)
+        (elim (or_cases (is_marked marks (length ts)) (is_marked apart (length ts)) wanted) [
+          | inl m ↦ closed (length ts) (marked_true (slice_get marks (length ts)) m)
+          | inr m ↦ asked (length ts) (marked_true (slice_get apart (length ts)) m)
+        ])
 
-    -- what has an entry keeps it
-    filled_also : (o : Option Entry) (t : ℕ) → is_filled ts t ≡ true → (t < length ts) × (is_filled (ts ++ o ∷ []) t ≡ true)
+    -- the fields under a shape stay there
+    filled_also : (o : Entry) (t : ℕ) → is_filled ts t ≡ true → (t < length ts) × (is_filled (ts ++ o ∷ []) t ≡ true)
     filled_also o t h = elim (cases_lt t (length ts)) [
-      | inl lt ↦ (lt, ap (λ (p : Option (Option Entry)). is_some (entry_if_any p)) (before_end ts o t lt) ∙ h)
-      | inr past ↦ absurd (let e = ap (λ (p : Option (Option Entry)). is_some (entry_if_any p)) (slice_get_past ts t past) in cc)
+      | inl lt ↦ (lt, ap (λ (p : Option Entry). is_some (part_of (λ entry. entry.under) p)) (before_end ts o t lt) ∙ h)
+      | inr past ↦ absurd (let e = ap (λ (p : Option Entry). is_some (part_of (λ entry. entry.under) p)) (slice_get_past ts t past) in cc)
     ]
 
-    abbrev IsNext : Entry → Type 0
-    IsNext entry = IsNestedEntry entered cat (kind_at cat (length ts)) entry × EntryLeadsTo (is_filled ts) entry
+    -- the entry that comes next
+    pub record IsNext (o : Entry) : Type 0 where
+      pub has_under : is_some o.under ≡ is_marked marks (length ts)
+      pub has_variants : is_some o.variants ≡ is_marked apart (length ts)
+      pub under : IfSome o.under (λ fields. StandsForKind entered cat (kind_at cat (length ts)) fields × LeadTo (is_filled ts) fields)
+      pub variants : IfSome o.variants (λ each. StandForVariants entered cat (kind_at cat (length ts)) each × AllLeadTo (is_filled ts) each)
 
-    module _ (o : Option Entry) (b : Bool) (some : is_some o ≡ b) (mark : slice_get marks (length ts) ≡ Some b) (right : IfSome o IsNext) where
-      is_right : (p : Option Entry) (entry : Entry) → p ≡ Some entry → IfSome p IsNext → IsNext entry
-      is_right None entry e h = absurd (cc)
-      is_right (Some x) entry e h = let same : x ≡ entry = cc in subst IsNext same h
-
-      entry_right : (id : ℕ) (entry : Entry) → (slice_get ts id ≡ Some (Some entry)) ⊎ ((id ≡ length ts) × (o ≡ Some entry)) → IsNestedEntry entered cat (kind_at cat id) entry
-      entry_right id entry (inl before) = first.each id entry (ap entry_if_any before)
-      entry_right id entry (inr last) = subst (λ (i : ℕ). IsNestedEntry entered cat (kind_at cat i) entry) (sym last.0) (is_right o entry last.1 right).0
-
+    module _ (o : Entry) (next : IsNext o) where
       abbrev EarlierThan : ℕ → ℕ → Bool
       EarlierThan id t = nat_lt t id && is_filled (ts ++ o ∷ []) t
 
-      entry_leads : (id : ℕ) (entry : Entry) → (slice_get ts id ≡ Some (Some entry)) ⊎ ((id ≡ length ts) × (o ≡ Some entry)) → EntryLeadsTo (EarlierThan id) entry
-      entry_leads id entry (inl before) =
-          entry_leads_also (λ t. nat_lt t id && is_filled ts t) (EarlierThan id)
-          (λ t h. both_of (nat_lt t id) _ (first_of (nat_lt t id) _ h) (filled_also o t (second_of (nat_lt t id) _ h)).1)
-          entry (first.leads id entry (ap entry_if_any before))
-      entry_leads id entry (inr last) =
-          subst (λ (i : ℕ). EntryLeadsTo (EarlierThan i) entry) (sym last.0)
-          (entry_leads_also (is_filled ts) (EarlierThan (length ts))
-          (λ t h. both_of (nat_lt t (length ts)) _ (lt-ltb t (length ts) (filled_also o t h).0) (filled_also o t h).1)
-          entry (is_right o entry last.1 right).1)
+      -- what leads to earlier entries still does
+      still : (id t : ℕ) → (nat_lt t id && is_filled ts t) ≡ true → EarlierThan id t ≡ true
+      still id t h = both_of (nat_lt t id) _ (first_of (nat_lt t id) _ h) (filled_also o t (second_of (nat_lt t id) _ h)).1
 
-      entry_marked : (id : ℕ) → (id < length ts) ⊎ (id ≡ length ts) → IsMarked marks id ↔ IsFilled (ts ++ o ∷ []) id
-      entry_marked id (inl lt) =
-          let e : nested_entry_at (ts ++ o ∷ []) id ≡ nested_entry_at ts id = ap entry_if_any (before_end ts o id lt) in
-          (λ m. ap is_some e ∙ (first.marked id lt).0 m, λ f. (first.marked id lt).1 (sym (ap is_some e) ∙ f))
-      entry_marked id (inr same) =
-          let e : nested_entry_at (ts ++ o ∷ []) id ≡ o = ap (λ (i : ℕ). nested_entry_at (ts ++ o ∷ []) i) same ∙ ap entry_if_any (at_end ts o) in
-          let here : slice_get marks id ≡ Some b = ap (λ (i : ℕ). slice_get marks i) same ∙ mark in
-          (λ m. ap is_some e ∙ some ∙ told b (sym here ∙ m), λ f. here ∙ ap Some (sym some ∙ sym (ap is_some e) ∙ f))
-        where
-          told : (c : Bool) → Some c ≡ Some true → c ≡ true
-          told c h = cc
+      -- what the last entry leads to is earlier
+      before : (t : ℕ) → is_filled ts t ≡ true → EarlierThan (length ts) t ≡ true
+      before t h = both_of (nat_lt t (length ts)) _ (lt-ltb t (length ts) (filled_also o t h).0) (filled_also o t h).1
 
-      pub one_entry : length ts < length marks → AreFirstEntries entered cat marks (ts ++ o ∷ [])
+      under_right : (id : ℕ) (fields : FieldsByName) → under_at (ts ++ o ∷ []) id ≡ Some fields → StandsForKind entered cat (kind_at cat id) fields × LeadTo (EarlierThan id) fields
+      under_right id fields e = elim (part_push (λ entry. entry.under) ts o id fields e) [
+        | inl there ↦ (first.each.under id fields there, leads_also _ _ (still id) fields (first.leads.under id fields there))
+        | inr last ↦
+            (let right = at_some _ o.under fields last.1 next.under in
+            subst (λ (i : ℕ). StandsForKind entered cat (kind_at cat i) fields × LeadTo (EarlierThan i) fields) (sym last.0) (right.0, leads_also _ _ before fields right.1))
+      ]
+
+      variants_right : (id : ℕ) (each : Vec FieldsByName Global) → variants_at (ts ++ o ∷ []) id ≡ Some each → StandForVariants entered cat (kind_at cat id) each × AllLeadTo (EarlierThan id) each
+      variants_right id each e = elim (part_push (λ entry. entry.variants) ts o id each e) [
+        | inl there ↦ (first.each.variants id each there, all_lead_also _ _ (still id) each (first.leads.variants id each there))
+        | inr last ↦
+            (let right = at_some _ o.variants each last.1 next.variants in
+            subst (λ (i : ℕ). StandForVariants entered cat (kind_at cat i) each × AllLeadTo (EarlierThan i) each) (sym last.0) (right.0, all_lead_also _ _ before each right.1))
+      ]
+
+      pub one_entry : length ts < length marks → AreFirstEntries entered cat marks apart (ts ++ o ∷ [])
       one_entry lt = record {
         within = let l = length_push ts o in omega (arith, l);
-        each = λ id entry e. entry_right id entry (get_push ts o (Some entry) id (has_entry (slice_get (ts ++ o ∷ []) id) entry e));
-        leads = λ id entry e. entry_leads id entry (get_push ts o (Some entry) id (has_entry (slice_get (ts ++ o ∷ []) id) entry e));
-        marked = λ id h. entry_marked id (last_or id (let l = length_push ts o in omega (arith, l, h)));
+        each = record { under = λ id fields e. (under_right id fields e).0; variants = λ id each e. (variants_right id each e).0 };
+        leads = record { under = λ id fields e. (under_right id fields e).1; variants = λ id each e. (variants_right id each e).1 };
+        marked = one_marked (λ entry. entry.under) ts marks first.marked o next.has_under;
+        apart_marked = one_marked (λ entry. entry.variants) ts apart first.apart_marked o next.has_variants;
       }
-        where
-          last_or : (id : ℕ) → id < length ts + 1 → (id < length ts) ⊎ (id ≡ length ts)
-          last_or id h = elim (cases_lt id (length ts)) [ inl lt ↦ inl lt | inr le ↦ inr (omega arith) ]
 
-    -- at the end all marked shapes have an entry, and no others
-    pub all_marked : length marks ≤ length ts → (id : ℕ) → IsMarked marks id ↔ IsFilled ts id
-    all_marked all id = elim (cases_lt id (length ts)) [
-      | inl lt ↦ first.marked id lt
-      | inr past ↦ (λ m. absurd (let e = slice_get_past marks id (omega (arith, all, past)) in cc), λ f. absurd (let e = ap entry_if_any (slice_get_past ts id past) in cc))
-    ]
+-- an entry that is made from those so far comes next
+pub next_made : (earlier : Earlier) (marks apart : List Bool) (ts : List Entry) (first : AreFirstEntries (entered_view earlier.entered) earlier.shapes.now marks apart ts) (wanted : Wanted) (kind : ShapeKind) (entry : Entry)
+    → earlier.entries.now ≡ ts → kind_at earlier.shapes.now (length ts) ≡ kind → wanted.under ≡ is_marked marks (length ts) → wanted.variants ≡ is_marked apart (length ts)
+    → IsMade earlier wanted kind entry → IsNext (entered_view earlier.entered) earlier.shapes.now marks apart ts first entry
+next_made earlier marks apart ts first wanted kind entry same is under variants made =
+    let e = entered_view earlier.entered in
+    let cat = earlier.shapes.now in
+    let next = kind_at cat (length ts) in
+    record {
+      has_under = made.has_under ∙ under;
+      has_variants = made.has_variants ∙ variants;
+      under =
+          subst (λ (us : List Entry). IfSome entry.under (λ fields. StandsForKind e cat next fields × LeadTo (is_filled us) fields)) same
+          (subst (λ (k : ShapeKind). IfSome entry.under (λ fields. StandsForKind e cat k fields × LeadTo (is_filled earlier.entries.now) fields)) (sym is)
+          (if_some_also _ _ entry.under (λ fields are. (are.stand, are.lead)) made.under));
+      variants =
+          subst (λ (us : List Entry). IfSome entry.variants (λ each. StandForVariants e cat next each × AllLeadTo (is_filled us) each)) same
+          (subst (λ (k : ShapeKind). IfSome entry.variants (λ each. StandForVariants e cat k each × AllLeadTo (is_filled earlier.entries.now) each)) (sym is)
+          (if_some_also _ _ entry.variants (λ each are. (are.stand, are.lead)) made.variants));
+    }

@@ -131,7 +131,7 @@ pub taken-field : (r s : Resolved) (f : FieldView) → IsAdded r f s → take_in
 unfolding take_in
 taken-field r s f h = ap (λ (o : Option FieldView). with_known o r f) h.fresh ∙ ap resolved (sym h.after)
 
-pub refused-field : (r : Resolved) (f : FieldView) (err : schema.SchemaError) → IsRefusalOf r f err → ErrorOf (take_in r (a_field f)) err
+pub refused-field : (r : Resolved) (f : FieldView) (err : schema.SchemaError) → IsRefusalOf r.fields f err → ErrorOf (take_in r (a_field f)) err
 unfolding take_in
 refused-field r f OutOfMemory h = tt
 refused-field r f (DuplicateField d) h = go (finite.get r.fields (key_of_field f)) h.taken
@@ -158,7 +158,7 @@ taken-field_and_paths r s t f ps h k =
     take_all-next r s (a_field f) (some_key_paths ps ∷ []) (taken-field r s f h) ∙ take_all-one s (some_key_paths ps) ∙ taken-paths s t ps k
 
 -- a field that is refused, before key paths
-pub refused-field_and_paths : {T : Type 0} (result : Result T schema.SchemaError) (new r : Resolved) (f : FieldView) (ps : KeyPaths) (err : schema.SchemaError) → IsErrAnd result (λ e. e ≡ err) → IsRefusalOf r f err
+pub refused-field_and_paths : {T : Type 0} (result : Result T schema.SchemaError) (new r : Resolved) (f : FieldView) (ps : KeyPaths) (err : schema.SchemaError) → IsErrAnd result (λ e. e ≡ err) → IsRefusalOf r.fields f err
     → Gives (take_all r (a_field f ∷ some_key_paths ps ∷ [])) result new
 refused-field_and_paths result new r f ps err h k =
     gives-exit result new (take_all r (a_field f ∷ some_key_paths ps ∷ [])) err h (error-next r (a_field f) (some_key_paths ps ∷ []) err (refused-field r f err k))

@@ -21,29 +21,32 @@ use Rattle.facet_solver.specs.declared.build.role.Target.{Target}
 use Rattle.facet_solver.specs.build.Build.{Build, Catalogue, kind_at, kind_of, repr_for}
 use Rattle.facet_solver.specs.build.Content.{content_of, content_or, newtype_fields, struct_fields}
 use Rattle.facet_solver.specs.build.Nested.{Entered, KeyPaths, content_paths, every_kind, named, nested_paths, no_paths, structs_alone, under_shape, under_variant, with_key_paths}
-use Rattle.facet_solver.specs.build.NestedTable.{AreEntries, EntriesStandFor, EntryLeadsTo, IsFilled, IsMarked, LeadEarlier, is_filled, nested_entry_at, paths_by_name, variant_at, variants_of}
+use Rattle.facet_solver.specs.build.NestedTable.{AllLeadTo, AreEntries, EntriesStandFor, HasVariants, IsMarked, LeadEarlier, LeadTo, is_filled, paths_by_name, under_at, variant_at, variants_at, variants_of}
 use Rattle.facet_solver.specs.build.Reached.{ContentReachedBy, FieldReached, IsChosen, KindReached, Reach, RoleReached, ServesEnum, ServesField, ServesFields, ServesVariant, ShapeReached, VariantReached}
 use Rattle.facet_solver.specs.build.Representation.{is_walked}
 use Rattle.facet_solver.specs.build.Roles.{Role, alternatives, block, catch_all, leaf, regular, role_by_kind, role_of, role_of_target, target_of}
 use Rattle.facet_solver.proofs.Content.{newtype_at}
 use Rattle.facet_solver.proofs.Nested.{under_shape-step}
-use Rattle.facet_solver.proofs.NestedFields.{entry_leads_also, second_of}
+use Rattle.facet_solver.proofs.NestedFields.{all_lead_also, leads_also, second_of}
 
 -- ---- what an entry has
 -- entries stand for what is under the shapes at their indices
-pub entries_stand : (entered : Entered) (cat : Catalogue) (entries : List (Option Entry)) → NamesEarlier cat → AreEntries entered cat entries → EntriesStandFor (under_shape entered cat) entries
-entries_stand entered cat entries checked are id entry at = (are id entry at).under ∙ sym (under_shape-step entered cat checked id)
+pub entries_stand : (entered : Entered) (cat : Catalogue) (entries : List Entry) → NamesEarlier cat → AreEntries entered cat entries → EntriesStandFor (under_shape entered cat) entries
+entries_stand entered cat entries checked are id fields at = are.under id fields at ∙ sym (under_shape-step entered cat checked id)
 
 -- and lead to shapes that have one
-pub entry_filled : (entries : List (Option Entry)) (id : ℕ) (entry : Entry) → LeadEarlier entries → nested_entry_at entries id ≡ Some entry → EntryLeadsTo (is_filled entries) entry
-entry_filled entries id entry leads at = entry_leads_also _ (is_filled entries) (λ t h. second_of (nat_lt t id) (is_filled entries t) h) entry (leads id entry at)
+pub under_filled : (entries : List Entry) (id : ℕ) (fields : FieldsByName) → LeadEarlier entries → under_at entries id ≡ Some fields → LeadTo (is_filled entries) fields
+under_filled entries id fields leads at = leads_also _ (is_filled entries) (λ t h. second_of (nat_lt t id) (is_filled entries t) h) fields (leads.under id fields at)
+
+pub variants_filled : (entries : List Entry) (id : ℕ) (each : Vec FieldsByName Global) → LeadEarlier entries → variants_at entries id ≡ Some each → AllLeadTo (is_filled entries) each
+variants_filled entries id each leads at = all_lead_also _ (is_filled entries) (λ t h. second_of (nat_lt t id) (is_filled entries t) h) each (leads.variants id each at)
 
 -- the key paths under a regular field's shape, where that is a struct
-pub regular_entry : (cat : Catalogue) (entries : List (Option Entry)) (id : ℕ) (entry : Entry) → NamesEarlier cat → AreEntries structs_alone cat entries → nested_entry_at entries id ≡ Some entry → structs_alone (kind_at cat id) ≡ true
-    → paths_by_name (under_shape structs_alone cat) entry.under ≡ nested_paths cat id
+pub regular_entry : (cat : Catalogue) (entries : List Entry) (id : ℕ) (fields : FieldsByName) → NamesEarlier cat → AreEntries structs_alone cat entries → under_at entries id ≡ Some fields → structs_alone (kind_at cat id) ≡ true
+    → paths_by_name (under_shape structs_alone cat) fields ≡ nested_paths cat id
 unfolding nested_paths
-regular_entry cat entries id entry checked are at is_struct =
-    entries_stand structs_alone cat entries checked are id entry at
+regular_entry cat entries id fields checked are at is_struct =
+    entries_stand structs_alone cat entries checked are id fields at
     ∙ sym (chosen (structs_alone (kind_at cat id)) is_struct)
   where
     chosen : (b : Bool) → b ≡ true → (if b then under_shape structs_alone cat id else no_paths) ≡ under_shape structs_alone cat id
@@ -64,15 +67,15 @@ found_item f None y e = absurd (cc)
 found_item f (Some x) y e = (x, refl, cc)
 
 -- the key paths under the content of a variant, at the variant's index
-pub variant_entry : (cat : Catalogue) (entries : List (Option Entry)) (id : ℕ) (entry : Entry) → AreEntries every_kind cat entries → nested_entry_at entries id ≡ Some entry
+pub variant_entry : (cat : Catalogue) (entries : List Entry) (id : ℕ) (each : Vec FieldsByName Global) → AreEntries every_kind cat entries → variants_at entries id ≡ Some each
     → (i : ℕ) (v : Variant) → variant_at cat id i ≡ Some v
-    → (fields : FieldsByName) × (slice_get entry.variants.items i ≡ Some fields) × (paths_by_name (under_shape every_kind cat) fields ≡ content_paths cat v)
+    → (fields : FieldsByName) × (slice_get each.items i ≡ Some fields) × (paths_by_name (under_shape every_kind cat) fields ≡ content_paths cat v)
 unfolding content_paths
-variant_entry cat entries id entry are at i v found =
+variant_entry cat entries id each are at i v found =
     let stands = paths_by_name (under_shape every_kind cat) in
-    found_item stands (slice_get entry.variants.items i) (under_variant every_kind cat v)
-    (sym (slice_get-map stands entry.variants.items i)
-    ∙ ap (λ (ps : List KeyPaths). slice_get ps i) (are id entry at).variants
+    found_item stands (slice_get each.items i) (under_variant every_kind cat v)
+    (sym (slice_get-map stands each.items i)
+    ∙ ap (λ (ps : List KeyPaths). slice_get ps i) (are.variants id each at)
     ∙ slice_get-map (under_variant every_kind cat) (variants_of (kind_at cat id)) i
     ∙ ap (option_map (under_variant every_kind cat)) found)
 
@@ -141,7 +144,7 @@ module _ (build : Build) (tables : NestedTables) where
     block_served target fs e = record {
       marks = serves.marks;
       follows = serves.follows;
-      reached = struct_reached serves.marks (IsFilled tables.contents.by_index.items target.shape) build (slice_get build.catalogue target.shape) fs
+      reached = struct_reached serves.marks (HasVariants tables.contents.by_index.items target.shape) build (slice_get build.catalogue target.shape) fs
           (serves.follows.closed target.shape (role_served (block target fs) e)) (role_of-target build.catalogue f (block target fs) e);
     }
 
@@ -157,15 +160,15 @@ module _ (build : Build) (tables : NestedTables) where
       subst (VariantReached m build.catalogue) (get_or_from_slice_get vs.items i v v found) (all i v (slice_get_within vs.items i v found))
 
   module _ (chosen : Chosen) (is : IsChosen build.catalogue chosen) (serves : ServesEnum build tables chosen.target.shape) where
-    at_enum : KindReached serves.marks build.catalogue (IsFilled tables.contents.by_index.items chosen.target.shape) (is_walked (repr_for build chosen.shape.now)) chosen.shape.now.kind
-    at_enum = subst (ShapeReached serves.marks (IsFilled tables.contents.by_index.items chosen.target.shape) build) is.shape (serves.follows.closed chosen.target.shape serves.reached)
+    at_enum : KindReached serves.marks build.catalogue (HasVariants tables.contents.by_index.items chosen.target.shape) (is_walked (repr_for build chosen.shape.now)) chosen.shape.now.kind
+    at_enum = subst (ShapeReached serves.marks (HasVariants tables.contents.by_index.items chosen.target.shape) build) is.shape (serves.follows.closed chosen.target.shape serves.reached)
 
     -- the content of a variant, where it is walked
     pub variant_served : is_walked (repr_for build chosen.shape.now) ≡ true → ServesVariant build tables chosen.variant.now
     variant_served walked = record {
       marks = serves.marks;
       follows = serves.follows;
-      reached = variant_reached serves.marks (IsFilled tables.contents.by_index.items chosen.target.shape) chosen.shape.now.kind (is_walked (repr_for build chosen.shape.now)) is.variants chosen.index chosen.variant.now
+      reached = variant_reached serves.marks (HasVariants tables.contents.by_index.items chosen.target.shape) chosen.shape.now.kind (is_walked (repr_for build chosen.shape.now)) is.variants chosen.index chosen.variant.now
           at_enum is.kind walked is.variant;
     }
 
@@ -182,7 +185,7 @@ module _ (build : Build) (tables : NestedTables) where
         record {
           marks = serves.marks;
           follows = serves.follows;
-          reached = struct_reached serves.marks (IsFilled tables.contents.by_index.items at.0) build (slice_get build.catalogue at.0) fs (serves.follows.closed at.0 marked) at.2;
+          reached = struct_reached serves.marks (HasVariants tables.contents.by_index.items at.0) build (slice_get build.catalogue at.0) fs (serves.follows.closed at.0 marked) at.2;
         }
 
     pub own_served : None ≡ newtype_fields build.catalogue v.fields.items → ServesFields build tables v.fields.items

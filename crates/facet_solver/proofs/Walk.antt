@@ -1,6 +1,6 @@
 -- The walk part by part, and what each part makes of a resolution.
 use Rattle.facet_solver.specs.build.Build.{Build, repr_for}
-use Rattle.std.proofs.Common.{◌≡◌, ℕ, zero, suc, ◌+◌, ◌<◌, List, [], ◌∷◌, ◌++◌, Option, Some, None, slice_get, Bool, true, false, sym, refl, ap, ◌∙◌, subst, length, append-nil, arith, IsSome}
+use Rattle.std.proofs.Common.{◌≡◌, ℕ, zero, suc, ◌<◌, List, [], ◌∷◌, ◌++◌, Option, Some, None, slice_get, Bool, true, false, sym, refl, ap, ◌∙◌, subst, length, append-nil, arith, IsSome}
 use Rattle.std.specs.Prelude.{if◌then◌else◌, Result, IsErrAnd, slice_index, Vec}
 use Rattle.std.specs.Borrow.{Bor}
 use Rattle.std.proofs.lemmas.Result.{err_from_is_err_and}

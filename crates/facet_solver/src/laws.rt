@@ -53,7 +53,7 @@ pub fn no_choice_begins_another()
 {}
 
 /// A root that has a list of resolutions has no duplicate keys.
-pub fn resolutions_exclude_clashes()
+pub fn resolutions_exclude_duplicates()
     ensures { (build : Build) (root : ℕ) (rs : List Resolved)
         → Enumerates build root rs
         → (name : Name) (first second : Path) → ¬ IsChoiceDuplicate build root name first second }

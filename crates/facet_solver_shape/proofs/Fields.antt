@@ -7,8 +7,8 @@ use Rattle.std.specs.Option.{option_map}
 use Rattle.std.specs.Ordering.{is_lt, match_ordering, eq_by_cmp, is_eq}
 use Rattle.std.specs.List.{AllByRecursion, find}
 use Rattle.std.specs.List.Sorted.{IsStrictlySortedBy}
-use Rattle.std.specs.Map.{keys_of}
-use Rattle.std.specs.BTreeMap.{insert_entry}
+use Rattle.std.specs.Map.{keys_of, lookup}
+use Rattle.std.specs.BTreeMap.{insert_entry, is_at}
 use Rattle.std.specs.FinMap as finite
 use Rattle.std.specs.FinMap.{find as find_at}
 use Rattle.std.specs.FinMap.Entries.{below_all}
@@ -26,6 +26,7 @@ use Rattle.std.proofs.lemmas.List.Elements.{recursion_from_All}
 use Rattle.facet_solver_shape.specs.Names.{Name, name_eq}
 use Rattle.facet_solver_shape.specs.declared.resolution.key.FieldCategory.TheVariants.{Flat}
 use Rattle.facet_solver_shape.proofs.Finite.{equal, cases_bool, none_is_some, same_value}
+use Rattle.facet_solver_shape.proofs.Viewed.{viewed-put_back}
 use Rattle.facet_solver_shape.proofs.Resolved.{first_part, second_part, none_above, none_below}
 
 -- keys that rise in one order rise, seen by a function, in an order that agrees
@@ -81,6 +82,28 @@ stored-insert_entry k f (e ∷ es) here all = go ((key_order.ghosts).cmp k e.0) 
     go Less is rest = (here, all)
     go Equal is rest = (sym (key_cmp_same _ _ is) ∙ here, all.1)
     go Greater is rest = (all.0, rest)
+
+-- a field that is found stands under its stored key
+stored_found : (k : FieldKey) (f : FieldView) (es : List (FieldKey × FieldView)) → AllByRecursion IsStored (map entry_view es) → lookup (is_at ((key_order.ghosts).cmp k)) es ≡ Some f → key_of k ≡ key_of_field f
+stored_found k f [] all found = none_is_some f found
+stored_found k f (e ∷ es) all found = go ((key_order.ghosts).cmp k e.0) (sym (key_agrees k e.0)) (stored_found k f es all.1) found
+  where
+    go : (r : Ordering) → key_cmp (key_of k) (key_of e.0) ≡ r → (lookup (is_at ((key_order.ghosts).cmp k)) es ≡ Some f → key_of k ≡ key_of_field f)
+        → cond (is_eq r) (Some e.1) (lookup (is_at ((key_order.ghosts).cmp k)) es) ≡ Some f → key_of k ≡ key_of_field f
+    go Less is rest found = rest found
+    go Equal is rest found = key_cmp_same _ _ is ∙ all.0 ∙ ap key_of_field (same_value e.1 f found)
+    go Greater is rest found = rest found
+
+-- what is found in a table, put back
+module _ (k : FieldKey) (f : FieldView) (es : List (FieldKey × FieldView)) (table : IsFieldTable es) (found : lookup (is_at ((key_order.ghosts).cmp k)) es ≡ Some f) where
+  pub put_back_table : (made : List (FieldKey × FieldView)) → made ≡ insert_entry (key_order.ghosts).cmp es k f → IsStrictlySortedBy (key_order.ghosts).cmp (keys_of made) → IsFieldTable made
+  put_back_table made is rising = record {
+    rising = rising_viewed made rising;
+    stored = rw is (stored-insert_entry k f es (stored_found k f es table.stored found) table.stored);
+  }
+
+  pub put_back_view : field_entries_view (insert_entry (key_order.ghosts).cmp es k f) ≡ field_entries_view es
+  put_back_view = viewed-put_back key_cmp_total key_cmp_same key_of key_agrees k f es found
 
 -- the entries of a table, in order
 pub entries_of_table : (es : List (FieldKey × FieldView)) → IsFieldTable es → map entry_view es ≡ finite.entries (field_entries_view es)

@@ -1,5 +1,5 @@
 -- Maps and sets into which others are put entry by entry, and what they say of a resolution.
-use Rattle.std.proofs.Common.{◌≡◌, Bool, true, false, cond, ◌||◌, ◌&&◌, T, ◌⊎◌, List, [], ◌∷◌, Some, None, Option, IsSome, refl, sym, ◌∙◌, ap, inl, inr, map, Bor, nat_eq, ◌++◌, codes}
+use Rattle.std.proofs.Common.{◌≡◌, Result, Ok, Err, OnOk, OnErr, Bool, true, false, cond, ◌||◌, ◌&&◌, T, ◌⊎◌, List, [], ◌∷◌, Some, None, Option, IsSome, refl, sym, ◌∙◌, ap, inl, inr, map, Bor, nat_eq, ◌++◌, codes}
 use Rattle.std.specs.declared.cmp.Ordering.{Ordering}
 use Rattle.std.specs.declared.cmp.Ordering.TheVariants.{Less, Equal, Greater}
 use Rattle.std.specs.Cmp.{IsTotalOrder}
@@ -257,6 +257,11 @@ module _ (fields : finite.FinMap key_cmp FieldView) (f : FieldView) (fresh : fin
       back : (IsRequiredName fields name) ⊎ ((f.is_required ≡ true) × (f.name ≡ name)) → (eq_by_cmp (slice_cmp nat_cmp) name f.name || set.contains names name) ≡ true
       back (inl before) = or_right _ _ ((are name).1 before)
       back (inr new) = or_first _ _ (ap (λ n. eq_by_cmp (slice_cmp nat_cmp) n f.name) (sym new.1) ∙ ap is_eq (tied_itself nat_list_cmp_total f.name))
+
+-- what follows from both answers of a call
+pub either_way : {X E P Q R G : Type 0} (r : Result X E) → OnOk r P → OnOk r Q → OnErr r R → (P → Q → G) → (R → G) → G
+either_way (Ok x) p q _ at_ok at_err = at_ok p q
+either_way (Err e) _ _ r at_ok at_err = at_err r
 
 -- the names of two resolutions that have no key in common
 pub names_joined : (first second made : finite.FinMap key_cmp FieldView) (a b : set.FinSet (slice_cmp nat_cmp)) → IsUnionOf first second made → AreRequiredNames first a → AreRequiredNames second b → AreRequiredNames made (set.union a b)

@@ -17,7 +17,7 @@ use Rattle.std.proofs.lemmas.Map.Keys.{IsDistinct-from_sorted, IsDistinct-head, 
 use Rattle.std.proofs.lemmas.Cmp.{alike_right, eq_by_cmp_equiv}
 use Rattle.std.proofs.lemmas.Bool.{false≢true}
 use Rattle.std.proofs.Math.Bool.{and-false}
-use Rattle.facet_solver_shape.proofs.Finite.{insert-insert_same, insert-insert_other, insert_twice, insert_either_order, taken_back, kept, equal, cases_bool}
+use Rattle.facet_solver_shape.proofs.Finite.{insert-insert_same, insert-present, insert-insert_other, insert_twice, insert_either_order, taken_back, kept, equal, cases_bool}
 
 module _ {K J : Type 0} {R : K → K → Ordering} {S : J → J → Ordering} (o : IsTotalOrder S) (same : finite.IsAntisymmetric S) (key : K → J) (agree : (x y : K) → R x y ≡ S (key x) (key y)) where
   module _ {X : Type 0} where
@@ -45,6 +45,10 @@ module _ {K J : Type 0} {R : K → K → Ordering} {S : J → J → Ordering} (o
         go Greater is rest =
             ap (λ m. finite.insert m (key e.0) e.1) rest
             ∙ sym (insert-insert_other o same (viewed es) (key e.0) (key k) e.1 v (ap is_eq is))
+
+    -- what is found, put back
+    pub viewed-put_back : (k : K) (v : X) (es : List (K × X)) → lookup (is_at (R k)) es ≡ Some v → viewed (insert_entry R es k v) ≡ viewed es
+    viewed-put_back k v es found = viewed-insert_entry k v es ∙ insert-present o same (viewed es) (key k) v (get_viewed k es ∙ found)
 
   abbrev pub viewed_set : List K → set.FinSet S
   viewed_set ks = set.from_list (map key ks)

@@ -102,17 +102,17 @@ field_by_key key r = find (matches key) (finite.values r.fields)
 
 -- a refusal of one more field: its key is taken, and these are the name and the two paths
 pub record IsFieldDuplicate
-    (old : Resolved) (f : FieldView) (name : Name) (first second : List Segment)
-    : Type 0 where
-  pub taken : IsSomeAnd (finite.get old.fields (key_of_field f)) (λ present. present.path ≡ first)
+    (fields : finite.FinMap key_cmp FieldView) (f : FieldView) (name : Name)
+    (first second : List Segment) : Type 0 where
+  pub taken : IsSomeAnd (finite.get fields (key_of_field f)) (λ present. present.path ≡ first)
   pub same_name : name ≡ f.name
   pub same_path : second ≡ f.path
 
 -- what a refusal of the field f says
-abbrev pub IsRefusalOf : Resolved → FieldView → SchemaError → Type 0
-IsRefusalOf old f (DuplicateField d) =
-    IsFieldDuplicate old f d.field_name.now d.first_path d.second_path
-IsRefusalOf old f OutOfMemory = ⊤
+abbrev pub IsRefusalOf : finite.FinMap key_cmp FieldView → FieldView → SchemaError → Type 0
+IsRefusalOf fields f (DuplicateField d) =
+    IsFieldDuplicate fields f d.field_name.now d.first_path d.second_path
+IsRefusalOf fields f OutOfMemory = ⊤
 
 -- with one more key path
 abbrev pub with_key_path : Resolved → List Name → Resolved
@@ -156,7 +156,7 @@ pub record IsMergeDuplicate (old other : Resolved) (name : Name) (first second :
     : Type 0 where
   pub field : FieldView
   pub among : finite.get other.fields (key_of_field field) ≡ Some field
-  pub duplicate : IsFieldDuplicate old field name first second
+  pub duplicate : IsFieldDuplicate old.fields field name first second
 
 -- what a refusal of all that other has says
 abbrev pub IsMergeRefusalOf : Resolved → Resolved → SchemaError → Type 0

@@ -1,14 +1,13 @@
 //! What one choice of variants resolves to: paths, keys, fields, and the resolution itself.
 ghost use Rattle.std.specs.Prelude.{◌≡◌, IfOk, IfErr, OnOk, OnErr, IsTrue, All, map};
-ghost use Rattle.std.specs.Option.{option_copied, option_map};
+ghost use Rattle.std.specs.Option.{option_copied};
 ghost use Rattle.std.specs.String.{string_bytes};
 ghost use Rattle.std.specs.FinMap as finite;
 ghost use Rattle.std.specs.FinSet as set;
-ghost use Rattle.facet_solver_shape.specs.Resolved.{description, field_by_key, field_by_name, nothing, IsAdded, with_key_path, with_selection, with_catch_all, with_field, AreRequiredNames, AreApart, IsMerged, IsMadeOptional, selection_view, IsRefusalOf, IsMergeRefusalOf, names_view, key_paths_view};
-ghost use Rattle.facet_solver_shape.specs.Fields.{entry_view, key_of_field, IsStored, field_entries_view};
+ghost use Rattle.facet_solver_shape.specs.Resolved.{description, field_by_key, field_by_name, nothing, IsAdded, with_key_path, with_selection, with_catch_all, AreRequiredNames, AreApart, IsMerged, IsMadeOptional, selection_view, IsRefusalOf, IsMergeRefusalOf, names_view, key_paths_view};
+ghost use Rattle.facet_solver_shape.specs.Fields.{entry_view, IsStored, field_entries_view};
 ghost use Rattle.facet_solver_shape.specs.Keys.{key_of};
 ghost use Rattle.facet_solver_shape.specs.Names.{names_of};
-ghost use Rattle.facet_solver_shape.specs.declared.resolution.error.SchemaError.TheVariants.{OutOfMemory};
 
 mod describe;
 mod error;
@@ -152,61 +151,32 @@ impl<'c> Resolution<'c> {
     /// present field first; `OutOfMemory`. After an error the resolution is as it was.
     pub fn add_field(&mut self, info: FieldInfo<'c>) -> Result<(), SchemaError<'c>>
         ensures ok { OnOk result (IsAdded self.old info.entry self.new) }
-        ensures refused { IfErr result (IsRefusalOf self.old info.entry) }
-        ensures err { OnErr result (self.new ≡ self.old) }
-    {
-        if let Some(first_path) = self.path_of_same_key(&info)? {
-            return Err(SchemaError::from(DuplicateFieldError {
-                field_name: info.serialized_name,
-                first_path,
-                second_path: info.path,
-            }));
-        }
-        self.add_new(info)
-    }
-
-    /// The path of the field that has the key of another, if there is one.
-    fn path_of_same_key(&self, info: &FieldInfo<'c>) -> Result<Option<FieldPath<'c>>, AllocError>
-        ensures { IfOk result (λ path. path
-            ≡ option_map (λ f. f.path) (finite.get self.now.fields (key_of_field info.now))) }
-    {
-        match self.fields.get(&info.key()) {
-            Some(present) => Ok(Some(present.path.copied(*self.selections.allocator())?)),
-            None => Ok(None),
-        }
-    }
-
-    /// Adds a field whose key is new.
-    fn add_new(&mut self, info: FieldInfo<'c>) -> Result<(), SchemaError<'c>>
-        requires fresh { finite.get self.old.fields (key_of_field info) ≡ None }
-        ensures ok { OnOk result (self.new ≡ with_field self.old info.entry) }
-        ensures refused { IfErr result (λ e. e ≡ OutOfMemory) }
+        ensures refused { IfErr result (IsRefusalOf self.old.fields info.entry) }
         ensures err { OnErr result (self.new ≡ self.old) }
     {
         if info.required {
             self.add_required(info)
         } else {
-            Ok(self.fields.insert(info)?)
+            let alloc = *self.selections.allocator();
+            self.fields.insert_new(alloc, info)
         }
     }
 
-    /// Adds a required field, whose key is new.
+    /// Adds a required field.
     fn add_required(&mut self, info: FieldInfo<'c>) -> Result<(), SchemaError<'c>>
-        requires fresh { finite.get self.old.fields (key_of_field info) ≡ None }
-        requires required { IsTrue info.is_required }
-        ensures ok { OnOk result (self.new ≡ with_field self.old info.entry) }
-        ensures refused { IfErr result (λ e. e ≡ OutOfMemory) }
+        requires { IsTrue info.is_required }
+        ensures ok { OnOk result (IsAdded self.old info.entry self.new) }
+        ensures refused { IfErr result (IsRefusalOf self.old.fields info.entry) }
         ensures err { OnErr result (self.new ≡ self.old) }
     {
+        let alloc = *self.selections.allocator();
         let name = info.serialized_name;
         let is_new = self.required.insert(name)?;
-        if let Err(refused) = self.fields.insert(info) {
-            if is_new {
-                self.required.remove(name);
-            }
-            return Err(SchemaError::from(refused));
+        let added = self.fields.insert_new(alloc, info);
+        if is_new && added.is_err() {
+            self.required.remove(name);
         }
-        Ok(())
+        added
     }
 
     /// Adds the path of a key. A path that is there already is ignored.
@@ -305,13 +275,8 @@ impl<'c> Resolution<'c> {
         let alloc = *self.selections.allocator();
         for (key, info) in other.fields() {
             if let Some(present) = self.fields.get(key) {
-                let first_path = present.path.copied(alloc)?;
-                let second_path = info.path.copied(alloc)?;
-                return Err(SchemaError::from(DuplicateFieldError {
-                    field_name: info.serialized_name,
-                    first_path,
-                    second_path,
-                }));
+                let duplicate = DuplicateFieldError::new(alloc, present, info)?;
+                return Err(SchemaError::from(duplicate));
             }
         }
         Ok(())

@@ -3,7 +3,7 @@
 use denote.Bor.{Bor}
 use Rattle.std.specs.Prelude.{◌≡◌, ◌∷◌, [], ℕ, Bool, true, List, map}
 use Rattle.std.specs.List.{AllByRecursion}
-use Rattle.std.specs.List.Sorted.{IsStrictlySortedBy}
+use Rattle.std.specs.List.Sorted.{IsStrictlyIncreasing, IsStrictlySortedBy}
 use Rattle.facet_solver_shape.specs.Names.{Name, name_ref_cmp}
 use Rattle.facet_solver.specs.build.Nested.{KeyPaths, Under, named, paths_of_each}
 use Rattle.facet_solver.specs.declared.build.nested.shapes_behind.ShapesBehind.{ShapesBehind}
@@ -14,6 +14,10 @@ abbrev pub shapes_behind : ShapesBehind → List ℕ
 shapes_behind Nothing = []
 shapes_behind (One id) = id ∷ []
 shapes_behind (Several ids) = ids.items
+
+-- each of the shapes is there once, in rising order
+abbrev pub HasEachOnce : ShapesBehind → Type 0
+HasEachOnce shapes = IsStrictlyIncreasing (shapes_behind shapes)
 
 -- names, each with the shapes behind it
 abbrev pub Names : Type 0

@@ -12,7 +12,7 @@ use Rattle.facet_solver.specs.declared.build.place.Chosen.{Chosen}
 use Rattle.facet_solver.specs.build.Build.{Build, Catalogue, kind_at, repr_for}
 use Rattle.facet_solver.specs.build.Content.{effective_of_only, newtype_fields}
 use Rattle.facet_solver.specs.build.Nested.{every_kind, structs_alone}
-use Rattle.facet_solver.specs.build.NestedTable.{AreEntries, IsClosed, IsFilled, IsMarked, IsMarkedMore, LeadEarlier, MarksAmong}
+use Rattle.facet_solver.specs.build.NestedTable.{AreEntries, AskedBy, HasVariants, IsClosed, IsFilled, IsMarked, IsMarkedMore, LeadEarlier, MarksAmong}
 use Rattle.facet_solver.specs.build.Representation.{is_walked}
 use Rattle.facet_solver.specs.build.Roles.{Role, alternatives, block, catch_all, leaf, regular, role_of}
 
@@ -83,8 +83,7 @@ IsReachedAt m apart build id =
 abbrev pub RootReached : Reach → Catalogue → ℕ → Type 0
 RootReached m cat root = KindReached m cat ⊤ true (kind_at cat root)
 
--- marks of what walks go through, and of the enums that are written apart, each with the shapes
--- that its key paths are made from
+-- marks of what walks go through, and of the enums whose content is written apart
 pub record Asked : Type 0 where
   pub reach : Reach
   pub apart : List Bool
@@ -103,12 +102,18 @@ abbrev pub AreReached : Build → Asked → Type 0
 AreReached build m =
     (id : ℕ) → IsMarked m.reach.walked id → IsReachedAt m.reach m.apart build id
 
--- all that the walks of a root ask for is marked
-pub record HoldAsked (build : Build) (root : ℕ) (m : Asked) : Type 0 where
+-- what the walks of a root lead to is marked, and what the key paths of its structs are made from
+pub record HoldReached (build : Build) (root : ℕ) (m : Asked) : Type 0 where
   pub reached : RootReached m.reach build.catalogue root
   pub walked : AreReached build m
   pub structs : IsClosed structs_alone build.catalogue m.reach.structs
-  pub apart : IsClosed every_kind build.catalogue m.apart
+
+-- all that the walks of a root ask for is marked, and what the key paths of content are made from
+-- that is written apart
+pub record HoldAsked (build : Build) (root : ℕ) (m : Asked) (contents : List Bool) : Type 0 where
+  pub reached : HoldReached build root m
+  pub by_apart : AskedBy every_kind build.catalogue m.apart contents
+  pub closed : IsClosed every_kind build.catalogue contents
 
 -- tables have the entries of a build's shapes, and each entry leads to earlier ones
 pub record AreTables (build : Build) (tables : NestedTables) : Type 0 where
@@ -120,14 +125,17 @@ pub record AreTables (build : Build) (tables : NestedTables) : Type 0 where
 -- what the walked shapes lead to is marked or has an entry
 pub record Follows (build : Build) (tables : NestedTables) (m : Reach) : Type 0 where
   pub closed : (id : ℕ) → IsMarked m.walked id
-      → ShapeReached m (IsFilled tables.contents.by_index.items id) build
+      → ShapeReached m (HasVariants tables.contents.by_index.items id) build
       (slice_get build.catalogue id)
   pub structs : (id : ℕ) → IsMarked m.structs id → IsFilled tables.structs.by_index.items id
 
--- tables have entries only of what is marked
-pub record HaveOnly (m : Asked) (tables : NestedTables) : Type 0 where
-  pub structs : (id : ℕ) → IsFilled tables.structs.by_index.items id → IsMarked m.reach.structs id
-  pub contents : (id : ℕ) → IsFilled tables.contents.by_index.items id → IsMarked m.apart id
+-- tables have only what is marked: the fields under a shape, and those under variants
+pub record HaveOnly (m : Asked) (contents : List Bool) (tables : NestedTables) : Type 0 where
+  pub under_structs : (id : ℕ) → IsFilled tables.structs.by_index.items id
+      → IsMarked m.reach.structs id
+  pub no_variants : (id : ℕ) → HasVariants tables.structs.by_index.items id → ⊥
+  pub under_contents : (id : ℕ) → IsFilled tables.contents.by_index.items id → IsMarked contents id
+  pub variants : (id : ℕ) → HasVariants tables.contents.by_index.items id → IsMarked m.apart id
 
 -- tables have the entries that walks ask for from where they lead to what is marked
 pub record Serves (build : Build) (tables : NestedTables) (Reached : Reach → Type 0) : Type 0 where
@@ -176,7 +184,7 @@ pub record IsChosen (cat : Catalogue) (chosen : Chosen) : Type 0 where
   pub kind : chosen.shape.now.kind ≡ Enum variants
   pub variant : slice_get variants.items chosen.index ≡ Some chosen.variant.now
 
--- where the content of a chosen variant is written apart, a table has the entry of its enum
+-- where the content of a chosen variant is written apart, a table has the fields under it
 abbrev pub ServesApart : NestedTables → Build → Chosen → Type 0
 ServesApart tables build chosen = is_walked (repr_for build chosen.shape.now) ≡ false
-    → IsFilled tables.contents.by_index.items chosen.target.shape
+    → HasVariants tables.contents.by_index.items chosen.target.shape

@@ -1,5 +1,5 @@
 -- Handles of the resolutions of a schema.
-use Rattle.std.specs.Prelude.{◌≡◌, ℕ, refl, Bool, Some, nat_eq, slice_get}
+use Rattle.std.specs.Prelude.{◌≡◌, ℕ, Bool, Some, nat_eq, slice_get}
 use Rattle.facet_solver_shape.specs.Resolved.{Resolved}
 use Rattle.std.specs.Cmp.{IsEquivalence}
 use Rattle.std.proofs.lemmas.Cmp.{nat_eq_equiv}

@@ -1,6 +1,5 @@
-//! What structs contribute where they are flattened, found once for each struct. So a struct is not
-//! gone through again and again whose fields emit nothing that stays, however often it is
-//! flattened.
+//! What structs contribute where they are flattened, found once for each struct. So a struct whose
+//! fields emit nothing that stays is gone through once, however often it is flattened.
 ghost use Rattle.std.specs.Prelude.{◌≡◌, ◌<◌, ◌≤◌, IfOk, length};
 ghost use Rattle.facet_solver.specs.build.Contribution as contribution;
 ghost use Rattle.facet_solver.specs.build.Contribution.{AreContributions};

@@ -8,7 +8,7 @@ ghost use Rattle.facet_solver.specs.build.Build.{build_of};
 ghost use Rattle.facet_solver.specs.build.Representation.{externally_tagged};
 ghost use Rattle.facet_solver.specs.build.Roles.{role_view, IsPlain};
 ghost use Rattle.facet_solver.specs.build.Counts.{IsReady};
-ghost use Rattle.facet_solver.specs.build.NestedTable.{IsFilled};
+ghost use Rattle.facet_solver.specs.build.NestedTable.{HasVariants};
 ghost use Rattle.facet_solver.specs.build.Reached.{IsChosen, ServesApart, ServesPlain, ServesRegular};
 
 use crate::build::field::{catch_all_field, leaf_field, regular_field, selector_field};
@@ -158,7 +158,7 @@ fn add_external_selector<'c>(
 ) -> Result<(), SchemaError<'c>>
     requires ready { IsReady walker.now }
     requires chosen { IsChosen walker.now.build.shapes.now chosen.now }
-    requires filled { IsFilled
+    requires apart { HasVariants
         walker.now.tables.contents.by_index.items chosen.now.target.shape }
     ensures { let emitted = emissions.emit_selector_by externally_tagged
         (build_of walker.now.build) (chosen_of chosen.now) place.now in

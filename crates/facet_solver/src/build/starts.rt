@@ -1,5 +1,5 @@
 //! Where the choices of variants begin among those of their enum, found once for each enum. So the
-//! variant of a rank is found by halves, however many variants there are.
+//! variant of a rank is found by binary search, however many variants there are.
 ghost use Rattle.std.specs.Prelude.{◌≡◌, ◌<◌, ◌≤◌, IfOk, OnOk, get_or, length, true};
 ghost use Rattle.std.specs.List.Sorted.{IsNonDecreasing};
 ghost use Rattle.facet_solver_shape.specs.Catalogues.{KindBelow, NamesEarlier, VariantsBelow};

@@ -85,7 +85,8 @@ fn presence<'n>(may_be_absent: bool, indices: &'n [usize]) -> (bool, &'n [usize]
 
 /// Walks fields in order, each with the indices that the one before it left, and what is inside a
 /// field before the next one; answers the indices that the last one left. `frames` is room for the
-/// fields that are left at each level, and is cleared first.
+/// fields that are left at each outer level, and is cleared first. The innermost level lies beside
+/// it, so flat fields take no memory.
 pub(crate) fn walk_fields<'c, 'n>(
     walker: &Walker<'c>,
     fields: &'c [Field],
@@ -104,30 +105,32 @@ pub(crate) fn walk_fields<'c, 'n>(
         Walks (effect resolution.old walked) result resolution.new }
 {
     let mut rest = indices;
-    frames.clear();
-    frames.push(Frame {
+    let mut frame = Frame {
         fields,
         depth: place.depth(),
-    })?;
-    while let Some(frame) = frames.pop() {
+    };
+    frames.clear();
+    loop {
         place.cut(frame.depth);
         let Some((field, behind)) = frame.fields.split_first() else {
+            let Some(outer) = frames.pop() else {
+                return Ok(rest);
+            };
+            frame = outer;
             continue;
         };
-        frames.push(Frame {
-            fields: behind,
-            depth: frame.depth,
-        })?;
+        frame.fields = behind;
         let further = walk_field(walker, field, place, rest, resolution)?;
         rest = further.indices;
-        if let Some(fields) = further.inside {
-            frames.push(Frame {
-                fields,
-                depth: place.depth(),
-            })?;
-        }
+        let Some(inside) = further.inside else {
+            continue;
+        };
+        frames.push(frame)?;
+        frame = Frame {
+            fields: inside,
+            depth: place.depth(),
+        };
     }
-    Ok(rest)
 }
 
 /// Walks one field, but for the fields inside it.

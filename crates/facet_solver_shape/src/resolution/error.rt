@@ -1,10 +1,11 @@
 //! Why no schema could be made, and its text.
-ghost use Rattle.std.specs.Prelude.{◌≡◌, Some};
+ghost use Rattle.std.specs.Prelude.{◌≡◌, Some, IfOk};
 ghost use Rattle.facet_solver_shape.specs.declared.resolution.error.SchemaError.TheVariants.{DuplicateField, OutOfMemory};
 ghost use Rattle.facet_solver_shape.specs.SchemaErrorText.{schema_error_text};
 
+use crate::resolution::field::FieldInfo;
 use crate::resolution::path::FieldPath;
-use std::alloc::{AllocError, AllocFailed};
+use std::alloc::{AllocError, AllocFailed, Global};
 use std::error::Error;
 use std::fmt;
 
@@ -17,6 +18,25 @@ pub struct DuplicateFieldError<'c> {
     pub first_path: FieldPath<'c>,
     /// Where the other one stands.
     pub second_path: FieldPath<'c>,
+}
+
+impl<'c> DuplicateFieldError<'c> {
+    /// That the second field has the stored key of the first.
+    pub(crate) fn new(
+        alloc: Global,
+        first: &FieldInfo<'c>,
+        second: &FieldInfo<'c>,
+    ) -> Result<Self, AllocError>
+        ensures name { IfOk result (λ duplicate. duplicate.field_name.now ≡ second.now.name) }
+        ensures first { IfOk result (λ duplicate. duplicate.first_path ≡ first.now.path) }
+        ensures second { IfOk result (λ duplicate. duplicate.second_path ≡ second.now.path) }
+    {
+        Ok(DuplicateFieldError {
+            field_name: second.serialized_name,
+            first_path: first.path.copied(alloc)?,
+            second_path: second.path.copied(alloc)?,
+        })
+    }
 }
 
 /// Why no schema, or no larger resolution, could be made.

@@ -1,10 +1,11 @@
 //! Fields by name: what key paths go through.
 ghost use Rattle.std.specs.Prelude.{◌≡◌, [], ℕ, Bool, IfOk, IsTrue, OnOk, true};
+ghost use Rattle.std.specs.List.{AllByRecursion};
 ghost use Rattle.std.specs.List.Sorted.{IsSortedByKey, IsStrictlySortedBy-prop};
 ghost use Rattle.std.specs.FinSet as set;
 ghost use Rattle.facet_solver_shape.specs.Names.{name_ref_cmp};
-ghost use Rattle.facet_solver.specs.build.Nested.{Under};
-ghost use Rattle.facet_solver.specs.build.NestedNames.{AreRising, NamesLead, paths_of_names};
+ghost use Rattle.facet_solver.specs.build.Nested.{Under, paths_of_each};
+ghost use Rattle.facet_solver.specs.build.NestedNames.{AreRising, HasEachOnce, NamesLead, paths_of_names};
 
 use crate::build::nested::shapes_behind::ShapesBehind;
 use std::alloc::{AllocError, Global};
@@ -53,6 +54,25 @@ impl<'c> FieldsByName<'c> {
         let by_name = joined(alloc, sorted)?;
         Ok(FieldsByName { by_name })
     }
+
+    /// All these fields together.
+    pub(crate) fn together(
+        alloc: Global,
+        each: &[FieldsByName<'c>],
+    ) -> Result<FieldsByName<'c>, AllocError>
+        ensures paths { IfOk result (λ fields. (under : Under)
+            → paths_of_names under fields.by_name.items
+            ≡ paths_of_each (λ some. paths_of_names under some.by_name.items) each.now) }
+        ensures lead { IfOk result (λ fields. (passes : ℕ → Bool)
+            → AllByRecursion (λ some. NamesLead passes some.by_name.items) each.now
+            → NamesLead passes fields.by_name.items) }
+    {
+        let mut gathered = Vec::new(alloc);
+        for fields in each {
+            add_copies(alloc, fields, &mut gathered)?;
+        }
+        FieldsByName::new(alloc, gathered)
+    }
 }
 
 /// Whether each name is before the next.
@@ -78,6 +98,7 @@ fn joined<'c>(
     ensures lead { IfOk result (λ joined. (passes : ℕ → Bool)
         → NamesLead passes sorted.entry.items → NamesLead passes joined.items) }
     ensures rise { IfOk result (λ joined. AreRising joined.items) }
+    ensures once { IfOk result (λ joined. AllByRecursion (λ e. HasEachOnce e.1) joined.items) }
 {
     let mut joined = Vec::new(alloc);
     let mut rest = sorted.into_iter();

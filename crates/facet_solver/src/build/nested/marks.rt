@@ -2,12 +2,27 @@
 ghost use Rattle.std.specs.Prelude.{◌≡◌, ◌+◌, ◌<◌, ◌≤◌, ℕ, All, Bool, List, length};
 ghost use Rattle.facet_solver_shape.specs.Catalogues.{FieldsBelow, VariantsBelow};
 ghost use Rattle.facet_solver.specs.build.Build.{kind_at};
-ghost use Rattle.facet_solver.specs.build.Nested.{entered_view};
+ghost use Rattle.facet_solver.specs.build.Nested.{entered_view, every_kind};
 ghost use Rattle.facet_solver.specs.build.NestedTable as table;
-ghost use Rattle.facet_solver.specs.build.NestedTable.{FieldAsks, IsClosed, IsMarked, IsMarkedMore, KindAsks, MarksAmong, VariantAsks};
+ghost use Rattle.facet_solver.specs.build.NestedTable.{AskedBy, FieldAsks, IsClosed, IsMarked, IsMarkedMore, KindAsks, MarksAmong, VariantAsks};
 
-use crate::build::nested::Entered;
+use crate::build::nested::{Entered, has_fields};
 use facet_solver_shape::{Field, ShapeId, ShapeKind, Shapes, Variant};
+
+/// Marks every shape that the key paths of content are made from which is written apart, and no
+/// other.
+pub(crate) fn mark_contents(shapes: &Shapes, apart: &[bool], contents: &mut [bool])
+    requires { length contents.old ≡ length apart.now }
+    ensures all { length contents.new ≡ length apart.now }
+    ensures asked { AskedBy every_kind shapes.now apart.now contents.new }
+    ensures closed { IsClosed every_kind shapes.now contents.new }
+    ensures least { (others : List Bool) → MarksAmong contents.old others
+        → AskedBy every_kind shapes.now apart.now others
+        → IsClosed every_kind shapes.now others → MarksAmong contents.new others }
+{
+    mark_asked_by(shapes, Entered::EveryKind, apart, contents);
+    close_marks(shapes, Entered::EveryKind, contents);
+}
 
 /// Marks every shape that a marked one asks for, and no other, from the last index down: what a
 /// shape asks for stands before it.
@@ -24,6 +39,23 @@ pub(crate) fn close_marks(shapes: &Shapes, entered: Entered, marks: &mut [bool])
         if marks[left] {
             mark_asked(shapes, entered, left, marks);
         }
+    }
+}
+
+/// Marks what the shapes ask for that are marked among others.
+fn mark_asked_by(shapes: &Shapes, entered: Entered, others: &[bool], marks: &mut [bool])
+    requires { length others.now ≤ length marks.old }
+    ensures all { length marks.new ≡ length marks.old }
+    ensures kept { MarksAmong marks.old marks.new }
+    ensures asked { AskedBy (entered_view entered) shapes.now others.now marks.new }
+    ensures least { (more : List Bool) → MarksAmong marks.old more
+        → AskedBy (entered_view entered) shapes.now others.now more → MarksAmong marks.new more }
+{
+    for index in 0..others.len() {
+        if !others[index] {
+            continue;
+        }
+        mark_asked(shapes, entered, index, marks);
     }
 }
 
@@ -98,5 +130,5 @@ fn mark_field(shapes: &Shapes, entered: Entered, field: &Field, marks: &mut [boo
 fn asks(shapes: &Shapes, entered: Entered, field: &Field) -> bool
     ensures { result ≡ table.asks (entered_view entered) shapes.now field.now }
 {
-    field.flattened || entered.has(shapes, field.shape)
+    (field.flattened || entered.has(shapes, field.shape)) && has_fields(shapes, field.shape)
 }

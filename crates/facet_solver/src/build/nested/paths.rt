@@ -97,7 +97,7 @@ impl<'c> NestedTable<'c> {
     {
         match shapes {
             [] => Ok(None),
-            [only] => Ok(Some(NamesLeft::of_entry(&self.entry(*only).under))),
+            [only] => Ok(Some(NamesLeft::of_entry(self.under(*only)))),
             _ => {
                 let together = self.fields_under(alloc, shapes)?;
                 Ok(Some(NamesLeft::together(together)))
@@ -123,7 +123,7 @@ impl<'c> NestedTable<'c> {
     {
         let mut gathered = Vec::new(alloc);
         for shape in shapes {
-            add_copies(alloc, &self.entry(*shape).under, &mut gathered)?;
+            add_copies(alloc, self.under(*shape), &mut gathered)?;
         }
         FieldsByName::new(alloc, gathered)
     }

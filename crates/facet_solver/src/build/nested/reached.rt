@@ -7,7 +7,7 @@ ghost use Rattle.facet_solver.specs.build.Build.{build_of, kind_at};
 ghost use Rattle.facet_solver.specs.build.FieldCount.{fields_of_kind};
 ghost use Rattle.facet_solver.specs.build.Nested.{structs_alone};
 ghost use Rattle.facet_solver.specs.build.NestedTable.{IsMarked, IsMarkedMore, MarksAmong};
-ghost use Rattle.facet_solver.specs.build.Reached.{AreReached, Asked, AskedAmong, ContentReached, FieldReached, HoldAsked, IsReachedAt, IsReachedMore, Reach, ReachAmong, RootReached, VariantReached, asked, reach};
+ghost use Rattle.facet_solver.specs.build.Reached.{AreReached, Asked, AskedAmong, ContentReached, FieldReached, HoldReached, IsReachedAt, IsReachedMore, Reach, ReachAmong, RootReached, VariantReached, asked, reach};
 
 use crate::build::Build;
 use crate::build::content::newtype_of;
@@ -18,8 +18,8 @@ use crate::build::visit::visited;
 use facet_solver_shape::{Field, ShapeId, ShapeKind, Shapes, Steps, Variant};
 
 /// Marks what the walks of a root's choices go through, and nothing else: in `structs` the structs
-/// whose nested key paths they ask for, in `apart` the enums whose content is written apart, each
-/// with all shapes that its key paths are made from.
+/// whose nested key paths they ask for, each with all shapes that its key paths are made from, and
+/// in `apart` the enums whose content is written apart.
 pub(crate) fn mark_reached(
     build: Build,
     root: ShapeId,
@@ -37,16 +37,15 @@ pub(crate) fn mark_reached(
     ensures visits { steps.new.visits
         ≡ steps.old.visits + fields_of_kind (kind_at build.entry.shapes.now root) }
     ensures no_fall { NoCountFalls steps.old steps.new }
-    ensures asked { HoldAsked (build_of build.entry) root
+    ensures asked { HoldReached (build_of build.entry) root
         (asked walked.new structs.new apart.new) }
     ensures least { (others : Asked) → AskedAmong (asked walked.old structs.old apart.old) others
-        → HoldAsked (build_of build.entry) root others
+        → HoldReached (build_of build.entry) root others
         → AskedAmong (asked walked.new structs.new apart.new) others }
 {
     mark_root(build, root, walked, structs, steps);
     mark_walked(build, walked, structs, apart);
     close_marks(build.shapes, Entered::StructsAlone, structs);
-    close_marks(build.shapes, Entered::EveryKind, apart);
 }
 
 /// Marks what a root leads to. An enum's content is walked, whatever its representation. Its fields

@@ -2,7 +2,7 @@
 ghost use Rattle.std.specs.Prelude.{◌≡◌, ◌++◌, ℕ, Bool, IfOk, OnOk, true};
 ghost use Rattle.std.specs.List.{AllByRecursion};
 ghost use Rattle.facet_solver.specs.build.Nested.{Under, paths_of_each};
-ghost use Rattle.facet_solver.specs.build.NestedNames.{shapes_behind};
+ghost use Rattle.facet_solver.specs.build.NestedNames.{HasEachOnce, shapes_behind};
 
 use facet_solver_shape::ShapeId;
 use std::alloc::{AllocError, Global};
@@ -58,6 +58,7 @@ impl ShapesBehind {
 
     /// Keeps each shape once.
     pub(crate) fn drop_repeats(&mut self)
+        ensures once { HasEachOnce self.new }
         ensures paths { (under : Under) → paths_of_each under (shapes_behind self.new)
             ≡ paths_of_each under (shapes_behind self.old) }
         ensures lead { (passes : ℕ → Bool)

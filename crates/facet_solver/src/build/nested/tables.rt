@@ -1,15 +1,16 @@
 //! The two tables from which the walks of a root's choices take nested key paths.
-ghost use Rattle.std.specs.Prelude.{◌≡◌, ◌*◌, ◌+◌, ◌<◌, ◌≤◌, IfOk, IfSome, IsSome, OnOk, length};
+ghost use Rattle.std.specs.Prelude.{◌≡◌, ◌*◌, ◌+◌, ◌<◌, ◌≤◌, IfOk, IfSome, IsSome, OnOk, Bool, List, length};
 ghost use Rattle.facet_solver_shape.specs.Catalogues.{NamesEarlier};
 ghost use Rattle.facet_solver_shape.specs.Steps.{NoCountFalls};
 ghost use Rattle.facet_solver.specs.build.Build.{build_of, kind_at};
 ghost use Rattle.facet_solver.specs.build.Nested.{content_paths, named, nested_paths, with_key_paths};
 ghost use Rattle.facet_solver.specs.build.FieldCount.{field_count, fields_of_kind};
-ghost use Rattle.facet_solver.specs.build.NestedTable.{IsFilled, variant_at};
+ghost use Rattle.facet_solver.specs.build.NestedTable.{HasVariants, variant_at};
 ghost use Rattle.facet_solver.specs.build.Reached.{AreTables, Asked, HaveOnly, HoldAsked, ServesRegular, ServesRoot};
 
 use crate::build::Build;
 use crate::build::nested::Entered;
+use crate::build::nested::marks::mark_contents;
 use crate::build::nested::paths::one_name_path;
 use crate::build::nested::reached::mark_reached;
 use crate::build::nested::table::NestedTable;
@@ -37,7 +38,9 @@ impl<'c> NestedTables<'c> {
         ensures entries { IfOk result (AreTables (build_of build.entry)) }
         ensures root { IfOk result (λ tables. ServesRoot (build_of build.entry) tables root) }
         ensures asked { IfOk result (λ tables.
-            (marks : Asked) → HoldAsked (build_of build.entry) root marks → HaveOnly marks tables) }
+            (marks : Asked) (contents : List Bool)
+            → HoldAsked (build_of build.entry) root marks contents
+            → HaveOnly marks contents tables) }
         ensures visits { steps.new.visits
             ≤ steps.old.visits + 2 * field_count build.entry.shapes.now }
         ensures visited { OnOk result
@@ -46,14 +49,16 @@ impl<'c> NestedTables<'c> {
         ensures no_fall { NoCountFalls steps.old steps.new }
     {
         let count = root.index();
-        let room = count.checked_mul(3).ok_or(AllocError)?;
+        let room = count.checked_mul(4).ok_or(AllocError)?;
         let mut marks = vec![in build.alloc; false; room]?;
         let (walked, others) = marks.split_at_mut(count);
-        let (structs, apart) = others.split_at_mut(count);
+        let (structs, others) = others.split_at_mut(count);
+        let (apart, contents) = others.split_at_mut(count);
         mark_reached(build, root, walked, structs, apart, steps);
+        mark_contents(build.shapes, apart, contents);
         Ok(NestedTables {
-            structs: NestedTable::new(build, Entered::StructsAlone, structs, steps)?,
-            contents: NestedTable::new(build, Entered::EveryKind, apart, steps)?,
+            structs: NestedTable::new(build, Entered::StructsAlone, structs, &[], steps)?,
+            contents: NestedTable::new(build, Entered::EveryKind, contents, apart, steps)?,
         })
     }
 
@@ -74,7 +79,7 @@ impl<'c> NestedTables<'c> {
         if !Entered::StructsAlone.has(build.shapes, shape) {
             return resolution.add_key_path(one_name_path(build.alloc, name)?);
         }
-        let under = &self.structs.entry(shape).under;
+        let under = self.structs.under(shape);
         self.structs.add_named(build.alloc, name, under, resolution)
     }
 
@@ -92,13 +97,12 @@ impl<'c> NestedTables<'c> {
         requires checked { NamesEarlier build.shapes.now }
         requires entries { AreTables (build_of build) self.now }
         requires variant { IsSome (variant_at build.shapes.now shape index) }
-        requires filled { IsFilled self.now.contents.by_index.items shape }
+        requires apart { HasVariants self.now.contents.by_index.items shape }
         ensures ok { OnOk result (IfSome (variant_at build.entry.shapes.now shape index) (λ variant.
             let paths = content_paths build.entry.shapes.now variant in
             resolution.new ≡ with_key_paths resolution.old (named name.now paths))) }
     {
-        let entry = self.contents.entry(shape);
-        let under = &entry.variants[index];
+        let under = &self.contents.variants(shape)[index];
         self.contents
             .add_named(build.alloc, name, under, resolution)
     }

@@ -8,7 +8,7 @@ ghost use Rattle.facet_solver.specs.schema.Slots.{is_named};
 use crate::schema::index::entry::{Entry, Occurrence};
 use facet_solver_shape::FieldInfo;
 use std::alloc::{AllocError, Global};
-use std::collections::BTreeMap;
+use std::collections::{BTreeMap, btree_map};
 
 /// The entries of one category.
 #[derive(Debug, Drop)]
@@ -94,10 +94,10 @@ fn add_named<'c>(
         then Some (added (named_entry named.old n) at.now)
         else named_entry named.old n)) }
 {
-    match named.get_mut(name) {
-        Some(entry) => entry.add(at),
-        None => {
-            named.insert(name, Entry::of_one(alloc, at)?)?;
+    match named.entry(name)? {
+        btree_map::Entry::Occupied(entry) => entry.into_mut().add(at),
+        btree_map::Entry::Vacant(place) => {
+            place.insert(Entry::of_one(alloc, at)?);
         }
     }
     Ok(())

@@ -1,14 +1,15 @@
 //! Fields by stored key, seen as a finite map.
-ghost use Rattle.std.specs.Prelude.{◌≡◌, OnOk, OnErr, IfOk, All, false, find, map};
+ghost use Rattle.std.specs.Prelude.{◌≡◌, OnOk, OnErr, IfErr, IfOk, All, None, false, find, map};
 ghost use Rattle.std.specs.Option.{option_copied, option_map};
 ghost use Rattle.std.specs.FinMap as finite;
 ghost use Rattle.facet_solver_shape.specs.Fields.{entry_view, matches, has_name, IsStored, as_optional, key_of_field, field_entries_view};
 ghost use Rattle.facet_solver_shape.specs.Keys.{Key, key_of};
-ghost use Rattle.facet_solver_shape.specs.Resolved.{IsOverlaid};
+ghost use Rattle.facet_solver_shape.specs.Resolved.{IsOverlaid, IsRefusalOf};
 
-use crate::resolution::{FieldInfo, FieldKey};
+use crate::resolution::{DuplicateFieldError, FieldInfo, FieldKey, SchemaError};
 use std::alloc::{AllocError, Global};
 use std::collections::BTreeMap;
+use std::collections::btree_map::Entry;
 use std::marker::Model;
 
 /// Fields by stored key.
@@ -80,6 +81,32 @@ impl<'c> FieldMap<'c> {
             }
         }
         None
+    }
+
+    /// Puts a field under its stored key, if that is new.
+    ///
+    /// Errors: `DuplicateField` where the key is taken; `OutOfMemory`.
+    pub(crate) fn insert_new(
+        &mut self,
+        alloc: Global,
+        info: FieldInfo<'c>,
+    ) -> Result<(), SchemaError<'c>>
+        ensures fresh { OnOk result (finite.get self.old (key_of_field info.entry) ≡ None) }
+        ensures ok { OnOk result
+            (self.new ≡ finite.insert self.old (key_of_field info.entry) info.entry) }
+        ensures refused { IfErr result (IsRefusalOf self.old info.entry) }
+        ensures err { OnErr result (self.new ≡ self.old) }
+    {
+        let place = match self.entries.entry(info.key())? {
+            Entry::Vacant(place) => place,
+            Entry::Occupied(present) => {
+                // Not `get`: the contract of `into_mut` says what the map is afterwards.
+                let duplicate = DuplicateFieldError::new(alloc, present.into_mut(), &info)?;
+                return Err(SchemaError::from(duplicate));
+            }
+        };
+        place.insert(info);
+        Ok(())
     }
 
     /// Puts a field under its stored key.

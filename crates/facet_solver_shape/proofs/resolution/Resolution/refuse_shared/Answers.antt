@@ -1,10 +1,9 @@
-use Rattle.std.proofs.Common.{◌≡◌, ◌∙◌, ap, sym, subst, map, Some, None, List}
+use Rattle.std.proofs.Common.{◌≡◌, ◌∙◌, ap, sym, subst, map, Some, None}
 use Rattle.std.specs.FinMap.{get}
 use Rattle.std.specs.Option.{option_copied}
 use Rattle.std.proofs.lemmas.List.Elements.{recursion_from_All}
-use Rattle.facet_solver_shape.specs.Fields.{FieldView, entry_view, IsStored}
+use Rattle.facet_solver_shape.specs.Fields.{entry_view, IsStored}
 use Rattle.facet_solver_shape.specs.Keys.{key_of}
-use Rattle.facet_solver_shape.specs.Paths.{Segment}
 use Rattle.facet_solver_shape.proofs.Resolved.{IsSearched, search_start, one_searched, search_end, merge_duplicate}
 use Rattle.facet_solver_shape.proofs.resolution.Resolution.refuse_shared.Goals as goal
 
@@ -25,10 +24,8 @@ pub returns-in-Some-get-clause-refused : goal.returns-in-Some-get-clause-refused
 returns-in-Some-get-clause-refused c =
     let before = rw c.in-Some.ensures.steps at c.loop-key.invariant in
     let taken : get c.args.self.now.fields (key_of c.in-Some.key.now) ≡ Some c.in-Some-get.present.now = ap (λ r. get r.fields (key_of c.in-Some.key.now)) (sym c.self.view_is) ∙ sym c.get.ensures ∙ ap option_copied c.in-Some-get.is in
-    let path : FieldView → List Segment = λ f. f.path in
-    let first : c.in-Some-get.present.now.path ≡ c.in_ok-first_path.first_path = sym (ap path c.present.view_is) ∙ sym c.in_ok-first_path.ensures in
-    let second = c.in_ok-second_path.ensures ∙ ap path c.info.view_is in
-    rw (c.from.ensures, ap (λ (f : FieldView). f.name) c.info.view_is) (merge_duplicate c.args.self.now c.args.other.now (key_of c.in-Some.key.now) c.in-Some.info.now c.in-Some-get.present.now _ _ before.found.0 before.stored.0 taken first second)
+    let duplicate = c.in_ok-duplicate.ensures in
+    rw (c.from.ensures, duplicate.name) (merge_duplicate c.args.self.now c.args.other.now (key_of c.in-Some.key.now) c.in-Some.info.now c.in-Some-get.present.now _ _ before.found.0 before.stored.0 taken (sym duplicate.first) duplicate.second)
 
 pub returns : goal.returns
 returns c =

@@ -3,14 +3,22 @@ use Rattle.std.specs.List.{AllByRecursion}
 use Rattle.std.proofs.lemmas.Slice.Eq.{bytes_eq-Decides}
 use Rattle.facet_solver_shape.specs.Names.{Name}
 use Rattle.facet_solver.specs.build.Nested.{paths_of_each}
-use Rattle.facet_solver.specs.build.NestedNames.{AreRising, Names, NamesLead, paths_of_names, shapes_behind}
+use Rattle.facet_solver.specs.build.NestedNames.{AreRising, HasEachOnce, Names, NamesLead, paths_of_names, shapes_behind}
 use Rattle.facet_solver.specs.declared.build.nested.shapes_behind.ShapesBehind.{ShapesBehind}
+use Rattle.facet_solver.proofs.NestedFields.{each_push}
 use Rattle.facet_solver.proofs.NestedNames.{AreSorted, each-append, each-joined, each-other, next_after, no_names_rise, paths-append, paths-joined, paths-other, rise-first, rise-last_other, rise-push, sorted_rest}
 use Rattle.facet_solver.proofs.NestedTable.{no_items}
 use Rattle.facet_solver.proofs.build.nested.by_name.joined.Goals as goal
 
 pub returns-in_default-clause-rise : goal.returns-in_default-clause-rise
 returns-in_default-clause-rise c = subst AreRising (sym c.new-joined.ensures.items) no_names_rise
+
+-- a name with its shapes, of which each is there once
+abbrev IsOnce : Bor Name × ShapesBehind → Type 0
+IsOnce e = HasEachOnce e.1
+
+pub returns-in_default-clause-once : goal.returns-in_default-clause-once
+returns-in_default-clause-once c = subst (AllByRecursion IsOnce) (sym c.new-joined.ensures.items) tt
 
 pub loop-named-init : goal.loop-named-init
 loop-named-init c =
@@ -25,6 +33,7 @@ loop-named-init c =
       λ passes lead. subst (NamesLead passes) all lead,
       subst (λ (names : Names). AreRising (names ++ c.in-Some.last ∷ [])) (sym none) (rise-first c.in-Some.last),
       subst AreSorted (all ∙ ap (λ (names : Names). names ++ c.in-Some.last ∷ rest) none) c.requires,
+      subst (AllByRecursion IsOnce) (sym none) tt,
     )
 
 pub loop-named-preserved-then-eq : goal.loop-named-preserved-then-eq
@@ -48,6 +57,7 @@ loop-named-preserved-then-eq c =
           (subst (λ (names : Names). NamesLead passes (front ++ last ∷ names)) step (c.loop-named.invariant.1 passes lead)),
       rise-last_other front last (last.0, both) refl c.loop-named.invariant.2,
       sorted_rest last named (last.0, both) rest (sym same) (subst (λ (names : Names). AreSorted (last ∷ names)) step c.loop-named.invariant.3),
+      c.loop-named.invariant.4,
     )
 
 pub loop-named-preserved : goal.loop-named-preserved
@@ -73,6 +83,7 @@ loop-named-preserved c =
       subst (λ (names : Names). AreRising (names ++ named ∷ [])) (sym c.in_ok-push.ensures.items)
           (rise-push front once named (rise-last_other front last once refl c.loop-named.invariant.2) (next_after last named rest sorted (sym c.eq.ensures ∙ c.if-eq.false))),
       sorted_rest last named named rest refl sorted,
+      subst (AllByRecursion IsOnce) (sym c.in_ok-push.ensures.items) (each_push IsOnce front once c.loop-named.invariant.4 c.drop_repeats.ensures.once),
     )
 
 none_left : (c : goal.In_ok-push-2) → c.loop-named.named-iterator.rest.items ≡ []
@@ -95,3 +106,8 @@ returns-clause-lead c = λ passes lead.
 
 pub returns-clause-rise : goal.returns-clause-rise
 returns-clause-rise c = subst AreRising (sym c.in_ok-push-2.ensures.items) (rise-last_other c.loop-named.joined.items c.loop-named.last (c.loop-named.last.0, c.drop_repeats-2.new.self) refl c.loop-named.invariant.2)
+
+pub returns-clause-once : goal.returns-clause-once
+returns-clause-once c =
+    subst (AllByRecursion IsOnce) (sym c.in_ok-push-2.ensures.items)
+    (each_push IsOnce c.loop-named.joined.items (c.loop-named.last.0, c.drop_repeats-2.new.self) c.loop-named.invariant.4 c.drop_repeats-2.ensures.once)

@@ -1,6 +1,7 @@
 use Rattle.std.proofs.Common.{◌≡◌, ◌∷◌, [], ◌++◌, ℕ, Bool}
+use Rattle.std.specs.List.{AllByRecursion}
 use Rattle.facet_solver.specs.build.Nested.{Under}
-use Rattle.facet_solver.specs.build.NestedNames.{AreRising, NamesLead, paths_of_names}
+use Rattle.facet_solver.specs.build.NestedNames.{AreRising, HasEachOnce, NamesLead, paths_of_names}
 use Rattle.facet_solver.proofs.NestedNames.{AreSorted}
 use Rattle.facet_solver.proofs.build.nested.by_name.joined.Given as goal
 
@@ -12,3 +13,4 @@ invariant-loop-named l =
     × ((passes : ℕ → Bool) → NamesLead passes l.fn.sorted.items → NamesLead passes (l.joined.items ++ l.last ∷ rest))
     × AreRising (l.joined.items ++ l.last ∷ [])
     × AreSorted (l.last ∷ rest)
+    × AllByRecursion (λ e. HasEachOnce e.1) l.joined.items

@@ -19,10 +19,9 @@ returns-clause-asked c =
           (kind_kept a b more.walked.kept more.structs.kept cat ⊤ ⊤ (λ x. x) true (kind_at cat c.args.root) c.mark_root.ensures.reached);
       walked = λ id m.
           shape_kept b d (λ id m. m) c.close_marks.ensures.kept
-          (IsMarked c.mark_walked.new.apart id) (IsMarked c.close_marks-2.new.marks id) (c.close_marks-2.ensures.kept id) (build_of c.args.build) (slice_get cat id)
+          (IsMarked c.mark_walked.new.apart id) (IsMarked c.mark_walked.new.apart id) (λ x. x) (build_of c.args.build) (slice_get cat id)
           (c.mark_walked.ensures.closed id m);
       structs = c.close_marks.ensures.closed;
-      apart = c.close_marks-2.ensures.closed;
     }
 
 -- and no mark is made that is not asked for
@@ -32,5 +31,5 @@ returns-clause-least c = λ others among holds.
     let walked = c.mark_walked.ensures.least others (record { reach = root; apart = among.apart }) holds.walked in
     record {
       reach = record { walked = walked.reach.walked; structs = c.close_marks.ensures.least others.reach.structs walked.reach.structs holds.structs };
-      apart = c.close_marks-2.ensures.least others.apart walked.apart holds.apart;
+      apart = walked.apart;
     }

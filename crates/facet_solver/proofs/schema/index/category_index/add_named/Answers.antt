@@ -1,24 +1,33 @@
-use Rattle.std.proofs.Common.{ap, sym, ◌∙◌, refl}
+use Rattle.std.proofs.Common.{rules, ◌≡◌, ap, sym, ◌∙◌, Some, None}
+use Rattle.std.specs.Prelude.{if◌then◌else◌}
+use Rattle.std.specs.BTreeMap.Entry.{map_with_value, entry_value}
+use Rattle.facet_solver_shape.specs.Names.{Name, name_eq}
 use Rattle.facet_solver.specs.schema.IndexEntries.{added, named_entry}
-use Rattle.facet_solver.proofs.NamedEntries.{lent_entry, no_entry, bound_of, put_entry}
+use Rattle.facet_solver.proofs.NamedEntries.{bound_of, put_entry}
 use Rattle.facet_solver.proofs.schema.index.category_index.add_named.Goals as goal
 
 pub add-requires : goal.add-requires
 add-requires c =
-    let here = lent_entry c.args.named.now c.args.name.now c.get_mut.result c.in-Some.entry c.in-Some.is c.get_mut.ensures.value in
-    bound_of c.args.at.now.bound c.args.at.now.index _ c.in-Some.entry.now here (c.requires.bounds c.args.name.now) c.requires.index
+    let entry = c.into_mut.result.now in
+    let occupied : entry_value c.in_ok-entry.field-0 ≡ Some entry = search rules in
+    bound_of c.args.at.now.bound c.args.at.now.index _ entry (sym c.in_ok-entry.ensures.value ∙ occupied) (c.requires.bounds c.args.name.now) c.requires.index
 
-pub returns-in-Some : goal.returns-in-Some
-returns-in-Some c =
-    let here = lent_entry c.args.named.now c.args.name.now c.get_mut.result c.in-Some.entry c.in-Some.is c.get_mut.ensures.value in
-    put_entry c.args.named.now (c.get_mut.follows.lender c.add.new.self) c.args.name.now c.args.at.now c.add.new.self
-    (c.add.ensures ∙ ap (λ o. added o c.args.at.now) (sym here))
-    ((c.get_mut.follows.holds c.add.new.self).3 (rw here refl))
+pub returns-in-Occupied : goal.returns-in-Occupied
+returns-in-Occupied c =
+    let entry = c.add.new.self in
+    let occupied : entry_value c.in_ok-entry.field-0 ≡ Some c.into_mut.result.now = search rules in
+    let there = sym c.in_ok-entry.ensures.value ∙ occupied in
+    let after = map_with_value c.in_ok-entry.field-0 entry in
+    let put : (n : Name) → named_entry after n ≡ (if name_eq n c.args.name.now then Some (added (named_entry c.args.named.now n) c.args.at.now) else named_entry c.args.named.now n) =
+    put_entry c.args.named.now after c.args.name.now c.args.at.now entry (c.add.ensures ∙ ap (λ o. added o c.args.at.now) (sym there)) (c.in_ok-entry.ensures.update.0 entry) in
+    search rules
 
-pub returns-in_ok-insert-in-None : goal.returns-in_ok-insert-in-None
-returns-in_ok-insert-in-None c =
-    let here = no_entry c.args.named.now c.args.name.now c.get_mut.result c.in-None.is c.get_mut.ensures.value in
-    rw c.get_mut.follows.holds-at-none at
-    (put_entry c.get_mut.follows.lender-at-none c.insert.new.self c.args.name.now c.args.at.now c.in_ok-of_one-in-None.field-0
-    (c.in_ok-of_one-in-None.ensures ∙ ap (λ o. added o c.args.at.now) (sym here ∙ ap (λ m. named_entry m c.args.name.now) (sym c.get_mut.follows.holds-at-none)))
-    c.in_ok-insert-in-None.ensures.updates)
+pub returns-in_ok-of_one-in-Vacant : goal.returns-in_ok-of_one-in-Vacant
+returns-in_ok-of_one-in-Vacant c =
+    let entry = c.in_ok-of_one-in-Vacant.field-0 in
+    let vacant : entry_value c.in_ok-entry.field-0 ≡ None = search rules in
+    let none = sym c.in_ok-entry.ensures.value ∙ vacant in
+    let after = map_with_value c.in_ok-entry.field-0 entry in
+    let put : (n : Name) → named_entry after n ≡ (if name_eq n c.args.name.now then Some (added (named_entry c.args.named.now n) c.args.at.now) else named_entry c.args.named.now n) =
+    put_entry c.args.named.now after c.args.name.now c.args.at.now entry (c.in_ok-of_one-in-Vacant.ensures ∙ ap (λ o. added o c.args.at.now) (sym none)) (c.in_ok-entry.ensures.update.0 entry) in
+    search rules

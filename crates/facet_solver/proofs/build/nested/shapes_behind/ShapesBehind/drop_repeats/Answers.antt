@@ -1,6 +1,8 @@
 use Rattle.std.proofs.Common.{◌≡◌, ℕ, true, ap, sym, ◌∙◌, subst, nat_eq}
 use Rattle.std.specs.List.{AllByRecursion, dedup}
+use Rattle.std.specs.List.Sorted.{IsStrictlyIncreasing}
 use Rattle.std.proofs.lemmas.List.Filters.{dedup_is}
+use Rattle.std.proofs.lemmas.Map.Keys.{IsStrictlyIncreasing-dedup}
 use Rattle.facet_solver.specs.build.Nested.{paths_of_each}
 use Rattle.facet_solver.specs.build.NestedNames.{shapes_behind}
 use Rattle.facet_solver.proofs.NestedNames.{each-dedup, each_permuted, paths-dedup, paths-permutation}
@@ -24,3 +26,7 @@ returns-in-Several-clause-lead c = λ passes lead.
     (each-dedup P c.sort_unstable.new.self.items
     (each_permuted P _ _ c.sort_unstable.ensures.permutation
     (subst (λ b. AllByRecursion P (shapes_behind b)) c.in-Several.is lead)))
+
+pub returns-in-Several-clause-once : goal.returns-in-Several-clause-once
+returns-in-Several-clause-once c =
+    subst IsStrictlyIncreasing (sym (once c)) (IsStrictlyIncreasing-dedup c.sort_unstable.new.self.items c.sort_unstable.ensures.sorted)

@@ -16,7 +16,7 @@ use Rattle.facet_solver.specs.declared.build.nested.names_left.Level.{Level}
 use Rattle.facet_solver.specs.declared.build.nested.names_left.NamesLeft.{NamesLeft}
 use Rattle.facet_solver.specs.declared.build.nested.shapes_behind.ShapesBehind.{ShapesBehind}
 use Rattle.facet_solver.proofs.NestedFields.{each-last, limit_of_names}
-use Rattle.facet_solver.proofs.NestedLevels.{AreOpen, IsInside, IsNext, IsOpen, entry_paths, entry_paths-stand, gone_into, is_inside, level_names, next-added, next-smaller, next_ended, next_taken, no_levels, steps-less_far}
+use Rattle.facet_solver.proofs.NestedLevels.{IsInside, IsNext, IsOpen, entry_paths, entry_paths-stand, gone_into, is_inside, level_names, next-added, next-smaller, next_ended, next_taken, no_levels, steps-less_far}
 use Rattle.facet_solver.proofs.NestedSets.{behind-none}
 use Rattle.facet_solver.proofs.NestedTable.{no_items}
 use Rattle.facet_solver.proofs.build.nested.table.NestedTable.add_paths.Goals as goal

@@ -23,18 +23,18 @@ loop-shape-preserved c =
     let shapes = c.args.shapes.now in
     let i = c.loop-shape.shape-index in
     let id = c.shape-item.result in
-    let entry = c.entry.result.now in
+    let fields = c.under.result.now in
     let filled = is_filled c.args.self.now.by_index.items in
     let here : slice_get shapes i ≡ Some id = slice_get-get_or shapes i id c.loop-shape-test.true ∙ ap Some (sym c.shape-item.is) in (
       λ under stand.
           let old = paths_of_names under c.loop-shape.gathered.items in
           ap (λ (ps : KeyPaths). union ps (paths_of_each under (drop (i + 1) shapes)))
-          (c.in_ok-add_copies.ensures.paths under ∙ ap (λ (ps : KeyPaths). union old ps) (stand id entry c.entry.ensures))
+          (c.in_ok-add_copies.ensures.paths under ∙ ap (λ (ps : KeyPaths). union old ps) (stand id fields c.under.ensures))
           ∙ one_more under shapes i old id here
           ∙ c.loop-shape.invariant.0 under stand,
       λ limit below.
           c.in_ok-add_copies.ensures.lead (λ t. nat_lt t limit && filled t) (c.loop-shape.invariant.1 limit below)
-          (leads_below filled id limit (each_at (λ (k : ℕ). k ≤ limit) shapes i id below here) entry.under (c.requires.earlier id entry c.entry.ensures).under),
+          (leads_below filled id limit (each_at (λ (k : ℕ). k ≤ limit) shapes i id below here) fields (c.requires.earlier.under id fields c.under.ensures)),
     )
 
 pub returns-clause-paths : goal.returns-clause-paths

@@ -16,7 +16,7 @@ returns-in-len1-clause-paths c = λ under stand.
     let here : slice_get shapes 0 ≡ Some id = slice_get-get_or shapes 0 id (omega (arith, c.in-len1.len_at_least)) ∙ ap Some (sym c.only-item.is) in
     let only : shapes ≡ id ∷ [] = one_item shapes id (omega (arith, c.in-len1.len_at_least, c.in-len1.len_below)) here in
     ap (paths_of_names under) c.of_entry.ensures.names
-    ∙ stand id c.entry.result.now c.entry.ensures
+    ∙ stand id c.under.result.now c.under.ensures
     ∙ sym (union-none (under id))
     ∙ ap (paths_of_each under) (sym only)
 
@@ -25,10 +25,10 @@ returns-in-len1-clause-lead c = λ limit below.
     let shapes = c.args.shapes.now in
     let id = c.only-item.result in
     let here : slice_get shapes 0 ≡ Some id = slice_get-get_or shapes 0 id (omega (arith, c.in-len1.len_at_least)) ∙ ap Some (sym c.only-item.is) in
-    let entry = c.entry.result.now in
+    let fields = c.under.result.now in
     let filled = is_filled c.args.self.now.by_index.items in
     subst (NamesLead (λ t. nat_lt t limit && filled t)) (sym c.of_entry.ensures.names)
-    (leads_below filled id limit (each_at (λ (k : ℕ). k ≤ limit) shapes 0 id below here) entry.under (c.requires.earlier id entry c.entry.ensures).under)
+    (leads_below filled id limit (each_at (λ (k : ℕ). k ≤ limit) shapes 0 id below here) fields (c.requires.earlier.under id fields c.under.ensures))
 
 pub returns-in_ok-together-in_default-clause-lead :
     goal.returns-in_ok-together-in_default-clause-lead

@@ -6,7 +6,7 @@ use Rattle.facet_solver.specs.build.Nested.{KeyPaths, content_paths, every_kind,
 use Rattle.facet_solver.specs.build.NestedTable.{LeadTo, is_filled, paths_by_name, variant_at}
 use Rattle.facet_solver.proofs.NestedFields.{each_at}
 use Rattle.facet_solver.proofs.NestedTable.{on_ok}
-use Rattle.facet_solver.proofs.Serving.{entries_stand, entry_filled, variant_entry}
+use Rattle.facet_solver.proofs.Serving.{entries_stand, variant_entry, variants_filled}
 use Rattle.facet_solver.proofs.build.nested.tables.NestedTables.add_content_paths.Goals as goal
 
 -- what holds of the value in hand holds of the value if there is one
@@ -22,23 +22,23 @@ pub add_named-requires-clause-filled : goal.add_named-requires-clause-filled
 add_named-requires-clause-filled c =
     let cat = c.args.build.shapes.now in
     let entries = c.args.self.now.contents.by_index.items in
-    let entry = c.entry-entry.result.now in
+    let each = c.variants.result.now in
     let v = some_value (variant_at cat c.args.shape c.args.index) c.requires.variant in
-    let at = variant_entry cat entries c.args.shape entry c.requires.entries.contents c.entry-entry.ensures c.args.index v.0 v.1 in
-    let is : c.index-under.result.now ≡ at.0 = c.index-under.ensures ∙ get_or_from_slice_get entry.variants.items c.args.index at.0 c.index-under.result.now at.1 in
+    let at = variant_entry cat entries c.args.shape each c.requires.entries.contents c.variants.ensures c.args.index v.0 v.1 in
+    let is : c.index-under.result.now ≡ at.0 = c.index-under.ensures ∙ get_or_from_slice_get each.items c.args.index at.0 c.index-under.result.now at.1 in
     subst (LeadTo (is_filled entries)) (sym is)
-    (each_at (LeadTo (is_filled entries)) entry.variants.items c.args.index at.0 (entry_filled entries c.args.shape entry c.requires.entries.contents_earlier c.entry-entry.ensures).variants at.1)
+    (each_at (LeadTo (is_filled entries)) each.items c.args.index at.0 (variants_filled entries c.args.shape each c.requires.entries.contents_earlier c.variants.ensures) at.1)
 
 pub returns : goal.returns
 returns c =
     let cat = c.args.build.shapes.now in
     let entries = c.args.self.now.contents.by_index.items in
-    let entry = c.entry-entry.result.now in
+    let each = c.variants.result.now in
     let under = c.index-under.result.now in
     let stands = paths_by_name (under_shape every_kind cat) in
     let is : (v : Variant) → variant_at cat c.args.shape c.args.index ≡ Some v → stands under ≡ content_paths cat v = λ v found.
-    let at = variant_entry cat entries c.args.shape entry c.requires.entries.contents c.entry-entry.ensures c.args.index v found in
-    ap stands (c.index-under.ensures ∙ get_or_from_slice_get entry.variants.items c.args.index at.0 under at.1) ∙ at.2 in
+    let at = variant_entry cat entries c.args.shape each c.requires.entries.contents c.variants.ensures c.args.index v found in
+    ap stands (c.index-under.ensures ∙ get_or_from_slice_get each.items c.args.index at.0 under at.1) ∙ at.2 in
     record {
       ok = on_ok c.add_named.result
           (λ added. if_some (variant_at cat c.args.shape c.args.index) _

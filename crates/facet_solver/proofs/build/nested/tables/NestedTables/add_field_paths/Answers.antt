@@ -4,7 +4,7 @@ use Rattle.facet_solver.specs.build.Nested.{KeyPath, KeyPaths, named, nested_pat
 use Rattle.facet_solver.specs.build.NestedTable.{paths_by_name}
 use Rattle.facet_solver.proofs.NestedSets.{with-name}
 use Rattle.facet_solver.proofs.NestedTable.{on_ok}
-use Rattle.facet_solver.proofs.Serving.{entries_stand, entry_filled, regular_entry, regular_nothing}
+use Rattle.facet_solver.proofs.Serving.{entries_stand, regular_entry, regular_nothing, under_filled}
 use Rattle.facet_solver.proofs.build.nested.tables.NestedTables.add_field_paths.Goals as goal
 
 pub returns-then-not-has : goal.returns-then-not-has
@@ -24,15 +24,15 @@ returns-then-not-has c =
 
 pub add_named-requires-clause-filled : goal.add_named-requires-clause-filled
 add_named-requires-clause-filled c =
-    (entry_filled c.args.self.now.structs.by_index.items c.args.shape c.entry.result.now c.requires.entries.structs_earlier c.entry.ensures).under
+    under_filled c.args.self.now.structs.by_index.items c.args.shape c.under-under.result.now c.requires.entries.structs_earlier c.under-under.ensures
 
 pub returns : goal.returns
 returns c =
     let cat = c.args.build.shapes.now in
     let id = c.args.shape in
     let entries = c.args.self.now.structs.by_index.items in
-    let is : paths_by_name (under_shape structs_alone cat) c.entry.result.now.under ≡ nested_paths cat id =
-    regular_entry cat entries id c.entry.result.now c.requires.checked c.requires.entries.structs c.entry.ensures (sym c.has.ensures ∙ c.if-not-has.false) in
+    let is : paths_by_name (under_shape structs_alone cat) c.under-under.result.now ≡ nested_paths cat id =
+    regular_entry cat entries id c.under-under.result.now c.requires.checked c.requires.entries.structs c.under-under.ensures (sym c.has.ensures ∙ c.if-not-has.false) in
     record {
       ok = rw (← is)
           (on_ok c.add_named.result (λ added. added (under_shape structs_alone cat) (entries_stand structs_alone cat entries c.requires.checked c.requires.entries.structs)) c.add_named.ensures);

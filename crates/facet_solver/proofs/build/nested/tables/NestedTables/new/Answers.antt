@@ -1,10 +1,10 @@
 use Rattle.std.proofs.Common.{◌≡◌, ◌++◌, ◌+◌, ◌*◌, ◌<◌, ◌≤◌, ◌∙◌, ℕ, ap, arith, length, slice_get, subst, take}
 use Rattle.facet_solver.specs.build.Build.{Catalogue, build_of, kind_at}
 use Rattle.facet_solver.specs.build.FieldCount.{field_count, fields_of_kind}
-use Rattle.facet_solver.specs.build.NestedTable.{IsFilled, IsMarked}
+use Rattle.facet_solver.specs.build.NestedTable.{HasVariants, IsMarked}
 use Rattle.facet_solver.specs.build.Reached.{AskedAmong, asked, reach}
 use Rattle.facet_solver.proofs.Marks.{NoMark, among-none, none_before, none_behind, none_marked}
-use Rattle.facet_solver.proofs.NestedTable.{fields_with_earlier}
+use Rattle.facet_solver.proofs.NestedTable.{fields_with_earlier, no_marks}
 use Rattle.facet_solver.proofs.Reached.{shape_kept}
 use Rattle.facet_solver.proofs.build.nested.tables.NestedTables.new.Goals as goal
 
@@ -14,8 +14,8 @@ returns-clause-root c =
     record {
       marks = m;
       follows = record {
-        closed = λ id marked. shape_kept m m (λ id m. m) (λ id m. m) (IsMarked c.mark_reached.new.apart id) (IsFilled c.in_ok-new-2.field-0.by_index.items id)
-            (λ h. (c.in_ok-new-2.ensures.marked id).0 h)
+        closed = λ id marked. shape_kept m m (λ id m. m) (λ id m. m) (IsMarked c.mark_reached.new.apart id) (HasVariants c.in_ok-new-2.field-0.by_index.items id)
+            (λ h. (c.in_ok-new-2.ensures.apart id).0 h)
             (build_of c.args.build) (slice_get c.args.build.shapes.now id) (c.mark_reached.ensures.asked.walked id marked);
         structs = λ id h. (c.in_ok-new.ensures.marked id).0 h;
       };
@@ -44,32 +44,38 @@ returns-in_err-new-clause-visits c =
 
 pub returns-in_err-new-2-clause-visits : goal.returns-in_err-new-2-clause-visits
 returns-in_err-new-2-clause-visits c =
-    both_tables c.args.build.shapes.now c.args.root c.requires c.args.steps.now.visits _ c.mark_reached.ensures.visits _ _ c.new.new.steps.visits c.new-2.new.steps.visits c.mark_reached.ensures.structs_length c.mark_reached.ensures.apart_length
+    both_tables c.args.build.shapes.now c.args.root c.requires c.args.steps.now.visits _ c.mark_reached.ensures.visits _ _ c.new.new.steps.visits c.new-2.new.steps.visits c.mark_reached.ensures.structs_length (c.mark_contents.ensures.all ∙ c.mark_reached.ensures.apart_length)
     c.new.ensures.visits c.new-2.ensures.visits
 
 pub returns-clause-visits : goal.returns-clause-visits
 returns-clause-visits c =
-    both_tables c.args.build.shapes.now c.args.root c.requires c.args.steps.now.visits _ c.mark_reached.ensures.visits _ _ c.new.new.steps.visits c.new-2.new.steps.visits c.mark_reached.ensures.structs_length c.mark_reached.ensures.apart_length
+    both_tables c.args.build.shapes.now c.args.root c.requires c.args.steps.now.visits _ c.mark_reached.ensures.visits _ _ c.new.new.steps.visits c.new-2.new.steps.visits c.mark_reached.ensures.structs_length (c.mark_contents.ensures.all ∙ c.mark_reached.ensures.apart_length)
     c.new.ensures.visits c.new-2.ensures.visits
 
 pub returns-clause-asked : goal.returns-clause-asked
-returns-clause-asked c = λ marks holds.
+returns-clause-asked c = λ marks contents holds.
     let walked = c.split_at_mut-walked.result.0.now in
-    let others = c.split_at_mut-walked.result.1.now in
+    let but_walked = c.split_at_mut-walked.result.1.now in
     let structs = c.split_at_mut-structs.result.0.now in
-    let apart = c.split_at_mut-structs.result.1.now in
-    let all : NoMark (walked ++ others) =
+    let but_structs = c.split_at_mut-structs.result.1.now in
+    let apart = c.split_at_mut-apart.result.0.now in
+    let last = c.split_at_mut-apart.result.1.now in
+    let all : NoMark (walked ++ but_walked) =
     subst NoMark c.split_at_mut-walked.ensures.value (none_marked _ _ (c.deref_mut.ensures.value ∙ c.in_ok-marks.ensures.items_if_clones_equal (λ b is. is))) in
-    let more : NoMark (structs ++ apart) = subst NoMark c.split_at_mut-structs.ensures.value (none_behind walked others all) in
+    let more : NoMark (structs ++ but_structs) = subst NoMark c.split_at_mut-structs.ensures.value (none_behind walked but_walked all) in
+    let most : NoMark (apart ++ last) = subst NoMark c.split_at_mut-apart.ensures.value (none_behind structs but_structs more) in
     let none : AskedAmong (asked walked structs apart) marks = record {
       reach = record {
-        walked = among-none walked marks.reach.walked (none_before walked others all);
-        structs = among-none structs marks.reach.structs (none_before structs apart more);
+        walked = among-none walked marks.reach.walked (none_before walked but_walked all);
+        structs = among-none structs marks.reach.structs (none_before structs but_structs more);
       };
-      apart = among-none apart marks.apart (none_behind structs apart more);
+      apart = among-none apart marks.apart (none_before apart last most);
     } in
-    let least = c.mark_reached.ensures.least marks none holds in
+    let least = c.mark_reached.ensures.least marks none holds.reached in
+    let within = c.mark_contents.ensures.least contents (among-none last contents (none_behind apart last most)) (λ id m. holds.by_apart id (least.apart id m)) holds.closed in
     record {
-      structs = λ id filled. least.reach.structs id ((c.in_ok-new.ensures.marked id).1 filled);
-      contents = λ id filled. least.apart id ((c.in_ok-new-2.ensures.marked id).1 filled);
+      under_structs = λ id filled. least.reach.structs id ((c.in_ok-new.ensures.marked id).1 filled);
+      no_variants = λ id has. no_marks id ((c.in_ok-new.ensures.apart id).1 has);
+      under_contents = λ id filled. within id ((c.in_ok-new-2.ensures.marked id).1 filled);
+      variants = λ id has. least.apart id ((c.in_ok-new-2.ensures.apart id).1 has);
     }

@@ -1,5 +1,5 @@
 use Rattle.facet_solver.proofs.Choice.{no_duplicates}
-use Rattle.facet_solver.proofs.laws.resolutions_exclude_clashes.Goals as goal
+use Rattle.facet_solver.proofs.laws.resolutions_exclude_duplicates.Goals as goal
 
 pub returns : goal.returns
 returns c = no_duplicates
