@@ -1,5 +1,5 @@
 -- In the flat format seen keys say of a resolution what their names say.
-use Rattle.std.proofs.Common.{◌≡◌, Bool, true, false, cond, ◌||◌, ◌&&◌, not, T, List, [], ◌∷◌, Option, Some, filter, map, refl, ap, sym, subst, ◌∙◌, ⊎_elim}
+use Rattle.std.proofs.Common.{◌≡◌, Bool, true, false, cond, ◌||◌, ◌&&◌, not, T, List, [], ◌∷◌, Option, Some, filter, map, refl, ap, sym, subst, ◌∙◌, ⊎_elim, inl, inr}
 use Rattle.std.specs.Cmp.Lexicographic.{slice_cmp}
 use Rattle.std.specs.declared.cmp.Ordering.TheVariants.{Less}
 use Rattle.std.specs.FinMap as finite
@@ -19,9 +19,9 @@ use Rattle.facet_solver_shape.specs.Keys.{Key, flat_key, key_cmp, stored_key}
 use Rattle.facet_solver_shape.specs.Names.{Name}
 use Rattle.facet_solver_shape.specs.Resolved.{AreRequiredNames, Resolved, field_by_name}
 use Rattle.facet_solver_shape.proofs.Fields.{flat_by_name}
-use Rattle.facet_solver_shape.proofs.Finite.{equal, none_is_some, same_value}
-use Rattle.facet_solver_shape.proofs.Keys.{name_cmp_same}
-use Rattle.facet_solver_shape.proofs.Resolved.{first_part, less, second_part}
+use Rattle.facet_solver_shape.proofs.Finite.{cases_bool, equal, none_is_some, same_value}
+use Rattle.facet_solver_shape.proofs.Keys.{key_cmp_total, name_cmp_same}
+use Rattle.facet_solver_shape.proofs.Resolved.{IsFound, first_part, found_entries, less, second_part}
 use Rattle.facet_solver.specs.solver.ByName.{is_viable_by_name, missing_by_name, unseen_names, names_among, unknown_by_name}
 use Rattle.facet_solver.specs.solver.Failure.{in_byte_order, is_met, missing, names_where}
 use Rattle.facet_solver.specs.Resolutions.{has_field_named, has_key, is_known}
@@ -336,3 +336,18 @@ module _ (r : Resolved) (stored : AllByRecursion IsStored (finite.entries r.fiel
       none_of_none : (gs : List FieldView) → map (λ (f : FieldView). f.name) gs ≡ [] → gs ≡ []
       none_of_none [] none = refl
       none_of_none (g ∷ gs) none = cc
+
+-- ---- where no name is required, every field is met
+module _ (seen : List Key) (r : Resolved) (are : AreRequiredNames r.fields r.required_names) (none : r.required_names ≡ set.empty) where
+  optional : (k : Key) (f : FieldView) → finite.get r.fields k ≡ Some f → f.is_required ≡ false
+  optional k f at = elim (cases_bool f.is_required) [
+    | inl is ↦ absurd (false≢true (sym (set.contains-empty (slice_cmp nat_cmp) f.name) ∙ ap (λ (names : set.FinSet (slice_cmp nat_cmp)). set.contains names f.name) (sym none) ∙ (are f.name).1 (record { key = k; field = f; present = at; is_required = is; same_name = refl })))
+    | inr not ↦ not
+  ]
+
+  each_met : (es : List (Key × FieldView)) → AllByRecursion (IsFound r.fields) es → list_all (is_met seen) (map (λ (e : Key × FieldView). e.1) es) ≡ true
+  each_met [] h = refl
+  each_met (e ∷ es) h = rw (optional e.0 e.1 h.0) (each_met es h.1)
+
+  pub all_met : is_viable seen r ≡ true
+  all_met = each_met (finite.entries r.fields) (found_entries key_cmp_total r.fields)

@@ -26,9 +26,13 @@ impl Test for IsViable<'_, '_> {
     }
 }
 
+/// Whether the seen keys meet each field. Where none is required no field is looked at.
 fn is_viable(seen: &BTreeSet<FieldKey<'_>>, resolution: &Resolution<'_>) -> bool
     ensures { result ≡ reports.is_viable (map key_of seen.now.keys) resolution.now }
 {
+    if resolution.required_field_names().is_empty() {
+        return true;
+    }
     are_met(seen, resolution.fields())
 }
 
