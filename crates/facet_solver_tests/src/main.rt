@@ -7,7 +7,6 @@
 
 mod answer;
 mod by_hand;
-mod callers;
 mod catalogue;
 mod error_by_hand;
 mod errors;

@@ -5,10 +5,10 @@ mod stream;
 mod untagged;
 
 use crate::answer::Answer;
-use crate::callers::ambiguity_table::{NoTable, ambiguity_table};
-use crate::callers::element_to_choice::{Part, element_to_choice};
-use crate::callers::keys_to_choice::{Choice, NoChoice, keys_to_choice};
-use crate::callers::load_config::{Refused, load_config};
+use facet_solver_uses::ambiguity_table::{NoTable, ambiguity_table};
+use facet_solver_uses::element_to_choice::{Part, element_to_choice};
+use facet_solver_uses::keys_to_choice::{Choice, NoChoice, keys_to_choice};
+use facet_solver_uses::load_config::{Refused, load_config};
 use crate::catalogue::Catalogue;
 use crate::errors::add_verdict;
 use crate::resolution::{add_key, add_refusal};

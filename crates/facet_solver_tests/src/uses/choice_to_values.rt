@@ -2,7 +2,7 @@
 
 use super::keys;
 use crate::answer::Answer;
-use crate::callers::choice_to_values::{FieldValue, Mismatch, Values, choice_to_values};
+use facet_solver_uses::choice_to_values::{FieldValue, Mismatch, Values, choice_to_values};
 use crate::resolution::add_key;
 use facet_solver::Resolution;
 

@@ -1,7 +1,7 @@
 //! Calls of the streaming reader.
 
 use crate::answer::Answer;
-use crate::callers::stream::{Event, Unread, stream};
+use facet_solver_uses::stream::{Event, Unread, stream};
 use crate::catalogue::Catalogue;
 use crate::errors::add_verdict;
 use crate::resolution::add_refusal;

@@ -1,7 +1,7 @@
 //! Calls of the untagged reader.
 
 use crate::answer::Answer;
-use crate::callers::untagged::{ValueKind, variants_for};
+use facet_solver_uses::untagged::{ValueKind, variants_for};
 use crate::catalogue::{Catalogue, add_names};
 use std::alloc::AllocError;
 
