@@ -3,14 +3,15 @@ use Rattle.std.proofs.Common.{◌≡◌, ℕ, ◌+◌, ◌<◌, ◌≤◌, true,
 use Rattle.std.proofs.lemmas.List.{map-append, take_all, take_more}
 use Rattle.std.proofs.lemmas.List.Folds.{fold-map}
 use Rattle.std.proofs.lemmas.List.Sums.{fold-append, fold_push}
-use Rattle.facet_solver_shape.specs.Keys.{Key}
+use Rattle.facet_solver_shape.specs.Keys.{Key, flat_key}
 use Rattle.facet_solver_shape.specs.Resolved.{description}
-use Rattle.facet_solver.specs.solver.Run.{after_call, after_calls, call_view, call_views, CallView, FindsToldChoices, see_key, mark_seen, satisfy_shapes, satisfy_at_path, probe_key, hint_variant, hint_variant_for_tag}
+use Rattle.facet_solver.specs.solver.Run.{after_call, after_calls, call_view, call_views, CallView, FindsToldChoices, see_key, mark_seen, satisfy_shapes, satisfy_at_path, probe_key, hint_variant, hint_variant_for_tag, see_tag}
 use Rattle.facet_solver.specs.KeyPath.{has_key_at}
 use Rattle.facet_solver.specs.schema.Schema.{IsOwnBuild, SchemaView}
 use Rattle.facet_solver.specs.solver.ShapeAtPath.{has_shape_at_path}
 use Rattle.facet_solver.specs.solver.State as state
 use Rattle.facet_solver.specs.solver.State.{State, has_shape_among, has_tag_field, passing, selects_variant, where_any}
+use Rattle.facet_solver.specs.solver.Tag.{has_no_other_under, has_variant_under, keep_variant}
 use Rattle.facet_solver.specs.Resolutions.{has_key}
 use Rattle.facet_solver.specs.solver.Told.{see_keys, EndsWithOrNames, LeavesSome}
 use Rattle.facet_solver.proofs.IndexSet.{filter_filter}
@@ -66,6 +67,18 @@ call_leaves (hint_variant_for_tag tag name) s = go (passing (has_tag_field s.sch
     go : (found : List ℕ) → LeavesSome s.candidates (where_any found (state.hint_variant name s) s).candidates
     go [] = record { stays = λ i. true; left = all_stay s.candidates }
     go (i ∷ rest) = narrow_leaves (selects_variant name) s
+call_leaves (see_tag tag name) s =
+    let seen = state.see_key (flat_key tag) s in
+    let first = narrow_leaves (has_key (flat_key tag)) (state.mark_seen (flat_key tag) s) in
+    let later = go seen (passing (has_variant_under tag name) seen) in
+    record {
+      stays = λ i. first.stays i && later.stays i;
+      left = later.left ∙ ap (filter later.stays) first.left ∙ filter_filter first.stays later.stays s.candidates;
+    }
+  where
+    go : (t : State) (found : List ℕ) → LeavesSome t.candidates (where_any found (state.retain (has_no_other_under tag name) t) t).candidates
+    go t [] = record { stays = λ i. true; left = all_stay t.candidates }
+    go t (i ∷ rest) = retain_leaves (has_no_other_under tag name) t
 
 -- so no run does
 pub calls_leave : (calls : List CallView) (s : State) → LeavesSome s.candidates (after_calls calls s).candidates

@@ -1,5 +1,6 @@
 -- What calls of a solver answer, and what they leave of it.
 pub mod State
+pub mod Tag
 pub mod FirstOfEach
 pub mod KeyResult
 pub mod SatisfyResult

@@ -25,6 +25,7 @@ mod satisfy;
 pub(crate) mod satisfy_result;
 pub(crate) mod shape_at_path;
 pub(crate) mod shaped;
+mod tag;
 
 use crate::schema::Schema;
 use crate::schema::handle::ResolutionHandle;

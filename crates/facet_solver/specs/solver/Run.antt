@@ -8,9 +8,10 @@ use Rattle.facet_solver.specs.solver.Probe as probe
 use Rattle.facet_solver.specs.solver.ShapeAtPath as at_path
 use Rattle.facet_solver.specs.solver.State as state
 use Rattle.facet_solver.specs.solver.State.{State, new_solver}
+use Rattle.facet_solver.specs.solver.Tag as tag_calls
 use Rattle.facet_solver.specs.solver.Told.{EndsWithOrNames, TellsChoice, see_keys}
 use Rattle.facet_solver.specs.declared.solver.run.Call.{Call}
-use Rattle.facet_solver.specs.declared.solver.run.Call.TheVariants.{SeeKey, MarkSeen, SatisfyShapes, SatisfyAtPath, ProbeKey, HintVariant, HintVariantForTag}
+use Rattle.facet_solver.specs.declared.solver.run.Call.TheVariants.{SeeKey, MarkSeen, SatisfyShapes, SatisfyAtPath, ProbeKey, HintVariant, HintVariantForTag, SeeTag}
 
 -- a call, wherever its names lie
 pub data CallView : Type 0 where
@@ -21,6 +22,7 @@ pub data CallView : Type 0 where
   probe_key : List Name → Name → CallView
   hint_variant : Name → CallView
   hint_variant_for_tag : Name → Name → CallView
+  see_tag : Name → Name → CallView
 
 -- what a call says
 abbrev pub call_view : Call → CallView
@@ -31,6 +33,7 @@ call_view (SatisfyAtPath path shapes) = satisfy_at_path (names_of path.now) shap
 call_view (ProbeKey path key) = probe_key (names_of path.now) key.now
 call_view (HintVariant name) = hint_variant name.now
 call_view (HintVariantForTag tag name) = hint_variant_for_tag tag.now name.now
+call_view (SeeTag tag name) = see_tag tag.now name.now
 
 -- what calls say
 abbrev pub call_views : List Call → List CallView
@@ -45,6 +48,7 @@ after_call (satisfy_at_path path shapes) s = at_path.satisfy_at_path path shapes
 after_call (probe_key path key) s = probe.probe_key path key s
 after_call (hint_variant name) s = state.hint_variant name s
 after_call (hint_variant_for_tag tag name) s = state.hint_variant_for_tag tag name s
+after_call (see_tag tag name) s = tag_calls.see_tag tag name s
 
 -- what calls leave that are made one after another
 abbrev pub after_calls : List CallView → State → State

@@ -26,6 +26,8 @@ pub enum Call<'a> {
     /// A variant is hinted by the name under a tag, which comes first:
     /// `Solver::hint_variant_for_tag`.
     HintVariantForTag(&'a str, &'a str),
+    /// A tag is seen with the name of a variant under it: `Solver::see_tag`.
+    SeeTag(&'a str, &'a str),
 }
 
 impl<'s, 'c, 'a> Solver<'s, 'c, 'a> {
@@ -83,6 +85,9 @@ impl<'s, 'c, 'a> Solver<'s, 'c, 'a> {
             }
             Call::HintVariantForTag(tag, name) => {
                 self.hint_variant_for_tag(tag, name);
+            }
+            Call::SeeTag(tag, name) => {
+                self.see_tag(alloc, tag, name)?;
             }
         }
         Ok(())
