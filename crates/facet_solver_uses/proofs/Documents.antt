@@ -1,4 +1,4 @@
--- The events of a document lead through it to its end, and mean its calls.
+-- The events of a document lead through it to its end, and mean its parts.
 use Rattle.std.proofs.Common.{◌≡◌, ◌⊎◌, inl, inr, ℕ, refl, arith, ◌+◌, ◌-◌, Bool, true, false, ◌&&◌, ◌||◌, cond, List, [], ◌∷◌, ◌++◌, ap, sym, ◌∙◌, subst, length, take, drop}
 use Rattle.std.specs.List.{list_any}
 use Rattle.std.specs.Prelude.{Option, Some, slice_get}
@@ -10,50 +10,51 @@ use Rattle.std.proofs.lemmas.List.Folds.{list_any-append}
 use Rattle.std.proofs.lemmas.List.Sums.{fold-append}
 use Rattle.std.proofs.Math.Bool.{or-false, or-true}
 use Rattle.facet_solver.specs.Names.{Name}
-use Rattle.facet_solver.specs.solver.Run.{CallView, after_calls}
+use Rattle.facet_solver_uses.specs.stream.Tell.{Part, a_key, a_scalar, a_text, tell_all}
 use Rattle.facet_solver.specs.schema.Schema.{SchemaView}
 use Rattle.facet_solver.specs.solver.State.{new_solver}
-use Rattle.facet_solver_uses.specs.Documents.{Value, Members, Items, scalar, object, list, no_members, member, no_items, item, events_of, member_events, item_events, calls_of, member_calls, told_document, IsDocument}
-use Rattle.facet_solver_uses.specs.Stream.{PlaceView, IsFirstMisplaced, IsWhole, at, beginning, behind, calls_at, calls_from, in_list, innermost, is_list, key_call, may_stand, may_stand_in, place_behind, told, value_ended, value_ended_in, well_placed, without_last}
-use Rattle.facet_solver_uses.specs.declared.stream.Event.{Event}
-use Rattle.facet_solver_uses.specs.declared.stream.Event.TheVariants.{Key, Object as ObjectBegins, List as ListBegins, Scalar, End}
-use Rattle.facet_solver_uses.specs.declared.stream.Frame.{Frame}
-use Rattle.facet_solver_uses.specs.declared.stream.Frame.TheVariants.{Document, Object as InObject, Member, List as InList}
-use Rattle.facet_solver_uses.proofs.Stream.{calls_append, placed_append}
+use Rattle.facet_solver_uses.specs.stream.Documents.{Value, Members, Items, scalar, text, object, list, no_members, member, no_items, item, events_of, member_events, item_events, parts_of, member_parts, told_document, IsDocument}
+use Rattle.facet_solver_uses.specs.stream.Place.{PlaceView, at, beginning, behind, in_list, innermost, is_list, may_stand, may_stand_in, value_ended, value_ended_in, without_last}
+use Rattle.facet_solver_uses.specs.stream.Events.{IsFirstMisplaced, IsWhole, part_at, parts_from, place_behind, told, well_placed}
+use Rattle.facet_solver_uses.specs.declared.stream.event.Event.{Event}
+use Rattle.facet_solver_uses.specs.declared.stream.event.Event.TheVariants.{Key, Object as ObjectBegins, List as ListBegins, Scalar, Text, End}
+use Rattle.facet_solver_uses.specs.declared.stream.place.Frame.{Frame}
+use Rattle.facet_solver_uses.specs.declared.stream.place.Frame.TheVariants.{Document, Object as InObject, Member, List as InList}
+use Rattle.facet_solver_uses.proofs.Events.{parts_append, placed_append}
 
--- events may stand from a place on, lead to another, and mean calls
-record Leads (before : PlaceView) (events : List Event) (after : PlaceView) (calls : List CallView) : Type 0 where
+-- events may stand from a place on, lead to another, and mean parts
+record Leads (before : PlaceView) (events : List Event) (after : PlaceView) (parts : List Part) : Type 0 where
   placed : well_placed before events ≡ true
   ends : place_behind before events ≡ after
-  means : calls_from before events ≡ calls
+  brings : parts_from before events ≡ parts
 
 -- ---- one event, and events behind others
-one_event : (event : Event) (p q : PlaceView) (calls : List CallView) → may_stand event p ≡ true → behind event p ≡ q → calls_at event p ≡ calls → Leads p (event ∷ []) q calls
-one_event event p q calls stands ends means = record {
+one_event : (event : Event) (p q : PlaceView) (parts : List Part) → may_stand event p ≡ true → behind event p ≡ q → part_at event p ≡ parts → Leads p (event ∷ []) q parts
+one_event event p q parts stands ends brings = record {
   placed = ap (λ (b : Bool). b && true) stands;
   ends = ends;
-  means = ap (λ (cs : List CallView). cs ++ []) means ∙ append-nil calls;
+  brings = ap (λ (cs : List Part). cs ++ []) brings ∙ append-nil parts;
 }
 
-then_events : (xs ys : List Event) (p q r : PlaceView) (cs ds : List CallView) → Leads p xs q cs → Leads q ys r ds → Leads p (xs ++ ys) r (cs ++ ds)
+then_events : (xs ys : List Event) (p q r : PlaceView) (cs ds : List Part) → Leads p xs q cs → Leads q ys r ds → Leads p (xs ++ ys) r (cs ++ ds)
 then_events xs ys p q r cs ds first second =
     let there = first.ends in
     record {
       placed = placed_append p xs ys ∙ ap (λ (b : Bool). b && well_placed (place_behind p xs) ys) first.placed
           ∙ ap (λ (m : PlaceView). well_placed m ys) there ∙ second.placed;
       ends = fold-append (λ now event. behind event now) p xs ys ∙ ap (λ (m : PlaceView). place_behind m ys) there ∙ second.ends;
-      means = calls_append p xs ys
-          ∙ ap (λ (before : List CallView). before ++ calls_from (place_behind p xs) ys) first.means
-          ∙ ap (λ (m : PlaceView). cs ++ calls_from m ys) there
-          ∙ ap (λ (later : List CallView). cs ++ later) second.means;
+      brings = parts_append p xs ys
+          ∙ ap (λ (before : List Part). before ++ parts_from (place_behind p xs) ys) first.brings
+          ∙ ap (λ (m : PlaceView). cs ++ parts_from m ys) there
+          ∙ ap (λ (later : List Part). cs ++ later) second.brings;
     }
 
 -- the same, where they lead and what they mean is told otherwise
-told_otherwise : (p q r : PlaceView) (events : List Event) (cs ds : List CallView) → q ≡ r → cs ≡ ds → Leads p events q cs → Leads p events r ds
+told_otherwise : (p q r : PlaceView) (events : List Event) (cs ds : List Part) → q ≡ r → cs ≡ ds → Leads p events q cs → Leads p events r ds
 told_otherwise p q r events cs ds there same leads = record {
   placed = leads.placed;
   ends = leads.ends ∙ there;
-  means = leads.means ∙ same;
+  brings = leads.brings ∙ same;
 }
 
 -- ---- the last item of a list
@@ -66,20 +67,20 @@ last_is xs x =
     (omega (arith, length_push xs x))
     (sym (get_or_at xs x [] x (length (xs ++ x ∷ []) - 1) (omega (arith, length_push xs x))))
 
--- ---- calls outside lists alone
+-- ---- parts outside lists alone
 
-no_calls : (b : Bool) → cond {A = List CallView} b [] [] ≡ []
-no_calls true = refl
-no_calls false = refl
+no_parts : (b : Bool) → cond {A = List Part} b [] [] ≡ []
+no_parts true = refl
+no_parts false = refl
 
-calls_behind : (b inner : Bool) (calls : List CallView) → inner ≡ b → cond {A = List CallView} b [] [] ++ cond inner [] calls ≡ cond b [] calls
-calls_behind b inner calls same = ap (λ (cs : List CallView). cs ++ cond inner [] calls) (no_calls b) ∙ ap (λ (c : Bool). cond c [] calls) same
+parts_behind : (b inner : Bool) (parts : List Part) → inner ≡ b → cond {A = List Part} b [] [] ++ cond inner [] parts ≡ cond b [] parts
+parts_behind b inner parts same = ap (λ (cs : List Part). cs ++ cond inner [] parts) (no_parts b) ∙ ap (λ (c : Bool). cond c [] parts) same
 
-calls_of_member : (b inner : Bool) (call : CallView) (calls others : List CallView) → inner ≡ b → cond b [] (call ∷ []) ++ (cond inner [] calls ++ cond b [] others) ≡ cond b [] (call ∷ (calls ++ others))
-calls_of_member b inner call calls others same =
-    ap (λ (c : Bool). cond b [] (call ∷ []) ++ (cond c [] calls ++ cond b [] others)) same ∙ go b
+parts_of_member : (b inner : Bool) (part : Part) (parts others : List Part) → inner ≡ b → cond b [] (part ∷ []) ++ (cond inner [] parts ++ cond b [] others) ≡ cond b [] (part ∷ (parts ++ others))
+parts_of_member b inner part parts others same =
+    ap (λ (c : Bool). cond b [] (part ∷ []) ++ (cond c [] parts ++ cond b [] others)) same ∙ go b
   where
-    go : (b : Bool) → cond b [] (call ∷ []) ++ (cond b [] calls ++ cond b [] others) ≡ cond b [] (call ∷ (calls ++ others))
+    go : (b : Bool) → cond b [] (part ∷ []) ++ (cond b [] parts ++ cond b [] others) ≡ cond b [] (part ∷ (parts ++ others))
     go true = refl
     go false = refl
 
@@ -108,14 +109,15 @@ member_ends key o =
 
 mutual
   -- a value leads to its end
-  value_leads : (value : Value) (p : PlaceView) → (innermost p ≡ Some Member) ⊎ (innermost p ≡ Some InList) → Leads p (events_of value) (value_ended p) (cond (in_list p) [] (calls_of p.path value))
-  value_leads (scalar shapes) p takes = one_event (Scalar shapes) p (value_ended p) (cond (in_list p) [] (calls_of p.path (scalar shapes))) (value_stands (Scalar shapes) (innermost p) takes refl refl) refl refl
+  value_leads : (value : Value) (p : PlaceView) → (innermost p ≡ Some Member) ⊎ (innermost p ≡ Some InList) → Leads p (events_of value) (value_ended p) (cond (in_list p) [] (parts_of p.path value))
+  value_leads (scalar shapes) p takes = one_event (Scalar shapes) p (value_ended p) (cond (in_list p) [] (parts_of p.path (scalar shapes))) (value_stands (Scalar shapes) (innermost p) takes refl refl) refl refl
+  value_leads (text bytes shapes) p takes = one_event (Text bytes shapes) p (value_ended p) (cond (in_list p) [] (parts_of p.path (text bytes shapes))) (value_stands (Text bytes shapes) (innermost p) takes refl refl) refl refl
   value_leads (object members) p takes =
       let o : PlaceView = at (p.frames ++ InObject ∷ []) p.path in
-      told_otherwise p (behind End o) (value_ended p) (events_of (object members)) (cond (in_list p) [] [] ++ cond (in_list o) [] (member_calls p.path members)) (cond (in_list p) [] (member_calls p.path members))
+      told_otherwise p (behind End o) (value_ended p) (events_of (object members)) (cond (in_list p) [] [] ++ cond (in_list o) [] (member_parts p.path members)) (cond (in_list p) [] (member_parts p.path members))
       (ap (λ (frames : List Frame). value_ended (at frames p.path)) (last_gone p.frames InObject))
-      (calls_behind (in_list p) (in_list o) (member_calls p.path members) (same_list p.frames InObject refl))
-      (then_events (ObjectBegins ∷ []) (member_events members) p o (behind End o) (cond (in_list p) [] []) (cond (in_list o) [] (member_calls p.path members))
+      (parts_behind (in_list p) (in_list o) (member_parts p.path members) (same_list p.frames InObject refl))
+      (then_events (ObjectBegins ∷ []) (member_events members) p o (behind End o) (cond (in_list p) [] []) (cond (in_list o) [] (member_parts p.path members))
       (one_event ObjectBegins p o (cond (in_list p) [] []) (value_stands ObjectBegins (innermost p) takes refl refl) refl refl)
       (members_lead members o (last_is p.frames InObject)))
   value_leads (list items) p takes =
@@ -128,34 +130,34 @@ mutual
       (items_lead items l (last_is p.frames InList) (inside_list p.frames)))
 
   -- the members of an object lead to its end
-  members_lead : (members : Members) (o : PlaceView) → innermost o ≡ Some InObject → Leads o (member_events members) (behind End o) (cond (in_list o) [] (member_calls o.path members))
+  members_lead : (members : Members) (o : PlaceView) → innermost o ≡ Some InObject → Leads o (member_events members) (behind End o) (cond (in_list o) [] (member_parts o.path members))
   members_lead no_members o inside = one_event End o (behind End o) (cond (in_list o) [] []) (ap (may_stand_in End) inside) refl refl
   members_lead (member key value members) o inside =
       let m : PlaceView = behind (Key key) o in
-      let calls : List CallView = calls_of m.path value in
-      let others : List CallView = member_calls o.path members in
-      told_otherwise o (behind End o) (behind End o) (member_events (member key value members)) (cond (in_list o) [] (key_call o.path key.now ∷ []) ++ (cond (in_list m) [] calls ++ cond (in_list o) [] others)) (cond (in_list o) [] (key_call o.path key.now ∷ (calls ++ others)))
+      let parts : List Part = parts_of m.path value in
+      let others : List Part = member_parts o.path members in
+      told_otherwise o (behind End o) (behind End o) (member_events (member key value members)) (cond (in_list o) [] (a_key o.path key.now ∷ []) ++ (cond (in_list m) [] parts ++ cond (in_list o) [] others)) (cond (in_list o) [] (a_key o.path key.now ∷ (parts ++ others)))
       refl
-      (calls_of_member (in_list o) (in_list m) (key_call o.path key.now) calls others (same_list o.frames Member refl))
-      (then_events (Key key ∷ []) (events_of value ++ member_events members) o m (behind End o) (cond (in_list o) [] (key_call o.path key.now ∷ [])) (cond (in_list m) [] calls ++ cond (in_list o) [] others)
-      (one_event (Key key) o m (cond (in_list o) [] (key_call o.path key.now ∷ [])) (ap (may_stand_in (Key key)) inside) refl refl)
-      (then_events (events_of value) (member_events members) m o (behind End o) (cond (in_list m) [] calls) (cond (in_list o) [] others)
-      (told_otherwise m (value_ended m) o (events_of value) (cond (in_list m) [] calls) (cond (in_list m) [] calls) (member_ends key o) refl (value_leads value m (inl (last_is o.frames Member))))
+      (parts_of_member (in_list o) (in_list m) (a_key o.path key.now) parts others (same_list o.frames Member refl))
+      (then_events (Key key ∷ []) (events_of value ++ member_events members) o m (behind End o) (cond (in_list o) [] (a_key o.path key.now ∷ [])) (cond (in_list m) [] parts ++ cond (in_list o) [] others)
+      (one_event (Key key) o m (cond (in_list o) [] (a_key o.path key.now ∷ [])) (ap (may_stand_in (Key key)) inside) refl refl)
+      (then_events (events_of value) (member_events members) m o (behind End o) (cond (in_list m) [] parts) (cond (in_list o) [] others)
+      (told_otherwise m (value_ended m) o (events_of value) (cond (in_list m) [] parts) (cond (in_list m) [] parts) (member_ends key o) refl (value_leads value m (inl (last_is o.frames Member))))
       (members_lead members o inside)))
 
-  -- the items of a list lead to its end, and mean no call
+  -- the items of a list lead to its end, and mean no part
   items_lead : (items : Items) (l : PlaceView) → innermost l ≡ Some InList → in_list l ≡ true → Leads l (item_events items) (behind End l) []
-  items_lead no_items l inside listed = one_event End l (behind End l) [] (ap (may_stand_in End) inside) refl (no_calls (in_list l))
+  items_lead no_items l inside listed = one_event End l (behind End l) [] (ap (may_stand_in End) inside) refl (no_parts (in_list l))
   items_lead (item value items) l inside listed =
       then_events (events_of value) (item_events items) l l (behind End l) [] []
-      (told_otherwise l (value_ended l) l (events_of value) (cond (in_list l) [] (calls_of l.path value)) [] (ap (λ (frame : Option Frame). value_ended_in frame l) inside) (ap (λ (b : Bool). cond b [] (calls_of l.path value)) listed) (value_leads value l (inr inside)))
+      (told_otherwise l (value_ended l) l (events_of value) (cond (in_list l) [] (parts_of l.path value)) [] (ap (λ (frame : Option Frame). value_ended_in frame l) inside) (ap (λ (b : Bool). cond b [] (parts_of l.path value)) listed) (value_leads value l (inr inside)))
       (items_lead items l inside listed)
 
 -- so does a document
-document_leads : (members : Members) → Leads beginning (events_of (object members)) (at [] []) (member_calls [] members)
+document_leads : (members : Members) → Leads beginning (events_of (object members)) (at [] []) (member_parts [] members)
 document_leads members =
     let o : PlaceView = at (Document ∷ InObject ∷ []) [] in
-    then_events (ObjectBegins ∷ []) (member_events members) beginning o (at [] []) [] (member_calls [] members) (one_event ObjectBegins beginning o [] refl refl refl) (members_lead members o refl)
+    then_events (ObjectBegins ∷ []) (member_events members) beginning o (at [] []) [] (member_parts [] members) (one_event ObjectBegins beginning o [] refl refl refl) (members_lead members o refl)
 
 -- what may stand, may stand as far as it goes
 take_placed : (p : PlaceView) (n : ℕ) (events : List Event) → well_placed p events ≡ true → well_placed p (take n events) ≡ true
@@ -173,8 +175,8 @@ whole_document events document =
 pub not_misplaced : (events : List Event) (index : ℕ) → IsDocument events → IsFirstMisplaced events index → ⊥
 not_misplaced events index document first = false≢true (sym first.1 ∙ take_placed beginning (index + 1) events (whole_document events document).0)
 
--- and they mean the calls of the document
+-- and they mean the parts of the document
 pub told_as_document : (schema : SchemaView) (events : List Event) (members : Members) → events ≡ events_of (object members) → told schema events ≡ told_document schema members
 told_as_document schema events members is =
     ap (λ (es : List Event). told schema es) is
-    ∙ ap (λ (calls : List CallView). after_calls calls (new_solver schema)) (document_leads members).means
+    ∙ ap (λ (parts : List Part). tell_all parts (new_solver schema)) (document_leads members).brings

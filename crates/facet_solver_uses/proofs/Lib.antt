@@ -1,8 +1,10 @@
 pub mod KeysToChoice
 pub mod LoadConfig
 pub mod AmbiguousPairs
-pub mod Untagged
+pub mod UntaggedVariants
 pub mod ChoiceToValues
-pub mod Stream
+pub mod Events
+pub mod Told
 pub mod Documents
 pub mod WholeDocuments
+pub mod FoundDocuments

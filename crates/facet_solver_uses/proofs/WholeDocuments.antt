@@ -10,14 +10,15 @@ use Rattle.facet_solver.specs.solver.State.{State}
 use Rattle.facet_solver.specs.declared.ResolutionHandle.{ResolutionHandle}
 use Rattle.facet_solver.specs.declared.SolverError.TheVariants.{OutOfMemory}
 use Rattle.facet_solver_uses.specs.KeysToChoice.{IsChoiceVerdict}
-use Rattle.facet_solver_uses.specs.Documents.{Value, Members, Items, scalar, object, list, no_members, member, no_items, item, events_of, member_events, item_events, IsDocument, ReadsDocuments}
-use Rattle.facet_solver_uses.specs.Stream.{PlaceView, IsWhole, Streams, at, behind, innermost, may_stand, may_stand_in, place_behind, value_ended, value_ended_in, well_placed}
-use Rattle.facet_solver_uses.specs.declared.stream.Event.{Event}
-use Rattle.facet_solver_uses.specs.declared.stream.Event.TheVariants.{Key, Object as ObjectBegins, List as ListBegins, Scalar, End}
-use Rattle.facet_solver_uses.specs.declared.stream.Frame.{Frame}
-use Rattle.facet_solver_uses.specs.declared.stream.Frame.TheVariants.{Document, Object as InObject, Member, List as InList}
-use Rattle.facet_solver_uses.specs.declared.stream.Unread.{Unread}
-use Rattle.facet_solver_uses.specs.declared.stream.Unread.TheVariants.{Misplaced, Unfinished, Solver}
+use Rattle.facet_solver_uses.specs.stream.Documents.{Value, Members, Items, scalar, text, object, list, no_members, member, no_items, item, events_of, member_events, item_events, IsDocument, ReadsDocuments}
+use Rattle.facet_solver_uses.specs.stream.Place.{PlaceView, at, behind, innermost, may_stand, may_stand_in, value_ended, value_ended_in}
+use Rattle.facet_solver_uses.specs.stream.Events.{IsWhole, Streams, place_behind, well_placed}
+use Rattle.facet_solver_uses.specs.declared.stream.event.Event.{Event}
+use Rattle.facet_solver_uses.specs.declared.stream.event.Event.TheVariants.{Key, Object as ObjectBegins, List as ListBegins, Scalar, Text, End}
+use Rattle.facet_solver_uses.specs.declared.stream.place.Frame.{Frame}
+use Rattle.facet_solver_uses.specs.declared.stream.place.Frame.TheVariants.{Document, Object as InObject, Member, List as InList}
+use Rattle.facet_solver_uses.specs.declared.stream.event.Unread.{Unread}
+use Rattle.facet_solver_uses.specs.declared.stream.event.Unread.TheVariants.{Misplaced, Unfinished, Solver}
 use Rattle.facet_solver_uses.proofs.Documents.{last_gone, last_is, member_ends, not_misplaced, told_as_document, whole_document}
 
 -- events may stand from a place on, and at their end nothing is open
@@ -65,6 +66,7 @@ no_end (Key key ∷ events) p under h = tt
 no_end (ObjectBegins ∷ events) p under h = tt
 no_end (ListBegins ∷ events) p under h = tt
 no_end (Scalar shapes ∷ events) p under h = tt
+no_end (Text bytes shapes ∷ events) p under h = tt
 no_end (End ∷ events) p under h = not_there End (innermost p) (Some Member) under refl (finishes_behind End events p h).0
 
 -- ---- the parts of a document
@@ -85,6 +87,13 @@ mutual
     rest = events;
     is = refl;
     finishes = (finishes_behind (Scalar shapes) events p h).1;
+    shorter = omega arith;
+  }
+  value_of (suc n) (Text bytes shapes ∷ events) p low takes begins h = record {
+    part = text bytes shapes;
+    rest = events;
+    is = refl;
+    finishes = (finishes_behind (Text bytes shapes) events p h).1;
     shorter = omega arith;
   }
   value_of (suc n) (ObjectBegins ∷ events) p low takes begins h =
@@ -136,6 +145,7 @@ mutual
   members_of (suc n) (ObjectBegins ∷ events) o low inside h = absurd (not_there ObjectBegins (innermost o) (Some InObject) inside refl (finishes_behind ObjectBegins events o h).0)
   members_of (suc n) (ListBegins ∷ events) o low inside h = absurd (not_there ListBegins (innermost o) (Some InObject) inside refl (finishes_behind ListBegins events o h).0)
   members_of (suc n) (Scalar shapes ∷ events) o low inside h = absurd (not_there (Scalar shapes) (innermost o) (Some InObject) inside refl (finishes_behind (Scalar shapes) events o h).0)
+  members_of (suc n) (Text bytes shapes ∷ events) o low inside h = absurd (not_there (Text bytes shapes) (innermost o) (Some InObject) inside refl (finishes_behind (Text bytes shapes) events o h).0)
 
   items_of : (n : ℕ) (events : List Event) (l : PlaceView) → suc (length events + length events) ≤ n → innermost l ≡ Some InList → Finishes l events → Parsed Items item_events events (behind End l)
   items_of n [] l low inside h = absurd (nothing_open l InList inside h.closed)
@@ -165,6 +175,7 @@ none_stands (Key key) = refl
 none_stands ObjectBegins = refl
 none_stands ListBegins = refl
 none_stands (Scalar shapes) = refl
+none_stands (Text bytes shapes) = refl
 none_stands End = refl
 
 ends_there : (rest : List Event) → Finishes (at [] []) rest → rest ≡ []
@@ -184,6 +195,7 @@ document_of (ObjectBegins ∷ events) whole =
 document_of (Key key ∷ events) whole = absurd (false≢true whole.0)
 document_of (ListBegins ∷ events) whole = absurd (false≢true whole.0)
 document_of (Scalar shapes ∷ events) whole = absurd (false≢true whole.0)
+document_of (Text bytes shapes ∷ events) whole = absurd (false≢true whole.0)
 document_of (End ∷ events) whole = absurd (false≢true whole.0)
 
 -- what events come to, by what they are

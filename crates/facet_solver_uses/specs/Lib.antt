@@ -5,5 +5,4 @@ pub mod AmbiguousPairs
 pub mod AmbiguityTable
 pub mod Untagged
 pub mod ChoiceToValues
-pub mod Stream
-pub mod Documents
+pub mod stream

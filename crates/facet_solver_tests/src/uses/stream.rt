@@ -48,7 +48,7 @@ fn event_words<'t>(answer: &mut Answer<'t>) -> Vec<&'t str> {
     words
 }
 
-/// The types of each word: those of `=u8/u16`, and none of any other word.
+/// The types of each word: those of `=u8/u16` and of `="File"/String`, and none of any other word.
 fn shapes_of(
     catalogue: Catalogue<'_>,
     words: &[&str],
@@ -57,8 +57,8 @@ fn shapes_of(
     let mut shapes = Vec::new(answer.alloc);
     for word in words {
         let mut of_word = Vec::new(answer.alloc);
-        if let Some(names) = word.strip_prefix('=') {
-            for name in names.split('/') {
+        for name in types_of(word).split('/') {
+            if !name.is_empty() {
                 let id = catalogue.id_of(name, answer);
                 answer.push(&mut of_word, id);
             }
@@ -66,6 +66,33 @@ fn shapes_of(
         answer.push(&mut shapes, of_word);
     }
     shapes
+}
+
+/// The text of a word as `="File"/String`, and what stands behind it.
+fn text_of(word: &str) -> Option<(&str, &str)> {
+    word.strip_prefix("=\"")?.split_once('"')
+}
+
+/// The types of a value, with strokes between them.
+fn types_of(word: &str) -> &str {
+    match text_of(word) {
+        Some((_, types)) => types,
+        None => word.strip_prefix('=').unwrap_or(""),
+    }
+}
+
+/// The event of a word, with its types.
+fn event<'t>(word: &'t str, fitting: &'t [ShapeId]) -> Event<'t, 't> {
+    match word {
+        "{" => Event::Object,
+        "[" => Event::List,
+        "}" | "]" => Event::End,
+        word => match (word.strip_prefix('.'), text_of(word)) {
+            (Some(key), _) => Event::Key(key),
+            (None, Some((text, _))) => Event::Text(text, fitting),
+            (None, None) => Event::Scalar(fitting),
+        },
+    }
 }
 
 /// The events of words, with the types of each.
@@ -76,15 +103,7 @@ fn events<'t>(
 ) -> Vec<Event<'t, 't>> {
     let mut events = Vec::new(answer.alloc);
     for (word, fitting) in words.iter().zip(shapes) {
-        let event = match *word {
-            "{" => Event::Object,
-            "[" => Event::List,
-            "}" | "]" => Event::End,
-            word => match word.strip_prefix('.') {
-                Some(key) => Event::Key(key),
-                None => Event::Scalar(fitting),
-            },
-        };
+        let event = event(word, fitting);
         answer.push(&mut events, event);
     }
     events

@@ -6,24 +6,16 @@ use Rattle.std.proofs.lemmas.List.{append-nil, append_assoc, length-map, take-ma
 use Rattle.std.proofs.lemmas.List.Sums.{fold-append, fold_push}
 use Rattle.std.proofs.Math.Bool.{and-true}
 use Rattle.facet_solver.specs.Names.{Name, names_of}
-use Rattle.facet_solver.specs.solver.Run.{CallView, after_call, after_calls}
+use Rattle.facet_solver_uses.specs.stream.Tell.{Part, tell, tell_all}
 use Rattle.facet_solver.specs.schema.Schema.{SchemaView}
 use Rattle.facet_solver.specs.solver.State.{new_solver}
 use Rattle.facet_solver.specs.declared.ResolutionHandle.{ResolutionHandle}
 use Rattle.facet_solver.specs.declared.SolverError.TheVariants.{OutOfMemory}
-use Rattle.facet_solver_uses.specs.Stream.{Ends, PlaceView, Reading, Streams, beginning, behind, calls_at, calls_from, may_stand, place_behind, read, told, well_placed, without_last}
-use Rattle.facet_solver_uses.specs.declared.stream.Event.{Event}
-use Rattle.facet_solver_uses.specs.declared.stream.Unread.{Unread}
-use Rattle.facet_solver_uses.specs.declared.stream.Unread.TheVariants.{Misplaced, Unfinished, Solver}
-
--- the names of a path without its last one
-pub names_above : (n : ℕ) (names xs : List (Bor Name)) (path : List Name) → n ≡ length xs - 1 → names ≡ xs → names_of xs ≡ path → names_of (take n names) ≡ without_last path
-names_above n names xs path is same says =
-    subst (λ (p : List Name). names_of (take n names) ≡ without_last p) says
-    (ap (λ (k : ℕ). names_of (take k names)) is
-    ∙ ap (λ (ns : List (Bor Name)). names_of (take (length xs - 1) ns)) same
-    ∙ sym (take-map (λ n. n.now) (length xs - 1) xs)
-    ∙ ap (λ (k : ℕ). take (k - 1) (names_of xs)) (sym (length-map xs (λ n. n.now))))
+use Rattle.facet_solver_uses.specs.stream.Place.{PlaceView, beginning, behind, may_stand, without_last}
+use Rattle.facet_solver_uses.specs.stream.Events.{Ends, Reading, Streams, part_at, parts_from, place_behind, read, told, well_placed}
+use Rattle.facet_solver_uses.specs.declared.stream.event.Event.{Event}
+use Rattle.facet_solver_uses.specs.declared.stream.event.Unread.{Unread}
+use Rattle.facet_solver_uses.specs.declared.stream.event.Unread.TheVariants.{Misplaced, Unfinished, Solver}
 
 -- what a reader is that read events from the beginning
 abbrev pub reading_of : SchemaView → List Event → Reading
@@ -32,26 +24,26 @@ reading_of schema events = record {
   place = place_behind beginning events;
 }
 
--- the calls of events behind others
-pub calls_append : (place : PlaceView) (xs ys : List Event) → calls_from place (xs ++ ys) ≡ calls_from place xs ++ calls_from (place_behind place xs) ys
-calls_append place [] ys = refl
-calls_append place (event ∷ xs) ys =
-    ap (λ calls. calls_at event place ++ calls) (calls_append (behind event place) xs ys)
-    ∙ sym (append_assoc (calls_at event place) (calls_from (behind event place) xs) (calls_from (place_behind (behind event place) xs) ys))
+-- the parts of events behind others
+pub parts_append : (place : PlaceView) (xs ys : List Event) → parts_from place (xs ++ ys) ≡ parts_from place xs ++ parts_from (place_behind place xs) ys
+parts_append place [] ys = refl
+parts_append place (event ∷ xs) ys =
+    ap (λ parts. part_at event place ++ parts) (parts_append (behind event place) xs ys)
+    ∙ sym (append_assoc (part_at event place) (parts_from (behind event place) xs) (parts_from (place_behind (behind event place) xs) ys))
 
--- one more event means its calls behind those before
-calls_push : (place : PlaceView) (events : List Event) (event : Event) → calls_from place (events ++ event ∷ []) ≡ calls_from place events ++ calls_at event (place_behind place events)
-calls_push place events event =
-    calls_append place events (event ∷ [])
-    ∙ ap (λ (calls : List CallView). calls_from place events ++ calls) (append-nil (calls_at event (place_behind place events)))
+-- one more event brings its parts behind those before
+parts_push : (place : PlaceView) (events : List Event) (event : Event) → parts_from place (events ++ event ∷ []) ≡ parts_from place events ++ part_at event (place_behind place events)
+parts_push place events event =
+    parts_append place events (event ∷ [])
+    ∙ ap (λ (parts : List Part). parts_from place events ++ parts) (append-nil (part_at event (place_behind place events)))
 
 -- a reader that reads one more event
 reading_push : (schema : SchemaView) (events : List Event) (event : Event) → reading_of schema (events ++ event ∷ []) ≡ read event (reading_of schema events)
 reading_push schema events event =
     let now : PlaceView = place_behind beginning events in
-    let state : told schema (events ++ event ∷ []) ≡ after_calls (calls_at event now) (told schema events) =
-    ap (λ calls. after_calls calls (new_solver schema)) (calls_push beginning events event)
-    ∙ fold-append (λ s call. after_call call s) (new_solver schema) (calls_from beginning events) (calls_at event now) in
+    let state : told schema (events ++ event ∷ []) ≡ tell_all (part_at event now) (told schema events) =
+    ap (λ parts. tell_all parts (new_solver schema)) (parts_push beginning events event)
+    ∙ fold-append (λ s part. tell part s) (new_solver schema) (parts_from beginning events) (part_at event now) in
     let place : place_behind beginning (events ++ event ∷ []) ≡ behind event now = fold_push (λ p e. behind e p) beginning events event in
     cc
 

@@ -1,25 +1,25 @@
--- Documents as trees, the events that they come as, and the calls that they mean.
+-- Documents as trees, the events that they come as, and what they tell a solver.
 use Rattle.std.specs.Prelude.{◌≡◌, ◌++◌, ℕ, List, [], ◌∷◌, Result, Ok, Err, ⊤}
 use denote.Bor.{Bor}
 use Rattle.facet_solver.specs.Names.{Name}
-use Rattle.facet_solver.specs.solver.Run.{CallView, after_calls, satisfy_at_path}
 use Rattle.facet_solver.specs.schema.Schema.{SchemaView}
 use Rattle.facet_solver.specs.solver.State.{State, new_solver}
 use Rattle.facet_solver.specs.declared.ResolutionHandle.{ResolutionHandle}
 use Rattle.facet_solver.specs.declared.SolverError.{SolverError}
 use Rattle.facet_solver.specs.declared.SolverError.TheVariants.{OutOfMemory}
 use Rattle.facet_solver_uses.specs.KeysToChoice.{IsChoiceVerdict}
-use Rattle.facet_solver_uses.specs.Stream.{key_call}
-use Rattle.facet_solver_uses.specs.declared.stream.Event.{Event}
-use Rattle.facet_solver_uses.specs.declared.stream.Event.TheVariants.{Key, Object as ObjectBegins, List as ListBegins, Scalar, End}
-use Rattle.facet_solver_uses.specs.declared.stream.Unread.{Unread}
-use Rattle.facet_solver_uses.specs.declared.stream.Unread.TheVariants.{Misplaced, Unfinished, Solver}
+use Rattle.facet_solver_uses.specs.stream.Tell.{Part, a_key, a_scalar, a_text, tell_all}
+use Rattle.facet_solver_uses.specs.declared.stream.event.Event.{Event}
+use Rattle.facet_solver_uses.specs.declared.stream.event.Event.TheVariants.{Key, Object as ObjectBegins, List as ListBegins, Scalar, Text, End}
+use Rattle.facet_solver_uses.specs.declared.stream.event.Unread.{Unread}
+use Rattle.facet_solver_uses.specs.declared.stream.event.Unread.TheVariants.{Misplaced, Unfinished, Solver}
 
--- a value of a document, the members of an object, and the items of a list: names, and the shapes
--- that a scalar fits, lie behind references
+-- a value of a document, the members of an object, and the items of a list: names, texts, and the
+-- shapes that a value fits, lie behind references
 mutual
   pub data Value : Type 0 where
     scalar : Bor (List ℕ) → Value
+    text : Bor Name → Bor (List ℕ) → Value
     object : Members → Value
     list : Items → Value
 
@@ -35,6 +35,7 @@ mutual
 abbrev mutual
   pub events_of : Value → List Event
   events_of (scalar shapes) = Scalar shapes ∷ []
+  events_of (text bytes shapes) = Text bytes shapes ∷ []
   events_of (object members) = ObjectBegins ∷ member_events members
   events_of (list items) = ListBegins ∷ item_events items
 
@@ -47,28 +48,29 @@ abbrev mutual
   item_events no_items = End ∷ []
   item_events (item value items) = events_of value ++ item_events items
 
--- the calls that each of them means at a path of keys: a list means none
+-- what each of them has outside lists, at a path of keys
 abbrev mutual
-  pub calls_of : List Name → Value → List CallView
-  calls_of path (scalar shapes) = satisfy_at_path path shapes.now ∷ []
-  calls_of path (object members) = member_calls path members
-  calls_of path (list items) = []
+  pub parts_of : List Name → Value → List Part
+  parts_of path (scalar shapes) = a_scalar path shapes.now ∷ []
+  parts_of path (text bytes shapes) = a_text path bytes.now shapes.now ∷ []
+  parts_of path (object members) = member_parts path members
+  parts_of path (list items) = []
 
-  pub member_calls : List Name → Members → List CallView
-  member_calls path no_members = []
-  member_calls path (member key value members) =
-      key_call path key.now
-      ∷ (calls_of (path ++ key.now ∷ []) value ++ member_calls path members)
+  pub member_parts : List Name → Members → List Part
+  member_parts path no_members = []
+  member_parts path (member key value members) =
+      a_key path key.now
+      ∷ (parts_of (path ++ key.now ∷ []) value ++ member_parts path members)
 
--- a new solver made the calls that a document means, which is an object
+-- a new solver was told a document, which is an object
 abbrev pub told_document : SchemaView → Members → State
-told_document schema members = after_calls (member_calls [] members) (new_solver schema)
+told_document schema members = tell_all (member_parts [] members) (new_solver schema)
 
 -- events are those of a document
 abbrev pub IsDocument : List Event → Type 0
 IsDocument events = (members : Members) × (events ≡ events_of (object members))
 
--- events are those of a document, and an answer is the verdict on the calls that it means
+-- events are those of a document, and an answer is the verdict on what it tells
 pub record IsRead
     (schema : SchemaView) (events : List Event) (answer : Result ResolutionHandle SolverError)
     : Type 0 where
