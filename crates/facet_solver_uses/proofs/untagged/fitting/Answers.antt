@@ -1,4 +1,4 @@
-use Rattle.facet_solver_uses.proofs.Untagged.{tells_type}
+use Rattle.facet_solver_uses.proofs.UntaggedValues.{tells_type}
 use Rattle.facet_solver_uses.proofs.untagged.fitting.Goals as goal
 
 pub may_be-requires : goal.may_be-requires
