@@ -3,6 +3,6 @@ pub mod LoadConfig
 pub mod AmbiguousPairs
 pub mod Untagged
 pub mod ChoiceToValues
-pub mod Stream
+pub mod Streamed
 pub mod Documents
 pub mod WholeDocuments
