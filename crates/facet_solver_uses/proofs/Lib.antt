@@ -1,7 +1,7 @@
 pub mod KeysToChoice
 pub mod LoadConfig
 pub mod AmbiguousPairs
-pub mod Untagged
+pub mod UntaggedValues
 pub mod ChoiceToValues
 pub mod Streamed
 pub mod Documents
