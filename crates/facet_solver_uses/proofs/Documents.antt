@@ -19,7 +19,7 @@ use Rattle.facet_solver_uses.specs.declared.stream.Event.{Event}
 use Rattle.facet_solver_uses.specs.declared.stream.Event.TheVariants.{Key, Object as ObjectBegins, List as ListBegins, Scalar, End}
 use Rattle.facet_solver_uses.specs.declared.stream.Frame.{Frame}
 use Rattle.facet_solver_uses.specs.declared.stream.Frame.TheVariants.{Document, Object as InObject, Member, List as InList}
-use Rattle.facet_solver_uses.proofs.Stream.{calls_append, placed_append}
+use Rattle.facet_solver_uses.proofs.Streamed.{calls_append, placed_append}
 
 -- events may stand from a place on, lead to another, and mean calls
 record Leads (before : PlaceView) (events : List Event) (after : PlaceView) (calls : List CallView) : Type 0 where

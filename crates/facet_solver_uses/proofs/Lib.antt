@@ -1,8 +1,8 @@
 pub mod KeysToChoice
 pub mod LoadConfig
 pub mod AmbiguousPairs
-pub mod Untagged
+pub mod UntaggedValues
 pub mod ChoiceToValues
-pub mod Stream
+pub mod Streamed
 pub mod Documents
 pub mod WholeDocuments

@@ -3,6 +3,8 @@ pub mod LoadConfig
 pub mod ElementToChoice
 pub mod AmbiguousPairs
 pub mod AmbiguityTable
+pub mod Reached
+pub mod ValueKinds
 pub mod Untagged
 pub mod ChoiceToValues
 pub mod Stream

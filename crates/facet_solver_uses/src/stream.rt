@@ -355,7 +355,7 @@ impl<'s, 'c, 'd> Reader<'s, 'c, 'd> {
 /// The error is `Misplaced` with the index of the first event that can't stand where it comes, and
 /// else as that of `Reader::finish`. Neither it nor `Unfinished` comes for the events of a
 /// document.
-#[tactic(auto, using(crate::proofs::Stream::reading_more, crate::proofs::Stream::placed_more, crate::proofs::Stream::streams_all, crate::proofs::WholeDocuments::reads_documents))]
+#[tactic(auto, using(crate::proofs::Streamed::reading_more, crate::proofs::Streamed::placed_more, crate::proofs::Streamed::streams_all, crate::proofs::WholeDocuments::reads_documents))]
 pub fn stream<'s, 'c>(
     alloc: Global,
     schema: &'s Schema<'c>,

@@ -3,7 +3,7 @@ use Rattle.std.specs.Prelude.{Err}
 use Rattle.facet_solver_uses.specs.Stream.{IsFirstMisplaced}
 use Rattle.facet_solver_uses.specs.declared.stream.Unread.TheVariants.{Misplaced}
 use Rattle.facet_solver_uses.proofs.WholeDocuments.{reads_documents}
-use Rattle.facet_solver_uses.proofs.Stream.{placed_more, reading_more, streams_all}
+use Rattle.facet_solver_uses.proofs.Streamed.{placed_more, reading_more, streams_all}
 use Rattle.facet_solver_uses.proofs.stream.stream.Goals as goal
 
 pub returns-in-Err-Misplaced-clause-document : goal.returns-in-Err-Misplaced-clause-document

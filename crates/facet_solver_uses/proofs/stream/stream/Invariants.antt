@@ -1,7 +1,7 @@
 use Rattle.std.proofs.Common.{◌≡◌, take}
 use Rattle.std.specs.Prelude.{true}
 use Rattle.facet_solver_uses.specs.Stream.{beginning, well_placed}
-use Rattle.facet_solver_uses.proofs.Stream.{reading_of}
+use Rattle.facet_solver_uses.proofs.Streamed.{reading_of}
 use Rattle.facet_solver_uses.proofs.stream.stream.Given as goal
 
 -- the events so far may stand where they come, and were read

@@ -1,6 +1,6 @@
 use Rattle.std.proofs.Common.{ap, rules}
 use Rattle.facet_solver_uses.specs.Stream.{PlaceView}
-use Rattle.facet_solver_uses.proofs.Stream.{names_above}
+use Rattle.facet_solver_uses.proofs.Streamed.{names_above}
 use Rattle.facet_solver_uses.proofs.stream.Place.above.Goals as goal
 
 pub returns : goal.returns
