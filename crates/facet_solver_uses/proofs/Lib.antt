@@ -2,6 +2,7 @@ pub mod KeysToChoice
 pub mod FirstUnknown
 pub mod LoadConfig
 pub mod AmbiguousPairs
+pub mod Reached
 pub mod UntaggedValues
 pub mod ChoiceToValues
 pub mod Streamed

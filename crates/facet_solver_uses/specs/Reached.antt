@@ -1,5 +1,5 @@
 -- What a variant with one field holds: the shape that is reached from the field.
-use Rattle.std.specs.Prelude.{ℕ, zero, suc, List, [], ◌∷◌, Option, Some, None, length, slice_get}
+use Rattle.std.specs.Prelude.{◌≡◌, ℕ, zero, suc, List, [], ◌∷◌, Option, Some, None, length, slice_get}
 use Rattle.std.specs.Option.{option_and_then, option_map_or, option_or}
 use Rattle.facet_solver.specs.Formats.{value_shape}
 use Rattle.facet_solver.specs.Pointers.{pointee_of_kind}
@@ -20,10 +20,15 @@ reached_within (suc n) shapes id =
     option_and_then (λ s. option_map_or (reached_within n shapes) (next_of s) (Some s))
     (slice_get shapes id)
 
--- the shape that is reached from an index and leads nowhere. A way that ends has no shape twice, so
--- it is no longer than the list; one without an end reaches none
+-- the shape that is reached from an index and leads nowhere; none where the way has no end. A way
+-- that ends has no shape twice, so it is no longer than the list
 abbrev pub reached : List Shape → ℕ → Option Shape
 reached shapes id = reached_within (length shapes) shapes id
+
+-- what is the end of a way, however long, is reached
+abbrev pub ReachesEveryEnd : List Shape → Type 0
+ReachesEveryEnd shapes =
+    (n id : ℕ) (s : Shape) → reached_within n shapes id ≡ Some s → reached shapes id ≡ Some s
 
 -- the shape of the only field
 abbrev pub only_shape : List Field → Option ℕ

@@ -2,6 +2,7 @@
 ghost use Rattle.std.specs.Prelude.{◌≡◌, IfOk, filter};
 ghost use Rattle.std.specs.Option.{option_map};
 ghost use Rattle.facet_solver.specs.Groups.{variants_at, variants_view};
+ghost use Rattle.facet_solver_uses.specs.Reached.{ReachesEveryEnd};
 ghost use Rattle.facet_solver_uses.specs.Untagged.{AreVariantsFor, IsByScore, have_no_fields, is_container, may_be, may_be_enum, may_be_fields, may_be_kind, may_be_newtype, may_be_scalar, may_be_shape, variant_score};
 ghost use Rattle.facet_solver_uses.specs.ValueKinds.{is_scalar};
 
@@ -58,15 +59,18 @@ pub enum ValueKind {
 /// that is reached, and 1000 for what is no scalar. So a `Box<u8>` and a transparent `Id(u8)` count
 /// as `u8`. Whether a number is in the range of its type is for the reader to see.
 ///
-/// The only error is out of memory. A way has at most as many steps as there are shapes.
+/// The only error is out of memory. For each variant a way has no more shapes than there are.
+#[tactic(auto, using(crate::proofs::Reached::reaches_every_end))]
 pub fn variants_for<'c>(
     alloc: Global,
     shapes: &'c Shapes,
     id: ShapeId,
     value: ValueKind,
 ) -> Result<Option<Vec<&'c Variant>>, AllocError>
-    ensures { IfOk result (λ found. AreVariantsFor shapes.now value (variants_at shapes.now id)
+    ensures found { IfOk result (λ found. AreVariantsFor
+        shapes.now value (variants_at shapes.now id)
         (option_map (λ list. variants_view list.items) found)) }
+    ensures ends { ReachesEveryEnd shapes.now }
 {
     let Some(variants) = variants_at(shapes, id) else {
         return Ok(None);

@@ -1,16 +1,9 @@
-use Rattle.std.proofs.Common.{◌≡◌, ℕ, zero, suc, ◌<◌, ◌+◌, ◌-◌, List, Option, Some, length, slice_get, sym, ap, ◌∙◌, arith}
-use Rattle.std.specs.Option.{option_and_then, option_copied, option_map_or}
+use Rattle.std.proofs.Common.{◌≡◌, ℕ, zero, suc, ◌<◌, ◌+◌, ◌-◌, List, Option, length, slice_get, sym, ap, ◌∙◌, arith}
+use Rattle.std.specs.Option.{option_copied}
 use Rattle.facet_solver.specs.declared.Shape.{Shape}
-use Rattle.facet_solver_uses.specs.Reached.{next_of, reached, reached_within}
+use Rattle.facet_solver_uses.specs.Reached.{reached, reached_within}
+use Rattle.facet_solver_uses.proofs.Reached.{by_next, from_shape}
 use Rattle.facet_solver_uses.proofs.untagged.reached.reached.Goals as goal
-
--- what is reached from a shape by where it leads to, in so many more steps
-abbrev by_next : ℕ → List Shape → Shape → Option ℕ → Option Shape
-by_next n shapes s next = option_map_or (reached_within n shapes) next (Some s)
-
--- what is reached from a shape, if there is one, in so many more steps
-abbrev from_shape : ℕ → List Shape → Option Shape → Option Shape
-from_shape n shapes = option_and_then (λ s. by_next n shapes s (next_of s))
 
 -- what is reached goes by the shape that the way has come to
 goes_on : (shapes : List Shape) (start k id : ℕ) → reached shapes start ≡ reached_within (length shapes - k) shapes id → k < length shapes → (o : Option Shape) → o ≡ slice_get shapes id → reached shapes start ≡ from_shape (length shapes - (k + 1)) shapes o
