@@ -1,4 +1,5 @@
 pub mod KeysToChoice
+pub mod FirstUnknown
 pub mod LoadConfig
 pub mod AmbiguousPairs
 pub mod UntaggedValues

@@ -1,4 +1,5 @@
 pub mod KeysToChoice
+pub mod Taken
 pub mod LoadConfig
 pub mod ElementToChoice
 pub mod AmbiguousPairs

@@ -36,15 +36,15 @@ have_no_fields variants = list_all (λ v. length v.fields.items == 0) variants
 abbrev pub may_be_enum : ValueKind → List Variant → Bool
 may_be_enum value variants = is_scalar value || not (have_no_fields variants)
 
--- whether a value may be so many fields that are written in a way
+-- whether a value may be so many fields, by how they are written: none, by name, or by position
 abbrev pub may_be_fields : ValueKind → StructKind → ℕ → Bool
 may_be_fields value Unit count = is_null value
 may_be_fields value NamedStruct count = is_object value
 may_be_fields value TupleStruct count = is_list_of count value
 may_be_fields value Tuple count = is_list_of count value
 
--- whether a value may be of a kind: any may be of a struct without fields, of an option, and of
--- what does not tell
+-- whether a value may be of a kind: any may be of a struct without fields, and of a kind that does
+-- not tell, as an option or an opaque pointer
 abbrev pub may_be_kind : ValueKind → ShapeKind → Bool
 may_be_kind value (Scalar type) = may_be_scalar value type
 may_be_kind value (Enum variants) = may_be_enum value variants.items

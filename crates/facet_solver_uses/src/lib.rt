@@ -30,4 +30,5 @@ pub mod element_to_choice;
 pub mod keys_to_choice;
 pub mod load_config;
 pub mod stream;
+pub mod taken;
 pub mod untagged;

@@ -141,8 +141,8 @@ fn is_container(shape: &Shape) -> bool
     shape.metadata_container && matches!(shape.kind, ShapeKind::Struct { .. })
 }
 
-/// Whether a value may be of a kind: any may be of a struct without fields, of an option, and of
-/// what does not tell.
+/// Whether a value may be of a kind: any may be of a struct without fields, and of a kind that does
+/// not tell, as an option or an opaque pointer.
 fn may_be_kind(kind: &ShapeKind, value: ValueKind) -> bool
     ensures { result ≡ may_be_kind value kind.now }
 {
@@ -196,7 +196,7 @@ fn have_no_fields(variants: &[Variant]) -> bool
     variants.iter().all(|v| v.fields.is_empty())
 }
 
-/// Whether a value may be so many fields that are written in a way.
+/// Whether a value may be so many fields, by how they are written: none, by name, or by position.
 fn may_be_fields(kind: StructKind, count: usize, value: ValueKind) -> bool
     ensures { result ≡ may_be_fields value kind count }
 {
