@@ -27,6 +27,7 @@ use Rattle.facet_solver_uses.specs.declared.choice_to_values.Mismatch.TheVariant
 use Rattle.facet_solver_uses.specs.ChoiceToValues.{AreValues, HaveOneKey, IsFieldFault, IsMemberOf, IsMismatch, IsOthersFault, IsPlaced, IsValue, Meaning, StandsAt, TellsFirstUnknown, contents_of, is_as_content, is_by_catch_all, meant_by, meant_field_at, rest_of, taker_at}
 use Rattle.facet_solver_uses.specs.Taken.{AreTaken, TakerView, as_content, by_catch_all, by_field, catch_all_of, is_content, taker_of}
 use Rattle.facet_solver_uses.proofs.FirstUnknown.{key_at, none_unknown, unknown_at}
+use Rattle.facet_solver_uses.proofs.KeptElements.{kept, kept_passes, later}
 use Rattle.facet_solver_uses.proofs.KeysToChoice.{at_place}
 
 -- what is in a list stands at a place of it
@@ -97,20 +98,6 @@ meant_among r keys member f e = go (slice_get keys member) e
     go None e = absurd (cc)
     go (Some key) e = at_place (finite.values r.fields) _ f (sym (find_at (matches key) (finite.values r.fields)) ∙ e)
 
-later : {X : Type 0} (y : X) (xs : List X) (x : X) → Contains xs x → Contains (y ∷ xs) x
-later y xs x c = (suc c.0, omega (arith, c.1), c.2)
-
--- an element that passes is kept
-kept : {X : Type 0} (p : X → Bool) (xs : List X) (i : ℕ) (x : X) → slice_get xs i ≡ Some x → p x ≡ true → Contains (filter p xs) x
-kept p [] i x at passes = absurd (cc)
-kept p (y ∷ xs) zero x at passes =
-    let here : y ≡ x = cc in
-    let b : p y ≡ true = ap p here ∙ passes in
-    subst (λ (b : Bool). Contains (cond b (y ∷ filter p xs) (filter p xs)) x) (sym b) (0, omega arith, here)
-kept p (y ∷ xs) (suc i) x at passes =
-    let rest = kept p xs i x at passes in
-    elim (p y) as (λ b. Contains (cond b (y ∷ filter p xs) (filter p xs)) x) [ true ↦ later y (filter p xs) x rest | false ↦ rest ]
-
 -- what stands at a place of seen elements is one of them, seen
 seen_at : {X Y : Type 0} (g : X → Y) (xs : List X) (i : ℕ) (y : Y) → slice_get (map g xs) i ≡ Some y → (x : X) × Contains xs x × (g x ≡ y)
 seen_at g [] i y e = absurd (cc)
@@ -129,16 +116,6 @@ within r keys member taker is = go (slice_get keys member) refl is
     go : (o : Option Key) → slice_get keys member ≡ o → option_and_then (λ key. taker_of key r) o ≡ Some taker → member < length keys
     go None at is = absurd (cc)
     go (Some key) at is = slice_get_within keys member key at
-
-at_head : (p : ℕ → Bool) (ys : List ℕ) (x y : ℕ) → (Contains (filter p ys) x → p x ≡ true) → (b : Bool) → p y ≡ b → Contains (cond b (y ∷ filter p ys) (filter p ys)) x → p x ≡ true
-at_head p ys x y later false e c = later c
-at_head p ys x y later true e (zero, low, is) = ap p (sym is) ∙ e
-at_head p ys x y later true e (suc i, low, is) = later (i, omega arith, is)
-
--- an element that is kept passes
-kept_passes : (p : ℕ → Bool) (xs : List ℕ) (x : ℕ) → Contains (filter p xs) x → p x ≡ true
-kept_passes p [] x c = absurd (omega (arith, c.1))
-kept_passes p (y ∷ ys) x c = at_head p ys x y (kept_passes p ys x) (p y) refl c
 
 -- what is taken by no field is not taken by one
 not_by_field : (content : Bool) (catch_all : Option FieldView) (f : FieldView) → cond content (Some as_content) (option_map by_catch_all catch_all) ≡ Some (by_field f) → ⊥

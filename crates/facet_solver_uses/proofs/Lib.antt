@@ -1,6 +1,8 @@
 pub mod KeysToChoice
 pub mod FirstUnknown
 pub mod LoadConfig
+pub mod KeptElements
+pub mod SeenTag
 pub mod AmbiguousPairs
 pub mod Reached
 pub mod UntaggedValues

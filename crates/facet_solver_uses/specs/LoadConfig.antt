@@ -1,13 +1,13 @@
 -- What a strict loader of configurations answers.
-use Rattle.std.specs.Prelude.{◌≡◌, ◌≢◌, ℕ, List, [], ◌∷◌, Some, None, Result, Ok, Err, ⊤, filter, not, slice_get}
+use Rattle.std.specs.Prelude.{◌≡◌, ◌≢◌, true, List, [], ◌∷◌, Some, None, Result, Ok, Err, ⊤, filter, not}
 use Rattle.std.specs.List.{filter_map}
 use Rattle.facet_solver.specs.Keys.{Key, key_of, flat_key}
 use Rattle.facet_solver.specs.Names.{Name, name_eq, names_of}
-use Rattle.facet_solver.specs.Resolved.{Resolved}
+use Rattle.facet_solver.specs.Resolutions.{has_key}
 use Rattle.facet_solver.specs.schema.Schema.{SchemaView}
 use Rattle.facet_solver.specs.schema.ResolutionHandle.{IsHandleOf, index_of, resolution_of}
 use Rattle.facet_solver.specs.solver.State.{State, new_solver, passing, see_key}
-use Rattle.facet_solver.specs.solver.Tag.{has_variant_under, see_tag, variant_under}
+use Rattle.facet_solver.specs.solver.Tag.{has_no_other_under, has_variant_under, see_tag, variant_under}
 use Rattle.facet_solver.specs.solver.Told.{see_keys}
 use Rattle.facet_solver.specs.solver.Report.{IsReportOn, resolutions_at, viable}
 use Rattle.facet_solver.specs.declared.ResolutionHandle.{ResolutionHandle}
@@ -42,24 +42,16 @@ variants_under tag s =
 abbrev pub told : SchemaView → Name → Name → List Key → State
 told schema tag variant keys = see_keys keys (see_tag tag variant (new_solver schema))
 
--- a handle is that of the only viable resolution, which takes each key
-pub record IsLoaded
+-- a handle is that of the only viable resolution. It has the tag, and no other variant there than
+-- the text names
+pub record IsFound
     (schema : SchemaView) (tag variant : Name) (keys : List Key) (handle : ResolutionHandle)
     : Type 0 where
   pub named : NamesVariant schema tag variant
   pub alone : viable (told schema tag variant keys) ≡ index_of handle ∷ []
   pub of_schema : IsHandleOf schema handle
-  pub takes_all : first_unknown (resolution_of handle) keys ≡ None
-
--- a key is the first that the only viable resolution does not take
-pub record IsUnknownKey
-    (schema : SchemaView) (tag variant : Name) (keys : List Key) (key : Key) : Type 0 where
-  pub named : NamesVariant schema tag variant
-  pub index : ℕ
-  pub alone : viable (told schema tag variant keys) ≡ index ∷ []
-  pub resolution : Resolved
-  pub there : slice_get schema.resolutions index ≡ Some resolution
-  pub first : first_unknown resolution keys ≡ Some key
+  pub has_tag : has_key (flat_key tag) (resolution_of handle) ≡ true
+  pub of_variant : has_no_other_under tag variant (resolution_of handle) ≡ true
 
 -- an error is the report on a configuration whose text names a variant, or says that memory ran out
 abbrev pub IsRefusal : SchemaView → Name → Name → List Key → SolverError → Type 0
@@ -67,14 +59,17 @@ IsRefusal schema tag variant keys OutOfMemory = ⊤
 IsRefusal schema tag variant keys error =
     NamesVariant schema tag variant × IsReportOn (told schema tag variant keys) error
 
--- what a configuration comes to. A text that names no variant under the tag is refused with the
--- variants that there are
+-- what a configuration comes to: the resolution that was found, which takes each key; or a text
+-- that names no variant under the tag, with the variants that there are; or the first key that the
+-- resolution does not take; or the report
 abbrev pub Loads : SchemaView → Name → Name → List Key
     → Result ResolutionHandle Refused → Type 0
-Loads schema tag variant keys (Ok handle) = IsLoaded schema tag variant keys handle
+Loads schema tag variant keys (Ok handle) =
+    IsFound schema tag variant keys handle × (first_unknown (resolution_of handle) keys ≡ None)
 Loads schema tag variant keys (Err (UnknownVariant names)) =
     (¬ NamesVariant schema tag variant)
     × (names_of names.items ≡ variants_under tag (saw_tag schema tag))
 Loads schema tag variant keys (Err (UnknownKey key)) =
-    IsUnknownKey schema tag variant keys (key_of key)
+    (handle : ResolutionHandle) × IsFound schema tag variant keys handle
+    × (first_unknown (resolution_of handle) keys ≡ Some (key_of key))
 Loads schema tag variant keys (Err (Solver error)) = IsRefusal schema tag variant keys error

@@ -13,6 +13,7 @@
 //!   it may be.
 //! - A choice and the members of a document:
 //!   [`choice_to_values`](choice_to_values::choice_to_values) gives the field that each stands for.
+//!   [`taker_of`](taken::taker_of) says what takes a member, as it and `load_config` go by.
 //! - A type to be checked: [`ambiguous_pairs`](ambiguous_pairs::ambiguous_pairs) gives the choices
 //!   that a document may leave both viable, and
 //!   [`ambiguity_table`](ambiguity_table::ambiguity_table) shows them to a person.

@@ -57,6 +57,9 @@ impl<'c, 'd> From<AllocError> for Refused<'c, 'd> {
 /// Errors: `UnknownVariant` where the text names no variant under the tag. Otherwise `Solver` where
 /// the tag and the keys leave not exactly one viable resolution. Otherwise `UnknownKey` for the
 /// first key that the resolution does not take. Out of memory may come before any of these.
+///
+/// At the end each key is looked up in the resolution that was found, field by field. So beside the
+/// calls of the solver it takes the product of their numbers.
 pub fn load_config<'s, 'c, 'd>(
     alloc: Global,
     schema: &'s Schema<'c>,

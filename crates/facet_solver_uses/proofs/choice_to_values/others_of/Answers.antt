@@ -1,7 +1,5 @@
-use Rattle.std.proofs.Common.{◌≡◌, Bool, [], Option, None, true, false, ap, arith, get_or, is_some, rules, sym, ◌∙◌}
+use Rattle.std.proofs.Common.{◌≡◌, [], Option, None, true, false, ap, arith, is_some, rules, sym, ◌∙◌}
 use Rattle.std.specs.Option.{option_map}
-use Rattle.std.proofs.lemmas.Grind.{common_steps}
-use Rattle.facet_solver.specs.Keys.{key_of}
 use Rattle.facet_solver.specs.declared.FieldKey.{FieldKey}
 use Rattle.facet_solver.specs.declared.FieldKey.TheVariants.{Flat}
 use Rattle.facet_solver_uses.specs.ChoiceToValues.{is_as_content, is_by_catch_all}
@@ -39,9 +37,9 @@ loop-member-preserved c =
     let known = λ (some : is_some taker ≡ true). taken_more r keys n nothing low (ap is_some (sym c.taker_of.ensures) ∙ some) so_far.taken in
     elim c.match-taker_of-2.branch [
       | in-Some-Field w ↦
-          let some : is_some taker ≡ true = first_of (search rules, grind (arith, common_steps), cc) in
-          let no_content : is_as_content taker ≡ false = first_of (search rules, grind (arith, common_steps), cc) in
-          let no_rest : is_by_catch_all taker ≡ false = first_of (search rules, grind (arith, common_steps), cc) in
+          let some : is_some taker ≡ true = search rules in
+          let no_content : is_as_content taker ≡ false = search rules in
+          let no_rest : is_by_catch_all taker ≡ false = search rules in
           record {
             within = omega arith;
             contents = rw w.contents-is (members_same is_as_content r keys n taker contents is no_content so_far.contents);
@@ -49,9 +47,9 @@ loop-member-preserved c =
             taken = known some;
           }
       | in-Some-Content+in_ok-push-in-Some-Content w ↦
-          let some : is_some taker ≡ true = first_of (search rules, grind (arith, common_steps), cc) in
-          let content : is_as_content taker ≡ true = first_of (search rules, grind (arith, common_steps), cc) in
-          let no_rest : is_by_catch_all taker ≡ false = first_of (search rules, grind (arith, common_steps), cc) in
+          let some : is_some taker ≡ true = search rules in
+          let content : is_as_content taker ≡ true = search rules in
+          let no_rest : is_by_catch_all taker ≡ false = search rules in
           record {
             within = omega arith;
             contents = rw w.contents-is (members_pushed is_as_content r keys n taker contents w.push.new.self.items is content so_far.contents w.in_ok-push-in-Some-Content.ensures.items);
@@ -59,9 +57,9 @@ loop-member-preserved c =
             taken = known some;
           }
       | in-Some-CatchAll+in_ok-push-in-Some-CatchAll w ↦
-          let some : is_some taker ≡ true = first_of (search rules, grind (arith, common_steps), cc) in
-          let no_content : is_as_content taker ≡ false = first_of (search rules, grind (arith, common_steps), cc) in
-          let by_rest : is_by_catch_all taker ≡ true = first_of (search rules, grind (arith, common_steps), cc) in
+          let some : is_some taker ≡ true = search rules in
+          let no_content : is_as_content taker ≡ false = search rules in
+          let by_rest : is_by_catch_all taker ≡ true = search rules in
           record {
             within = omega arith;
             contents = rw w.contents-is (members_same is_as_content r keys n taker contents is no_content so_far.contents);
