@@ -42,8 +42,8 @@ variants_under tag s =
 abbrev pub told : SchemaView → Name → Name → List Key → State
 told schema tag variant keys = see_keys keys (see_tag tag variant (new_solver schema))
 
--- a handle is that of the only viable resolution. It has the tag, and no other variant there than
--- the text names
+-- a handle is that of the only viable resolution, which has the tag, and no other variant under it
+-- than the text names
 pub record IsFound
     (schema : SchemaView) (tag variant : Name) (keys : List Key) (handle : ResolutionHandle)
     : Type 0 where
@@ -54,9 +54,9 @@ pub record IsFound
   pub of_variant : has_no_other_under tag variant (resolution_of handle) ≡ true
 
 -- an error is the report on a configuration whose text names a variant, or says that memory ran out
-abbrev pub IsRefusal : SchemaView → Name → Name → List Key → SolverError → Type 0
-IsRefusal schema tag variant keys OutOfMemory = ⊤
-IsRefusal schema tag variant keys error =
+abbrev pub IsReport : SchemaView → Name → Name → List Key → SolverError → Type 0
+IsReport schema tag variant keys OutOfMemory = ⊤
+IsReport schema tag variant keys error =
     NamesVariant schema tag variant × IsReportOn (told schema tag variant keys) error
 
 -- what a configuration comes to: the resolution that was found, which takes each key; or a text
@@ -72,4 +72,4 @@ Loads schema tag variant keys (Err (UnknownVariant names)) =
 Loads schema tag variant keys (Err (UnknownKey key)) =
     (handle : ResolutionHandle) × IsFound schema tag variant keys handle
     × (first_unknown (resolution_of handle) keys ≡ Some (key_of key))
-Loads schema tag variant keys (Err (Solver error)) = IsRefusal schema tag variant keys error
+Loads schema tag variant keys (Err (Solver error)) = IsReport schema tag variant keys error

@@ -37,33 +37,24 @@ loop-member-preserved c =
     let known = λ (some : is_some taker ≡ true). taken_more r keys n nothing low (ap is_some (sym c.taker_of.ensures) ∙ some) so_far.taken in
     elim c.match-taker_of-2.branch [
       | in-Some-Field w ↦
-          let some : is_some taker ≡ true = search rules in
-          let no_content : is_as_content taker ≡ false = search rules in
-          let no_rest : is_by_catch_all taker ≡ false = search rules in
           record {
             within = omega arith;
-            contents = rw w.contents-is (members_same is_as_content r keys n taker contents is no_content so_far.contents);
-            rest = rw w.rest-is (members_same is_by_catch_all r keys n taker rest is no_rest so_far.rest);
-            taken = known some;
+            contents = rw w.contents-is (members_same is_as_content r keys n taker contents is (search rules) so_far.contents);
+            rest = rw w.rest-is (members_same is_by_catch_all r keys n taker rest is (search rules) so_far.rest);
+            taken = known (search rules);
           }
       | in-Some-Content+in_ok-push-in-Some-Content w ↦
-          let some : is_some taker ≡ true = search rules in
-          let content : is_as_content taker ≡ true = search rules in
-          let no_rest : is_by_catch_all taker ≡ false = search rules in
           record {
             within = omega arith;
-            contents = rw w.contents-is (members_pushed is_as_content r keys n taker contents w.push.new.self.items is content so_far.contents w.in_ok-push-in-Some-Content.ensures.items);
-            rest = rw w.rest-is (members_same is_by_catch_all r keys n taker rest is no_rest so_far.rest);
-            taken = known some;
+            contents = rw w.contents-is (members_pushed is_as_content r keys n taker contents w.push.new.self.items is (search rules) so_far.contents w.in_ok-push-in-Some-Content.ensures.items);
+            rest = rw w.rest-is (members_same is_by_catch_all r keys n taker rest is (search rules) so_far.rest);
+            taken = known (search rules);
           }
       | in-Some-CatchAll+in_ok-push-in-Some-CatchAll w ↦
-          let some : is_some taker ≡ true = search rules in
-          let no_content : is_as_content taker ≡ false = search rules in
-          let by_rest : is_by_catch_all taker ≡ true = search rules in
           record {
             within = omega arith;
-            contents = rw w.contents-is (members_same is_as_content r keys n taker contents is no_content so_far.contents);
-            rest = rw w.rest-is (members_pushed is_by_catch_all r keys n taker rest w.push-in-Some-CatchAll.new.self.items is by_rest so_far.rest w.in_ok-push-in-Some-CatchAll.ensures.items);
-            taken = known some;
+            contents = rw w.contents-is (members_same is_as_content r keys n taker contents is (search rules) so_far.contents);
+            rest = rw w.rest-is (members_pushed is_by_catch_all r keys n taker rest w.push-in-Some-CatchAll.new.self.items is (search rules) so_far.rest w.in_ok-push-in-Some-CatchAll.ensures.items);
+            taken = known (search rules);
           }
     ]
