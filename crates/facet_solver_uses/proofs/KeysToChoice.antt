@@ -13,7 +13,7 @@ use Rattle.facet_solver.specs.solver.State.{State, new_solver, see_key}
 use Rattle.facet_solver.specs.solver.Told.{EndsWithOrNames, TellsChoice, see_keys}
 use Rattle.facet_solver.specs.declared.ResolutionHandle.{ResolutionHandle}
 use Rattle.facet_solver.specs.declared.SolverError.{SolverError}
-use Rattle.facet_solver.specs.declared.SolverError.TheVariants.{Ambiguous, OutOfMemory}
+use Rattle.facet_solver.specs.declared.SolverError.TheVariants.{OutOfMemory}
 use Rattle.facet_solver_uses.specs.KeysToChoice.{FindsChoice, UnlessOutOfMemory}
 
 -- one more key, whatever it is the key of

@@ -22,8 +22,8 @@ pub enum Part<'d> {
     Attribute(&'d str),
     /// A child element of a name.
     Element(&'d str),
-    /// A child element that no field has the name of, for a field that takes all elements
-    /// ([`child_part`]).
+    /// A child element of a name that no resolution has an element of, for a field that is marked
+    /// `elements`, which takes them all. [`child_part`] tells the two apart.
     Elements,
     /// A text that is not blank.
     Text,
@@ -48,6 +48,9 @@ impl<'d> Part<'d> {
 /// The part that a child element of a name is: `Element` where some resolution of the schema has an
 /// element of the name, else `Elements`.
 ///
+/// A catch-all is no element of a name. So where one resolution has a catch-all for elements, and
+/// another a field that takes all elements, `Elements` leaves the second.
+///
 /// It asks one resolution after another, until one has the element.
 pub fn child_part<'d>(schema: &Schema<'_>, name: &'d str) -> Part<'d>
     ensures { result ≡ child_part schema.now name.entry }
@@ -70,9 +73,9 @@ fn is_known(resolutions: &[Resolution<'_>], key: &FieldKey<'_>) -> bool
 
 /// The choice that the parts of an element mean, in a schema of `Schema::build_dom` or another.
 ///
-/// Answer and errors are those of `keys_to_choice` for the keys of the parts. An attribute never
-/// stands for an element of its name. A part that no resolution has changes nothing: the name of
-/// the element where no field is marked `tag`, a text where none is marked `text`, and so on.
+/// Answer, errors and cost are those of `keys_to_choice` for the keys of the parts. An attribute
+/// never stands for an element of its name. A part that no resolution has a field for does no harm:
+/// the name of the element where none is marked `tag`, a child where none is marked `elements`.
 pub fn element_to_choice<'s, 'c>(
     alloc: Global,
     schema: &'s Schema<'c>,
