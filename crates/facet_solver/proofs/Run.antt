@@ -11,7 +11,7 @@ use Rattle.facet_solver.specs.schema.Schema.{IsOwnBuild, SchemaView}
 use Rattle.facet_solver.specs.solver.ShapeAtPath.{has_shape_at_path}
 use Rattle.facet_solver.specs.solver.State as state
 use Rattle.facet_solver.specs.solver.State.{State, has_shape_among, has_tag_field, passing, selects_variant, where_any}
-use Rattle.facet_solver.specs.solver.Tag.{has_no_other_under, has_variant_under, keep_variant}
+use Rattle.facet_solver.specs.solver.Tag.{has_no_other_under, has_variant_under}
 use Rattle.facet_solver.specs.Resolutions.{has_key}
 use Rattle.facet_solver.specs.solver.Told.{see_keys, EndsWithOrNames, LeavesSome}
 use Rattle.facet_solver.proofs.IndexSet.{filter_filter}

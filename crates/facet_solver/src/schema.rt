@@ -198,9 +198,9 @@ impl<'c> Schema<'c> {
     /// Errors: `DuplicateField` where two fields of one choice have one stored key, the one emitted
     /// first first; `OutOfMemory`, also where there are 2^64 choices or more.
     ///
-    /// `steps` counts the visits of fields for nested key paths: at most two for each field of the
-    /// catalogue, also on an error. On an `Ok` there is at least one for each field of the root.
-    /// Other reads of fields are not counted.
+    /// `steps` counts the visits of fields for nested key paths. In all these are at most twice as
+    /// many as the catalogue has fields, also on an error. On an `Ok` they are at least as many as
+    /// the root has. Other reads of fields are not counted.
     pub fn build_counted(
         alloc: Global,
         shapes: &'c Shapes,
@@ -248,8 +248,8 @@ impl<'c> Schema<'c> {
     /// The number of resolutions that a schema of the root has, as [`Schema::resolution_count`]
     /// says.
     ///
-    /// `steps` counts the visits of fields: at most one for each field of the catalogue, also on an
-    /// error. On an `Ok` there is at least one for each field of the root.
+    /// `steps` counts the visits of fields. In all these are at most as many as the catalogue has
+    /// fields, also on an error. On an `Ok` they are at least as many as the root has.
     pub fn resolution_count_counted(
         alloc: Global,
         shapes: &Shapes,

@@ -137,9 +137,9 @@ impl<'s, 'c, 'a> Solver<'s, 'c, 'a> {
     /// index that it reads, and its searches of a resolution for a field.
     ///
     /// It reads at most two words for each 64 resolutions or part of 64, so none where there are
-    /// none. It searches at most each candidate that is left. It searches none where the answer is
-    /// `Unknown` or `Solved`, nor where the fields that the key means in the resolutions of the
-    /// schema have one shape.
+    /// none. It makes at most as many searches as candidates are left. It makes none where the
+    /// answer is `Unknown` or `Solved`, nor where the fields that the key means in the resolutions
+    /// of the schema have one shape.
     pub fn see_key_counted(
         &mut self,
         alloc: Global,

@@ -93,9 +93,23 @@ impl<'c> Catalogue<'c> {
     where
         't: 'c,
     {
-        let (alloc, shapes) = (answer.alloc, self.shapes);
         let root = self.id(answer);
         let builder = answer.next_word();
+        self.build_by(builder, root, answer)
+    }
+
+    /// The schema of a root by a builder, as the words behind it say. Where they can't be read,
+    /// that is noted.
+    pub fn build_by<'t>(
+        &self,
+        builder: &str,
+        root: ShapeId,
+        answer: &mut Answer<'t>,
+    ) -> Result<Schema<'c>, SchemaError<'c>>
+    where
+        't: 'c,
+    {
+        let (alloc, shapes) = (answer.alloc, self.shapes);
         if !shapes.has(root) {
             return Err(SchemaError::OutOfMemory);
         }
@@ -305,6 +319,18 @@ fn expected(format: &VariantFormat) -> &'static str {
     }
 }
 
+const BUILDERS: [&str; 6] = ["external", "auto", "dom", "format", "with", "counted"];
+
+/// Whether a word names a builder.
+pub fn is_builder(word: &str) -> bool {
+    for builder in &BUILDERS {
+        if *builder == word {
+            return true;
+        }
+    }
+    false
+}
+
 const FORMATS: [(&str, Format); 2] = [("flat", Format::Flat), ("dom", Format::Dom)];
 
 /// The next word as a format.
@@ -314,7 +340,7 @@ fn format(answer: &mut Answer<'_>) -> Format {
 }
 
 /// The representation that the next words ask for.
-fn asked<'t>(answer: &mut Answer<'t>) -> EnumRepr<'t> {
+pub fn asked<'t>(answer: &mut Answer<'t>) -> EnumRepr<'t> {
     match answer.word() {
         "flattened" => EnumRepr::Flattened,
         "external" => EnumRepr::ExternallyTagged,

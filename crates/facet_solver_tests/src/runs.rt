@@ -72,7 +72,7 @@ impl<'t> Step<'t> {
             _ => answer.read_path(),
         };
         let second = match call {
-            "hint_variant_for_tag" => answer.word(),
+            "hint_variant_for_tag" | "see_tag" => answer.word(),
             _ => "",
         };
         catalogue.read_shapes(answer);
@@ -96,6 +96,7 @@ impl<'t> Step<'t> {
             "probe" => self.probe(answer),
             "hint_variant" => Call::HintVariant(self.first),
             "hint_variant_for_tag" => Call::HintVariantForTag(self.first, self.second),
+            "see_tag" => Call::SeeTag(self.first, self.second),
             _ => {
                 answer.unread();
                 Call::HintVariant(self.first)

@@ -115,6 +115,7 @@ impl<'s, 'c, 't: 's> Session<'s, 'c, 't> {
     fn other_call(&mut self, call: &str, answer: &mut Answer<'t>) {
         match call {
             "mark_seen" => self.mark_seen(answer),
+            "see_tag" => self.see_tag(answer),
             "probe" => self.probe(answer),
             "probing" => self.probing.answer(answer),
             "hint_variant" | "hint_variant_for_tag" => self.hint(call, answer),
@@ -150,6 +151,15 @@ impl<'s, 'c, 't: 's> Session<'s, 'c, 't> {
         let key = answer.key();
         match self.solver.mark_seen(key) {
             Ok(()) => answer.add("ok"),
+            Err(AllocError) => answer.refused(),
+        }
+    }
+
+    fn see_tag(&mut self, answer: &mut Answer<'t>) {
+        let tag = answer.word();
+        let variant = answer.word();
+        match self.solver.see_tag(answer.alloc, tag, variant) {
+            Ok(is_named) => answer.add_yes_or_no(is_named),
             Err(AllocError) => answer.refused(),
         }
     }

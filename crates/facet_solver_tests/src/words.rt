@@ -47,6 +47,19 @@ impl<'t> Answer<'t> {
         word
     }
 
+    /// The words that are left.
+    pub fn rest(&mut self) -> Vec<&'t str> {
+        let mut words = Vec::new(self.alloc);
+        for _ in 0..usize::MAX {
+            let word = self.next_word();
+            if word.is_empty() {
+                break;
+            }
+            self.push(&mut words, word);
+        }
+        words
+    }
+
     /// The next word as a number.
     pub fn number(&mut self) -> usize {
         let word = self.word();

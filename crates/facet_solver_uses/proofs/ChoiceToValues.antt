@@ -1,20 +1,20 @@
--- Which member means a field, and that no member is lost.
-use Rattle.std.proofs.Common.{◌≡◌, ◌≢◌, ℕ, zero, suc, ◌+◌, ◌<◌, arith, refl, subst, sym, ◌∙◌, ap, append-nil, append_assoc, zero-add, Bor, T, Bool, true, false, cond, ◌&&◌, ◌||◌, List, [], ◌∷◌, ◌++◌, All, Option, Some, None, filter, get_or, is_some, length, not, map, slice_get, take}
-use Rattle.std.specs.Prelude.{Contains, is_none}
+-- Which member means a field, and where each member stands.
+use Rattle.std.proofs.Common.{◌≡◌, ◌≢◌, ℕ, zero, suc, ◌+◌, ◌<◌, arith, refl, subst, sym, ◌∙◌, ap, append-nil, append_assoc, zero-add, Bor, T, Bool, true, false, cond, ◌&&◌, List, [], ◌∷◌, ◌++◌, All, Option, Some, None, filter, get_or, length, map, slice_get}
+use Rattle.std.specs.Prelude.{Contains, Err}
 use Rattle.std.specs.Cmp.{tied_itself, nat_cmp_total}
 use Rattle.std.specs.Cmp.Lexicographic.{nat_list_cmp_total, slice_cmp}
 use Rattle.std.specs.FinMap as finite
 use Rattle.std.specs.FinMap.Entries.{below_all}
-use Rattle.std.specs.List.{AllByRecursion, list_all}
-use Rattle.std.specs.Option.{option_and_then, option_copied, option_flatten, option_map}
+use Rattle.std.specs.List.{AllByRecursion}
+use Rattle.std.specs.Option.{option_and_then, option_copied, option_flatten, option_map, option_or}
 use Rattle.std.specs.Ordering.{is_lt, nat_cmp, ordering_then}
 use Rattle.std.specs.declared.cmp.Ordering.{Ordering}
 use Rattle.std.specs.declared.cmp.Ordering.TheVariants.{Equal}
-use Rattle.std.proofs.lemmas.List.{map-append, map-id, take-map}
+use Rattle.std.proofs.lemmas.List.{map-append, map-id}
 use Rattle.std.proofs.lemmas.List.Elements.{All-contains, All-push, Contains-append_right, filter-append, recursion_from_All}
-use Rattle.std.proofs.lemmas.List.Folds.{find_at, list_all-map, list_all_more}
+use Rattle.std.proofs.lemmas.List.Folds.{find_at}
 use Rattle.std.proofs.lemmas.List.FromFn.{get_or-range_with_len, length-range_with_len, map-range_with_len_more}
-use Rattle.std.proofs.lemmas.Option.{slice_get-get_or, slice_get-map}
+use Rattle.std.proofs.lemmas.Option.{slice_get-get_or, slice_get_within}
 use Rattle.facet_solver.specs.Fields.{FieldView, IsStored, key_of_field, matches}
 use Rattle.facet_solver.specs.set.IndexSet.{upto}
 use Rattle.facet_solver.specs.Keys.{Key, key_cmp, key_of, rank, stored_key}
@@ -24,7 +24,10 @@ use Rattle.facet_solver_uses.specs.declared.choice_to_values.FieldValue.{FieldVa
 use Rattle.facet_solver_uses.specs.declared.choice_to_values.Values.{Values}
 use Rattle.facet_solver_uses.specs.declared.choice_to_values.Mismatch.{Mismatch}
 use Rattle.facet_solver_uses.specs.declared.choice_to_values.Mismatch.TheVariants.{Unknown, Repeated, Missing, OutOfMemory}
-use Rattle.facet_solver_uses.specs.ChoiceToValues.{AreTaken, AreValues, HaveOneKey, IsFieldFault, IsMemberOf, IsMismatch, IsPlaced, IsValue, Meaning, is_taken, meant_by, meant_field_at, rest_of}
+use Rattle.facet_solver_uses.specs.ChoiceToValues.{AreValues, HaveOneKey, IsFieldFault, IsMemberOf, IsMismatch, IsOthersFault, IsPlaced, IsValue, Meaning, StandsAt, TellsFirstUnknown, contents_of, is_as_content, is_by_catch_all, meant_by, meant_field_at, rest_of, taker_at}
+use Rattle.facet_solver_uses.specs.Taken.{AreTaken, TakerView, as_content, by_catch_all, by_field, catch_all_of, is_content, taker_of}
+use Rattle.facet_solver_uses.proofs.FirstUnknown.{key_at, none_unknown, unknown_at}
+use Rattle.facet_solver_uses.proofs.KeptElements.{kept, kept_passes, later}
 use Rattle.facet_solver_uses.proofs.KeysToChoice.{at_place}
 
 -- what is in a list stands at a place of it
@@ -95,20 +98,6 @@ meant_among r keys member f e = go (slice_get keys member) e
     go None e = absurd (cc)
     go (Some key) e = at_place (finite.values r.fields) _ f (sym (find_at (matches key) (finite.values r.fields)) ∙ e)
 
-later : {X : Type 0} (y : X) (xs : List X) (x : X) → Contains xs x → Contains (y ∷ xs) x
-later y xs x c = (suc c.0, omega (arith, c.1), c.2)
-
--- an element that passes is kept
-kept : {X : Type 0} (p : X → Bool) (xs : List X) (i : ℕ) (x : X) → slice_get xs i ≡ Some x → p x ≡ true → Contains (filter p xs) x
-kept p [] i x at passes = absurd (cc)
-kept p (y ∷ xs) zero x at passes =
-    let here : y ≡ x = cc in
-    let b : p y ≡ true = ap p here ∙ passes in
-    subst (λ (b : Bool). Contains (cond b (y ∷ filter p xs) (filter p xs)) x) (sym b) (0, omega arith, here)
-kept p (y ∷ xs) (suc i) x at passes =
-    let rest = kept p xs i x at passes in
-    elim (p y) as (λ b. Contains (cond b (y ∷ filter p xs) (filter p xs)) x) [ true ↦ later y (filter p xs) x rest | false ↦ rest ]
-
 -- what stands at a place of seen elements is one of them, seen
 seen_at : {X Y : Type 0} (g : X → Y) (xs : List X) (i : ℕ) (y : Y) → slice_get (map g xs) i ≡ Some y → (x : X) × Contains xs x × (g x ≡ y)
 seen_at g [] i y e = absurd (cc)
@@ -120,24 +109,91 @@ index_at n i low =
     slice_get-get_or (upto n) i 0 (omega (arith, length-range_with_len 0 n))
     ∙ ap (λ (k : ℕ). Some k) (get_or-range_with_len 0 n i 0 low ∙ zero-add i)
 
--- no member is lost
-pub placed : (r : Resolved) (keys : List Key) (values : Values) → AreValues r (meant_by r keys) values.fields.items → values.rest.items ≡ rest_of r keys
-    → (member : ℕ) → member < length keys → IsPlaced values member (meant_by r keys member)
-placed r keys values fields rest member low = go (meant_by r keys member) refl
+-- a member that is taken is there
+within : (r : Resolved) (keys : List Key) (member : ℕ) (taker : TakerView) → taker_at r keys member ≡ Some taker → member < length keys
+within r keys member taker is = go (slice_get keys member) refl is
   where
-    its : (o : Option ℕ) (f : FieldView) → IsMemberOf (meant_by r keys) f o → meant_by r keys member ≡ Some f → o ≡ Some member
-    its None f h is = absurd (h member is)
-    its (Some other) f h is = ap (λ (k : ℕ). Some k) (sym (h.alone member is))
+    go : (o : Option Key) → slice_get keys member ≡ o → option_and_then (λ key. taker_of key r) o ≡ Some taker → member < length keys
+    go None at is = absurd (cc)
+    go (Some key) at is = slice_get_within keys member key at
 
-    go : (o : Option FieldView) → meant_by r keys member ≡ o → IsPlaced values member o
-    go None is =
-        subst (λ (ms : List ℕ). Contains ms member) (sym rest)
-        (kept (λ m. is_none (meant_by r keys m)) (upto (length keys)) member member (index_at (length keys) member low) (ap is_none is))
-    go (Some f) is =
-        let at = place (finite.values r.fields) f (meant_among r keys member f is) in
-        let v = seen_at (λ (v : FieldValue). v.field.now) values.fields.items at.0 f (ap (λ fs. slice_get fs at.0) fields.fields ∙ at.1) in
-        let well = All-contains (IsValue (meant_by r keys)) values.fields.items v.0 fields.well v.1 in
-        (v.0, v.1, v.2, its v.0.member v.0.field.now well.member (is ∙ ap (λ g. Some g) (sym v.2)))
+-- what is taken by no field is not taken by one
+not_by_field : (content : Bool) (catch_all : Option FieldView) (f : FieldView) → cond content (Some as_content) (option_map by_catch_all catch_all) ≡ Some (by_field f) → ⊥
+not_by_field true catch_all f e = cc
+not_by_field false None f e = cc
+not_by_field false (Some g) f e = cc
+
+-- a field takes a member exactly if the member means it
+taker_meant : (r : Resolved) (o : Option Key) (f : FieldView) → option_and_then (λ key. field_by_key key r) o ≡ Some f → option_and_then (λ key. taker_of key r) o ≡ Some (by_field f)
+taker_meant r None f e = absurd (cc)
+taker_meant r (Some key) f e = ap (λ found. option_or (option_map by_field found) (cond (is_content key r) (Some as_content) (option_map by_catch_all (catch_all_of key r)))) e
+
+meant_taker : (r : Resolved) (o : Option Key) (f : FieldView) → option_and_then (λ key. taker_of key r) o ≡ Some (by_field f) → option_and_then (λ key. field_by_key key r) o ≡ Some f
+meant_taker r None f e = absurd (cc)
+meant_taker r (Some key) f e = go (field_by_key key r) e
+  where
+    go : (found : Option FieldView) → option_or (option_map by_field found) (cond (is_content key r) (Some as_content) (option_map by_catch_all (catch_all_of key r))) ≡ Some (by_field f) → found ≡ Some f
+    go None e = absurd (not_by_field (is_content key r) (catch_all_of key r) f e)
+    go (Some g) e = cc
+
+-- what the tests of a taker say
+as_content_is : (taker : Option TakerView) → is_as_content taker ≡ true → taker ≡ Some as_content
+as_content_is None e = absurd (cc)
+as_content_is (Some (by_field f)) e = absurd (cc)
+as_content_is (Some as_content) e = refl
+as_content_is (Some (by_catch_all f)) e = absurd (cc)
+
+by_catch_all_is : (taker : Option TakerView) → is_by_catch_all taker ≡ true → (f : FieldView) × (taker ≡ Some (by_catch_all f))
+by_catch_all_is None e = absurd (cc)
+by_catch_all_is (Some (by_field f)) e = absurd (cc)
+by_catch_all_is (Some as_content) e = absurd (cc)
+by_catch_all_is (Some (by_catch_all f)) e = (f, refl)
+
+-- the only member that means a field is its member
+module _ (r : Resolved) (keys : List Key) (values : Values) (fields : AreValues r (meant_by r keys) values.fields.items) (member : ℕ) where
+  means_it : (o : Option ℕ) (f : FieldView) → IsMemberOf (meant_by r keys) f o → o ≡ Some member → meant_by r keys member ≡ Some f
+  means_it None f h is = absurd (cc)
+  means_it (Some other) f h is =
+      let same : other ≡ member = cc in
+      ap (meant_by r keys) (sym same) ∙ h.means
+
+  its : (o : Option ℕ) (f : FieldView) → IsMemberOf (meant_by r keys) f o → meant_by r keys member ≡ Some f → o ≡ Some member
+  its None f h is = absurd (h member is)
+  its (Some other) f h is = ap (λ (k : ℕ). Some k) (sym (h.alone member is))
+
+  stands_for : (f : FieldView) → StandsAt values member f → meant_by r keys member ≡ Some f
+  stands_for f (v, among, of_field, has) =
+      let well = All-contains (IsValue (meant_by r keys)) values.fields.items v fields.well among in
+      means_it v.member v.field.now well.member has ∙ ap (λ (g : FieldView). Some g) of_field
+
+  stands : (f : FieldView) → meant_by r keys member ≡ Some f → StandsAt values member f
+  stands f is =
+      let at = place (finite.values r.fields) f (meant_among r keys member f is) in
+      let v = seen_at (λ (v : FieldValue). v.field.now) values.fields.items at.0 f (ap (λ fs. slice_get fs at.0) fields.fields ∙ at.1) in
+      let well = All-contains (IsValue (meant_by r keys)) values.fields.items v.0 fields.well v.1 in
+      (v.0, v.1, v.2, its v.0.member v.0.field.now well.member (is ∙ ap (λ g. Some g) (sym v.2)))
+
+-- each member stands where it is taken
+pub placed : (r : Resolved) (keys : List Key) (values : Values) → AreValues r (meant_by r keys) values.fields.items → values.contents.items ≡ contents_of r keys → values.rest.items ≡ rest_of r keys
+    → (member : ℕ) → IsPlaced values member (taker_at r keys member)
+placed r keys values fields contents rest member =
+    let as_one = λ (m : ℕ). is_as_content (taker_at r keys m) in
+    let by_one = λ (m : ℕ). is_by_catch_all (taker_at r keys m) in
+    let low = within r keys member in
+    record {
+      at_field = λ f. (
+        λ there. taker_meant r (slice_get keys member) f (stands_for r keys values fields member f there),
+        λ is. stands r keys values fields member f (meant_taker r (slice_get keys member) f is),
+      );
+      in_contents = (
+        λ there. as_content_is (taker_at r keys member) (kept_passes as_one (upto (length keys)) member (subst (λ (ms : List ℕ). Contains ms member) contents there)),
+        λ is. subst (λ (ms : List ℕ). Contains ms member) (sym contents) (kept as_one (upto (length keys)) member member (index_at (length keys) member (low as_content is)) (ap is_as_content is)),
+      );
+      in_rest = (
+        λ there. by_catch_all_is (taker_at r keys member) (kept_passes by_one (upto (length keys)) member (subst (λ (ms : List ℕ). Contains ms member) rest there)),
+        λ w. subst (λ (ms : List ℕ). Contains ms member) (sym rest) (kept by_one (upto (length keys)) member member (index_at (length keys) member (low (by_catch_all w.0) w.1)) (ap is_by_catch_all w.1)),
+      );
+    }
 
 upto_more : (n : ℕ) → upto (n + 1) ≡ upto n ++ n ∷ []
 upto_more n =
@@ -149,72 +205,34 @@ upto_more n =
 filter_more : (test : ℕ → Bool) (n : ℕ) → filter test (upto (n + 1)) ≡ filter test (upto n) ++ cond (test n) (n ∷ []) []
 filter_more test n = ap (filter test) (upto_more n) ∙ filter-append test (upto n) (n ∷ [])
 
--- the member at an index means what its key means
-meant_at : (r : Resolved) (keys : List FieldKey) (n : ℕ) (d : FieldKey) → n < length keys → meant_by r (map key_of keys) n ≡ field_by_key (key_of (get_or keys n d)) r
-meant_at r keys n d low =
-    ap (option_and_then (λ key. field_by_key key r)) (slice_get-map key_of keys n ∙ ap (option_map key_of) (slice_get-get_or keys n d low))
+-- the member at an index is taken as its key is
+pub taker_here : (r : Resolved) (keys : List FieldKey) (n : ℕ) (d : FieldKey) → n < length keys → taker_at r (map key_of keys) n ≡ taker_of (key_of (get_or keys n d)) r
+taker_here r keys n d low = ap (option_and_then (λ key. taker_of key r)) (key_at keys n d low)
 
-abbrev pub Rest : Resolved → List FieldKey → ℕ → List ℕ
-Rest r keys n = filter (λ m. is_none (meant_by r (map key_of keys) m)) (upto n)
+-- the members below an index whose takers pass a test
+abbrev pub Members : (Option TakerView → Bool) → Resolved → List FieldKey → ℕ → List ℕ
+Members test r keys n = filter (λ m. test (taker_at r (map key_of keys) m)) (upto n)
 
--- a member that means a field is none of the rest
-pub rest_same : (r : Resolved) (keys : List FieldKey) (n : ℕ) (d : FieldKey) (rest : List ℕ) → n < length keys → is_none (field_by_key (key_of (get_or keys n d)) r) ≡ false → rest ≡ Rest r keys n → rest ≡ Rest r keys (n + 1)
-rest_same r keys n d rest low some before =
-    before
-    ∙ sym (filter_more (λ m. is_none (meant_by r (map key_of keys) m)) n
-    ∙ ap (λ (b : Bool). Rest r keys n ++ cond b (n ∷ []) []) (ap is_none (meant_at r keys n d low) ∙ some)
-    ∙ append-nil (Rest r keys n))
+members_more : (test : Option TakerView → Bool) (r : Resolved) (keys : List FieldKey) (n : ℕ) (taker : Option TakerView) (b : Bool) → taker_at r (map key_of keys) n ≡ taker → test taker ≡ b → Members test r keys (n + 1) ≡ Members test r keys n ++ cond b (n ∷ []) []
+members_more test r keys n taker b is told =
+    filter_more (λ m. test (taker_at r (map key_of keys) m)) n
+    ∙ ap (λ (b : Bool). Members test r keys n ++ cond b (n ∷ []) []) (ap test is ∙ told)
 
--- one that means none is
-pub rest_pushed : (r : Resolved) (keys : List FieldKey) (n : ℕ) (d : FieldKey) (rest after : List ℕ) → n < length keys → is_none (field_by_key (key_of (get_or keys n d)) r) ≡ true → rest ≡ Rest r keys n → after ≡ rest ++ n ∷ [] → after ≡ Rest r keys (n + 1)
-rest_pushed r keys n d rest after low none before pushed =
-    pushed
-    ∙ ap (λ (xs : List ℕ). xs ++ n ∷ []) before
-    ∙ sym (filter_more (λ m. is_none (meant_by r (map key_of keys) m)) n
-    ∙ ap (λ (b : Bool). Rest r keys n ++ cond b (n ∷ []) []) (ap is_none (meant_at r keys n d low) ∙ none))
+-- a member whose taker fails it is none of them
+pub members_same : (test : Option TakerView → Bool) (r : Resolved) (keys : List FieldKey) (n : ℕ) (taker : Option TakerView) (before : List ℕ) → taker_at r (map key_of keys) n ≡ taker → test taker ≡ false → before ≡ Members test r keys n → before ≡ Members test r keys (n + 1)
+members_same test r keys n taker before is fails so_far =
+    so_far ∙ sym (members_more test r keys n taker false is fails ∙ append-nil (Members test r keys n))
 
--- one more key is taken
-pub taken_more : (r : Resolved) (keys : List FieldKey) (n : ℕ) (d : FieldKey) → n < length keys → is_taken r (key_of (get_or keys n d)) ≡ true → AreTaken r (map key_of (take n keys)) → AreTaken r (map key_of (take (n + 1) keys))
-taken_more r keys n d low here before =
-    list_all-map (is_taken r) key_of (take (n + 1) keys)
-    ∙ list_all_more (λ key. is_taken r (key_of key)) keys n d low
-    ∙ (λ i. (sym (list_all-map (is_taken r) key_of (take n keys)) ∙ before) i && here i)
-
--- the keys before a place
-pub taken_before : (r : Resolved) (keys : List FieldKey) (n : ℕ) → AreTaken r (map key_of (take n keys)) → AreTaken r (take n (map key_of keys))
-taken_before r keys n h = ap (list_all (is_taken r)) (take-map key_of n keys) ∙ h
+-- one whose taker passes it is
+pub members_pushed : (test : Option TakerView → Bool) (r : Resolved) (keys : List FieldKey) (n : ℕ) (taker : Option TakerView) (before after : List ℕ) → taker_at r (map key_of keys) n ≡ taker → test taker ≡ true → before ≡ Members test r keys n → after ≡ before ++ n ∷ [] → after ≡ Members test r keys (n + 1)
+members_pushed test r keys n taker before after is passes so_far pushed =
+    pushed ∙ ap (λ (xs : List ℕ). xs ++ n ∷ []) so_far ∙ sym (members_more test r keys n taker true is passes)
 
 -- the only one of the members below an index that means a field, if there is one
 abbrev pub IsOnlyBelow : Meaning → FieldView → ℕ → Option ℕ → Type 0
 IsOnlyBelow meaning f n None = (member : ℕ) → member < n → meaning member ≢ Some f
 IsOnlyBelow meaning f n (Some found) =
     (found < n) × (meaning found ≡ Some f) × ((member : ℕ) → member < n → meaning member ≡ Some f → member ≡ found)
-
--- a test of an option says what it is
-pub none_is : {X : Type 0} (o : Option X) → is_none o ≡ true → o ≡ None
-none_is None e = refl
-none_is (Some x) e = absurd (cc)
-
--- what the code asks of a reference holds of what is behind it
-pub asked : {X : Type 0} (o : Option (Bor X)) (p : Option X) (b : Bool) → option_copied o ≡ p → is_some o ≡ not b → is_none p ≡ b
-asked None p true e says = sym (ap is_none e)
-asked None p false e says = absurd (cc)
-asked (Some x) p true e says = absurd (cc)
-asked (Some x) p false e says = sym (ap is_none e)
-
--- one of two is there
-pub first_of_two : {X Y : Type 0} (o : Option X) (p : Option Y) → is_none o ≡ false → (is_some o || is_some p) ≡ true
-first_of_two None p e = absurd (cc)
-first_of_two (Some x) p e = refl
-
-pub second_of_two : {X Y : Type 0} (o : Option X) (p : Option Y) → is_none p ≡ false → (is_some o || is_some p) ≡ true
-second_of_two (Some x) p e = refl
-second_of_two None None e = absurd (cc)
-second_of_two None (Some y) e = refl
-
--- a key at its place
-pub key_at : (keys : List FieldKey) (n : ℕ) (d : FieldKey) → n < length keys → slice_get (map key_of keys) n ≡ Some (key_of (get_or keys n d))
-key_at keys n d low = slice_get-map key_of keys n ∙ ap (option_map key_of) (slice_get-get_or keys n d low)
 
 -- an element between others
 pub in_middle : {X : Type 0} (xs ys whole : List X) (y : X) → xs ++ y ∷ ys ≡ whole → Contains whole y
@@ -232,6 +250,27 @@ place_more g xs ys x rest whole pushed before =
 pub well_more : (meaning : Meaning) (xs ys : List FieldValue) (x : FieldValue) → ys ≡ xs ++ x ∷ [] → All (IsValue meaning) xs → IsValue meaning x → All (IsValue meaning) ys
 well_more meaning xs ys x pushed all here =
     subst (λ (vs : List FieldValue). All (IsValue meaning) vs) (sym pushed) (All-push (IsValue meaning) xs x all here)
+
+-- a fault of the members that no field takes is one of the whole
+pub others_mismatch : (r : Resolved) (keys : List Key) (fault : Mismatch) → IsOthersFault r keys fault → IsMismatch r keys fault
+others_mismatch r keys (Unknown member key) h = h
+others_mismatch r keys (Repeated field first second) h = absurd h
+others_mismatch r keys (Missing field) h = absurd h
+others_mismatch r keys OutOfMemory h = tt
+
+-- it tells the first unknown key
+pub others_unknown : (r : Resolved) (keys : List Key) (fault : Mismatch) → IsOthersFault r keys fault → TellsFirstUnknown r keys (Err fault)
+others_unknown r keys (Unknown member key) h = sym (unknown_at r keys member (key_of key) h.first h.there h.unknown)
+others_unknown r keys (Repeated field first second) h = absurd h
+others_unknown r keys (Missing field) h = absurd h
+others_unknown r keys OutOfMemory h = tt
+
+-- a fault of a field tells no unknown key, where each key is taken
+pub field_unknown : (r : Resolved) (keys : List Key) (fault : Mismatch) → AreTaken r keys → IsFieldFault r (meant_by r keys) fault → TellsFirstUnknown r keys (Err fault)
+field_unknown r keys (Unknown member key) taken h = absurd h
+field_unknown r keys (Repeated field first second) taken h = sym (none_unknown r keys taken)
+field_unknown r keys (Missing field) taken h = sym (none_unknown r keys taken)
+field_unknown r keys OutOfMemory taken h = tt
 
 -- a fault of a field is one of the whole, where each key is taken
 pub mismatch : (r : Resolved) (keys : List Key) (fault : Mismatch) → AreTaken r keys → IsFieldFault r (meant_by r keys) fault → IsMismatch r keys fault

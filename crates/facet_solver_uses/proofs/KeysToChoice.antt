@@ -1,20 +1,20 @@
 -- Keys that are seen one after another, and what the end of a solver says of a choice.
-use Rattle.std.proofs.Common.{◌≡◌, ℕ, zero, suc, arith, subst, ◌+◌, ◌<◌, List, [], ◌∷◌, ◌++◌, ap, sym, ◌∙◌, get_or, length, map, take}
-use Rattle.std.specs.Prelude.{Result, Ok, Err, Contains, Some, slice_get, string_bytes}
-use Rattle.std.proofs.lemmas.List.{map-append, take_more}
+use Rattle.std.proofs.Common.{◌≡◌, ℕ, zero, suc, arith, subst, ◌+◌, ◌<◌, ◌≤◌, List, [], ◌∷◌, ◌++◌, ap, sym, ◌∙◌, get_or, length, map, take}
+use Rattle.std.specs.Prelude.{Result, Ok, Err, Contains, Some, slice_get}
+use Rattle.std.proofs.lemmas.List.{map-append, take_all, take_more}
 use Rattle.facet_solver.specs.build.Build.{Build}
 use Rattle.facet_solver.specs.build.Choice.{ListsChoices}
 use Rattle.facet_solver.specs.solver.Found.{GivesOrNames}
 use Rattle.facet_solver.specs.Keys.{Key}
 use Rattle.facet_solver.specs.Names.{Name}
 use Rattle.facet_solver.specs.Resolved.{Resolved, description}
-use Rattle.facet_solver.specs.schema.Schema.{IsBuilt, SchemaView}
-use Rattle.facet_solver.specs.solver.State.{State, see_key}
-use Rattle.facet_solver.specs.solver.Told.{TellsChoice, see_keys}
+use Rattle.facet_solver.specs.schema.Schema.{IsBuilt, IsOwnBuild, SchemaView}
+use Rattle.facet_solver.specs.solver.State.{State, new_solver, see_key}
+use Rattle.facet_solver.specs.solver.Told.{EndsWithOrNames, TellsChoice, see_keys}
 use Rattle.facet_solver.specs.declared.ResolutionHandle.{ResolutionHandle}
 use Rattle.facet_solver.specs.declared.SolverError.{SolverError}
-use Rattle.facet_solver.specs.declared.SolverError.TheVariants.{Ambiguous, OutOfMemory}
-use Rattle.facet_solver_uses.specs.KeysToChoice.{HasOrLists}
+use Rattle.facet_solver.specs.declared.SolverError.TheVariants.{OutOfMemory}
+use Rattle.facet_solver_uses.specs.KeysToChoice.{FindsChoice, UnlessOutOfMemory}
 
 -- one more key, whatever it is the key of
 pub see_keys_more : {X : Type 0} (one_by_one : (keys : List Key) (key : Key) (s : State) → see_keys (keys ++ key ∷ []) s ≡ see_key key (see_keys keys s)) (key : X → Key) (xs : List X) (i : ℕ) (d : X) (s before after : State) → i < length xs → before ≡ see_keys (map key (take i xs)) s → after ≡ see_key (key (get_or xs i d)) before → after ≡ see_keys (map key (take (i + 1) xs)) s
@@ -31,19 +31,29 @@ at_place [] i x e = absurd (cc)
 at_place (y ∷ xs) zero x e = (0, omega arith, cc)
 at_place (y ∷ xs) (suc i) x e = let r = at_place xs i x e in (suc r.0, omega (arith, r.1), r.2)
 
--- what names a choice at its place lists it
-pub has_or_lists : (s : State) (index : ℕ) (text : Name) (answer : Result ResolutionHandle SolverError) → GivesOrNames s index text answer → HasOrLists index text answer
-has_or_lists s index text (Ok handle) h = h
-has_or_lists s index text (Err (Ambiguous candidates fields)) h = at_place (map string_bytes candidates.items) h.place text h.described
-has_or_lists s index text (Err OutOfMemory) h = tt
-has_or_lists s index text (Err _) h = absurd h
+-- what holds of an answer holds unless it says that memory ran out
+unless_out_of_memory : (Holds : Result ResolutionHandle SolverError → Type 0) (answer : Result ResolutionHandle SolverError) → Holds answer → UnlessOutOfMemory Holds answer
+unless_out_of_memory Holds (Err OutOfMemory) h = tt
+unless_out_of_memory Holds (Ok handle) h = h
+unless_out_of_memory Holds (Err _) h = h
 
--- what a schema says of its choices holds of those of the root that it was built of
-pub of_root : (build : Build) (root : ℕ) (schema : SchemaView) (keys : List Key) (Q : ℕ → Name → Type 0) → IsBuilt build root schema
-    → ((choices : List (List ℕ)) → ListsChoices schema.build schema.root choices → (index : ℕ) (choice : List ℕ) → slice_get choices index ≡ Some choice → (r : Resolved) → TellsChoice schema.build schema.root choice keys r → Q index (description r.selections))
-    → (choices : List (List ℕ)) → ListsChoices build root choices → (index : ℕ) (choice : List ℕ) → slice_get choices index ≡ Some choice → (r : Resolved) → TellsChoice build root choice keys r → Q index (description r.selections)
-of_root build root schema keys Q built says choices listed index choice at r told =
-    says choices (moved (λ b n. ListsChoices b n choices) listed) index choice at r (moved (λ b n. TellsChoice b n choice keys r) told)
+-- the end of a solver that was told some keys finds the choice that they tell
+pub finds_choice : (schema : SchemaView) (keys : List Key) (s : State) (answer : Result ResolutionHandle SolverError)
+    → s ≡ see_keys keys (new_solver schema)
+    → (IsOwnBuild schema → (choices : List (List ℕ)) → ListsChoices schema.build schema.root choices → (index : ℕ) (choice : List ℕ) → slice_get choices index ≡ Some choice → (told : List Key) (r : Resolved) → TellsChoice schema.build schema.root choice told r → EndsWithOrNames (see_keys told (new_solver schema)) index (description r.selections))
+    → ((index : ℕ) (text : Name) → EndsWithOrNames s index text → GivesOrNames s index text answer)
+    → FindsChoice schema keys answer
+finds_choice schema keys s answer same ends found build root built choices listed index choice at r told =
+    let text = description r.selections in
+    let of_own = ends (moved (λ b n. IsBuilt b n schema) built) choices (moved (λ b n. ListsChoices b n choices) listed) index choice at keys r (moved (λ b n. TellsChoice b n choice keys r) told) in
+    unless_out_of_memory (GivesOrNames (see_keys keys (new_solver schema)) index text) answer
+    (subst (λ (t : State). GivesOrNames t index text answer) same
+    (found index text (subst (λ (t : State). EndsWithOrNames t index text) (sym same) of_own)))
   where
     moved : (P : Build → ℕ → Type 0) → P build root → P schema.build schema.root
     moved P h = subst (λ (n : ℕ). P schema.build n) (sym built.has_root) (subst (λ (b : Build). P b root) (sym built.made_by) h)
+
+-- all of some things were seen
+pub all_seen : {X : Type 0} (key : X → Key) (xs : List X) (i : ℕ) (s start : State) → length xs ≤ i → s ≡ see_keys (map key (take i xs)) start → s ≡ see_keys (map key xs) start
+all_seen {X} key xs i s start past so_far =
+    so_far ∙ ap (λ (ys : List X). see_keys (map key ys) start) (take_all i xs past)

@@ -1,7 +1,11 @@
 pub mod KeysToChoice
+pub mod FirstUnknown
 pub mod LoadConfig
+pub mod KeptElements
+pub mod SeenTag
 pub mod AmbiguousPairs
-pub mod UntaggedVariants
+pub mod Reached
+pub mod UntaggedValues
 pub mod ChoiceToValues
 pub mod Events
 pub mod Told

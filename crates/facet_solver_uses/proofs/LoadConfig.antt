@@ -1,20 +1,23 @@
--- Names, each once, and those of the variants that candidates selected.
-use Rattle.std.proofs.Common.{◌≡◌, ℕ, ◌<◌, ◌+◌, Bool, true, false, cond, ◌||◌, ◌&&◌, not, List, [], ◌∷◌, ◌++◌, Bor, All, filter, map, length, get_or, take, refl, ap, sym, ◌∙◌, append-nil, append_assoc}
+-- Names, each once, the variants that candidates have under a tag, and what is told of a
+-- configuration.
+use Rattle.std.proofs.Common.{◌≡◌, ℕ, ◌<◌, ◌+◌, Bool, true, false, cond, ◌||◌, ◌&&◌, not, List, [], ◌∷◌, ◌++◌, Option, Bor, All, filter, map, length, get_or, take, refl, ap, sym, ◌∙◌, append-nil}
 use lib.Pointwise.{bytes_decides}
 use Rattle.std.specs.Cmp.Lexicographic.{nat_list_eq_equiv}
-use Rattle.std.specs.List.{AllByRecursion, cons_option, flat_map, list_any}
+use Rattle.std.specs.List.{AllByRecursion, cons_option, filter_map, list_any}
+use Rattle.std.specs.Option.{option_map}
 use Rattle.std.proofs.lemmas.List.{map-append, take_more}
-use Rattle.std.proofs.lemmas.List.Concat.{flat_map-append}
-use Rattle.std.proofs.lemmas.List.Elements.{filter-append, recursion_from_All}
+use Rattle.std.proofs.lemmas.List.Elements.{filter-append, filter_map-append, recursion_from_All}
 use Rattle.std.proofs.lemmas.Map.Views.{any-filter_same}
+use Rattle.facet_solver.specs.Keys.{Key, flat_key}
 use Rattle.facet_solver.specs.Names.{Name, name_eq, names_of}
-use Rattle.facet_solver.specs.Resolved.{Resolved, selection_view}
 use Rattle.facet_solver.specs.schema.Schema.{SchemaView}
 use Rattle.facet_solver.specs.schema.ResolutionHandle.{IsHandleOf, index_of, resolution_of}
 use Rattle.facet_solver.specs.solver.Report.{resolutions_at}
+use Rattle.facet_solver.specs.solver.State.{State, new_solver, passing, retain, see_key, where_any}
+use Rattle.facet_solver.specs.solver.Tag.{has_no_other_under, has_variant_under, see_tag, variant_under}
+use Rattle.facet_solver.specs.solver.Told.{see_keys}
 use Rattle.facet_solver.specs.declared.ResolutionHandle.{ResolutionHandle}
-use Rattle.facet_solver.specs.declared.VariantSelection.{VariantSelection}
-use Rattle.facet_solver_uses.specs.LoadConfig.{each_once, selected_names}
+use Rattle.facet_solver_uses.specs.LoadConfig.{each_once, told}
 
 -- whether a name is one of some names
 abbrev is_among : Name → List Name → Bool
@@ -47,68 +50,64 @@ among_refs : (names : List (Bor Name)) (name : Name) → is_among name (names_of
 among_refs [] name = refl
 among_refs (other ∷ names) name = ap (λ b. name_eq other.now name || b) (among_refs names name)
 
--- the names of some selections
-abbrev pub names_in : List VariantSelection → List Name
-names_in selections = map (λ selection. selection.variant_name.now) selections
+-- a name that is there already
+pub name_stays : (met : List Name) (names : List (Bor Name)) (name : Name) → names_of names ≡ each_once met → list_any (λ (other : Bor Name). name_eq other.now name) names ≡ true → names_of names ≡ each_once (met ++ name ∷ [])
+name_stays met names name so_far there =
+    so_far
+    ∙ sym (each_once-push met name
+    ∙ ap (λ b. cond b (each_once met) (each_once met ++ name ∷ [])) (ap (is_among name) (sym so_far) ∙ among_refs names name ∙ there))
 
--- which are those that a resolution of these selections selected
-pub names_in_selections : (selections : List VariantSelection) (r : Resolved) → map selection_view selections ≡ r.selections → names_in selections ≡ selected_names r
-names_in_selections selections r e = go selections ∙ ap (map (λ selection. selection.variant_name)) e
-  where
-    go : (selections : List VariantSelection) → names_in selections ≡ map (λ selection. selection.variant_name) (map selection_view selections)
-    go [] = refl
-    go (selection ∷ selections) = ap (λ names. selection.variant_name.now ∷ names) (go selections)
+-- a name that is new
+pub name_added : (met : List Name) (names : List (Bor Name)) (new : Bor Name) → names_of names ≡ each_once met → list_any (λ (other : Bor Name). name_eq other.now new.now) names ≡ false → names_of (names ++ new ∷ []) ≡ each_once (met ++ new.now ∷ [])
+name_added met names new so_far is_new =
+    map-append (λ (n : Bor Name). n.now) names (new ∷ [])
+    ∙ ap (λ (ns : List Name). ns ++ new.now ∷ []) so_far
+    ∙ sym (each_once-push met new.now
+    ∙ ap (λ b. cond b (each_once met) (each_once met ++ new.now ∷ [])) (ap (is_among new.now) (sym so_far) ∙ among_refs names new.now ∙ is_new))
 
-module _ (met : List Name) (selections : List VariantSelection) (i : ℕ) (d : VariantSelection) (names : List (Bor Name)) (low : i < length selections) (so_far : names_of names ≡ each_once (met ++ names_in (take i selections))) where
-  abbrev name : Name
-  name = (get_or selections i d).variant_name.now
-
-  -- one selection more
-  longer : met ++ names_in (take (i + 1) selections) ≡ (met ++ names_in (take i selections)) ++ name ∷ []
-  longer =
-      ap (λ (ps : List VariantSelection). met ++ names_in ps) (take_more selections i d low)
-      ∙ ap (λ (ns : List Name). met ++ ns) (map-append (λ (selection : VariantSelection). selection.variant_name.now) (take i selections) (get_or selections i d ∷ []))
-      ∙ sym (append_assoc met (names_in (take i selections)) (name ∷ []))
-
-  by_told : (told : Bool) → list_any (λ (other : Bor Name). name_eq other.now name) names ≡ told
-      → each_once (met ++ names_in (take (i + 1) selections)) ≡ cond told (names_of names) (names_of names ++ name ∷ [])
-  by_told told e =
-      ap each_once longer
-      ∙ each_once-push (met ++ names_in (take i selections)) name
-      ∙ ap (λ (ns : List Name). cond (is_among name ns) ns (ns ++ name ∷ [])) (sym so_far)
-      ∙ ap (λ b. cond b (names_of names) (names_of names ++ name ∷ [])) (among_refs names name ∙ e)
-
-  -- its name is there
-  pub name_stays : list_any (λ (other : Bor Name). name_eq other.now name) names ≡ true → names_of names ≡ each_once (met ++ names_in (take (i + 1) selections))
-  name_stays e = sym (by_told true e)
-
-  -- its name is new
-  pub name_added : (new : Bor Name) → new.now ≡ name → list_any (λ (other : Bor Name). name_eq other.now name) names ≡ false → names_of (names ++ new ∷ []) ≡ each_once (met ++ names_in (take (i + 1) selections))
-  name_added new is e =
-      map-append (λ (n : Bor Name). n.now) names (new ∷ [])
-      ∙ ap (λ (n : Name). names_of names ++ n ∷ []) is
-      ∙ sym (by_told false e)
-
--- the names that the resolutions of some handles selected
-abbrev pub names_of_handles : List ResolutionHandle → List Name
-names_of_handles handles = flat_map (λ handle. selected_names (resolution_of handle)) handles
+-- the variants that the resolutions of some handles have under a tag
+abbrev pub variants_of_handles : Name → List ResolutionHandle → List Name
+variants_of_handles tag handles = filter_map (λ handle. variant_under tag (resolution_of handle)) handles
 
 -- one handle more
-pub handle_more : (handles : List ResolutionHandle) (i : ℕ) (d : ResolutionHandle) → i < length handles → names_of_handles (take (i + 1) handles) ≡ names_of_handles (take i handles) ++ selected_names (resolution_of (get_or handles i d))
-handle_more handles i d low =
-    let at = selected_names (resolution_of (get_or handles i d)) in
-    ap names_of_handles (take_more handles i d low)
-    ∙ flat_map-append (λ (handle : ResolutionHandle). selected_names (resolution_of handle)) (take i handles) (get_or handles i d ∷ [])
-    ∙ ap (λ (ns : List Name). names_of_handles (take i handles) ++ ns) (append-nil at)
+pub handle_more : (tag : Name) (handles : List ResolutionHandle) (i : ℕ) (d : ResolutionHandle) → i < length handles → variants_of_handles tag (take (i + 1) handles) ≡ variants_of_handles tag (take i handles) ++ cons_option (variant_under tag (resolution_of (get_or handles i d))) []
+handle_more tag handles i d low =
+    ap (variants_of_handles tag) (take_more handles i d low)
+    ∙ filter_map-append (λ (handle : ResolutionHandle). variant_under tag (resolution_of handle)) (take i handles) (get_or handles i d ∷ [])
 
-at_handles : (schema : SchemaView) (handles : List ResolutionHandle) → AllByRecursion (IsHandleOf schema) handles → names_of_handles handles ≡ flat_map selected_names (resolutions_at schema.resolutions (map index_of handles))
-at_handles schema [] all = refl
-at_handles schema (handle ∷ handles) all =
-    ap (λ (ns : List Name). selected_names (resolution_of handle) ++ ns) (at_handles schema handles all.1)
-    ∙ sym (ap (λ o. flat_map selected_names (cons_option o (resolutions_at schema.resolutions (map index_of handles)))) all.0)
+at_handles : (tag : Name) (schema : SchemaView) (handles : List ResolutionHandle) → AllByRecursion (IsHandleOf schema) handles → variants_of_handles tag handles ≡ filter_map (variant_under tag) (resolutions_at schema.resolutions (map index_of handles))
+at_handles tag schema [] all = refl
+at_handles tag schema (handle ∷ handles) all =
+    ap (λ (ns : List Name). cons_option (variant_under tag (resolution_of handle)) ns) (at_handles tag schema handles all.1)
+    ∙ sym (ap (λ o. filter_map (variant_under tag) (cons_option o (resolutions_at schema.resolutions (map index_of handles)))) all.0)
 
 -- handles at the candidates have their resolutions
-pub names_at : (schema : SchemaView) (handles : List ResolutionHandle) (indices : List ℕ) → map index_of handles ≡ indices → All (IsHandleOf schema) handles → names_of_handles handles ≡ flat_map selected_names (resolutions_at schema.resolutions indices)
-names_at schema handles indices same all =
-    at_handles schema handles (recursion_from_All (IsHandleOf schema) handles all)
-    ∙ ap (λ (is : List ℕ). flat_map selected_names (resolutions_at schema.resolutions is)) same
+pub variants_at : (tag : Name) (schema : SchemaView) (handles : List ResolutionHandle) (indices : List ℕ) → map index_of handles ≡ indices → All (IsHandleOf schema) handles → variants_of_handles tag handles ≡ filter_map (variant_under tag) (resolutions_at schema.resolutions indices)
+variants_at tag schema handles indices same all =
+    at_handles tag schema handles (recursion_from_All (IsHandleOf schema) handles all)
+    ∙ ap (λ (is : List ℕ). filter_map (variant_under tag) (resolutions_at schema.resolutions is)) same
+
+-- keys that are seen leave the schema
+see_keys_schema : (keys : List Key) (s : State) → (see_keys keys s).schema ≡ s.schema
+see_keys_schema [] s = refl
+see_keys_schema (key ∷ keys) s = see_keys_schema keys (see_key key s)
+
+-- a tag that is seen leaves the schema
+see_tag_schema : (tag variant : Name) (s : State) → (see_tag tag variant s).schema ≡ s.schema
+see_tag_schema tag variant s = go (passing (has_variant_under tag variant) (see_key (flat_key tag) s))
+  where
+    go : (named : List ℕ) → (where_any named (retain (has_no_other_under tag variant) (see_key (flat_key tag) s)) (see_key (flat_key tag) s)).schema ≡ s.schema
+    go [] = refl
+    go (index ∷ rest) = refl
+
+-- a configuration that is told leaves the schema
+pub told_schema : (schema : SchemaView) (tag variant : Name) (keys : List Key) → (told schema tag variant keys).schema ≡ schema
+told_schema schema tag variant keys =
+    see_keys_schema keys (see_tag tag variant (new_solver schema))
+    ∙ see_tag_schema tag variant (new_solver schema)
+
+-- one handle more, by the variant that was found in its resolution
+pub names_more : (tag : Name) (handles : List ResolutionHandle) (i : ℕ) (d : ResolutionHandle) (found : Option (Bor Name)) → i < length handles → option_map (λ variant. variant.now) found ≡ variant_under tag (resolution_of (get_or handles i d)) → each_once (variants_of_handles tag (take (i + 1) handles)) ≡ each_once (variants_of_handles tag (take i handles) ++ cons_option (option_map (λ variant. variant.now) found) [])
+names_more tag handles i d found low is =
+    ap each_once (handle_more tag handles i d low)
+    ∙ ap (λ (o : Option Name). each_once (variants_of_handles tag (take i handles) ++ cons_option o [])) (sym is)

@@ -1,18 +1,17 @@
 -- Which members of a document stand for the fields of a resolution.
-use Rattle.std.specs.Prelude.{◌≡◌, ◌≢◌, ◌<◌, ◌||◌, ℕ, Bool, true, List, ◌∷◌, ◌++◌, Option, Some, None, Result, Ok, Err, All, Contains, IsSome, ⊤, filter, is_none, is_some, length, map, slice_get, take, Vec}
+use Rattle.std.specs.Prelude.{◌≡◌, ◌≢◌, ◌<◌, ◌↔◌, ℕ, Bool, true, false, List, ◌∷◌, ◌++◌, Option, Some, None, Result, Ok, Err, All, Contains, IsSome, ⊤, filter, length, map, slice_get, take, Vec}
 use Rattle.std.specs.FinMap as finite
-use Rattle.std.specs.List.{list_all}
-use Rattle.std.specs.Option.{option_and_then, option_copied, option_or, unwrap_or}
+use Rattle.std.specs.Option.{option_and_then, option_copied}
 use Rattle.std.specs.declared.alloc.Global.{Global}
 use denote.Bor.{Bor}
 use Rattle.facet_solver.specs.Fields.{FieldView}
 use Rattle.facet_solver.specs.set.IndexSet.{upto}
 use Rattle.facet_solver.specs.Keys.{Key, key_of}
 use Rattle.facet_solver.specs.Resolved.{Resolved, field_by_key}
-use Rattle.facet_solver.specs.Resolutions.{has_key}
-use Rattle.facet_solver.specs.declared.FieldCategory.TheVariants.{Flat, Element}
+use Rattle.facet_solver_uses.specs.Taken.{AreTaken, TakerView, by_field, as_content, by_catch_all, first_unknown, is_taken, taker_of}
 use Rattle.facet_solver_uses.specs.declared.choice_to_values.FieldValue.{FieldValue}
 use Rattle.facet_solver_uses.specs.declared.choice_to_values.Values.{Values}
+use Rattle.facet_solver_uses.specs.declared.choice_to_values.Others.{Others}
 use Rattle.facet_solver_uses.specs.declared.choice_to_values.Mismatch.{Mismatch}
 use Rattle.facet_solver_uses.specs.declared.choice_to_values.Mismatch.TheVariants.{Unknown, Repeated, Missing, OutOfMemory}
 
@@ -33,23 +32,27 @@ meant_field_at fields member = option_and_then option_copied (slice_get fields m
 abbrev pub HaveOneKey : FieldView → FieldView → Type 0
 HaveOneKey f g = (f.category ≡ g.category) × (f.name ≡ g.name)
 
--- the catch-all that takes a key that means no field: that of category Flat takes every key, and
--- any other those of its category, where a flat key is that of an element
-abbrev pub catch_all_of : Key → Resolved → Option FieldView
-catch_all_of key r =
-    option_or (finite.get r.catch_alls Flat) (finite.get r.catch_alls (unwrap_or key.dom Element))
+-- what takes each member, by the member's index; nothing where no such member is there
+abbrev pub taker_at : Resolved → List Key → ℕ → Option TakerView
+taker_at r keys member = option_and_then (λ key. taker_of key r) (slice_get keys member)
 
--- whether a field or a catch-all takes a key
-abbrev pub is_taken : Resolved → Key → Bool
-is_taken r key = has_key key r || is_some (catch_all_of key r)
+-- whether a member is taken as content
+abbrev pub is_as_content : Option TakerView → Bool
+is_as_content (Some as_content) = true
+is_as_content _ = false
 
--- each of some keys is taken
-abbrev pub AreTaken : Resolved → List Key → Type 0
-AreTaken r keys = list_all (is_taken r) keys ≡ true
+-- whether a catch-all takes a member
+abbrev pub is_by_catch_all : Option TakerView → Bool
+is_by_catch_all (Some (by_catch_all f)) = true
+is_by_catch_all _ = false
 
--- the members that mean no field, in the order of the document
+-- the members that are content, in the order of the document
+abbrev pub contents_of : Resolved → List Key → List ℕ
+contents_of r keys = filter (λ member. is_as_content (taker_at r keys member)) (upto (length keys))
+
+-- the members that a catch-all takes, in the order of the document
 abbrev pub rest_of : Resolved → List Key → List ℕ
-rest_of r keys = filter (λ member. is_none (meant_by r keys member)) (upto (length keys))
+rest_of r keys = filter (λ member. is_by_catch_all (taker_at r keys member)) (upto (length keys))
 
 -- a member is the only one that means a field
 pub record IsOnly (meaning : Meaning) (f : FieldView) (member : ℕ) : Type 0 where
@@ -100,11 +103,10 @@ IsFieldFault r meaning (Repeated field first second) =
 IsFieldFault r meaning (Missing field) = IsFirst r meaning field.now (IsMissing meaning field.now)
 IsFieldFault r meaning OutOfMemory = ⊤
 
--- the first member that neither a field nor a catch-all takes
+-- the first member that the resolution does not take
 pub record IsUnknownMember (r : Resolved) (keys : List Key) (member : ℕ) (key : Key) : Type 0 where
   pub there : slice_get keys member ≡ Some key
-  pub no_field : field_by_key key r ≡ None
-  pub no_catch_all : catch_all_of key r ≡ None
+  pub unknown : is_taken key r ≡ false
   pub first : AreTaken r (take member keys)
 
 -- the only member of a field, or the first two
@@ -120,28 +122,41 @@ FindsMembers r meaning (Ok values) = AreValues r meaning values.items
 FindsMembers r meaning (Err fault) = IsFieldFault r meaning fault
 
 -- an error of the search for members that no field takes
-abbrev pub IsRestFault : Resolved → List Key → Mismatch → Type 0
-IsRestFault r keys (Unknown member key) = IsUnknownMember r keys member (key_of key)
-IsRestFault r keys OutOfMemory = ⊤
-IsRestFault r keys other = ⊥
+abbrev pub IsOthersFault : Resolved → List Key → Mismatch → Type 0
+IsOthersFault r keys (Unknown member key) = IsUnknownMember r keys member (key_of key)
+IsOthersFault r keys OutOfMemory = ⊤
+IsOthersFault r keys other = ⊥
 
--- the members that no field takes, each of which a catch-all takes; or the first that none takes
-abbrev pub FindsRest : Resolved → List Key → Result (Vec ℕ Global) Mismatch → Type 0
-FindsRest r keys (Ok rest) = (rest.items ≡ rest_of r keys) × AreTaken r keys
-FindsRest r keys (Err fault) = IsRestFault r keys fault
+-- the members that are content and those that a catch-all takes, where each key is taken; or the
+-- first one that is not
+abbrev pub FindsOthers : Resolved → List Key → Result Others Mismatch → Type 0
+FindsOthers r keys (Ok others) =
+    (others.contents.items ≡ contents_of r keys)
+    × (others.rest.items ≡ rest_of r keys)
+    × AreTaken r keys
+FindsOthers r keys (Err fault) = IsOthersFault r keys fault
 
--- a member stands at the field that it means, or where it means none, among the rest
-abbrev pub IsPlaced : Values → ℕ → Option FieldView → Type 0
-IsPlaced values member None = Contains values.rest.items member
-IsPlaced values member (Some f) =
-    (v : FieldValue) × Contains values.fields.items v × (v.field.now ≡ f) × (v.member ≡ Some member)
+-- a member stands at a field
+abbrev pub StandsAt : Values → ℕ → FieldView → Type 0
+StandsAt values member f =
+    (v : FieldValue) × Contains values.fields.items v
+    × (v.field.now ≡ f) × (v.member ≡ Some member)
 
--- each field has its value, and no member is lost
+-- a member stands at a field exactly if that takes it, among the contents exactly if it is taken as
+-- content, and among the rest exactly if a catch-all takes it
+pub record IsPlaced (values : Values) (member : ℕ) (taker : Option TakerView) : Type 0 where
+  pub at_field : (f : FieldView) → StandsAt values member f ↔ (taker ≡ Some (by_field f))
+  pub in_contents : Contains values.contents.items member ↔ (taker ≡ Some as_content)
+  pub in_rest : Contains values.rest.items member
+      ↔ ((f : FieldView) × (taker ≡ Some (by_catch_all f)))
+
+-- each field has its value, and no member is lost: each has a taker, and stands there alone
 pub record PlacesAll (r : Resolved) (keys : List Key) (values : Values) : Type 0 where
   pub fields : AreValues r (meant_by r keys) values.fields.items
+  pub contents : values.contents.items ≡ contents_of r keys
   pub rest : values.rest.items ≡ rest_of r keys
   pub taken : AreTaken r keys
-  pub placed : (member : ℕ) → member < length keys → IsPlaced values member (meant_by r keys member)
+  pub placed : (member : ℕ) → IsPlaced values member (taker_at r keys member)
 
 -- a mismatch is there. An unknown member comes before any fault of a field
 abbrev pub IsMismatch : Resolved → List Key → Mismatch → Type 0
@@ -153,3 +168,14 @@ IsMismatch r keys fault = AreTaken r keys × IsFieldFault r (meant_by r keys) fa
 abbrev pub GivesValues : Resolved → List Key → Result Values Mismatch → Type 0
 GivesValues r keys (Ok values) = PlacesAll r keys values
 GivesValues r keys (Err fault) = IsMismatch r keys fault
+
+-- the key of the unknown member that an answer tells
+abbrev pub unknown_key : Result Values Mismatch → Option Key
+unknown_key (Err (Unknown member key)) = Some (key_of key)
+unknown_key _ = None
+
+-- an answer tells the first key that the resolution does not take, and none where it takes them
+-- all; or memory ran out
+abbrev pub TellsFirstUnknown : Resolved → List Key → Result Values Mismatch → Type 0
+TellsFirstUnknown r keys (Err OutOfMemory) = ⊤
+TellsFirstUnknown r keys answer = unknown_key answer ≡ first_unknown r keys

@@ -1,8 +1,11 @@
 pub mod KeysToChoice
+pub mod Taken
 pub mod LoadConfig
 pub mod ElementToChoice
 pub mod AmbiguousPairs
 pub mod AmbiguityTable
+pub mod Reached
+pub mod ValueKinds
 pub mod Untagged
 pub mod ChoiceToValues
 pub mod stream

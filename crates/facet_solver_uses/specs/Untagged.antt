@@ -1,97 +1,95 @@
 -- The variants of an untagged enum that a value may be, by what the value is.
-use Rattle.std.specs.Prelude.{◌≡◌, ◌==◌, ◌||◌, ℕ, Bool, true, false, not, List, Option, Some, None, ⊤, filter, slice_get, string_bytes}
+use Rattle.std.specs.Prelude.{◌≡◌, ◌==◌, ◌&&◌, ◌||◌, if◌then◌else◌, ℕ, Bool, true, false, List, Option, Some, None, ⊤, filter, length, not, string_bytes}
 use Rattle.std.specs.List.Sorted.{IsNonDecreasingBy, IsStableByKey}
-use Rattle.std.specs.List.{list_any}
-use Rattle.std.specs.Option.{option_map_or}
+use Rattle.std.specs.List.{list_all}
+use Rattle.std.specs.Option.{option_and_then, option_map_or}
 use Rattle.std.specs.Ordering.{nat_cmp}
-use Rattle.facet_solver.specs.Formats.{format_of}
-use Rattle.facet_solver.specs.Groups.{scalar_shape}
-use Rattle.facet_solver.specs.Scalars.{end_scalar, is_bool, is_float, is_int, is_string}
+use Rattle.facet_solver.specs.Scalars.{is_bool, is_float, is_int, is_string, scalar_of_kind}
 use Rattle.facet_solver.specs.Scores.{score_of}
 use Rattle.facet_solver.specs.declared.ScalarType.{ScalarType}
 use Rattle.facet_solver.specs.declared.Shape.{Shape}
+use Rattle.facet_solver.specs.declared.ShapeKind.{ShapeKind}
+use Rattle.facet_solver.specs.declared.ShapeKind.TheVariants.{Scalar, Struct as StructOf, Enum, List as ListKind, Array, Slice, Set, Map}
+use Rattle.facet_solver.specs.declared.StructKind.{StructKind}
+use Rattle.facet_solver.specs.declared.StructKind.TheVariants.{Unit, TupleStruct, Struct as NamedStruct, Tuple}
 use Rattle.facet_solver.specs.declared.Variant.{Variant}
-use Rattle.facet_solver.specs.declared.VariantFormat.{VariantFormat}
-use Rattle.facet_solver.specs.declared.VariantFormat.TheVariants.{Unit, NewtypeScalar, NewtypeStruct, NewtypeTuple, NewtypeSequence, NewtypeOther, Tuple, Struct}
-use Rattle.facet_solver.specs.declared.VariantsByFormat.{VariantsByFormat}
+use Rattle.facet_solver_uses.specs.Reached.{newtype_field, reached_by_field}
+use Rattle.facet_solver_uses.specs.ValueKinds.{is_list, is_list_of, is_null, is_number, is_object, is_scalar, is_text, is_truth_value, is_whole_number}
 use Rattle.facet_solver_uses.specs.declared.untagged.ValueKind.{ValueKind}
-use Rattle.facet_solver_uses.specs.declared.untagged.ValueKind.TheVariants.{Null, Bool as TruthValue, WholeNumber, OtherNumber, Text, List as ListOf, Object}
+use Rattle.facet_solver_uses.specs.declared.untagged.ValueKind.TheVariants.{WholeNumber, OtherNumber}
 
--- whether a scalar has a type that passes a test; an enum without fields has no type
-abbrev pub is_of : (ScalarType → Bool) → Option ScalarType → Bool
-is_of test type = option_map_or test type false
+-- whether a value may be of a basic type; `()`, and one that is no number and no text, may be any
+-- scalar
+abbrev pub may_be_scalar : ValueKind → ScalarType → Bool
+may_be_scalar value type =
+    if is_bool type then is_truth_value value
+    else (if is_int type then is_whole_number value
+    else (if is_float type then is_number value
+    else (if is_string type then is_text value
+    else is_scalar value)))
 
--- whether a scalar is a truth value, a number or a text
-abbrev pub is_plain : Option ScalarType → Bool
-is_plain type =
-    is_of is_bool type || is_of is_int type || is_of is_float type || is_of is_string type
+-- whether none of the variants has a field
+abbrev pub have_no_fields : List Variant → Bool
+have_no_fields variants = list_all (λ v. length v.fields.items == 0) variants
 
--- whether a value may be a scalar: one that is not plain may be any but a list and an object
-abbrev pub may_be_scalar : ValueKind → Option ScalarType → Bool
-may_be_scalar Null type = not (is_plain type)
-may_be_scalar TruthValue type = is_of is_bool type || not (is_plain type)
-may_be_scalar WholeNumber type = is_of is_int type || is_of is_float type || not (is_plain type)
-may_be_scalar OtherNumber type = is_of is_float type || not (is_plain type)
-may_be_scalar Text type = is_of is_string type || not (is_plain type)
-may_be_scalar (ListOf count) type = false
-may_be_scalar Object type = false
+-- whether a value may be of an enum: any scalar, and where a variant has a field any value
+abbrev pub may_be_enum : ValueKind → List Variant → Bool
+may_be_enum value variants = is_scalar value || not (have_no_fields variants)
 
--- whether a value is null
-abbrev pub is_null : ValueKind → Bool
-is_null Null = true
-is_null value = false
+-- whether a value may be so many fields, by how they are written: none, by name, or by position
+abbrev pub may_be_fields : ValueKind → StructKind → ℕ → Bool
+may_be_fields value Unit count = is_null value
+may_be_fields value NamedStruct count = is_object value
+may_be_fields value TupleStruct count = is_list_of count value
+may_be_fields value Tuple count = is_list_of count value
 
--- whether a value is a list of a length that passes a test
-abbrev pub is_list : (ℕ → Bool) → ValueKind → Bool
-is_list test (ListOf count) = test count
-is_list test value = false
+-- whether a value may be of a kind: any may be of a struct without fields, and of a kind that does
+-- not tell, as an option or an opaque pointer
+abbrev pub may_be_kind : ValueKind → ShapeKind → Bool
+may_be_kind value (Scalar type) = may_be_scalar value type
+may_be_kind value (Enum variants) = may_be_enum value variants.items
+may_be_kind value (StructOf Unit fields) = true
+may_be_kind value (StructOf kind fields) = may_be_fields value kind (length fields.items)
+may_be_kind value (Map key item) = is_object value
+may_be_kind value (ListKind item) = is_list value
+may_be_kind value (Array item) = is_list value
+may_be_kind value (Slice item) = is_list value
+may_be_kind value (Set item) = is_list value
+may_be_kind value _ = true
 
--- whether a value is an object
-abbrev pub is_object : ValueKind → Bool
-is_object Object = true
-is_object value = false
+-- whether a kind is that of a struct
+abbrev pub is_struct : ShapeKind → Bool
+is_struct (StructOf kind fields) = true
+is_struct kind = false
 
--- whether a value may stand for a format
-abbrev pub may_be_format : List Shape → ValueKind → VariantFormat → Bool
-may_be_format shapes value Unit = is_null value
-may_be_format shapes value (NewtypeScalar shape) = may_be_scalar value (end_scalar shapes shape)
-may_be_format shapes value (NewtypeStruct shape) = is_object value
-may_be_format shapes value (NewtypeTuple shape arity) = is_list (λ count. count == arity) value
-may_be_format shapes value (NewtypeSequence shape) = is_list (λ count. true) value
-may_be_format shapes value (NewtypeOther shape) = true
-may_be_format shapes value (Tuple arity) = is_list (λ count. count == arity) value
-may_be_format shapes value Struct = is_object value
+-- whether a shape is a struct that is marked as a metadata container
+abbrev pub is_container : Shape → Bool
+is_container s = s.metadata_container && is_struct s.kind
+
+-- whether a value may be of a shape that is reached: any may be of a metadata container
+abbrev pub may_be_shape : ValueKind → Shape → Bool
+may_be_shape value s = is_container s || may_be_kind value s.kind
+
+-- whether a value may be of a newtype's field: any may be where no shape is reached
+abbrev pub may_be_newtype : List Shape → ValueKind → ℕ → Bool
+may_be_newtype shapes value field =
+    option_map_or (may_be_shape value) (reached_by_field shapes field) true
 
 -- whether a value may be a variant
 abbrev pub may_be : List Shape → ValueKind → Variant → Bool
-may_be shapes value v = may_be_format shapes value (format_of shapes v)
+may_be shapes value v =
+    option_map_or (may_be_newtype shapes value) (newtype_field v)
+    (may_be_fields value v.kind (length v.fields.items))
 
--- whether an entry has a shape
-abbrev pub has_shape : {X : Type 0} → List (X × ℕ) → ℕ → Bool
-has_shape entries shape = list_any (λ e. e.1 == shape) entries
+-- the score of a scalar; any other shape has 1000
+abbrev pub scalar_score : Shape → ℕ
+scalar_score s =
+    option_map_or (λ type. score_of (string_bytes s.type_identifier)) (scalar_of_kind s.kind) 1000
 
--- a shape stands in the list of its type
-pub record StandsByType (g : VariantsByFormat) (shape : ℕ) (type : Option ScalarType) : Type 0 where
-  pub bools : has_shape g.bool_variants.items shape ≡ is_of is_bool type
-  pub ints : has_shape g.int_variants.items shape ≡ is_of is_int type
-  pub floats : has_shape g.float_variants.items shape ≡ is_of is_float type
-  pub strings : has_shape g.string_variants.items shape ≡ is_of is_string type
-
--- where a variant is a scalar, the lists tell its type
-abbrev pub TellsType : List Shape → VariantsByFormat → Variant → Type 0
-TellsType shapes g v =
-    (shape : ℕ) → scalar_shape (format_of shapes v) ≡ Some shape
-    → StandsByType g shape (end_scalar shapes shape)
-
--- the score of the shape at an index
-abbrev pub declared_score_at : List Shape → ℕ → ℕ
-declared_score_at shapes index =
-    option_map_or (λ s. score_of (string_bytes s.type_identifier)) (slice_get shapes index) 1000
-
--- the score of a variant: that of the shape that is listed with a scalar, and 1000 for any other
+-- the score of a variant: that of the scalar that a newtype reaches, and 1000 for any other
 abbrev pub variant_score : List Shape → Variant → ℕ
 variant_score shapes v =
-    option_map_or (declared_score_at shapes) (scalar_shape (format_of shapes v)) 1000
+    option_map_or scalar_score (option_and_then (reached_by_field shapes) (newtype_field v)) 1000
 
 -- the same variants, those of lower score first, and those of one score in their order
 pub record IsByScore (shapes : List Shape) (variants found : List Variant) : Type 0 where

@@ -1,11 +1,15 @@
-//! The table of a checker of types: which choices of a type a document may leave both, for a person
-//! who reads it.
-ghost use Rattle.std.specs.Prelude.{◌≡◌, ◌<◌, None, length};
-ghost use Rattle.facet_solver.specs.schema.Schema.{flat_build};
+//! The table of a checker of types: which choices of a type a document may leave both viable, for a
+//! person who reads it.
+ghost use Rattle.std.specs.Prelude.{◌≡◌, ◌<◌, length};
+ghost use Rattle.facet_solver.specs.build.Build.{build_with};
+ghost use Rattle.facet_solver.specs.build.Representation.{asked_view};
 ghost use Rattle.facet_solver_uses.specs.AmbiguityTable.{GivesTable};
 
 use crate::ambiguous_pairs::{AmbiguousPair, ambiguous_pairs};
-use facet_solver::{FieldKey, Resolution, Schema, SchemaError, ShapeId, Shapes};
+use facet_solver::{
+    EnumRepr, FieldCategory, FieldKey, Format, Resolution, Schema, SchemaError, ShapeId, Shapes,
+    Steps,
+};
 use std::alloc::{AllocError, Global};
 
 /// The head of the table.
@@ -43,25 +47,36 @@ impl<'c> From<AllocError> for NoTable<'c> {
     }
 }
 
-/// The table of a type's ambiguous pairs: a row for each, with the keys that fit both and the names
-/// that tell them apart.
+/// The table of a type's ambiguous pairs: a row for each, with keys that fit both, and the names
+/// that tell the two apart.
 ///
-/// The choices are counted first. Where there are more than `most`, no schema is built, and the
-/// error says how many.
+/// The representation is that of all flattened enums; `None` leaves it to each enum's own
+/// attributes. A key in a category has its word before it, as `attribute id`; a key that is a name
+/// alone means a member, or else an element. The rows stand in the order of `ambiguous_pairs`.
+///
+/// Errors: `TooMany` where there are more choices than `most`, with how many; no schema is then
+/// built. `Schema` for a duplicate key, or out of memory.
+///
+/// The choices are counted first, which takes no longer than to read the catalogue. Then the time
+/// is that of the build and of `ambiguous_pairs`.
 pub fn ambiguity_table<'c>(
     alloc: Global,
     shapes: &'c Shapes,
     root: ShapeId,
+    representation: Option<EnumRepr<'c>>,
+    format: Format,
     most: u64,
 ) -> Result<String, NoTable<'c>>
     requires { root < length shapes.now }
-    ensures { GivesTable (flat_build shapes.now None) root most result }
+    ensures { GivesTable
+        (build_with shapes.now (asked_view representation.entry) format) root most result }
 {
-    match Schema::resolution_count(alloc, shapes, root, None)? {
+    match Schema::resolution_count(alloc, shapes, root, representation)? {
         Some(count) if count <= most => {}
         count => return Err(NoTable::TooMany(count)),
     }
-    let schema = Schema::build_auto(alloc, shapes, root)?;
+    let steps = &mut Steps::new();
+    let schema = Schema::build_counted(alloc, shapes, root, representation, format, steps)?;
     let pairs = ambiguous_pairs(alloc, &schema)?;
     Ok(table(alloc, schema.resolutions(), &pairs)?)
 }
@@ -98,15 +113,35 @@ fn push_description(
     text.push_str(" | ")
 }
 
-/// The names of keys: in a format without attributes and elements they are all that a key has.
 fn push_keys(keys: &[FieldKey<'_>], text: &mut String) -> Result<(), AllocError> {
     let mut between = "";
     for key in keys {
         text.push_str(between)?;
-        text.push_str(key.name())?;
+        push_key(key, text)?;
         between = ", ";
     }
     text.push_str(" | ")
+}
+
+/// The word of a key's category, where it has one, and its name, where it has one.
+fn push_key(key: &FieldKey<'_>, text: &mut String) -> Result<(), AllocError> {
+    let word = category_word(key);
+    text.push_str(word)?;
+    if !word.is_empty() && !key.name().is_empty() {
+        text.push_str(" ")?;
+    }
+    text.push_str(key.name())
+}
+
+fn category_word(key: &FieldKey<'_>) -> &'static str {
+    match key {
+        FieldKey::Flat(_) | FieldKey::Dom(FieldCategory::Flat, _) => "",
+        FieldKey::Dom(FieldCategory::Attribute, _) => "attribute",
+        FieldKey::Dom(FieldCategory::Element, _) => "element",
+        FieldKey::Dom(FieldCategory::Text, _) => "text",
+        FieldKey::Dom(FieldCategory::Tag, _) => "tag",
+        FieldKey::Dom(FieldCategory::Elements, _) => "elements",
+    }
 }
 
 fn push_names(names: &[&str], text: &mut String) -> Result<(), AllocError> {

@@ -27,9 +27,12 @@ pub struct AmbiguousPair<'c> {
 
 /// The pairs of resolutions that some keys, told to a new solver, leave both viable.
 ///
-/// Where there is none, no document is ambiguous, if a solver sees its keys and nothing else. The
-/// pairs rise by their second index, then by their first. Each two resolutions are compared, so the
-/// time grows with the square of their number. The only error is out of memory.
+/// Each such two have one pair, with one list of such keys. Where there is no pair, no document is
+/// ambiguous, if a solver sees its keys and nothing else. The pairs rise by their second index,
+/// then by their first.
+///
+/// The only error is out of memory. Each two resolutions are compared, and each field that one of
+/// them requires is looked up in the other. So the time grows with the square of their number.
 pub fn ambiguous_pairs<'c>(
     alloc: Global,
     schema: &Schema<'c>,

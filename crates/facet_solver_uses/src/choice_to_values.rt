@@ -4,13 +4,12 @@ ghost use Rattle.std.specs.Prelude.{◌≡◌, ◌↔◌, ℕ, Contains, IfOk, I
 ghost use Rattle.std.specs.FinMap as finite;
 ghost use Rattle.std.specs.Option.{option_copied};
 ghost use Rattle.facet_solver.specs.Fields.{FieldView};
-ghost use Rattle.facet_solver.specs.Keys.{key_of};
 ghost use Rattle.facet_solver.specs.Resolved.{field_by_key};
-ghost use Rattle.facet_solver_uses.specs.ChoiceToValues.{FindsMember, FindsMembers, FindsRest, GivesValues, HaveOneKey};
-ghost use Rattle.facet_solver_uses.specs.ChoiceToValues.{catch_all_of, meant_field_at};
+ghost use Rattle.facet_solver_uses.specs.ChoiceToValues.{FindsMember, FindsMembers, FindsOthers, GivesValues, HaveOneKey, TellsFirstUnknown, meant_field_at};
 ghost use Rattle.facet_solver_uses.specs.KeysToChoice.{keys_of};
 
-use facet_solver::{FieldCategory, FieldInfo, FieldKey, Resolution};
+use crate::taken::{Taker, taker_of};
+use facet_solver::{FieldInfo, FieldKey, Resolution};
 use std::alloc::{AllocError, AllocFailed, Global};
 
 /// A field, and the member that stands for it.
@@ -27,15 +26,23 @@ pub struct FieldValue<'r, 'c> {
 pub struct Values<'r, 'c> {
     /// Each field of the resolution, in key order.
     pub fields: Vec<FieldValue<'r, 'c>>,
-    /// The members that no field takes, in the order of the document. A catch-all takes each:
-    /// `catch_all_of` says which.
+    /// The members that are the content of an adjacently tagged enum, in the order of the document.
+    pub contents: Vec<usize>,
+    /// The members that a catch-all takes, in the order of the document. `taker_of` says which one.
     pub rest: Vec<usize>,
+}
+
+/// The members that no field takes.
+#[derive(Drop)]
+struct Others {
+    contents: Vec<usize>,
+    rest: Vec<usize>,
 }
 
 /// Why the members of a document don't stand for the fields of a resolution.
 #[derive(Clone, Copy)]
 pub enum Mismatch<'r, 'c, 'd> {
-    /// Neither a field nor a catch-all takes this member. It is the first such one.
+    /// The resolution does not take this member. It is the first such one.
     Unknown {
         member: usize,
         key: FieldKey<'d>,
@@ -76,12 +83,12 @@ impl<'r, 'c, 'd, T: Drop> From<AllocFailed<T>> for Mismatch<'r, 'c, 'd> {
 /// of the document.
 ///
 /// A member stands for the field that its key means (`Resolution::field_by_key`). One whose key
-/// means none goes to the rest, so no member is lost. Members are told by their indices.
+/// means none is content, or goes to the rest (`taker_of`). So no member is lost. Members are told
+/// by their indices.
 ///
-/// Errors: `Unknown` for the first member that neither a field nor a catch-all takes. Where there
-/// is none, `Repeated` or `Missing` for the first field in key order that has such a fault: several
-/// members stand for it, or it is required and none does. `OutOfMemory` may come before any of
-/// these.
+/// Errors: `Unknown` for the first member that the resolution does not take. Where there is none,
+/// `Repeated` or `Missing` for the first field in key order that has such a fault: several members
+/// stand for it, or it is required and none does. `OutOfMemory` may come before any of these.
 ///
 /// It compares each member with each field, so it takes the product of their numbers.
 pub fn choice_to_values<'r, 'c, 'd>(
@@ -89,52 +96,38 @@ pub fn choice_to_values<'r, 'c, 'd>(
     resolution: &'r Resolution<'c>,
     keys: &[FieldKey<'d>],
 ) -> Result<Values<'r, 'c>, Mismatch<'r, 'c, 'd>>
-    ensures { GivesValues resolution.now (keys_of keys.now) result }
+    ensures values { GivesValues resolution.now (keys_of keys.now) result }
+    ensures unknown { TellsFirstUnknown resolution.now (keys_of keys.now) result }
 {
-    let rest = rest_of(alloc, resolution, keys)?;
+    let Others { contents, rest } = others_of(alloc, resolution, keys)?;
     let meant = meant_fields(alloc, resolution, keys)?;
     let fields = members_of(alloc, resolution, &meant)?;
-    Ok(Values { fields, rest })
+    Ok(Values {
+        fields,
+        contents,
+        rest,
+    })
 }
 
-/// The catch-all that takes a member that no field takes, if there is one.
-///
-/// That of category Flat takes every member, and another one those of its category, where a flat
-/// key is that of an element.
-pub fn catch_all_of<'r, 'c>(
-    resolution: &'r Resolution<'c>,
-    key: &FieldKey<'_>,
-) -> Option<&'r FieldInfo<'c>>
-    ensures { option_copied result ≡ catch_all_of (key_of key.now) resolution.now }
-{
-    let category = match *key {
-        FieldKey::Flat(_) => FieldCategory::Element,
-        FieldKey::Dom(category, _) => category,
-    };
-    match resolution.catch_all_map(FieldCategory::Flat) {
-        Some(of_all) => Some(of_all),
-        None => resolution.catch_all_map(category),
-    }
-}
-
-/// The members that no field takes. One that no catch-all takes either is refused.
-fn rest_of<'r, 'c, 'd>(
+/// The members that no field takes. The first that nothing takes is refused.
+fn others_of<'r, 'c, 'd>(
     alloc: Global,
     resolution: &Resolution<'_>,
     keys: &[FieldKey<'d>],
-) -> Result<Vec<usize>, Mismatch<'r, 'c, 'd>>
-    ensures { FindsRest resolution.now (keys_of keys.now) result }
+) -> Result<Others, Mismatch<'r, 'c, 'd>>
+    ensures { FindsOthers resolution.now (keys_of keys.now) result }
 {
+    let mut contents = Vec::new(alloc);
     let mut rest = Vec::new(alloc);
     for (member, key) in keys.iter().enumerate() {
-        if resolution.field_by_key(key).is_none() {
-            if catch_all_of(resolution, key).is_none() {
-                return Err(Mismatch::Unknown { member, key: *key });
-            }
-            rest.push(member)?;
+        match taker_of(resolution, key) {
+            Some(Taker::Field(_)) => {}
+            Some(Taker::Content) => contents.push(member)?,
+            Some(Taker::CatchAll(_)) => rest.push(member)?,
+            None => return Err(Mismatch::Unknown { member, key: *key }),
         }
     }
-    Ok(rest)
+    Ok(Others { contents, rest })
 }
 
 /// The field that each key means.

@@ -1,22 +1,29 @@
 //! A configuration loader: the text under a tag is the name of the variant, and a key that the
-//! variant does not have is an error.
-ghost use Rattle.std.specs.Prelude.{◌≡◌, ◌++◌, IfOk, List, OnOk};
+//! resolution does not take is an error.
+ghost use Rattle.std.specs.Prelude.{◌≡◌, IfOk};
 ghost use Rattle.std.specs.List.{list_any};
-ghost use Rattle.facet_solver.specs.Names.{Name, name_eq, names_of};
-ghost use Rattle.facet_solver_uses.specs.LoadConfig.{IsFirstUnknown, Loads, each_once, selected_names, variant_names};
+ghost use Rattle.std.specs.Option.{option_map};
+ghost use Rattle.facet_solver.specs.Keys.{key_of};
+ghost use Rattle.facet_solver.specs.Names.{name_eq, names_of};
+ghost use Rattle.facet_solver.specs.solver.Tag.{variant_under};
+ghost use Rattle.facet_solver_uses.specs.LoadConfig.{Loads, variants_under};
 ghost use Rattle.facet_solver_uses.specs.KeysToChoice.{keys_of};
+ghost use Rattle.facet_solver_uses.specs.Taken.{first_unknown};
 
-use facet_solver::{FieldKey, Resolution, ResolutionHandle, Schema, Solver, SolverError};
+use crate::taken::taker_of;
+use facet_solver::{
+    FieldKey, PathSegment, Resolution, ResolutionHandle, Schema, Solver, SolverError,
+};
 use std::alloc::{AllocError, Global};
 
 /// Why a configuration is refused.
 #[derive(Drop)]
 pub enum Refused<'c, 'd> {
-    /// The text under the tag names no variant. These names there are.
+    /// The text names no variant under the tag. These there are, each once.
     UnknownVariant(Vec<&'c str>),
-    /// The variant that was found has no field of this key.
+    /// The resolution that was found does not take this key. It is the first such one.
     UnknownKey(FieldKey<'d>),
-    /// A field is missing, or several variants fit, or out of memory.
+    /// A field is missing, or several resolutions are viable, or out of memory.
     Solver(SolverError<'c>),
 }
 
@@ -43,7 +50,16 @@ impl<'c, 'd> From<AllocError> for Refused<'c, 'd> {
 
 /// The resolution that a configuration means: its tag, the text under it, and its other keys.
 ///
-/// It has each key of the configuration, so none is passed over in silence.
+/// The text names a variant of the enum that goes by the tag (`Solver::see_tag`), whether its
+/// content stands beside the tag or under a key of its own. The resolution takes each key
+/// (`taker_of`), so none is passed over in silence.
+///
+/// Errors: `UnknownVariant` where the text names no variant under the tag. Otherwise `Solver` where
+/// the tag and the keys leave not exactly one viable resolution. Otherwise `UnknownKey` for the
+/// first key that the resolution does not take. Out of memory may come before any of these.
+///
+/// At the end each key is looked up in the resolution that was found, field by field. So beside the
+/// calls of the solver it takes the product of their numbers.
 pub fn load_config<'s, 'c, 'd>(
     alloc: Global,
     schema: &'s Schema<'c>,
@@ -51,12 +67,11 @@ pub fn load_config<'s, 'c, 'd>(
     variant: &'d str,
     keys: &[FieldKey<'d>],
 ) -> Result<ResolutionHandle<'s, 'c>, Refused<'c, 'd>>
-    ensures { Loads schema.now (tag.now, variant.now) (keys_of keys.now) result }
+    ensures { Loads schema.now tag.now variant.now (keys_of keys.now) result }
 {
     let mut solver = Solver::new(alloc, schema)?;
-    solver.see_key(alloc, FieldKey::flat(tag))?;
-    if !solver.hint_variant_for_tag(tag, variant) {
-        return Err(Refused::UnknownVariant(variant_names(alloc, &solver)?));
+    if !solver.see_tag(alloc, tag, variant)? {
+        return Err(Refused::UnknownVariant(variants_under(alloc, &solver, tag)?));
     }
     for key in keys {
         solver.see_key(alloc, *key)?;
@@ -68,32 +83,35 @@ pub fn load_config<'s, 'c, 'd>(
     }
 }
 
-/// The names of the variants that the candidates selected, each once, in their order.
-fn variant_names<'c>(alloc: Global, solver: &Solver<'_, 'c, '_>) -> Result<Vec<&'c str>, AllocError>
-    ensures { IfOk result (λ names. names_of names.items ≡ variant_names solver.now) }
+/// The variants that the candidates have under a tag, each once, in the order of the candidates.
+fn variants_under<'c>(
+    alloc: Global,
+    solver: &Solver<'_, 'c, '_>,
+    tag: &str,
+) -> Result<Vec<&'c str>, AllocError>
+    ensures { IfOk result (λ names. names_of names.items ≡ variants_under tag.now solver.now) }
 {
     let handles = solver.candidates(alloc)?;
     let mut names = Vec::new(alloc);
     for handle in &handles {
-        add_variant_names(handle.resolution(), &mut names)?;
+        if let Some(variant) = variant_under(handle.resolution(), tag)
+            && !has_name(&names, variant)
+        {
+            names.push(variant)?;
+        }
     }
     Ok(names)
 }
 
-/// Adds those names of the variants that a resolution selected that are new.
-fn add_variant_names<'c>(
-    resolution: &Resolution<'c>,
-    names: &mut Vec<&'c str>,
-) -> Result<(), AllocError>
-    ensures { OnOk result ((met : List Name) → names_of names.old.items ≡ each_once met
-        → names_of names.new.items ≡ each_once (met ++ selected_names resolution.now)) }
+/// The variant that a resolution has under a tag: the path of the tag's field ends in it.
+fn variant_under<'c>(resolution: &Resolution<'c>, tag: &str) -> Option<&'c str>
+    ensures { option_map (λ variant. variant.now) result ≡ variant_under tag.now resolution.now }
 {
-    for selection in resolution.variant_selections() {
-        if !has_name(names, selection.variant_name) {
-            names.push(selection.variant_name)?;
-        }
+    let field = resolution.field_by_key(&FieldKey::flat(tag))?;
+    match field.path.last()? {
+        PathSegment::Variant(_, variant) => Some(*variant),
+        PathSegment::Field(_) => None,
     }
-    Ok(())
 }
 
 /// Whether a name is one of some names.
@@ -103,12 +121,12 @@ fn has_name(names: &[&str], name: &str) -> bool
     names.iter().any(|other| *other == name)
 }
 
-/// The first key that a resolution has no field of.
+/// The first key that a resolution does not take.
 fn first_unknown<'d>(resolution: &Resolution<'_>, keys: &[FieldKey<'d>]) -> Option<FieldKey<'d>>
-    ensures { IsFirstUnknown resolution.now (keys_of keys.now) result }
+    ensures { option_map key_of result ≡ first_unknown resolution.now (keys_of keys.now) }
 {
     for key in keys {
-        if resolution.field_by_key(key).is_none() {
+        if taker_of(resolution, key).is_none() {
             return Some(*key);
         }
     }

@@ -18,15 +18,17 @@ use facet_solver_shape::{FieldInfo, ShapeId, Steps};
 use std::alloc::{AllocError, Global};
 use std::fmt;
 
-/// What a key says of the document.
+/// What a key says of the document: the answer of `Solver::see_key` and of `Solver::probe_key`.
 #[derive(Drop)]
 pub enum KeyResult<'s, 'c> {
-    /// The value of the key has one shape, whichever candidate is meant.
+    /// Several candidates have the key, and its value has one shape. For `probe_key` it has that
+    /// in each of them where the solver knows of a shape at the path; there may be others.
     Unambiguous {
         /// That shape.
         shape: ShapeId,
     },
-    /// The value of the key has one of several shapes, depending on the candidate.
+    /// Several candidates have the key, and its value has one of several shapes, depending on the
+    /// candidate.
     Ambiguous {
         /// The first field of each shape, in the order of the candidates, with the score of the
         /// shape (`specificity_score`).
@@ -34,7 +36,8 @@ pub enum KeyResult<'s, 'c> {
     },
     /// Exactly one candidate has the key.
     Solved(ResolutionHandle<'s, 'c>),
-    /// No candidate has a field that the key means.
+    /// No candidate has a field that the key means. After `probe_key` no candidate is left then,
+    /// or several are, and the solver knows of no shape at the path in any of them.
     Unknown,
 }
 

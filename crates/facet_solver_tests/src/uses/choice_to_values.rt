@@ -17,7 +17,8 @@ pub fn of_choice(resolution: &Resolution<'_>, answer: &mut Answer<'_>) {
     }
 }
 
-/// Tells each field with its member, and the members that a catch-all takes.
+/// Tells each field with its member, the members that are content, and those that a catch-all
+/// takes.
 fn add_values(values: &Values<'_, '_>, answer: &mut Answer<'_>) {
     let mut comma = "";
     for value in &values.fields {
@@ -25,12 +26,19 @@ fn add_values(values: &Values<'_, '_>, answer: &mut Answer<'_>) {
         add_field_value(value, answer);
         comma = ",";
     }
-    if !values.rest.is_empty() {
-        answer.put(comma);
-        answer.add("rest");
-        for member in &values.rest {
-            answer.add_value(member);
+    for (word, members) in [("contents", &values.contents), ("rest", &values.rest)] {
+        if !members.is_empty() {
+            answer.put(comma);
+            answer.add(word);
+            add_members(members, answer);
+            comma = ",";
         }
+    }
+}
+
+fn add_members(members: &[usize], answer: &mut Answer<'_>) {
+    for member in members {
+        answer.add_value(member);
     }
 }
 

@@ -3,7 +3,7 @@ use Rattle.std.proofs.lemmas.List.Sorted.{IsNonDecreasingBy-from_sort_by_key}
 use Rattle.std.proofs.lemmas.Fn.{always_returns_same}
 use Rattle.facet_solver.specs.declared.Variant.{Variant}
 use Rattle.facet_solver_uses.specs.Untagged.{variant_score}
-use Rattle.facet_solver_uses.proofs.UntaggedVariants.{by_number}
+use Rattle.facet_solver_uses.proofs.UntaggedValues.{by_number}
 use Rattle.facet_solver_uses.proofs.untagged.by_score.Goals as goal
 
 pub returns : goal.returns
