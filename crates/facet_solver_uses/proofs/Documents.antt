@@ -10,7 +10,7 @@ use Rattle.std.proofs.lemmas.List.Folds.{list_any-append}
 use Rattle.std.proofs.lemmas.List.Sums.{fold-append}
 use Rattle.std.proofs.Math.Bool.{or-false, or-true}
 use Rattle.facet_solver.specs.Names.{Name}
-use Rattle.facet_solver_uses.specs.stream.Tell.{Part, a_key, a_scalar, a_text, tell_all}
+use Rattle.facet_solver_uses.specs.stream.Tell.{Part, a_key, tell_all}
 use Rattle.facet_solver.specs.schema.Schema.{SchemaView}
 use Rattle.facet_solver.specs.solver.State.{new_solver}
 use Rattle.facet_solver_uses.specs.stream.Documents.{Value, Members, Items, scalar, text, object, list, no_members, member, no_items, item, events_of, member_events, item_events, parts_of, member_parts, told_document, IsDocument}

@@ -1,17 +1,15 @@
 -- Events that are read one after another, and what the end of a reader says of them.
-use Rattle.std.proofs.Common.{◌≡◌, ℕ, refl, ◌+◌, ◌-◌, ◌<◌, ◌≤◌, Bool, true, false, ◌&&◌, List, [], ◌∷◌, ◌++◌, ap, sym, ◌∙◌, subst, get_or, length, take}
+use Rattle.std.proofs.Common.{◌≡◌, ℕ, refl, ◌+◌, ◌<◌, ◌≤◌, Bool, true, false, ◌&&◌, List, [], ◌∷◌, ◌++◌, ap, sym, ◌∙◌, subst, get_or, length, take}
 use Rattle.std.specs.Prelude.{Result, Ok, Err}
-use denote.Bor.{Bor}
-use Rattle.std.proofs.lemmas.List.{append-nil, append_assoc, length-map, take-map, take_all, take_more}
+use Rattle.std.proofs.lemmas.List.{append-nil, append_assoc, take_all, take_more}
 use Rattle.std.proofs.lemmas.List.Sums.{fold-append, fold_push}
 use Rattle.std.proofs.Math.Bool.{and-true}
-use Rattle.facet_solver.specs.Names.{Name, names_of}
 use Rattle.facet_solver_uses.specs.stream.Tell.{Part, tell, tell_all}
 use Rattle.facet_solver.specs.schema.Schema.{SchemaView}
 use Rattle.facet_solver.specs.solver.State.{new_solver}
 use Rattle.facet_solver.specs.declared.ResolutionHandle.{ResolutionHandle}
 use Rattle.facet_solver.specs.declared.SolverError.TheVariants.{OutOfMemory}
-use Rattle.facet_solver_uses.specs.stream.Place.{PlaceView, beginning, behind, may_stand, without_last}
+use Rattle.facet_solver_uses.specs.stream.Place.{PlaceView, beginning, behind, may_stand}
 use Rattle.facet_solver_uses.specs.stream.Events.{Ends, Reading, Streams, part_at, parts_from, place_behind, read, told, well_placed}
 use Rattle.facet_solver_uses.specs.declared.stream.event.Event.{Event}
 use Rattle.facet_solver_uses.specs.declared.stream.event.Unread.{Unread}

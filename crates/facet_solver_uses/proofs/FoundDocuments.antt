@@ -1,9 +1,9 @@
 -- The events of a document that fits a choice come to that choice, or name it.
-use Rattle.std.proofs.Common.{◌≡◌, ℕ, zero, suc, ◌<◌, ◌≤◌, ◌+◌, Bool, true, false, cond, ◌&&◌, ◌||◌, not, List, [], ◌∷◌, ◌++◌, Option, Some, None, Contains, arith, filter, length, refl, take, ap, sym, subst, ◌∙◌, ⊎_elim}
-use Rattle.std.specs.Prelude.{Result, Ok, Err, slice_get, nat_eq}
+use Rattle.std.proofs.Common.{◌≡◌, ℕ, zero, suc, ◌<◌, ◌≤◌, ◌+◌, Bool, true, false, cond, ◌&&◌, ◌||◌, not, List, [], ◌∷◌, ◌++◌, Some, Contains, arith, filter, length, refl, take, ap, sym, subst, ◌∙◌, ⊎_elim}
+use Rattle.std.specs.Prelude.{Result, Err, slice_get, nat_eq}
 use Rattle.std.specs.FinMap as finite
-use Rattle.std.specs.List.{AllZip, flat_map, list_all, list_any, range_with_len}
-use Rattle.std.proofs.lemmas.Bool.{and_from, and_parts, cases_Bool, false≢true, or_cases, or_left, or_parts, or_right}
+use Rattle.std.specs.List.{AllZip, list_all, list_any, range_with_len}
+use Rattle.std.proofs.lemmas.Bool.{and_from, cases_Bool, false≢true, or_cases, or_left, or_right}
 use Rattle.std.proofs.lemmas.Bool.Decides.{Decides-eqb}
 use Rattle.std.proofs.lemmas.Grind.{flat_map-append}
 use Rattle.std.proofs.lemmas.List.{length_push, take_all}
@@ -18,21 +18,20 @@ use Rattle.facet_solver.specs.build.Build.{Build}
 use Rattle.facet_solver.specs.build.Choice.{IsResolution, ListsChoices, resolution_from}
 use Rattle.facet_solver.specs.build.Emissions.{Emission}
 use Rattle.facet_solver.specs.schema.Schema.{IsOwnBuild, SchemaView}
-use Rattle.facet_solver.specs.set.IndexSet.{has_index, upto}
+use Rattle.facet_solver.specs.set.IndexSet.{has_index}
 use Rattle.facet_solver.specs.solver.Report.{is_viable, viable}
 use Rattle.facet_solver.specs.solver.State.{State, new_solver, see_key}
 use Rattle.facet_solver.specs.declared.ResolutionHandle.{ResolutionHandle}
 use Rattle.facet_solver.specs.solver.Told.{EndsWithOrNames, HasAllKnown, TellsChoice, has_keys, known_keys, see_keys}
 use Rattle.facet_solver_uses.specs.stream.Documents.{Value, Members, scalar, text, object, list, no_members, member, parts_of, member_parts, told_document}
 use Rattle.facet_solver_uses.specs.stream.Events.{IsFirstMisplaced, Reading}
-use Rattle.facet_solver_uses.specs.stream.Found.{FindsDocument, FindsOrNames, FitsDocument, fits_part, keys_of_members}
-use Rattle.facet_solver_uses.specs.stream.Tell.{Part, tell_all}
+use Rattle.facet_solver_uses.specs.stream.Found.{FindsDocument, FindsOrNames, FitsDocument, keys_of_members}
 use Rattle.facet_solver_uses.specs.declared.stream.event.Event.{Event}
 use Rattle.facet_solver_uses.specs.declared.stream.event.Unread.{Unread}
 use Rattle.facet_solver_uses.specs.declared.stream.event.Unread.TheVariants.{Misplaced}
 use Rattle.facet_solver_uses.proofs.Documents.{not_misplaced, told_as_document, whole_document}
 use Rattle.facet_solver_uses.proofs.Events.{reading_of}
-use Rattle.facet_solver_uses.proofs.Told.{Stands, all_told, schema_kept, seen_by, seen_by_all, seen_keys, stays, passes_at}
+use Rattle.facet_solver_uses.proofs.Told.{Stands, all_told, seen_by, seen_by_all, seen_keys, stays, passes_at}
 
 -- ---- the resolution of a choice
 one_passes : (test : Resolved → Bool) (rs : List Resolved) → list_any test rs ≡ true → (i : ℕ) × (r : Resolved) × (slice_get rs i ≡ Some r) × (test r ≡ true)

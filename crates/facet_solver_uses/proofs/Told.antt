@@ -1,30 +1,28 @@
 -- What is told of a document that fits a resolution leaves that resolution among the candidates,
 -- and which keys are seen.
-use Rattle.std.proofs.Common.{◌≡◌, ℕ, zero, suc, ◌<◌, Bool, true, false, cond, ◌&&◌, ◌||◌, not, List, [], ◌∷◌, ◌++◌, Option, Some, None, filter, refl, ap, sym, subst, ◌∙◌, ⊎_elim}
-use Rattle.std.specs.Prelude.{fold, is_some, slice_get, nat_eq}
+use Rattle.std.proofs.Common.{◌≡◌, ℕ, zero, suc, Bool, true, false, cond, ◌&&◌, ◌||◌, not, List, [], ◌∷◌, ◌++◌, Option, Some, None, filter, refl, ap, sym, subst, ◌∙◌, ⊎_elim}
+use Rattle.std.specs.Prelude.{is_some, slice_get, nat_eq}
 use Rattle.std.specs.BTreeSet.{insert_key}
 use Rattle.std.specs.List.{flat_map, list_all, list_any}
 use Rattle.std.specs.Option.{option_map_or}
-use Rattle.std.proofs.lemmas.Bool.{and_from, and_parts, cases_Bool, false≢true, or_cases, or_left, or_parts, or_right}
+use Rattle.std.proofs.lemmas.Bool.{and_parts, cases_Bool, false≢true, or_cases, or_left, or_parts, or_right}
 use Rattle.std.proofs.lemmas.Bool.Decides.{Decides-eqb}
 use Rattle.std.proofs.lemmas.List.Elements.{filter-append}
 use Rattle.std.proofs.lemmas.List.Folds.{list_all-append}
 use Rattle.std.proofs.lemmas.List.Sums.{fold-append}
-use Rattle.std.proofs.lemmas.Option.{none-some, same_Some}
 use Rattle.facet_solver.specs.Keys.{Key, flat_key, key_cmp}
 use Rattle.facet_solver.specs.KeyPath.{has_key_path, whole_path}
 use Rattle.facet_solver.specs.Names.{Name, name_eq}
 use Rattle.facet_solver.specs.Resolved.{Resolved}
 use Rattle.facet_solver.specs.Resolutions.{has_key, is_known, passes}
-use Rattle.facet_solver.specs.build.Build.{Catalogue}
 use Rattle.facet_solver.specs.schema.Schema.{SchemaView}
 use Rattle.facet_solver.specs.set.IndexSet.{has_index}
 use Rattle.facet_solver.specs.solver.Probe.{probe_key}
 use Rattle.facet_solver.specs.solver.ShapeAtPath.{has_shape_at_path, satisfy_at_path, shape_at_path}
 use Rattle.facet_solver.specs.solver.State.{State, or_all, passing, retain, see_key, where_any}
-use Rattle.facet_solver.specs.solver.Tag.{has_no_other_under, has_variant_under, see_tag, variant_under}
+use Rattle.facet_solver.specs.solver.Tag.{has_no_other_under, has_variant_under, variant_under}
 use Rattle.facet_solver.specs.solver.Told.{has_keys, known_keys, see_keys}
-use Rattle.facet_solver_uses.specs.stream.Candidates.{every_candidate, has_some_shape_at, hides, is_probed, is_told, may_hide, some_candidate}
+use Rattle.facet_solver_uses.specs.stream.Candidates.{has_some_shape_at, hides, is_probed, is_told, may_hide, some_candidate}
 use Rattle.facet_solver_uses.specs.stream.Found.{fits_key, fits_part, fits_shapes, fits_tag}
 use Rattle.facet_solver_uses.specs.stream.Tell.{Part, a_key, a_scalar, a_text, tell, tell_all, tell_key, tell_scalar, tell_text}
 
@@ -197,7 +195,7 @@ module _ (index : ℕ) (r : Resolved) where
         let rs = s.schema.resolutions in
         ⊎_elim
         (λ named. absurd (false≢true (ap (λ (is : List ℕ). has_index is index) (sym none)
-            ∙ stays (passes test rs) seen.candidates index h.among (passes_at test rs index r h.there ∙ named))))
+        ∙ stays (passes test rs) seen.candidates index h.among (passes_at test rs index r h.there ∙ named))))
         (λ other. other)
         (cases_Bool (test r))
 

@@ -13,20 +13,19 @@ mod place;
 mod reader;
 mod tell;
 
+pub use event::{Event, Refusal, Unread};
 use facet_solver::laws::{
     lists_are_the_only_ones, told_resolutions_are_found, viable_candidates_are_named,
 };
 use facet_solver::{ResolutionHandle, Schema, SolverError};
-use std::alloc::Global;
-
-pub use event::{Event, Refusal, Unread};
 pub use reader::Reader;
+use std::alloc::Global;
 
 /// The resolution that the events of a document mean.
 ///
 /// The error is `Misplaced` with the index of the first event that can't stand where it comes, and
 /// else as that of `Reader::finish`. Neither it nor `Unfinished` comes for the events of a
-/// document.
+/// document. Out of memory may come at any time. What an event costs is said at `Reader::event`.
 #[tactic(auto, using(crate::proofs::Events::reading_more, crate::proofs::Events::placed_more, crate::proofs::Events::streams_all, crate::proofs::WholeDocuments::reads_documents))]
 pub fn stream<'s, 'c>(
     alloc: Global,

@@ -38,7 +38,7 @@ abbrev pub hides_below : Catalogue → List Name → ℕ → Bool
 hides_below cat [] id = false
 hides_below cat (name ∷ path) id =
     if is_plain_at cat id then
-      option_map_or (hides_below cat path) (shape_of_member cat name id) false
+    option_map_or (hides_below cat path) (shape_of_member cat name id) false
     else true
 
 -- whether a resolution may hide a key of a whole path: on its way, from the field of the first name

@@ -1,4 +1,4 @@
-use Rattle.std.proofs.Common.{◌≡◌, [], Option, None, true, false, ap, arith, is_some, rules, sym, ◌∙◌}
+use Rattle.std.proofs.Common.{◌≡◌, [], Option, None, true, ap, arith, is_some, rules, sym, ◌∙◌}
 use Rattle.std.specs.Option.{option_map}
 use Rattle.facet_solver.specs.declared.FieldKey.{FieldKey}
 use Rattle.facet_solver.specs.declared.FieldKey.TheVariants.{Flat}

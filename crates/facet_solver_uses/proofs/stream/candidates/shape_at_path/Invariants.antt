@@ -1,4 +1,4 @@
-use Rattle.std.proofs.Common.{◌≡◌, Some, drop}
+use Rattle.std.proofs.Common.{◌≡◌, drop}
 use Rattle.facet_solver.specs.Names.{names_of}
 use Rattle.facet_solver.specs.solver.ShapeAtPath as at_path
 use Rattle.facet_solver_uses.proofs.stream.candidates.shape_at_path.Given as goal

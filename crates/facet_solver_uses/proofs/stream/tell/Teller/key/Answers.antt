@@ -1,5 +1,5 @@
-use Rattle.std.proofs.Common.{◌≡◌, ℕ, Bool, Bor, List, [], ◌∷◌, ◌++◌, ap, cond, length, sym, ◌∙◌}
-use Rattle.std.specs.Prelude.{true, false, ◌==◌, Some, slice_get, ◌-◌}
+use Rattle.std.proofs.Common.{◌≡◌, Bor, List, [], ◌∷◌, ap, cond, length, sym, ◌∙◌}
+use Rattle.std.specs.Prelude.{true, false, ◌==◌, slice_get, ◌-◌}
 use Rattle.std.proofs.lemmas.Bool.{false≢true}
 use Rattle.std.proofs.lemmas.List.{map-append}
 use Rattle.std.proofs.lemmas.Option.{same_Some}
