@@ -197,7 +197,7 @@ module _ (index : ℕ) (r : Resolved) where
         let rs = s.schema.resolutions in
         ⊎_elim
         (λ named. absurd (false≢true (ap (λ (is : List ℕ). has_index is index) (sym none)
-            ∙ stays (passes test rs) seen.candidates index h.among (passes_at test rs index r h.there ∙ named))))
+        ∙ stays (passes test rs) seen.candidates index h.among (passes_at test rs index r h.there ∙ named))))
         (λ other. other)
         (cases_Bool (test r))
 
