@@ -21,11 +21,20 @@ use facet_solver::{ResolutionHandle, Schema, SolverError};
 pub use reader::Reader;
 use std::alloc::Global;
 
-/// The resolution that the events of a document mean.
+/// The resolution that the events of a document mean, in a schema of whichever builder.
 ///
-/// The error is `Misplaced` with the index of the first event that can't stand where it comes, and
-/// else as that of `Reader::finish`. Neither it nor `Unfinished` comes for the events of a
-/// document. Out of memory may come at any time. What an event costs is said at `Reader::event`.
+/// The document may fit one choice, with its members in any order, and with keys among them that no
+/// choice has. Then the answer is the resolution of that choice, or `Ambiguous`, which has its
+/// description at its place.
+///
+/// Errors, for whatever events: `Misplaced` with the index of the first event that can't stand
+/// where it comes; `Unfinished` where the document has not ended. For the events of a document it
+/// is that of the solver: `NoMatch` where no resolution that is left has all that it requires;
+/// `Ambiguous` where several have, whose descriptions stand in the order of the resolutions;
+/// `OutOfMemory`, at any time.
+///
+/// A key of the first level is looked up once. A deeper key and a value go through the candidates
+/// that are left, and in each along the path. What lies in a list takes no such time.
 #[tactic(auto, using(crate::proofs::Events::reading_more, crate::proofs::Events::placed_more, crate::proofs::Events::streams_all, crate::proofs::WholeDocuments::reads_documents))]
 pub fn stream<'s, 'c>(
     alloc: Global,

@@ -1,5 +1,5 @@
 -- What candidates have at a path of names, and what they may hide there.
-use Rattle.std.specs.Prelude.{◌&&◌, Bool, true, false, ℕ, List, [], ◌∷◌, is_none, is_some, not, if◌then◌else◌, slice_get}
+use Rattle.std.specs.Prelude.{◌&&◌, ◌||◌, Bool, false, ℕ, List, [], ◌∷◌, is_none, is_some, not, slice_get}
 use Rattle.std.specs.List.{list_all, list_any}
 use Rattle.std.specs.Option.{option_map_or}
 use Rattle.facet_solver.specs.Names.{Name}
@@ -19,14 +19,15 @@ abbrev pub has_flattened : List Field → Bool
 has_flattened fields = list_any (λ f. f.flattened) fields
 
 -- whether a kind is a struct of which no field is flattened
-abbrev pub is_struct_of_its_own : ShapeKind → Bool
-is_struct_of_its_own (Struct kind fields) = not (has_flattened fields.items)
-is_struct_of_its_own _ = false
+abbrev pub is_struct_without_flattened : ShapeKind → Bool
+is_struct_without_flattened (Struct kind fields) = not (has_flattened fields.items)
+is_struct_without_flattened _ = false
 
 -- whether a shape is plainly a struct: in a document its fields are all that it has
 abbrev pub is_plain : Shape → Bool
 is_plain s =
-    is_none s.inner && is_none s.proxy && not s.metadata_container && is_struct_of_its_own s.kind
+    is_none s.inner && is_none s.proxy && not s.metadata_container
+    && is_struct_without_flattened s.kind
 
 -- whether the shape at an index is plainly a struct
 abbrev pub is_plain_at : Catalogue → ℕ → Bool
@@ -37,9 +38,8 @@ is_plain_at cat id = option_map_or is_plain (slice_get cat id) false
 abbrev pub hides_below : Catalogue → List Name → ℕ → Bool
 hides_below cat [] id = false
 hides_below cat (name ∷ path) id =
-    if is_plain_at cat id then
-    option_map_or (hides_below cat path) (shape_of_member cat name id) false
-    else true
+    not (is_plain_at cat id)
+    || option_map_or (hides_below cat path) (shape_of_member cat name id) false
 
 -- whether a resolution may hide a key of a whole path: on its way, from the field of the first name
 -- on, stands what is not plainly a struct. Where no field has this name, the name alone may be the

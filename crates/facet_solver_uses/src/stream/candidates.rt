@@ -132,12 +132,12 @@ fn is_plain(shape: &Shape) -> bool
     shape.inner.is_none()
         && shape.proxy.is_none()
         && !shape.metadata_container
-        && is_struct_of_its_own(&shape.kind)
+        && is_struct_without_flattened(&shape.kind)
 }
 
 /// Whether a kind is a struct of which no field is flattened.
-fn is_struct_of_its_own(kind: &ShapeKind) -> bool
-    ensures { result ≡ candidates.is_struct_of_its_own kind.now }
+fn is_struct_without_flattened(kind: &ShapeKind) -> bool
+    ensures { result ≡ candidates.is_struct_without_flattened kind.now }
 {
     match kind {
         ShapeKind::Struct { fields, .. } => !has_flattened(fields),

@@ -57,8 +57,6 @@ impl<'s, 'c, 'd> Reader<'s, 'c, 'd> {
     /// the tag (`Solver::see_tag`). Any other text and scalar says which shapes fit at its path, if
     /// every candidate has a shape there. What lies in a list is ignored.
     ///
-    /// A key or a scalar below the first level asks each candidate, and goes through its key paths.
-    ///
     /// The error is `Misplaced` where no such event can stand there: first comes the begin of an
     /// object, in an object a key or its end, behind a key its value, and in a list a value or its
     /// end. The other error is `OutOfMemory`. After an error the reader is as it was.

@@ -39,7 +39,7 @@ impl<'s, 'c, 'd> Teller<'s, 'c, 'd> {
         Ok(Teller { schema, solver })
     }
 
-    /// Tells a key, by its whole path.
+    /// Tells a key, by its whole path: one of the first level is seen, a deeper one may be probed.
     pub(super) fn key(&mut self, alloc: Global, whole: &[&'d str]) -> Result<(), AllocError>
         ensures ok { OnOk result ((path : List Name) (key : Name)
             → names_of whole.now ≡ whole_path path key → self.new ≡ tell_key path key self.old) }
@@ -56,7 +56,7 @@ impl<'s, 'c, 'd> Teller<'s, 'c, 'd> {
         Ok(())
     }
 
-    /// Tells which shapes a value fits.
+    /// Tells which shapes a value fits, where that may be told.
     pub(super) fn scalar(&mut self, path: &[&str], shapes: &[ShapeId])
         ensures { self.new ≡ tell_scalar (names_of path.now) shapes.now self.old }
     {
@@ -65,7 +65,7 @@ impl<'s, 'c, 'd> Teller<'s, 'c, 'd> {
         }
     }
 
-    /// Tells a text, and which shapes it fits.
+    /// Tells a text, as that of a tag on the first level, or else by the shapes that it fits.
     pub(super) fn text(
         &mut self,
         alloc: Global,

@@ -1,4 +1,4 @@
-use Rattle.std.proofs.Common.{◌≡◌, ℕ, ◌<◌, ◌∙◌, Bor, List, [], ◌∷◌, ap, arith, cond, drop, length, sym}
+use Rattle.std.proofs.Common.{◌≡◌, ℕ, ◌-◌, ◌<◌, ◌∙◌, Bool, Bor, List, [], ◌∷◌, ap, arith, drop, length, not, sym, ◌||◌}
 use Rattle.std.specs.Prelude.{true, false}
 use Rattle.std.specs.Option.{option_map_or}
 use Rattle.std.proofs.lemmas.List.{length-drop, length-map}
@@ -11,7 +11,7 @@ use Rattle.facet_solver_uses.proofs.stream.candidates.hides_below.Goals as goal
 not_plain : (cat : Catalogue) (path : List Name) (id : ℕ) → 0 < length path → is_plain_at cat id ≡ false → hides_below cat path id ≡ true
 not_plain cat [] id some plain = absurd (omega arith)
 not_plain cat (name ∷ path) id some plain =
-    ap (λ b. cond b (option_map_or (hides_below cat path) (shape_of_member cat name id) false) true) plain
+    ap (λ b. not b || option_map_or (hides_below cat path) (shape_of_member cat name id) false) plain
 
 pub returns-then-not-is_plain_at : goal.returns-then-not-is_plain_at
 returns-then-not-is_plain_at c =
