@@ -1,16 +1,16 @@
 -- Events that are read one after another, and what the end of a reader says of them.
 use Rattle.std.proofs.Common.{◌≡◌, ℕ, refl, ◌+◌, ◌<◌, ◌≤◌, Bool, true, false, ◌&&◌, List, [], ◌∷◌, ◌++◌, ap, sym, ◌∙◌, subst, get_or, length, take}
-use Rattle.std.specs.Prelude.{Result, Ok, Err}
+use Rattle.std.specs.Prelude.{Result, Ok, Err, fold}
 use Rattle.std.proofs.lemmas.List.{append-nil, append_assoc, take_all, take_more}
 use Rattle.std.proofs.lemmas.List.Sums.{fold-append, fold_push}
 use Rattle.std.proofs.Math.Bool.{and-true}
 use Rattle.facet_solver_uses.specs.stream.Tell.{Part, tell, tell_all}
 use Rattle.facet_solver.specs.schema.Schema.{SchemaView}
-use Rattle.facet_solver.specs.solver.State.{new_solver}
+use Rattle.facet_solver.specs.solver.State.{State, new_solver}
 use Rattle.facet_solver.specs.declared.ResolutionHandle.{ResolutionHandle}
 use Rattle.facet_solver.specs.declared.SolverError.TheVariants.{OutOfMemory}
 use Rattle.facet_solver_uses.specs.stream.Place.{PlaceView, beginning, behind, may_stand}
-use Rattle.facet_solver_uses.specs.stream.Events.{Ends, Reading, Streams, part_at, parts_from, place_behind, read, told, well_placed}
+use Rattle.facet_solver_uses.specs.stream.Events.{Ends, Reading, Streams, new_reader, part_at, parts_from, place_behind, read, read_all, told, well_placed}
 use Rattle.facet_solver_uses.specs.declared.stream.event.Event.{Event}
 use Rattle.facet_solver_uses.specs.declared.stream.event.Unread.{Unread}
 use Rattle.facet_solver_uses.specs.declared.stream.event.Unread.TheVariants.{Misplaced, Unfinished, Solver}
@@ -21,6 +21,18 @@ reading_of schema events = record {
   state = told schema events;
   place = place_behind beginning events;
 }
+
+-- a reader reads events one after another
+reads_from : (r : Reading) (events : List Event) → fold (λ now event. read event now) r events ≡ record { state = tell_all (parts_from r.place events) r.state; place = place_behind r.place events }
+reads_from r [] = refl
+reads_from r (event ∷ events) =
+    reads_from (read event r) events
+    ∙ ap (λ (s : State). record { state = s; place = place_behind (behind event r.place) events })
+    (sym (fold-append (λ s part. tell part s) r.state (part_at event r.place) (parts_from (behind event r.place) events)))
+
+-- so a new reader that has read them is this one
+pub reads_all : (schema : SchemaView) (events : List Event) → read_all schema events ≡ reading_of schema events
+reads_all schema events = reads_from (new_reader schema) events
 
 -- the parts of events behind others
 pub parts_append : (place : PlaceView) (xs ys : List Event) → parts_from place (xs ++ ys) ≡ parts_from place xs ++ parts_from (place_behind place xs) ys

@@ -1,6 +1,6 @@
 -- The events of a document that fits a choice come to that choice, or name it.
 use Rattle.std.proofs.Common.{◌≡◌, ℕ, zero, suc, ◌<◌, ◌≤◌, ◌+◌, Bool, true, false, cond, ◌&&◌, ◌||◌, not, List, [], ◌∷◌, ◌++◌, Some, Contains, arith, filter, length, refl, take, ap, sym, subst, ◌∙◌, ⊎_elim}
-use Rattle.std.specs.Prelude.{Result, Err, slice_get, nat_eq}
+use Rattle.std.specs.Prelude.{IfOk, Result, Ok, Err, slice_get, nat_eq}
 use Rattle.std.specs.FinMap as finite
 use Rattle.std.specs.List.{AllZip, list_all, list_any, range_with_len}
 use Rattle.std.proofs.lemmas.Bool.{and_from, cases_Bool, false≢true, or_cases, or_left, or_right}
@@ -17,6 +17,7 @@ use Rattle.facet_solver.specs.Resolutions.{has_key, is_known, passes}
 use Rattle.facet_solver.specs.build.Build.{Build}
 use Rattle.facet_solver.specs.build.Choice.{IsResolution, ListsChoices, resolution_from}
 use Rattle.facet_solver.specs.build.Emissions.{Emission}
+use Rattle.facet_solver.specs.schema.ResolutionHandle.{IsHandleOf}
 use Rattle.facet_solver.specs.schema.Schema.{IsOwnBuild, SchemaView}
 use Rattle.facet_solver.specs.set.IndexSet.{has_index}
 use Rattle.facet_solver.specs.solver.Report.{is_viable, viable}
@@ -24,14 +25,15 @@ use Rattle.facet_solver.specs.solver.State.{State, new_solver, see_key}
 use Rattle.facet_solver.specs.declared.ResolutionHandle.{ResolutionHandle}
 use Rattle.facet_solver.specs.solver.Told.{EndsWithOrNames, HasAllKnown, TellsChoice, has_keys, known_keys, see_keys}
 use Rattle.facet_solver_uses.specs.stream.Documents.{Value, Members, scalar, text, object, list, no_members, member, parts_of, member_parts, told_document}
-use Rattle.facet_solver_uses.specs.stream.Events.{IsFirstMisplaced, Reading}
-use Rattle.facet_solver_uses.specs.stream.Found.{FindsDocument, FindsOrNames, FitsDocument, keys_of_members}
+use Rattle.facet_solver_uses.specs.stream.Events.{IsFirstMisplaced, Reading, Streams, parts_from}
+use Rattle.facet_solver_uses.specs.stream.Place.{beginning}
+use Rattle.facet_solver_uses.specs.stream.Found.{FindsDocument, FindsOrNames, FindsRead, FitsDocument, keys_of_members}
 use Rattle.facet_solver_uses.specs.declared.stream.event.Event.{Event}
 use Rattle.facet_solver_uses.specs.declared.stream.event.Unread.{Unread}
 use Rattle.facet_solver_uses.specs.declared.stream.event.Unread.TheVariants.{Misplaced}
 use Rattle.facet_solver_uses.proofs.Documents.{not_misplaced, told_as_document, whole_document}
-use Rattle.facet_solver_uses.proofs.Events.{reading_of}
-use Rattle.facet_solver_uses.proofs.Told.{Stands, all_told, seen_by, seen_by_all, seen_keys, stays, passes_at}
+use Rattle.facet_solver_uses.proofs.Events.{reading_of, reads_all}
+use Rattle.facet_solver_uses.proofs.Told.{Stands, schema_kept, all_told, seen_by, seen_by_all, seen_keys, stays, passes_at}
 
 -- ---- the resolution of a choice
 one_passes : (test : Resolved → Bool) (rs : List Resolved) → list_any test rs ≡ true → (i : ℕ) × (r : Resolved) × (slice_get rs i ≡ Some r) × (test r ≡ true)
@@ -216,23 +218,36 @@ ends_with_choice one_list found named schema built members choices listed index 
     (contains_has (viable s) index (stays (passes (is_viable s.seen) s.schema.resolutions) s.candidates index stands.among (passes_at (is_viable s.seen) s.schema.resolutions index r stands.there ∙ viable_now)))
     stands.there
 
--- so what a reader answers at the end of its events gives that choice or names it
-pub finds_document : ((build : Build) (root : ℕ) (cs ds : List (List ℕ)) → ListsChoices build root cs → ListsChoices build root ds → cs ≡ ds)
+-- so does a reader that has read its events
+pub finds_read : ((build : Build) (root : ℕ) (cs ds : List (List ℕ)) → ListsChoices build root cs → ListsChoices build root ds → cs ≡ ds)
     → ((schema : SchemaView) (keys : List Key) (index : ℕ) (r : Resolved) → HasAllKnown schema keys index r → is_viable keys r ≡ true → Contains (viable (see_keys keys (new_solver schema))) index)
     → ((s : State) (index : ℕ) (r : Resolved) → Contains (viable s) index → slice_get s.schema.resolutions index ≡ Some r → EndsWithOrNames s index (description r.selections))
-    → (schema : SchemaView) → IsOwnBuild schema → (events : List Event) (i : ℕ) (reader : Reading) (answer : Result ResolutionHandle Unread)
-    → length events ≤ i → reader ≡ reading_of schema (take i events)
+    → (reader : Reading) → IsOwnBuild reader.state.schema → (answer : Result ResolutionHandle Unread)
     → ((index : ℕ) (name : Name) → reader.place.frames ≡ [] → EndsWithOrNames reader.state index name → FindsOrNames reader.state index name answer)
-    → FindsDocument schema events answer
-finds_document one_list found named schema built events i reader answer all is ends = λ members come choices listed index choice at r fits.
+    → FindsRead reader answer
+finds_read one_list found named reader built answer ends = λ schema events is members come choices listed index choice at r fits.
     let name = description r.selections in
-    let read : reader ≡ reading_of schema events = is ∙ ap (λ (es : List Event). reading_of schema es) (take_all i events all) in
+    let read : reader ≡ reading_of schema events = is ∙ reads_all schema events in
     let state : reader.state ≡ told_document schema members = ap (λ (r : Reading). r.state) read ∙ told_as_document schema events members come in
     let closed : reader.place.frames ≡ [] = ap (λ (r : Reading). r.place.frames) read ∙ (whole_document events (members, come)).1 in
+    let own : IsOwnBuild schema =
+    subst IsOwnBuild (ap (λ (s : State). s.schema) state ∙ schema_kept (member_parts [] members) (new_solver schema)) built in
     subst (λ (s : State). FindsOrNames s index name answer) state
     (ends index name closed (subst (λ (s : State). EndsWithOrNames s index name) (sym state)
-    (ends_with_choice one_list found named schema built members choices listed index choice at r fits)))
+    (ends_with_choice one_list found named schema own members choices listed index choice at r fits)))
+
+-- also where the events were counted
+pub finds_document : (schema : SchemaView) (events : List Event) (i : ℕ) (reader : Reading) (answer : Result ResolutionHandle Unread)
+    → length events ≤ i → reader ≡ reading_of schema (take i events) → FindsRead reader answer → FindsDocument schema events answer
+finds_document schema events i reader answer all is finds =
+    finds schema events
+    (is ∙ ap (λ (es : List Event). reading_of schema es) (take_all i events all) ∙ sym (reads_all schema events))
 
 -- no event of a document is misplaced
 pub finds_no_misplaced : (schema : SchemaView) (events : List Event) (index : ℕ) → IsFirstMisplaced events index → FindsDocument schema events (Err (Misplaced index))
 finds_no_misplaced schema events index first = λ members come choices listed at choice there r fits. not_misplaced events index (members, come) first
+
+-- a handle that streamed events come to is one of their schema
+pub of_schema : (schema : SchemaView) (events : List Event) (answer : Result ResolutionHandle Unread) → Streams schema events answer → IfOk answer (IsHandleOf schema)
+of_schema schema events (Ok handle) h = subst (λ (v : SchemaView). IsHandleOf v handle) (schema_kept (parts_from beginning events) (new_solver schema)) h.1.1
+of_schema schema events (Err error) h = tt

@@ -3,6 +3,8 @@
 //! There is no tree and no second pass. A solver sees the keys of the first level and the texts
 //! under them, is asked for the deeper keys, and is told the shapes that scalars fit. Where a
 //! candidate may hide what comes, nothing is told. What lies in lists is passed over.
+ghost use Rattle.std.specs.Prelude.{IfOk};
+ghost use Rattle.facet_solver.specs.schema.ResolutionHandle.{IsHandleOf};
 ghost use Rattle.facet_solver_uses.specs.stream.Documents.{ReadsDocuments};
 ghost use Rattle.facet_solver_uses.specs.stream.Events.{Streams};
 ghost use Rattle.facet_solver_uses.specs.stream.Found.{FindsDocument};
@@ -14,9 +16,6 @@ mod reader;
 mod tell;
 
 pub use event::{Event, Refusal, Unread};
-use facet_solver::laws::{
-    lists_are_the_only_ones, told_resolutions_are_found, viable_candidates_are_named,
-};
 use facet_solver::{ResolutionHandle, Schema, SolverError};
 pub use reader::Reader;
 use std::alloc::Global;
@@ -44,13 +43,8 @@ pub fn stream<'s, 'c>(
     ensures document { ReadsDocuments schema.now events.now result }
     ensures events { Streams schema.now events.now result }
     ensures found { FindsDocument schema.now events.now result }
+    ensures handle { IfOk result (IsHandleOf schema.now) }
 {
-    // What is known of choices, of told keys and of the schema: `found` follows from these clauses
-    // and that of `finish`.
-    lists_are_the_only_ones();
-    told_resolutions_are_found();
-    viable_candidates_are_named();
-    let _ = schema.resolutions();
     let mut reader = Reader::new(alloc, schema)?;
     for (index, event) in events.iter().enumerate() {
         match reader.event(alloc, *event) {

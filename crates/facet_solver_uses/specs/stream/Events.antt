@@ -53,6 +53,14 @@ read event r = record {
   place = behind event r.place;
 }
 
+-- a reader that has read nothing
+abbrev pub new_reader : SchemaView → Reading
+new_reader schema = record { state = new_solver schema; place = beginning }
+
+-- a new reader has read events, one after another
+abbrev pub read_all : SchemaView → List Event → Reading
+read_all schema events = fold (λ now event. read event now) (new_reader schema) events
+
 -- events are a whole document: each may stand where it comes, and at the end nothing is open
 abbrev pub IsWhole : List Event → Type 0
 IsWhole events =

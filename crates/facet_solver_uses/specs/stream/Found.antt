@@ -1,5 +1,5 @@
 -- Documents that fit a resolution, and that their events come to it.
-use Rattle.std.specs.Prelude.{◌≡◌, ◌||◌, ℕ, Bool, true, List, [], ◌∷◌, Result, Ok, Err, Some, not, slice_get, ⊤}
+use Rattle.std.specs.Prelude.{◌≡◌, ◌||◌, ℕ, Bool, true, List, [], ◌∷◌, Result, Ok, Err, Some, not, slice_get}
 use Rattle.std.specs.List.{list_all, list_any}
 use Rattle.std.specs.Option.{option_map_or}
 use Rattle.facet_solver.specs.Keys.{Key, flat_key}
@@ -16,9 +16,10 @@ use Rattle.facet_solver.specs.solver.State.{State}
 use Rattle.facet_solver.specs.solver.Tag.{variant_under}
 use Rattle.facet_solver.specs.solver.Told.{TellsChoice}
 use Rattle.facet_solver.specs.declared.ResolutionHandle.{ResolutionHandle}
-use Rattle.facet_solver.specs.declared.SolverError.TheVariants.{OutOfMemory}
+use Rattle.facet_solver_uses.specs.KeysToChoice.{UnlessOutOfMemory}
 use Rattle.facet_solver_uses.specs.stream.Candidates.{may_hide}
 use Rattle.facet_solver_uses.specs.stream.Documents.{Members, no_members, member, object, events_of, member_parts, told_document}
+use Rattle.facet_solver_uses.specs.stream.Events.{Reading, read_all}
 use Rattle.facet_solver_uses.specs.stream.Tell.{Part, a_key, a_scalar, a_text}
 use Rattle.facet_solver_uses.specs.declared.stream.event.Event.{Event}
 use Rattle.facet_solver_uses.specs.declared.stream.event.Unread.{Unread}
@@ -70,8 +71,8 @@ abbrev pub FindsOrNames : State → ℕ → Name → Result ResolutionHandle Unr
 FindsOrNames s index text (Ok handle) = GivesOrNames s index text (Ok handle)
 FindsOrNames s index text (Err (Misplaced event)) = ⊥
 FindsOrNames s index text (Err Unfinished) = ⊥
-FindsOrNames s index text (Err (Solver OutOfMemory)) = ⊤
-FindsOrNames s index text (Err (Solver error)) = GivesOrNames s index text (Err error)
+FindsOrNames s index text (Err (Solver error)) =
+    UnlessOutOfMemory (GivesOrNames s index text) (Err error)
 
 -- where a document fits a choice, the answer to its events gives that choice or names it
 abbrev pub FindsDocument : SchemaView → List Event → Result ResolutionHandle Unread → Type 0
@@ -81,3 +82,9 @@ FindsDocument schema events answer =
     → (index : ℕ) (choice : List ℕ) → slice_get choices index ≡ Some choice
     → (r : Resolved) → FitsDocument schema choice r members
     → FindsOrNames (told_document schema members) index (description r.selections) answer
+
+-- so does the end of a new reader that has read the events one after another
+abbrev pub FindsRead : Reading → Result ResolutionHandle Unread → Type 0
+FindsRead r answer =
+    (schema : SchemaView) (events : List Event) → r ≡ read_all schema events
+    → FindsDocument schema events answer

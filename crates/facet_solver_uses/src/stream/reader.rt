@@ -1,17 +1,19 @@
 //! A reader of the events of a document.
 ghost use Rattle.std.specs.Prelude.{◌≡◌, ◌↔◌, [], Err, IfOk, OnErr, OnOk, false, ℕ};
 ghost use Rattle.facet_solver.specs.Names.{Name};
-ghost use Rattle.facet_solver.specs.solver.State.{new_solver};
 ghost use Rattle.facet_solver.specs.solver.Told.{EndsWithOrNames};
-ghost use Rattle.facet_solver_uses.specs.stream.Found.{FindsOrNames};
-ghost use Rattle.facet_solver_uses.specs.stream.Events.{Ends, read};
-ghost use Rattle.facet_solver_uses.specs.stream.Place.{beginning, may_stand};
+ghost use Rattle.facet_solver_uses.specs.stream.Found.{FindsOrNames, FindsRead};
+ghost use Rattle.facet_solver_uses.specs.stream.Events.{Ends, new_reader, read};
+ghost use Rattle.facet_solver_uses.specs.stream.Place.{may_stand};
 ghost use Rattle.facet_solver_uses.specs.declared.stream.event.Event.TheVariants.{Key, Scalar, Text};
 ghost use Rattle.facet_solver_uses.specs.declared.stream.event.Refusal.TheVariants.{Misplaced};
 
 use super::event::{Event, Refusal, Unread};
 use super::place::{Frame, Place};
 use super::tell::Teller;
+use facet_solver::laws::{
+    lists_are_the_only_ones, told_resolutions_are_found, viable_candidates_are_named,
+};
 use facet_solver::{ResolutionHandle, Schema, ShapeId};
 use std::alloc::{AllocError, Global};
 use std::marker::Model;
@@ -40,8 +42,7 @@ impl<'s, 'c, 'd> Reader<'s, 'c, 'd> {
     ///
     /// The only error is out of memory.
     pub fn new(alloc: Global, schema: &'s Schema<'c>) -> Result<Self, AllocError>
-        ensures { IfOk result
-            (λ reader. reader ≡ record { state = new_solver schema.now; place = beginning }) }
+        ensures { IfOk result (λ reader. reader ≡ new_reader schema.now) }
     {
         let teller = Teller::new(alloc, schema)?;
         let place = Place::new(alloc)?;
@@ -122,6 +123,19 @@ impl<'s, 'c, 'd> Reader<'s, 'c, 'd> {
     /// no resolution, or several, or out of memory. An `Ok` allocates nothing, so it does not run
     /// out of memory.
     pub fn finish(self, alloc: Global) -> Result<ResolutionHandle<'s, 'c>, Unread<'c>>
+        ensures ends { Ends self.entry result }
+        ensures found { FindsRead self.entry result }
+    {
+        // What is known of choices, of told keys and of the schema: `found` follows from these.
+        lists_are_the_only_ones();
+        told_resolutions_are_found();
+        viable_candidates_are_named();
+        let _ = self.teller.schema().resolutions();
+        self.answer(alloc)
+    }
+
+    /// That answer, by the place and the state of the solver.
+    fn answer(self, alloc: Global) -> Result<ResolutionHandle<'s, 'c>, Unread<'c>>
         ensures ends { Ends self.entry result }
         ensures found { (index : ℕ) (text : Name) → self.entry.place.frames ≡ []
             → EndsWithOrNames self.entry.state index text

@@ -39,6 +39,13 @@ impl<'s, 'c, 'd> Teller<'s, 'c, 'd> {
         Ok(Teller { schema, solver })
     }
 
+    /// The schema.
+    pub(super) fn schema(&self) -> &'s Schema<'c>
+        ensures { result.now ≡ self.now.schema }
+    {
+        self.schema
+    }
+
     /// Tells a key, by its whole path: one of the first level is seen, a deeper one may be probed.
     pub(super) fn key(&mut self, alloc: Global, whole: &[&'d str]) -> Result<(), AllocError>
         ensures ok { OnOk result ((path : List Name) (key : Name)

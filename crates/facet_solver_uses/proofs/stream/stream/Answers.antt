@@ -2,7 +2,7 @@ use Rattle.std.proofs.Common.{arith}
 use Rattle.std.specs.Prelude.{Err}
 use Rattle.facet_solver_uses.specs.stream.Events.{IsFirstMisplaced}
 use Rattle.facet_solver_uses.specs.declared.stream.event.Unread.TheVariants.{Misplaced}
-use Rattle.facet_solver_uses.proofs.FoundDocuments.{finds_document, finds_no_misplaced}
+use Rattle.facet_solver_uses.proofs.FoundDocuments.{finds_document, finds_no_misplaced, of_schema}
 use Rattle.facet_solver_uses.proofs.WholeDocuments.{reads_documents}
 use Rattle.facet_solver_uses.proofs.Events.{placed_more, reading_more, streams_all}
 use Rattle.facet_solver_uses.proofs.stream.stream.Goals as goal
@@ -21,12 +21,15 @@ returns-in-Err-Misplaced-clause-found c =
 
 pub returns-clause-document : goal.returns-clause-document
 returns-clause-document c =
-    let index = c.loop-index.index in
     reads_documents c.args.schema.now c.args.events.now c.finish.result
-    (streams_all c.args.schema.now c.args.events.now index c.loop-index.reader c.finish.result c.loop-index-test.false c.loop-index.invariant.was_read c.loop-index.invariant.placed c.finish.ensures.ends)
+    (streams_all c.args.schema.now c.args.events.now c.loop-index.index c.loop-index.reader c.finish.result c.loop-index-test.false c.loop-index.invariant.was_read c.loop-index.invariant.placed c.finish.ensures.ends)
 
 pub returns-clause-found : goal.returns-clause-found
 returns-clause-found c =
-    finds_document c.lists_are_the_only_ones.ensures.choices c.told_resolutions_are_found.ensures.viable c.viable_candidates_are_named.ensures
-    c.args.schema.now c.resolutions.ensures.built c.args.events.now c.loop-index.index c.loop-index.reader c.finish.result
+    finds_document c.args.schema.now c.args.events.now c.loop-index.index c.loop-index.reader c.finish.result
     c.loop-index-test.false c.loop-index.invariant.was_read c.finish.ensures.found
+
+pub returns-clause-handle : goal.returns-clause-handle
+returns-clause-handle c =
+    of_schema c.args.schema.now c.args.events.now c.finish.result
+    (streams_all c.args.schema.now c.args.events.now c.loop-index.index c.loop-index.reader c.finish.result c.loop-index-test.false c.loop-index.invariant.was_read c.loop-index.invariant.placed c.finish.ensures.ends)
