@@ -1,4 +1,4 @@
-use Rattle.std.proofs.Common.{◌≡◌, ℕ, ◌-◌, ◌<◌, ◌∙◌, Bool, Bor, List, [], ◌∷◌, ap, arith, drop, length, not, sym, ◌||◌}
+use Rattle.std.proofs.Common.{◌≡◌, ℕ, ◌<◌, ◌∙◌, Bor, List, [], ◌∷◌, ap, arith, drop, length, not, sym, ◌||◌}
 use Rattle.std.specs.Prelude.{true, false}
 use Rattle.std.specs.Option.{option_map_or}
 use Rattle.std.proofs.lemmas.List.{length-drop, length-map}
