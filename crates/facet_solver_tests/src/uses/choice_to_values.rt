@@ -2,9 +2,9 @@
 
 use super::keys;
 use crate::answer::Answer;
-use facet_solver_uses::choice_to_values::{FieldValue, Mismatch, Values, choice_to_values};
 use crate::resolution::add_key;
 use facet_solver::Resolution;
+use facet_solver_uses::choice_to_values::{FieldValue, Mismatch, Values, choice_to_values};
 
 /// Tells what the members stand for whose keys are left, in a resolution.
 pub fn of_choice(resolution: &Resolution<'_>, answer: &mut Answer<'_>) {

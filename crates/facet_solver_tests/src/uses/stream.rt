@@ -1,11 +1,11 @@
 //! Calls of the streaming reader.
 
 use crate::answer::Answer;
-use facet_solver_uses::stream::{Event, Unread, stream};
 use crate::catalogue::Catalogue;
 use crate::errors::add_verdict;
 use crate::resolution::add_refusal;
 use facet_solver::{Schema, ShapeId};
+use facet_solver_uses::stream::{Event, Unread, stream};
 
 /// Tells what the events of a document come to that are left.
 pub fn of_events(catalogue: Catalogue<'_>, answer: &mut Answer<'_>) {

@@ -1,8 +1,8 @@
 //! Calls of the untagged reader.
 
 use crate::answer::Answer;
-use facet_solver_uses::untagged::{ValueKind, variants_for};
 use crate::catalogue::{Catalogue, add_names};
+use facet_solver_uses::untagged::{ValueKind, variants_for};
 use std::alloc::AllocError;
 
 /// Tells the variants that a value may be, which the words behind the enum describe.
