@@ -32,8 +32,8 @@ use std::alloc::Global;
 /// `Ambiguous` where several have, whose descriptions stand in the order of the resolutions;
 /// `OutOfMemory`, at any time.
 ///
-/// A key of the first level is looked up once. A deeper key and a value go through the candidates
-/// that are left, and in each along the path. What lies in a list takes no such time.
+/// An event takes time with its depth. Outside lists a key of the first level is looked up once, and
+/// a deeper key or a value goes through the candidates that are left, in each along its path.
 #[tactic(auto, using(crate::proofs::Events::reading_more, crate::proofs::Events::placed_more, crate::proofs::Events::streams_all, crate::proofs::WholeDocuments::reads_documents))]
 pub fn stream<'s, 'c>(
     alloc: Global,

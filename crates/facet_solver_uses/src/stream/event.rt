@@ -8,7 +8,8 @@ use std::alloc::AllocError;
 /// What a reader of a document comes upon.
 ///
 /// Keys are kept as long as the document. A text and the shapes of a value are needed only while
-/// the event is read.
+/// the event is read. The shapes are all that the value fits: also an option of what it is, a
+/// wrapper, an enum.
 #[derive(Clone, Copy)]
 pub enum Event<'d, 'v> {
     /// A key of an object, before its value.

@@ -117,11 +117,12 @@ impl<'s, 'c, 'd> Reader<'s, 'c, 'd> {
         Ok(())
     }
 
-    /// The resolution that the document means.
+    /// The resolution that the document means. Where the document fits a choice, it is that of this
+    /// choice, or `Ambiguous`, which has its description at its place.
     ///
     /// Errors: `Unfinished` where the document has not ended; otherwise that of the solver: it fits
-    /// no resolution, or several, or out of memory. An `Ok` allocates nothing, so it does not run
-    /// out of memory.
+    /// no resolution, or several, or there is no memory to say so. An `Ok` allocates nothing, so it
+    /// does not run out of memory.
     pub fn finish(self, alloc: Global) -> Result<ResolutionHandle<'s, 'c>, Unread<'c>>
         ensures ends { Ends self.entry result }
         ensures found { FindsRead self.entry result }
