@@ -49,7 +49,7 @@ impl<'d> Part<'d> {
 /// element of the name, else `Elements`.
 ///
 /// A catch-all is no element of a name. So where one resolution has a catch-all for elements, and
-/// another a field that takes all elements, `Elements` keeps the second alone.
+/// another a field that takes all elements, `Elements` leaves the second.
 ///
 /// It asks one resolution after another, until one has the element.
 pub fn child_part<'d>(schema: &Schema<'_>, name: &'d str) -> Part<'d>
