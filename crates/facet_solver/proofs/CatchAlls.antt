@@ -27,16 +27,16 @@ use Rattle.facet_solver.specs.declared.build.contribution.categories.Categories.
 use Rattle.facet_solver.specs.build.Place.{Path, field_path}
 use Rattle.facet_solver.specs.declared.build.format.Format.{Format}
 use Rattle.facet_solver.specs.declared.build.format.Format.TheVariants.{Dom, Flat as FlatFormat}
-use Rattle.facet_solver.specs.declared.build.role.Role as code
-use Rattle.facet_solver.specs.declared.build.role.Role.TheVariants.{Alternatives, Leaf, Regular}
-use Rattle.facet_solver.specs.declared.build.role.Target.{Target}
+use Rattle.facet_solver_shape.specs.declared.role.Role as code
+use Rattle.facet_solver_shape.specs.declared.role.Role.TheVariants.{Alternatives, Leaf, Regular}
+use Rattle.facet_solver_shape.specs.declared.role.Target.{Target}
 use Rattle.facet_solver.specs.build.Contribution.{AreCatchAlls, AreContributions, at, both, contribution_of_field, contribution_of_fields, contribution_of_role, has, has_last, none, only}
 use Rattle.facet_solver.specs.build.Build.{Build}
 use Rattle.facet_solver.specs.build.CatchAlls.{as_catch_all, emitted, emitted_by, last_catch_all, last_with, with_last}
 use Rattle.facet_solver.specs.build.Emissions.{Emission, a_catch_all, a_field, a_selection, catch_all_field, emit_catch_all, emit_plain, some_key_paths}
 use Rattle.facet_solver.specs.build.Outcome.{resolved, take_all, take_in}
 use Rattle.facet_solver.specs.build.Format.{catch_all_category}
-use Rattle.facet_solver.specs.build.Roles.{Role, alternatives, block, catch_all, leaf, regular, role_of, role_view}
+use Rattle.facet_solver_shape.specs.Roles.{Role, alternatives, block, catch_all, leaf, regular, role_of, role_view}
 use Rattle.facet_solver.specs.build.Walk.{Walked, Walking, and_then, emit, put_before, walk_fields, walk_fields_step, walk_optional, walk_role}
 use Rattle.facet_solver.proofs.Contributed.{block_below, both_catch_alls, both_has, contribution_of_block}
 use Rattle.facet_solver.proofs.WalkSteps.{walk-is_step}

@@ -10,8 +10,8 @@ use Rattle.facet_solver_shape.specs.declared.shape.Variant.{Variant}
 use Rattle.facet_solver.specs.build.Place.{at_root, choosing, variant_path, Path}
 use Rattle.facet_solver.specs.build.Emissions.{emit_variant, selection_of, Emission}
 use Rattle.facet_solver.specs.build.Walk.{Walk, emit, walk_variant_step, walk_content_step, walk_present, walk_role, walk_fields_step, walk_within, walk_fields, walk_root, walk_root_shape, walk_root_kind, walk_root_variant, walk_content}
-use Rattle.facet_solver.specs.build.Representation.{is_walked}
-use Rattle.facet_solver.specs.build.Roles.{Role, regular, block, alternatives, catch_all, leaf, role_of, may_be_absent}
+use Rattle.facet_solver_shape.specs.Representation.{is_walked}
+use Rattle.facet_solver_shape.specs.Roles.{Role, regular, block, alternatives, catch_all, leaf, role_of, may_be_absent}
 use Rattle.facet_solver.specs.build.Listing.{Choices, no_choice, product, indexed, choices_of_variant, choices_of_present, choices_of_optional, choices_of_role, choices_of_fields_step, choices_within, choices_of_fields, choices_of_root, choices_of_root_shape, choices_of_root_kind}
 use Rattle.facet_solver.specs.build.Choice.{ListsChoices, Emits, IsChoice, IsResolution, Enumerates, HasNoDuplicates, IsChoiceDuplicate, resolution_from}
 use Rattle.facet_solver.proofs.Listing.{In, In-append, In-map_from, In-product_from, IsExact, IsExact-none, IsExact-emit, IsExact-put_before, IsExact-and_then, IsExact-choose, IsExact-optional}

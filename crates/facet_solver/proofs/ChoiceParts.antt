@@ -12,10 +12,11 @@ use Rattle.facet_solver_shape.specs.declared.shape.Variant.{Variant}
 use Rattle.facet_solver_shape.specs.Catalogues.{FieldsBelow, NamesEarlier}
 use Rattle.facet_solver.specs.declared.build.choices.Part.{Part}
 use Rattle.facet_solver.specs.build.Build.{Build, repr_for}
-use Rattle.facet_solver.specs.build.Representation.{is_walked}
-use Rattle.facet_solver.specs.declared.build.role.Target.{Target}
+use Rattle.facet_solver_shape.specs.Representation.{is_walked}
+use Rattle.facet_solver_shape.specs.declared.role.Target.{Target}
 use Rattle.facet_solver_shape.specs.declared.shape.Shape.{Shape}
-use Rattle.facet_solver.specs.build.Roles.{IsPlain, Role, alternatives, block, catch_all, leaf, may_be_absent, regular, role_of}
+use Rattle.facet_solver.specs.build.Emissions.{IsPlain}
+use Rattle.facet_solver_shape.specs.Roles.{Role, alternatives, block, catch_all, leaf, may_be_absent, regular, role_of}
 use Rattle.facet_solver.specs.build.Work.{work_of_field, work_of_fields, work_of_role, work_of_variant, work_of_variants}
 use Rattle.facet_solver.specs.build.Count.{count_content, count_field, count_fields, count_of_root, count_optional, count_present, count_role, count_variant, count_variants}
 use Rattle.facet_solver.specs.build.Listing.{Choices, choices_of_field, choices_of_fields, choices_of_fields_step, choices_of_optional, choices_of_present, choices_of_role, choices_of_root, choices_of_variant, choices_of_variants, indexed, no_choice, product}

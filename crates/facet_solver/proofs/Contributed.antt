@@ -10,12 +10,12 @@ use Rattle.facet_solver_shape.specs.declared.shape.ShapeKind.{ShapeKind}
 use Rattle.facet_solver_shape.specs.declared.shape.ShapeKind.TheVariants.{Enum, Struct}
 use Rattle.facet_solver.specs.declared.build.contribution.Contribution.{Contribution}
 use Rattle.facet_solver.specs.declared.build.contribution.Contribution.TheVariants.{CatchAlls, Emissions, Choices as ContributesChoices}
-use Rattle.facet_solver.specs.declared.build.role.Target.{Target}
+use Rattle.facet_solver_shape.specs.declared.role.Target.{Target}
 use Rattle.facet_solver.specs.build.Contribution.{AreCatchAlls, AreContributions, at, both, contribution_of_field, contribution_of_fields, contribution_of_kind, contribution_of_role, has, has_last, union}
 use Rattle.facet_solver.specs.build.Build.{Build, kind_at}
 use Rattle.facet_solver.specs.build.Content.{struct_fields}
 use Rattle.facet_solver.specs.build.Listing.{Choices, choices_of_field, choices_of_fields, choices_of_fields_step, choices_of_optional, choices_of_role, no_choice, product}
-use Rattle.facet_solver.specs.build.Roles.{Role, alternatives, block, catch_all, leaf, regular, role_of}
+use Rattle.facet_solver_shape.specs.Roles.{Role, alternatives, block, catch_all, leaf, regular, role_of}
 use Rattle.facet_solver.proofs.Roles.{FieldsBelow-mono, RoleBelow, role_of-below}
 use Rattle.facet_solver.proofs.Serving.{role_of-target}
 use Rattle.facet_solver.proofs.WalkSteps.{choices_of_fields-step}

@@ -11,11 +11,11 @@ use Rattle.facet_solver_shape.specs.declared.shape.ShapeKind.{ShapeKind}
 use Rattle.facet_solver_shape.specs.declared.shape.ShapeKind.TheVariants.{Struct}
 use Rattle.facet_solver.specs.declared.build.contribution.Contribution.{Contribution}
 use Rattle.facet_solver.specs.declared.build.contribution.Contribution.TheVariants.{CatchAlls, Emissions, Choices as ContributesChoices}
-use Rattle.facet_solver.specs.declared.build.role.Target.{Target}
+use Rattle.facet_solver_shape.specs.declared.role.Target.{Target}
 use Rattle.facet_solver.specs.declared.build.contribution.categories.Categories.{Categories}
 use Rattle.facet_solver.specs.build.Contribution.{AreContributions, at, both, contribution_of_field, contribution_of_fields, contribution_of_kind, contribution_of_role, none, union}
 use Rattle.facet_solver.specs.build.Build.{Build, kind_at}
-use Rattle.facet_solver.specs.build.Roles.{Role, alternatives, block, catch_all, leaf, regular, role_of}
+use Rattle.facet_solver_shape.specs.Roles.{Role, alternatives, block, catch_all, leaf, regular, role_of}
 use Rattle.facet_solver.specs.build.Nested.{structs_alone}
 use Rattle.facet_solver.proofs.Nested.{kind_at-below}
 use Rattle.facet_solver.proofs.Outcome.{get_push}

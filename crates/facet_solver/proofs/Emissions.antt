@@ -3,11 +3,11 @@ use Rattle.facet_solver.specs.build.Build.{Build}
 use Rattle.std.proofs.Common.{◌≡◌, [], ◌∷◌, ◌++◌, string_bytes, refl, sym, ap}
 use Rattle.facet_solver_shape.specs.declared.shape.Field.{Field}
 use Rattle.facet_solver_shape.specs.Names.{Name, effective_name}
-use Rattle.facet_solver.specs.build.Representation.{Repr, flattened, externally_tagged, internally_tagged, adjacently_tagged}
+use Rattle.facet_solver_shape.specs.Representation.{Repr, flattened, externally_tagged, internally_tagged, adjacently_tagged}
 use Rattle.facet_solver.specs.build.Nested.{no_paths, named, nested_paths, content_paths}
 use Rattle.facet_solver.specs.build.Place.{Chosen, Path}
 use Rattle.facet_solver.specs.build.Emissions.{a_field, some_key_paths, a_catch_all, field_and_paths, regular_field, catch_all_field, selector_field, emit_regular, emit_catch_all, emit_selector_by}
-use Rattle.facet_solver.specs.declared.build.role.Target.{Target}
+use Rattle.facet_solver_shape.specs.declared.role.Target.{Target}
 
 module _ (build : Build) (f : Field) (place : Path) where
   -- a regular field, and then the key paths of its name and behind it

@@ -25,10 +25,10 @@ use Rattle.facet_solver_shape.proofs.Resolved.{first_part, none_above, second_pa
 use Rattle.facet_solver_shape.proofs.Keys.{key_cmp_total, key_cmp_same}
 use Rattle.facet_solver.specs.declared.build.format.Format.{Format}
 use Rattle.facet_solver.specs.declared.build.format.Format.TheVariants.{Flat, Dom}
-use Rattle.facet_solver.specs.build.Representation.{Repr, flattened, externally_tagged, internally_tagged, adjacently_tagged, is_walked}
+use Rattle.facet_solver_shape.specs.Representation.{Repr, flattened, externally_tagged, internally_tagged, adjacently_tagged, is_walked}
 use Rattle.facet_solver.specs.build.Format.{category_of_mark, field_category, selector_category}
 use Rattle.facet_solver.specs.build.Content.{content_of}
-use Rattle.facet_solver.specs.build.Roles.{Role, regular, block, alternatives, catch_all, leaf, role_of, may_be_absent}
+use Rattle.facet_solver_shape.specs.Roles.{Role, regular, block, alternatives, catch_all, leaf, role_of, may_be_absent}
 use Rattle.facet_solver.specs.build.Nested.{with_key_paths}
 use Rattle.facet_solver.specs.build.Emissions.{Emission, a_field, some_key_paths, a_selection, a_catch_all, field_and_paths, selection_of, regular_field, leaf_field, selector_field, emit_regular, emit_catch_all, emit_leaf, emit_selector_by, emit_variant, emit_plain}
 use Rattle.facet_solver.specs.build.Place.{Chosen, at_root, at_root_variant, choosing, field_path, variant_path, Path}

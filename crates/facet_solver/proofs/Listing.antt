@@ -8,8 +8,8 @@ use Rattle.facet_solver.specs.build.Build.{Build, Catalogue}
 use Rattle.std.proofs.lemmas.List.{drop_more}
 use Rattle.facet_solver_shape.specs.declared.shape.Field.{Field}
 use Rattle.facet_solver_shape.specs.Catalogues.{FieldsBelow, VariantsBelow, NamesEarlier}
-use Rattle.facet_solver.specs.declared.build.role.Target.{Target}
-use Rattle.facet_solver.specs.build.Roles.{block, alternatives, role_of}
+use Rattle.facet_solver_shape.specs.declared.role.Target.{Target}
+use Rattle.facet_solver_shape.specs.Roles.{block, alternatives, role_of}
 use Rattle.std.specs.Prelude.{Vec}
 use Rattle.std.specs.declared.alloc.Global.{Global}
 use Rattle.facet_solver_shape.specs.declared.shape.Shape.{Shape}

@@ -8,13 +8,13 @@ use Rattle.facet_solver_shape.specs.declared.shape.Shape.{Shape}
 use Rattle.facet_solver_shape.specs.declared.shape.ShapeKind.{ShapeKind}
 use Rattle.facet_solver_shape.specs.declared.shape.ShapeKind.TheVariants.{Enum, Struct}
 use Rattle.facet_solver_shape.specs.declared.shape.Variant.{Variant}
-use Rattle.facet_solver.specs.declared.build.role.Target.{Target}
+use Rattle.facet_solver_shape.specs.declared.role.Target.{Target}
 use Rattle.facet_solver.specs.build.Build.{Build, Catalogue, kind_at, repr_for}
 use Rattle.facet_solver.specs.build.Content.{IsNewtypeOf, effective_of_only, newtype_fields, struct_fields}
 use Rattle.facet_solver.specs.build.NestedTable.{IsMarked, IsMarkedMore}
 use Rattle.facet_solver.specs.build.Reached.{ContentReached, ContentReachedBy, FieldReached, IsReachedAt, IsReachedMore, KindReached, Reach, RoleReached, ShapeReached, VariantReached, reach}
-use Rattle.facet_solver.specs.build.Representation.{is_walked}
-use Rattle.facet_solver.specs.build.Roles.{Role, alternatives, block, catch_all, leaf, regular, role_of}
+use Rattle.facet_solver_shape.specs.Representation.{is_walked}
+use Rattle.facet_solver_shape.specs.Roles.{Role, alternatives, block, catch_all, leaf, regular, role_of}
 use Rattle.facet_solver.proofs.Marks.{more-mono, more-refl, more-set, more-trans}
 use Rattle.facet_solver.proofs.Roles.{target_in}
 

@@ -15,11 +15,12 @@ use Rattle.facet_solver_shape.specs.EffectiveShapes.{effective}
 use Rattle.facet_solver_shape.proofs.EffectiveShapes.{effective-le}
 use Rattle.facet_solver.specs.build.Build.{Catalogue, kind_of, kind_at}
 use Rattle.facet_solver.specs.build.Content.{struct_fields, newtype_fields, content_of, content_or, is_zero}
-use Rattle.facet_solver.specs.build.Roles.{Role, regular, block, alternatives, catch_all, leaf, target_of, target_by_kind, role_of, role_of_target, role_by_kind, role_view, may_be_absent, IsPlain}
-use Rattle.facet_solver.specs.declared.build.role.Target.{Target}
+use Rattle.facet_solver.specs.build.Emissions.{IsPlain}
+use Rattle.facet_solver_shape.specs.Roles.{Role, regular, block, alternatives, catch_all, leaf, target_of, target_by_kind, role_of, role_of_target, role_by_kind, role_view, may_be_absent}
+use Rattle.facet_solver_shape.specs.declared.role.Target.{Target}
 use Rattle.std.specs.Borrow.{Bor}
-use Rattle.facet_solver.specs.declared.build.role.Role as role
-use Rattle.facet_solver.specs.declared.build.role.Role.TheVariants.{Regular, Block, Alternatives, CatchAll, Leaf}
+use Rattle.facet_solver_shape.specs.declared.role.Role as role
+use Rattle.facet_solver_shape.specs.declared.role.Role.TheVariants.{Regular, Block, Alternatives, CatchAll, Leaf}
 
 -- ---- what goes down a checked catalogue ends: definitions by levels don't depend on the levels
 -- that are left a limit may rise

@@ -17,14 +17,14 @@ use Rattle.facet_solver.specs.declared.build.nested.by_name.FieldsByName.{Fields
 use Rattle.facet_solver.specs.declared.build.nested.table.Entry.{Entry}
 use Rattle.facet_solver.specs.declared.build.nested.tables.NestedTables.{NestedTables}
 use Rattle.facet_solver.specs.declared.build.place.Chosen.{Chosen}
-use Rattle.facet_solver.specs.declared.build.role.Target.{Target}
+use Rattle.facet_solver_shape.specs.declared.role.Target.{Target}
 use Rattle.facet_solver.specs.build.Build.{Build, Catalogue, kind_at, kind_of, repr_for}
 use Rattle.facet_solver.specs.build.Content.{content_of, content_or, newtype_fields, struct_fields}
 use Rattle.facet_solver.specs.build.Nested.{Entered, KeyPaths, content_paths, every_kind, named, nested_paths, no_paths, structs_alone, under_shape, under_variant, with_key_paths}
 use Rattle.facet_solver.specs.build.NestedTable.{AllLeadTo, AreEntries, EntriesStandFor, HasVariants, IsMarked, LeadEarlier, LeadTo, is_filled, paths_by_name, under_at, variant_at, variants_at, variants_of}
 use Rattle.facet_solver.specs.build.Reached.{ContentReachedBy, FieldReached, IsChosen, KindReached, Reach, RoleReached, ServesEnum, ServesField, ServesFields, ServesVariant, ShapeReached, VariantReached}
-use Rattle.facet_solver.specs.build.Representation.{is_walked}
-use Rattle.facet_solver.specs.build.Roles.{Role, alternatives, block, catch_all, leaf, regular, role_by_kind, role_of, role_of_target, target_of}
+use Rattle.facet_solver_shape.specs.Representation.{is_walked}
+use Rattle.facet_solver_shape.specs.Roles.{Role, alternatives, block, catch_all, leaf, regular, role_by_kind, role_of, role_of_target, target_of}
 use Rattle.facet_solver.proofs.Content.{newtype_at}
 use Rattle.facet_solver.proofs.Nested.{under_shape-step}
 use Rattle.facet_solver.proofs.NestedFields.{all_lead_also, leads_also, second_of}

@@ -20,11 +20,11 @@ use Rattle.facet_solver.specs.build.Content.{content_of}
 use Rattle.facet_solver.specs.build.Count.{count_content, count_fields, count_variant, count_variants}
 use Rattle.facet_solver.specs.build.Counts.{CountsTo}
 use Rattle.facet_solver.specs.build.Listing.{Choices, choices_of_fields, choices_of_variant, choices_of_variants, indexed}
-use Rattle.facet_solver.specs.build.Representation.{is_walked}
-use Rattle.facet_solver.specs.build.Roles.{alternatives, role_of}
+use Rattle.facet_solver_shape.specs.Representation.{is_walked}
+use Rattle.facet_solver_shape.specs.Roles.{alternatives, role_of}
 use Rattle.facet_solver.specs.build.Starts.{AreStarts, AreStartsOf, HasStarts, HasWalkedStarts, IsLastStart, IsMoreStarts, count_before, starts_at}
 use Rattle.facet_solver.specs.declared.build.count.saturating.SaturatingCount.{SaturatingCount}
-use Rattle.facet_solver.specs.declared.build.role.Target.{Target}
+use Rattle.facet_solver_shape.specs.declared.role.Target.{Target}
 use Rattle.facet_solver.proofs.ChoiceParts.{at_variant, content_count, few_at_variant}
 use Rattle.facet_solver.proofs.Count.{length-map'}
 use Rattle.facet_solver.proofs.Outcome.{get_push}

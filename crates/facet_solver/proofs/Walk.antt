@@ -9,10 +9,10 @@ use Rattle.facet_solver_shape.specs.declared.resolution.error.SchemaError.TheVar
 use Rattle.facet_solver_shape.specs.Catalogues.{FieldsBelow, VariantsBelow, NamesEarlier}
 use Rattle.facet_solver_shape.specs.Resolved.{Resolved}
 use Rattle.facet_solver.specs.build.Outcome.{ErrorOf, StopsBy, Walks, duplicate_view, Outcome, resolved, take_all, effect, take_in}
-use Rattle.facet_solver.specs.build.Roles.{IsPlain, Role, regular, block, alternatives, catch_all, leaf, role_of, may_be_absent}
-use Rattle.facet_solver.specs.build.Representation.{is_walked}
+use Rattle.facet_solver_shape.specs.Roles.{Role, regular, block, alternatives, catch_all, leaf, role_of, may_be_absent}
+use Rattle.facet_solver_shape.specs.Representation.{is_walked}
 use Rattle.facet_solver.specs.build.Content.{content_of, newtype_fields, content_or}
-use Rattle.facet_solver.specs.build.Emissions.{Emission, emit_variant, emit_plain, selection_of}
+use Rattle.facet_solver.specs.build.Emissions.{IsPlain, Emission, emit_variant, emit_plain, selection_of}
 use Rattle.facet_solver.specs.build.Place.{Path, Chosen, choosing, field_path, variant_path, at_root, at_root_variant}
 use Rattle.facet_solver.specs.build.Walk.{Walked, put_before, and_then, emit, choose, at_chosen, walk_fields, walk_field, walk_present_field, walk_present, walk_optional, walk_variant, walk_content, walk_content_step, walk_fields_step, HasChoice, HasPresence, Walking, walk_root, walk_root_shape, walk_root_kind, walk_root_variant}
 use Rattle.facet_solver_shape.specs.declared.shape.Shape.{Shape}
@@ -20,7 +20,7 @@ use Rattle.facet_solver_shape.specs.declared.shape.Field.{Field}
 use Rattle.facet_solver_shape.specs.declared.shape.Variant.{Variant}
 use Rattle.facet_solver.proofs.Outcome.{take_all-nil, effect-put_before, effect-and_then-stopped, effect-stopped, put_before-some, take_all-one}
 use Rattle.facet_solver.proofs.WalkSteps.{walk-is_step}
-use Rattle.facet_solver.specs.declared.build.role.Target.{Target}
+use Rattle.facet_solver_shape.specs.declared.role.Target.{Target}
 use Rattle.std.specs.declared.alloc.Global.{Global}
 use Rattle.facet_solver_shape.specs.declared.shape.StructKind.{StructKind}
 use Rattle.facet_solver_shape.specs.declared.shape.ShapeKind.{ShapeKind}

@@ -12,7 +12,7 @@ use Rattle.facet_solver_shape.specs.declared.resolution.error.SchemaError.{Schem
 use Rattle.facet_solver_shape.specs.declared.shape.Field.{Field}
 use Rattle.facet_solver.specs.declared.build.nested.tables.NestedTables.{NestedTables}
 use Rattle.facet_solver.specs.declared.build.place.Chosen as code
-use Rattle.facet_solver.specs.declared.build.role.Target.{Target}
+use Rattle.facet_solver_shape.specs.declared.role.Target.{Target}
 use Rattle.facet_solver.specs.declared.build.walk.Frame.{Frame}
 use Rattle.facet_solver.specs.declared.build.walk.Further.{Further}
 use Rattle.facet_solver.specs.build.Build.{Build, repr_for}
@@ -21,8 +21,8 @@ use Rattle.facet_solver.specs.build.Emissions.{Emission}
 use Rattle.facet_solver.specs.build.Outcome.{Outcome, StopsBy, effect, resolved}
 use Rattle.facet_solver.specs.build.Place.{Path}
 use Rattle.facet_solver.specs.build.Reached.{IsChosen, ServesEnum, ServesField, ServesFields}
-use Rattle.facet_solver.specs.build.Representation.{is_walked}
-use Rattle.facet_solver.specs.build.Roles.{block, role_of}
+use Rattle.facet_solver_shape.specs.Representation.{is_walked}
+use Rattle.facet_solver_shape.specs.Roles.{block, role_of}
 use Rattle.facet_solver.specs.build.Walk.{Walked, and_then, put_before, walk_field, walk_fields, walk_fields_step}
 use Rattle.facet_solver.specs.build.Work.{work_of_field, work_of_fields, work_of_role, work_of_variant}
 use Rattle.facet_solver.specs.build.WalkFrames.{AreFrames, IsInside, IsReached, Leads, LeadsBelow, walk_frames, walk_inside}

@@ -8,10 +8,10 @@ use Rattle.facet_solver_shape.specs.declared.shape.Variant.{Variant}
 use Rattle.facet_solver_shape.specs.Catalogues.{FieldsBelow, VariantsBelow, NamesEarlier}
 use Rattle.facet_solver.specs.build.Content.{content_of}
 use Rattle.facet_solver.specs.build.Place.{choosing, field_path, variant_path, Path}
-use Rattle.facet_solver.specs.build.Emissions.{emit_variant}
+use Rattle.facet_solver.specs.build.Emissions.{IsPlain, emit_variant}
 use Rattle.facet_solver.specs.build.Walk.{Walked, Walk, put_before, and_then, emit, choose, at_chosen, walk_variant_step, walk_content_step, walk_present, walk_optional, walk_role, walk_fields_step, walk_within, walk_fields, Walking}
-use Rattle.facet_solver.specs.build.Representation.{is_walked}
-use Rattle.facet_solver.specs.build.Roles.{Role, regular, block, alternatives, catch_all, leaf, role_of, target_of, role_of_target, may_be_absent, IsPlain}
+use Rattle.facet_solver_shape.specs.Representation.{is_walked}
+use Rattle.facet_solver_shape.specs.Roles.{Role, regular, block, alternatives, catch_all, leaf, role_of, target_of, role_of_target, may_be_absent}
 use Rattle.facet_solver.specs.build.Listing.{Choices, product, indexed, choices_of_variant, choices_of_present, choices_of_optional, choices_of_role, choices_of_fields_step, choices_within, choices_of_fields}
 use Rattle.facet_solver.proofs.Roles.{RoleBelow, role_of-below, content_of-below, IsLocal, one_step, role_of_target-below, same_levels}
 use Rattle.std.proofs.lemmas.Option.{slice_get_within}

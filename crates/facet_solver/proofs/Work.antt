@@ -6,10 +6,10 @@ use Rattle.facet_solver_shape.specs.declared.shape.Field.{Field}
 use Rattle.facet_solver_shape.specs.declared.shape.Shape.{Shape}
 use Rattle.facet_solver_shape.specs.declared.shape.Variant.{Variant}
 use Rattle.facet_solver_shape.specs.Catalogues.{FieldsBelow, NamesEarlier}
-use Rattle.facet_solver.specs.declared.build.role.Target.{Target}
+use Rattle.facet_solver_shape.specs.declared.role.Target.{Target}
 use Rattle.facet_solver.specs.build.Build.{Build}
 use Rattle.facet_solver.specs.build.Content.{content_of}
-use Rattle.facet_solver.specs.build.Roles.{Role, regular, block, alternatives, catch_all, leaf, role_of}
+use Rattle.facet_solver_shape.specs.Roles.{Role, regular, block, alternatives, catch_all, leaf, role_of}
 use Rattle.facet_solver.specs.build.Work.{Work, work_of_field, work_of_fields, work_of_fields_step, work_of_role, work_of_variant, work_within}
 use Rattle.facet_solver.proofs.Roles.{IsLocal, RoleBelow, content_of-below, one_step, role_of-below}
 use Rattle.facet_solver.proofs.Count.{sum_by-same}

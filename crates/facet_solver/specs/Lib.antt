@@ -1,6 +1,10 @@
 pub use Rattle.facet_solver_shape.specs.Names
 pub use Rattle.facet_solver_shape.specs.Scalars
+pub use Rattle.facet_solver_shape.specs.Ranges
+pub use Rattle.facet_solver_shape.specs.Metadata
 pub use Rattle.facet_solver_shape.specs.Catalogues
+pub use Rattle.facet_solver_shape.specs.Roles
+pub use Rattle.facet_solver_shape.specs.Representation
 pub use Rattle.facet_solver_shape.specs.Pointers
 pub use Rattle.facet_solver_shape.specs.EffectiveShapes
 pub use Rattle.facet_solver_shape.specs.Paths

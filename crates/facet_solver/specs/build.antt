@@ -1,8 +1,6 @@
 -- What a build makes of a catalogue.
 pub mod Build
 pub mod Format
-pub mod Representation
-pub mod Roles
 pub mod Content
 pub mod Place
 pub mod Emissions

@@ -2,8 +2,8 @@
 ghost use Rattle.std.specs.Prelude.{◌≡◌, ◌<◌, length, slice_get};
 ghost use Rattle.facet_solver_shape.specs.Catalogues.{NamesEarlier};
 ghost use Rattle.facet_solver.specs.build.Build.{build_of, repr_for};
-ghost use Rattle.facet_solver.specs.build.Representation as representation;
-ghost use Rattle.facet_solver.specs.build.Representation.{repr_view};
+ghost use Rattle.facet_solver_shape.specs.Representation as representation;
+ghost use Rattle.facet_solver_shape.specs.Representation.{repr_view};
 
 pub(crate) mod catch_alls;
 pub(crate) mod choices;
@@ -15,17 +15,14 @@ pub(crate) mod field;
 pub mod format;
 pub(crate) mod nested;
 pub(crate) mod place;
-pub mod representation;
 pub(crate) mod resolve;
-pub(crate) mod role;
 pub(crate) mod starts;
 pub(crate) mod visit;
 pub(crate) mod walk;
 pub(crate) mod walker;
 
 use crate::build::format::Format;
-use crate::build::representation::EnumRepr;
-use facet_solver_shape::{Shape, ShapeId, Shapes};
+use facet_solver_shape::{EnumRepr, Shape, ShapeId, Shapes};
 use std::alloc::Global;
 
 /// The catalogue and the rules of a build, with the allocator of what it makes.
@@ -53,7 +50,7 @@ impl<'c> Build<'c> {
     pub(crate) fn walks_content(self, shape: &'c Shape) -> bool
         ensures { result ≡ representation.is_walked (repr_for (build_of self.entry) shape.now) }
     {
-        self.repr_for(shape).walks_content()
+        walks_content(self.repr_for(shape))
     }
 
     /// The shape at an index of the catalogue.
@@ -67,4 +64,14 @@ impl<'c> Build<'c> {
             None => unreachable!(),
         }
     }
+}
+
+/// Whether a representation has a variant's content walked at the enum's own level.
+fn walks_content(repr: EnumRepr) -> bool
+    ensures { result ≡ representation.is_walked (repr_view repr.entry) }
+{
+    matches!(
+        repr,
+        EnumRepr::Flattened | EnumRepr::InternallyTagged { .. }
+    )
 }

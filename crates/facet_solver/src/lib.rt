@@ -20,11 +20,10 @@ mod set;
 mod solver;
 
 pub use build::format::Format;
-pub use build::representation::EnumRepr;
 pub use error::{CandidateFailure, MissingFieldInfo, SolverError};
 pub use facet_solver_shape::{
-    CatalogueError, DomMark, DuplicateFieldError, Field, FieldCategory, FieldInfo, FieldKey,
-    FieldPath, KeyPath, PathSegment, Resolution, ScalarType, SchemaError, Shape, ShapeId,
+    CatalogueError, DomMark, DuplicateFieldError, EnumRepr, Field, FieldCategory, FieldInfo,
+    FieldKey, FieldPath, KeyPath, PathSegment, Resolution, ScalarType, SchemaError, Shape, ShapeId,
     ShapeKind, Shapes, Steps, StructKind, Variant, VariantFormat, VariantSelection,
     VariantsByFormat, specificity_score,
 };

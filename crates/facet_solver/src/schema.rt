@@ -10,7 +10,7 @@ ghost use Rattle.facet_solver.specs.schema.IndexEntries.{is_held};
 ghost use Rattle.facet_solver.specs.schema.Indexed.{IsEntryIfAny};
 ghost use Rattle.facet_solver.specs.Resolutions.{field_at, has_field_named, has_key, is_known, passes};
 ghost use Rattle.facet_solver.specs.build.FieldCount.{field_count, fields_of_kind};
-ghost use Rattle.facet_solver.specs.build.Representation.{asked_view, externally_tagged, flattened, repr_view};
+ghost use Rattle.facet_solver_shape.specs.Representation.{asked_view, externally_tagged, flattened, repr_view};
 ghost use Rattle.facet_solver.specs.schema.Schema.{IsBuilt, IsOwnBuild, flat_build};
 
 pub(crate) mod handle;
@@ -19,11 +19,10 @@ pub(crate) mod index;
 use crate::build::Build;
 use crate::build::count::count_of_root;
 use crate::build::format::Format;
-use crate::build::representation::EnumRepr;
 use crate::build::resolve::resolutions;
 use crate::schema::index::Index;
 use crate::schema::index::entry::{Entry, holds};
-use facet_solver_shape::{FieldKey, Resolution, SchemaError, ShapeId, Shapes, Steps};
+use facet_solver_shape::{EnumRepr, FieldKey, Resolution, SchemaError, ShapeId, Shapes, Steps};
 use std::alloc::{AllocError, Global};
 use std::marker::Model;
 

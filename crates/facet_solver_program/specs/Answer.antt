@@ -13,7 +13,7 @@ use Rattle.facet_solver.specs.build.Choice.{IsChoiceDuplicate}
 use Rattle.facet_solver.specs.build.Count.{count_of_root}
 use Rattle.facet_solver.specs.error.ErrorTexts.{error_output}
 use Rattle.facet_solver.specs.error.ErrorView.{ErrorView}
-use Rattle.facet_solver.specs.build.Representation.{Repr, externally_tagged, flattened}
+use Rattle.facet_solver.specs.Representation.{Repr, externally_tagged, flattened}
 use Rattle.facet_solver.specs.Resolved.{Resolved, description}
 use Rattle.facet_solver.specs.schema.Schema.{IsBuilt, SchemaView, flat_build}
 use Rattle.facet_solver.specs.SchemaErrorText.{schema_error_text}

@@ -1,5 +1,5 @@
 -- Which values of JSON fit a shape.
-use Rattle.std.specs.Prelude.{◌==◌, ◌&&◌, ◌||◌, ℕ, ℤ, pos, negsuc, Bool, true, false, List, Option, Some, None, is_some, length, not, slice_get, option_and_then, int_le}
+use Rattle.std.specs.Prelude.{◌==◌, ◌&&◌, ◌||◌, ℕ, ℤ, Bool, true, false, List, Option, Some, None, is_some, length, not, slice_get, option_and_then}
 use Rattle.std.specs.List.{list_any}
 use Rattle.std.specs.Option.{option_map_or}
 use Rattle.std.specs.Str.{chars}
@@ -7,7 +7,7 @@ use Rattle.serde_json.specs.Data.{Data}
 use Rattle.serde_json.specs.Find.{as_array, as_bool, as_integer, as_null, as_number, as_object, as_str}
 use Rattle.facet_solver.specs.declared.Field.{Field}
 use Rattle.facet_solver.specs.declared.ScalarType.{ScalarType}
-use Rattle.facet_solver.specs.declared.ScalarType.TheVariants.{Other as OtherScalar, Unit as UnitScalar, Bool as BoolScalar, Str, String as StringScalar, CowStr, Char, U8, U16, U32, U64, U128, USize, I8, I16, I32, I64, ISize}
+use Rattle.facet_solver.specs.declared.ScalarType.TheVariants.{Other as OtherScalar, Unit as UnitScalar, Bool as BoolScalar, Str, String as StringScalar, CowStr, Char}
 use Rattle.facet_solver.specs.declared.Shape.{Shape}
 use Rattle.facet_solver.specs.declared.ShapeKind.{ShapeKind}
 use Rattle.facet_solver.specs.declared.ShapeKind.TheVariants.{Scalar, Struct, Option as OptionOf, Map, List as ListOf, Array, Slice, Set}
@@ -15,7 +15,9 @@ use Rattle.facet_solver.specs.declared.StructKind.{StructKind}
 use Rattle.facet_solver.specs.declared.StructKind.TheVariants.{Unit as NoFields, Struct as ByName, Tuple, TupleStruct}
 use Rattle.facet_solver.specs.build.Build.{Catalogue}
 use Rattle.facet_solver.specs.EffectiveShapes.{effective}
+use Rattle.facet_solver.specs.Metadata.{is_metadata_container}
 use Rattle.facet_solver.specs.Pointers.{end_of}
+use Rattle.facet_solver.specs.Ranges.{holds, whole_range}
 
 -- the end of a shape: its effective shape, and from there pointers are followed
 abbrev pub effective_end : Catalogue → ℕ → ℕ
@@ -42,39 +44,9 @@ is_array d = is_some (as_array d)
 abbrev pub is_object : Data → Bool
 is_object d = is_some (as_object d)
 
--- whether one of the fields is no metadata
-abbrev pub has_plain_field : List Field → Bool
-has_plain_field fields = list_any (λ f. not f.metadata) fields
-
--- whether a shape of a kind that is marked as a metadata container is one: it has a field that is
--- no metadata
-abbrev pub contains : Bool → ShapeKind → Bool
-contains marked (Struct kind fields) = marked && has_plain_field fields.items
-contains marked _ = false
-
--- whether a shape is a metadata container
-abbrev pub is_metadata_container : Shape → Bool
-is_metadata_container s = contains s.metadata_container s.kind
-
--- whether a number is one of those from one limit to another
-abbrev pub is_between : ℤ → ℤ → ℤ → Bool
-is_between low high z = int_le low z && int_le z high
-
--- whether a whole number is one of a type of numbers: as no number of an input has more than 64
--- bits, wider types have the limits of 64 bits, or none
+-- whether a whole number is one of a type of numbers: in its range, or any for a float
 abbrev pub is_in_range : ScalarType → ℤ → Bool
-is_in_range U8 = is_between (pos 0) (pos 255)
-is_in_range U16 = is_between (pos 0) (pos 65535)
-is_in_range U32 = is_between (pos 0) (pos 4294967295)
-is_in_range U64 = is_between (pos 0) (pos 18446744073709551615)
-is_in_range U128 = is_between (pos 0) (pos 18446744073709551615)
-is_in_range USize = is_between (pos 0) (pos 18446744073709551615)
-is_in_range I8 = is_between (negsuc 127) (pos 127)
-is_in_range I16 = is_between (negsuc 32767) (pos 32767)
-is_in_range I32 = is_between (negsuc 2147483647) (pos 2147483647)
-is_in_range I64 = is_between (negsuc 9223372036854775807) (pos 9223372036854775807)
-is_in_range ISize = is_between (negsuc 9223372036854775807) (pos 9223372036854775807)
-is_in_range _ = λ z. true
+is_in_range scalar z = option_map_or (λ range. holds range z) (whole_range scalar) true
 
 -- the whole number that a value is
 abbrev pub whole_number : Data → Option ℤ

@@ -4,7 +4,7 @@ ghost use Rattle.serde_json.specs.View.{members_view, view};
 ghost use Rattle.facet_solver.specs.build.Choice.{IsRefusal};
 ghost use Rattle.facet_solver.specs.build.Count.{count_of_root};
 ghost use Rattle.facet_solver.specs.error.ErrorView.{error_view};
-ghost use Rattle.facet_solver.specs.build.Representation.{asked_view};
+ghost use Rattle.facet_solver.specs.Representation.{asked_view};
 ghost use Rattle.facet_solver.specs.declared.DuplicateFieldError.{DuplicateFieldError};
 ghost use Rattle.facet_solver.specs.schema.Schema.{IsBuilt};
 ghost use Rattle.facet_solver.specs.schema.ResolutionHandle.{index_of, resolution_of};

@@ -4,7 +4,8 @@ ghost use Rattle.std.specs.Str.{chars};
 ghost use Rattle.serde_json.specs.View.{view};
 ghost use Rattle.facet_solver_program.specs.Fits as fits;
 
-use facet_solver::{Field, ScalarType, Shape, ShapeId, ShapeKind, Shapes, StructKind};
+use facet_solver::{ScalarType, ShapeId, ShapeKind, Shapes, StructKind};
+use facet_solver_shape::{WholeRange, is_metadata_container};
 use serde_json::{Number, Value};
 
 /// Whether a value fits the shape at an index.
@@ -47,24 +48,6 @@ fn fits_end(shapes: &Shapes, end: ShapeId, value: &Value) -> bool
         Some(shape) => is_metadata_container(shape) || fits_kind(&shape.kind, value),
         None => true,
     }
-}
-
-/// Whether a shape is a metadata container: it is marked as one, and has a field that is no
-/// metadata.
-fn is_metadata_container(shape: &Shape) -> bool
-    ensures { result ≡ fits.is_metadata_container shape.now }
-{
-    match &shape.kind {
-        ShapeKind::Struct { fields, .. } => shape.metadata_container && has_plain_field(fields),
-        _ => false,
-    }
-}
-
-/// Whether one of the fields is no metadata.
-fn has_plain_field(fields: &[Field]) -> bool
-    ensures { result ≡ fits.has_plain_field fields.now }
-{
-    fields.iter().any(|field| !field.metadata)
 }
 
 /// Whether a value fits a kind of shape.
@@ -128,33 +111,12 @@ fn whole_number(value: &Value) -> Option<i128>
     value.as_number().and_then(Number::as_i128)
 }
 
-/// Whether a whole number is one of a type of numbers. It has at most 64 bits, as all numbers of an
-/// input.
+/// Whether a whole number is one of a type of numbers: in its range, or any for a float.
 fn is_in_range(scalar: ScalarType, number: i128) -> bool
     ensures { result ≡ fits.is_in_range scalar number }
 {
-    match scalar {
-        ScalarType::U8 => is_between(0, 255, number),
-        ScalarType::U16 => is_between(0, 65_535, number),
-        ScalarType::U32 => is_between(0, 4_294_967_295, number),
-        ScalarType::U64 | ScalarType::U128 | ScalarType::USize => {
-            is_between(0, 18_446_744_073_709_551_615, number)
-        }
-        ScalarType::I8 => is_between(-128, 127, number),
-        ScalarType::I16 => is_between(-32_768, 32_767, number),
-        ScalarType::I32 => is_between(-2_147_483_648, 2_147_483_647, number),
-        ScalarType::I64 | ScalarType::ISize => is_between(
-            -9_223_372_036_854_775_808,
-            9_223_372_036_854_775_807,
-            number,
-        ),
-        _ => true,
+    match WholeRange::of(scalar) {
+        Some(range) => range.holds(number.into()),
+        None => true,
     }
-}
-
-/// Whether a number is one of those from one limit to another.
-fn is_between(low: i128, high: i128, number: i128) -> bool
-    ensures { result ≡ fits.is_between low high number }
-{
-    low <= number && number <= high
 }

@@ -1,6 +1,6 @@
 -- What makes a list of shapes a catalogue: what its shapes refer to, and the faults that they may
 -- have.
-use Rattle.std.specs.Prelude.{◌≡◌, ℕ, ◌<◌, List, [], ◌∷◌, ◌++◌, map, ⊤, Some, slice_get, Any, ◌≤◌, ◌⊎◌, length, IsSomeAnd, codes}
+use Rattle.std.specs.Prelude.{◌≡◌, ℕ, ◌<◌, List, [], ◌∷◌, ◌++◌, map, ⊤, Option, Some, None, slice_get, Any, ◌≤◌, ◌⊎◌, length, IsSomeAnd, codes}
 use Rattle.std.specs.Option.{option_to_list, IfSome}
 use Rattle.std.specs.List.{flat_map}
 use Rattle.std.specs.Fmt.{decimal}
@@ -8,11 +8,24 @@ use Rattle.facet_solver_shape.specs.declared.shape.Shape.{Shape}
 use Rattle.facet_solver_shape.specs.declared.shape.Field.{Field}
 use Rattle.facet_solver_shape.specs.declared.shape.Variant.{Variant}
 use Rattle.facet_solver_shape.specs.declared.shape.ShapeKind.{ShapeKind}
-use Rattle.facet_solver_shape.specs.declared.shape.ShapeKind.TheVariants.{Struct, Enum, Option as OptionOf, Pointer, List as ListOf, Array, Slice, Set, Map}
+use Rattle.facet_solver_shape.specs.declared.shape.ShapeKind.TheVariants.{Struct, Enum, Option as OptionOf, Pointer, List as ListOf, Array, Slice, Set, Map, Other}
 use Rattle.facet_solver_shape.specs.Names.{Name, field_names, variant_names}
 use Rattle.facet_solver_shape.specs.declared.shape.catalogue.CatalogueError.{CatalogueError}
 use Rattle.facet_solver_shape.specs.declared.shape.catalogue.CatalogueError.TheVariants.{OutOfRange, NotEarlier, PointerCycle, DuplicateFieldName, DuplicateVariantName}
 use Rattle.facet_solver_shape.specs.Pointers.{NeverEnds}
+
+-- a catalogue: a list of shapes, which refer to one another by their indices
+abbrev pub Catalogue : Type 0
+Catalogue = List Shape
+
+-- the kind of a shape that may be absent
+abbrev pub kind_of : Option Shape → ShapeKind
+kind_of None = Other
+kind_of (Some s) = s.kind
+
+-- the kind of the shape at an index
+abbrev pub kind_at : Catalogue → ℕ → ShapeKind
+kind_at cat id = kind_of (slice_get cat id)
 
 -- by fields
 abbrev pub field_indices : List Field → List ℕ

@@ -2,7 +2,11 @@ pub mod Names
 pub mod Pointers
 pub mod EffectiveShapes
 pub mod Scalars
+pub mod Ranges
+pub mod Metadata
 pub mod Catalogues
+pub mod Roles
+pub mod Representation
 pub mod Paths
 pub mod Keys
 pub mod Fields

@@ -8,9 +8,11 @@ ghost use Rattle.facet_solver_shape.specs.declared.shape.DomMark.TheVariants.{No
 mod catalogue;
 mod check;
 mod identifier;
+mod range;
 
 pub use catalogue::{CatalogueError, Shapes};
 pub use identifier::ShapeId;
+pub use range::{Whole, WholeRange};
 
 /// The shape of one type. It refers to other shapes by their indices in the catalogue.
 #[derive(Debug, Drop)]

@@ -1,12 +1,14 @@
 //! Calls that are about types alone.
 
 use crate::answer::{Answer, BAR};
+use crate::documents::{of_json, of_readings};
 use crate::types::place_of;
 use crate::uses::{of_config, of_element, of_events, of_keys, of_type, of_value};
 use facet_solver::{
     EnumRepr, Field, Format, Schema, SchemaError, Shape, ShapeId, ShapeKind, Shapes, Steps,
     Variant, VariantFormat, VariantsByFormat, specificity_score,
 };
+use facet_solver_reader::Unknown;
 use std::alloc::AllocError;
 
 /// A catalogue and the names of its types.
@@ -32,6 +34,9 @@ impl<'c> Catalogue<'c> {
             "load_config" => of_config(*self, answer),
             "stream" => of_events(*self, answer),
             "variants_for" => of_value(*self, answer),
+            "json" => of_json(answer),
+            "readings" => of_readings(*self, Unknown::Ignored, answer),
+            "strict_readings" => of_readings(*self, Unknown::Refused, answer),
             BAR => answer.add_error(),
             _ => answer.unread(),
         }

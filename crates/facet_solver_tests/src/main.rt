@@ -8,6 +8,7 @@
 mod answer;
 mod by_hand;
 mod catalogue;
+mod documents;
 mod error_by_hand;
 mod errors;
 mod in_code;

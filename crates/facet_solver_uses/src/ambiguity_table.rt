@@ -2,7 +2,7 @@
 //! person who reads it.
 ghost use Rattle.std.specs.Prelude.{◌≡◌, ◌<◌, length};
 ghost use Rattle.facet_solver.specs.build.Build.{build_with};
-ghost use Rattle.facet_solver.specs.build.Representation.{asked_view};
+ghost use Rattle.facet_solver.specs.Representation.{asked_view};
 ghost use Rattle.facet_solver_uses.specs.AmbiguityTable.{GivesTable};
 
 use crate::ambiguous_pairs::{AmbiguousPair, ambiguous_pairs};

@@ -1,27 +1,12 @@
--- What a build is given: a catalogue, which is a list of shapes, and its rules. A shape is referred
--- to by its index.
-use Rattle.std.specs.Prelude.{ℕ, List, [], Option, Some, None, slice_get, string_bytes}
+-- What a build is given: a catalogue and its rules.
+use Rattle.std.specs.Prelude.{ℕ, [], Option, slice_get, string_bytes}
 use Rattle.std.specs.Option.{option_map_or, unwrap_or}
 use Rattle.facet_solver_shape.specs.declared.shape.Shape.{Shape}
-use Rattle.facet_solver_shape.specs.declared.shape.ShapeKind.{ShapeKind}
-use Rattle.facet_solver_shape.specs.declared.shape.ShapeKind.TheVariants.{Other}
+pub use Rattle.facet_solver_shape.specs.Catalogues.{Catalogue, kind_of, kind_at}
 use Rattle.facet_solver_shape.specs.Names.{Name}
 use Rattle.facet_solver.specs.declared.build.Build as code
 use Rattle.facet_solver.specs.declared.build.format.Format.{Format}
-use Rattle.facet_solver.specs.build.Representation.{Repr, asked_view, repr_of_shape}
-
--- a catalogue
-abbrev pub Catalogue : Type 0
-Catalogue = List Shape
-
--- the kind of a shape that may be absent
-abbrev pub kind_of : Option Shape → ShapeKind
-kind_of None = Other
-kind_of (Some s) = s.kind
-
--- the kind of the shape at an index
-abbrev pub kind_at : Catalogue → ℕ → ShapeKind
-kind_at cat id = kind_of (slice_get cat id)
+use Rattle.facet_solver_shape.specs.Representation.{Repr, asked_view, repr_of_shape}
 
 -- the type identifier of the shape at an index, and the empty one where there is none
 abbrev pub type_identifier : Catalogue → ℕ → Name

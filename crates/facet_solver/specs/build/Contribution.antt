@@ -12,7 +12,7 @@ use Rattle.facet_solver.specs.declared.build.contribution.categories.Categories.
 use Rattle.facet_solver.specs.declared.build.format.Format.{Format}
 use Rattle.facet_solver.specs.build.Build.{Build, kind_at}
 use Rattle.facet_solver.specs.build.Format.{catch_all_category}
-use Rattle.facet_solver.specs.build.Roles.{Role, alternatives, block, catch_all, leaf, regular, role_of}
+use Rattle.facet_solver_shape.specs.Roles.{Role, alternatives, block, catch_all, leaf, regular, role_of}
 
 -- no category
 abbrev pub none : Categories

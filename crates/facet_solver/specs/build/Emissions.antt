@@ -1,16 +1,16 @@
 -- What the walk of one choice emits, one thing after another.
-use Rattle.std.specs.Prelude.{List, [], ◌∷◌, ◌++◌, false, ◌&&◌, not, string_bytes, true}
+use Rattle.std.specs.Prelude.{List, [], ◌∷◌, ◌++◌, false, string_bytes, true, ⊤}
 use Rattle.facet_solver_shape.specs.declared.shape.Shape.{Shape}
 use Rattle.facet_solver_shape.specs.declared.shape.Field.{Field}
 use Rattle.facet_solver_shape.specs.declared.shape.Variant.{Variant}
 use Rattle.facet_solver_shape.specs.Names.{Name, effective_name}
 use Rattle.facet_solver_shape.specs.Fields.{FieldView}
 use Rattle.facet_solver_shape.specs.Resolved.{Selection}
-use Rattle.facet_solver.specs.declared.build.role.Target.{Target}
+use Rattle.facet_solver_shape.specs.declared.role.Target.{Target}
 use Rattle.facet_solver.specs.build.Build.{Build, repr_for}
-use Rattle.facet_solver.specs.build.Roles.{is_option, Role, regular, block, alternatives, catch_all, leaf}
+use Rattle.facet_solver_shape.specs.Roles.{is_required, Role, regular, block, alternatives, catch_all, leaf}
 use Rattle.facet_solver.specs.build.Place.{Path, Chosen, field_path, variant_path}
-use Rattle.facet_solver.specs.build.Representation.{Repr, flattened, externally_tagged, internally_tagged, adjacently_tagged}
+use Rattle.facet_solver_shape.specs.Representation.{Repr, flattened, externally_tagged, internally_tagged, adjacently_tagged}
 use Rattle.facet_solver.specs.build.Format.{field_category, selector_category, catch_all_category}
 use Rattle.facet_solver.specs.build.Nested.{KeyPaths, no_paths, named, nested_paths, content_paths}
 
@@ -21,12 +21,12 @@ pub data Emission : Type 0 where
   a_selection : Selection → Emission
   a_catch_all : FieldView → Emission
 
--- a regular field, with its own shape: required without default, unless it is an option
+-- a regular field, with its own shape
 unfoldable pub regular_field : Build → Field → Path → FieldView
 regular_field build f place = record {
   name = effective_name f;
   path = field_path place f;
-  is_required = not f.has_default && not (is_option build.catalogue f.shape);
+  is_required = is_required build.catalogue f;
   shape = f.shape;
   field = f;
   category = field_category build.format f.dom;
@@ -43,16 +43,12 @@ catch_all_field build f target place = record {
   category = catch_all_category build.format f.dom;
 }
 
--- any other flattened field, with its target as its shape: never required where its own is an
--- option
+-- any other flattened field, with its target as its shape; whether it is required goes by its own
 unfoldable pub leaf_field : Build → Field → Target → Path → FieldView
 leaf_field build f target place = record {
   name = effective_name f;
   path = field_path place f;
-  is_required =
-      not target.optional
-      && not f.has_default
-      && not (is_option build.catalogue target.shape);
+  is_required = is_required build.catalogue f;
   shape = target.shape;
   field = f;
   category = field_category build.format f.dom;
@@ -85,6 +81,14 @@ emit_catch_all build f target place = a_catch_all (catch_all_field build f targe
 -- any other flattened field emits itself
 unfoldable pub emit_leaf : Build → Field → Target → Path → List Emission
 emit_leaf build f target place = field_and_paths (leaf_field build f target place) no_paths
+
+-- a role that takes no index and has nothing below it
+abbrev pub IsPlain : Role → Type 0
+IsPlain regular = ⊤
+IsPlain (block target fs) = ⊥
+IsPlain (alternatives target s vs) = ⊥
+IsPlain (catch_all target) = ⊤
+IsPlain (leaf target) = ⊤
 
 -- what a field emits by its role, where it takes no index and has nothing below it
 unfoldable pub emit_plain : Build → Field → Path → Role → List Emission

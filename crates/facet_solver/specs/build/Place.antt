@@ -5,7 +5,7 @@ use Rattle.facet_solver_shape.specs.declared.shape.Field.{Field}
 use Rattle.facet_solver_shape.specs.declared.shape.Variant.{Variant}
 use Rattle.facet_solver_shape.specs.Paths.{Segment, by_field, by_variant}
 use Rattle.facet_solver.specs.declared.build.place.Chosen as code
-use Rattle.facet_solver.specs.declared.build.role.Target.{Target}
+use Rattle.facet_solver_shape.specs.declared.role.Target.{Target}
 
 -- the segments from the root
 abbrev pub Path : Type 0

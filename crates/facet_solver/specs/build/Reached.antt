@@ -13,8 +13,8 @@ use Rattle.facet_solver.specs.build.Build.{Build, Catalogue, kind_at, repr_for}
 use Rattle.facet_solver.specs.build.Content.{effective_of_only, newtype_fields}
 use Rattle.facet_solver.specs.build.Nested.{every_kind, structs_alone}
 use Rattle.facet_solver.specs.build.NestedTable.{AreEntries, AskedBy, HasVariants, IsClosed, IsFilled, IsMarked, IsMarkedMore, LeadEarlier, MarksAmong}
-use Rattle.facet_solver.specs.build.Representation.{is_walked}
-use Rattle.facet_solver.specs.build.Roles.{Role, alternatives, block, catch_all, leaf, regular, role_of}
+use Rattle.facet_solver_shape.specs.Representation.{is_walked}
+use Rattle.facet_solver_shape.specs.Roles.{Role, alternatives, block, catch_all, leaf, regular, role_of}
 
 -- marks of the shapes that are walked, and of the structs that are shapes of regular fields
 pub record Reach : Type 0 where

@@ -9,7 +9,7 @@ use Rattle.facet_solver_shape.specs.declared.shape.ShapeKind.TheVariants.{Enum}
 use Rattle.facet_solver_shape.specs.declared.shape.Variant.{Variant}
 use Rattle.facet_solver.specs.build.Build.{Build, kind_at, repr_for}
 use Rattle.facet_solver.specs.build.Count.{count_variants}
-use Rattle.facet_solver.specs.build.Representation.{is_walked}
+use Rattle.facet_solver_shape.specs.Representation.{is_walked}
 
 -- how many choices the variants before an index have
 abbrev pub count_before : Build → List Variant → ℕ → ℕ

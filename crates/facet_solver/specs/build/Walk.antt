@@ -7,9 +7,9 @@ use Rattle.facet_solver_shape.specs.declared.shape.Variant.{Variant}
 use Rattle.facet_solver_shape.specs.declared.shape.ShapeKind.{ShapeKind}
 use Rattle.facet_solver_shape.specs.declared.shape.ShapeKind.TheVariants.{Struct, Enum}
 use Rattle.facet_solver.specs.build.Build.{Build, repr_for, Catalogue}
-use Rattle.facet_solver.specs.build.Representation.{is_walked}
+use Rattle.facet_solver_shape.specs.Representation.{is_walked}
 use Rattle.facet_solver.specs.build.Content.{content_of}
-use Rattle.facet_solver.specs.build.Roles.{Role, regular, block, alternatives, catch_all, leaf, role_of, may_be_absent}
+use Rattle.facet_solver_shape.specs.Roles.{Role, regular, block, alternatives, catch_all, leaf, role_of, may_be_absent}
 use Rattle.facet_solver.specs.build.Place.{Path, Chosen, choosing, at_root, at_root_variant, field_path, variant_path}
 use Rattle.facet_solver.specs.build.Emissions.{Emission, emit_plain, emit_variant, selection_of}
 

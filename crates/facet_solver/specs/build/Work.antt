@@ -5,7 +5,7 @@ use Rattle.std.specs.Prelude.{ℕ, zero, suc, ◌+◌, List, [], ◌∷◌, leng
 use Rattle.facet_solver_shape.specs.declared.shape.Field.{Field}
 use Rattle.facet_solver_shape.specs.declared.shape.Variant.{Variant}
 use Rattle.facet_solver.specs.build.Content.{content_of}
-use Rattle.facet_solver.specs.build.Roles.{Role, regular, block, alternatives, catch_all, leaf, role_of}
+use Rattle.facet_solver_shape.specs.Roles.{Role, regular, block, alternatives, catch_all, leaf, role_of}
 
 -- how much there is to do for a list of fields
 abbrev pub Work : Type 0

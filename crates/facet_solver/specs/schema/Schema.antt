@@ -1,13 +1,13 @@
 -- What a schema says, and when it is that of its root.
 use Rattle.std.specs.Prelude.{◌≡◌, ℕ, List, Option, length}
 use Rattle.facet_solver_shape.specs.Resolved.{Resolved}
-use Rattle.facet_solver.specs.declared.build.representation.EnumRepr.{EnumRepr}
+use Rattle.facet_solver_shape.specs.declared.representation.EnumRepr.{EnumRepr}
 use Rattle.facet_solver.specs.declared.build.format.Format.{Format}
 use Rattle.facet_solver.specs.declared.build.format.Format.TheVariants.{Flat}
 use Rattle.facet_solver.specs.build.Build.{Build, build_with, Catalogue}
 use Rattle.facet_solver.specs.build.Choice.{Enumerates}
 use Rattle.facet_solver.specs.build.Count.{count_of_root}
-use Rattle.facet_solver.specs.build.Representation.{Repr, asked_view}
+use Rattle.facet_solver_shape.specs.Representation.{Repr, asked_view}
 
 -- what the build went by, the root, and the resolutions
 pub record SchemaView : Type 0 where

@@ -8,7 +8,7 @@ use Rattle.facet_solver_shape.specs.contracts.shape.Shape as shape
 use Rattle.facet_solver.specs.contracts.build.format.Format as format
 use Rattle.facet_solver.specs.declared.build.format.Format.{Format}
 use Rattle.facet_solver.specs.build.Build.{Build, Catalogue}
-use Rattle.facet_solver.specs.build.Representation.{Repr, flattened, externally_tagged, internally_tagged, adjacently_tagged}
+use Rattle.facet_solver_shape.specs.Representation.{Repr, flattened, externally_tagged, internally_tagged, adjacently_tagged}
 use Rattle.facet_solver.specs.schema.Schema.{SchemaView}
 
 -- a representation is its index among the four and its names

@@ -13,9 +13,8 @@ ghost use Rattle.facet_solver.specs.build.Outcome.{resolved, take_all};
 
 use crate::build::field::catch_all_field;
 use crate::build::place::Place;
-use crate::build::role::{Role, role_of};
 use crate::build::walker::Walker;
-use facet_solver_shape::{Field, FieldCategory, Resolution};
+use facet_solver_shape::{Field, FieldCategory, Resolution, Role, role_of};
 use std::alloc::AllocError;
 
 /// Takes in what fields emit that emit catch-alls alone.

@@ -11,10 +11,9 @@ ghost use Rattle.facet_solver.specs.build.Work as work;
 
 use crate::build::content::content_fields;
 use crate::build::contribution::Contribution;
-use crate::build::role::{Role, role_of};
 use crate::build::starts::last_start;
 use crate::build::walker::Walker;
-use facet_solver_shape::{Field, ShapeId, ShapeKind, Variant};
+use facet_solver_shape::{Field, Role, ShapeId, ShapeKind, Variant, role_of};
 use std::alloc::AllocError;
 
 /// What a choice is put together from, in the order of the choice.

@@ -9,9 +9,8 @@ ghost use Rattle.facet_solver.specs.build.Nested.{structs_alone};
 pub(crate) mod categories;
 
 use crate::build::Build;
-use crate::build::role::{Role, role_of};
 use categories::Categories;
-use facet_solver_shape::{Field, FieldCategory, ShapeId, ShapeKind, Shapes};
+use facet_solver_shape::{Field, FieldCategory, Role, ShapeId, ShapeKind, Shapes, role_of};
 use std::alloc::AllocError;
 
 /// What the walk of a struct's fields contributes.

@@ -1,12 +1,13 @@
 //! What a walk emits, taken into a resolution.
 ghost use Rattle.std.specs.Prelude.{◌≡◌, ◌∷◌, [], map, IfOk, OnOk};
 ghost use Rattle.facet_solver.specs.build.Emissions as emissions;
+ghost use Rattle.facet_solver.specs.build.Emissions.{IsPlain};
 ghost use Rattle.facet_solver.specs.build.Nested.{no_paths};
 ghost use Rattle.facet_solver.specs.build.Place.{chosen_of};
 ghost use Rattle.facet_solver.specs.build.Outcome.{take_in, take_all, Gives};
 ghost use Rattle.facet_solver.specs.build.Build.{build_of};
-ghost use Rattle.facet_solver.specs.build.Representation.{externally_tagged};
-ghost use Rattle.facet_solver.specs.build.Roles.{role_view, IsPlain};
+ghost use Rattle.facet_solver_shape.specs.Representation.{externally_tagged};
+ghost use Rattle.facet_solver_shape.specs.Roles.{role_view};
 ghost use Rattle.facet_solver.specs.build.Counts.{IsReady};
 ghost use Rattle.facet_solver.specs.build.NestedTable.{HasVariants};
 ghost use Rattle.facet_solver.specs.build.Reached.{IsChosen, ServesApart, ServesPlain, ServesRegular};
@@ -14,10 +15,10 @@ ghost use Rattle.facet_solver.specs.build.Reached.{IsChosen, ServesApart, Serves
 use crate::build::field::{catch_all_field, leaf_field, regular_field, selector_field};
 use crate::build::nested::paths::one_name_path;
 use crate::build::place::{Chosen, Place};
-use crate::build::representation::EnumRepr;
-use crate::build::role::{Role, Target};
 use crate::build::walker::Walker;
-use facet_solver_shape::{Field, FieldInfo, FieldPath, Resolution, SchemaError, Shape, Variant};
+use facet_solver_shape::{
+    EnumRepr, Field, FieldInfo, FieldPath, Resolution, Role, SchemaError, Shape, Target, Variant,
+};
 
 /// Adds a field and the key path of its name.
 fn add_with_path<'c>(

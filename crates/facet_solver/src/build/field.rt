@@ -6,11 +6,10 @@ ghost use Rattle.facet_solver.specs.build.Build.{build_of};
 
 use crate::build::Build;
 use crate::build::place::{Chosen, Place};
-use crate::build::role::{Target, is_option};
-use facet_solver_shape::{Field, FieldInfo};
+use facet_solver_shape::{Field, FieldInfo, Target, is_required};
 use std::alloc::AllocError;
 
-/// A regular field: required without default, unless it is an option.
+/// A regular field, with its own shape.
 #[tactic(auto, unfolding(crate::specs::build::Emissions::regular_field))]
 pub(crate) fn regular_field<'c>(
     build: Build<'c>,
@@ -23,7 +22,7 @@ pub(crate) fn regular_field<'c>(
     Ok(FieldInfo {
         serialized_name: field.effective_name(),
         path: place.field_path(build.alloc, field)?,
-        required: !field.has_default && !is_option(build.shapes, field.shape),
+        required: is_required(build.shapes, field),
         value_shape: field.shape,
         field,
         category: build.format.field_category(field.dom),
@@ -51,8 +50,7 @@ pub(crate) fn catch_all_field<'c>(
     })
 }
 
-/// Any other flattened field, with its target as its shape: never required where its own is an
-/// option.
+/// Any other flattened field, with its target as its shape. Whether it is required goes by its own.
 #[tactic(auto, unfolding(crate::specs::build::Emissions::leaf_field))]
 pub(crate) fn leaf_field<'c>(
     build: Build<'c>,
@@ -66,7 +64,7 @@ pub(crate) fn leaf_field<'c>(
     Ok(FieldInfo {
         serialized_name: field.effective_name(),
         path: place.field_path(build.alloc, field)?,
-        required: !target.optional && !field.has_default && !is_option(build.shapes, target.shape),
+        required: is_required(build.shapes, field),
         value_shape: target.shape,
         field,
         category: build.format.field_category(field.dom),

@@ -4,8 +4,7 @@ ghost use Rattle.facet_solver_shape.specs.Paths.{by_field, segment_of};
 ghost use Rattle.facet_solver.specs.build.Place as places;
 ghost use Rattle.facet_solver.specs.build.Place.{chosen_of};
 
-use crate::build::role::Target;
-use facet_solver_shape::{Field, FieldPath, PathSegment, Shape, Variant};
+use facet_solver_shape::{Field, FieldPath, PathSegment, Shape, Target, Variant};
 use std::alloc::{AllocError, Global};
 use std::marker::Model;
 

@@ -18,9 +18,8 @@ use crate::build::content::newtype_fields;
 use crate::build::contribution::Contribution;
 use crate::build::emit::{emit_plain, emit_variant};
 use crate::build::place::{Chosen, Place};
-use crate::build::role::{Role, role_of};
 use crate::build::walker::Walker;
-use facet_solver_shape::{Field, Resolution, SchemaError, Variant};
+use facet_solver_shape::{Field, Resolution, Role, SchemaError, Variant, role_of};
 use std::alloc::{AllocError, Global};
 
 /// Fields that are still to be walked, and how many segments the path to them has.

@@ -10,9 +10,8 @@ ghost use Rattle.facet_solver.specs.build.FieldCount.{fields_of_kind};
 use crate::build::Build;
 use crate::build::content::newtype_of;
 use crate::build::count::saturating::SaturatingCount;
-use crate::build::role::{Role, role_of};
 use crate::build::visit::visited;
-use facet_solver_shape::{Field, Shape, ShapeKind, Steps, Variant};
+use facet_solver_shape::{Field, Role, Shape, ShapeKind, Steps, Variant, role_of};
 
 /// What may be absent has one choice more.
 fn count_optional(may_be_absent: bool, present: SaturatingCount) -> SaturatingCount

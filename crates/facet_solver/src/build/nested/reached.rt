@@ -13,9 +13,8 @@ use crate::build::Build;
 use crate::build::content::newtype_of;
 use crate::build::nested::Entered;
 use crate::build::nested::marks::close_marks;
-use crate::build::role::{Role, role_of};
 use crate::build::visit::visited;
-use facet_solver_shape::{Field, ShapeId, ShapeKind, Shapes, Steps, Variant};
+use facet_solver_shape::{Field, Role, ShapeId, ShapeKind, Shapes, Steps, Variant, role_of};
 
 /// Marks what the walks of a root's choices go through, and nothing else: in `structs` the structs
 /// whose nested key paths they ask for, each with all shapes that its key paths are made from, and

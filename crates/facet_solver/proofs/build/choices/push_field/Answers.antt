@@ -3,14 +3,14 @@ use Rattle.std.proofs.lemmas.Result.{on_ok_weaker}
 use Rattle.facet_solver_shape.specs.declared.shape.Shape.{Shape}
 use Rattle.facet_solver_shape.specs.declared.shape.Field.{Field}
 use Rattle.facet_solver_shape.specs.declared.shape.Variant.{Variant}
-use Rattle.facet_solver.specs.declared.build.role.Role as code
-use Rattle.facet_solver.specs.declared.build.role.Role.TheVariants.{Alternatives}
-use Rattle.facet_solver.specs.declared.build.role.Target.{Target}
+use Rattle.facet_solver_shape.specs.declared.role.Role as code
+use Rattle.facet_solver_shape.specs.declared.role.Role.TheVariants.{Alternatives}
+use Rattle.facet_solver_shape.specs.declared.role.Target.{Target}
 use Rattle.facet_solver.specs.build.Build.{Catalogue, build_of}
 use Rattle.facet_solver.specs.build.ChoiceParts.{IsRank}
 use Rattle.facet_solver.specs.build.Count.{count_variants}
 use Rattle.facet_solver.specs.build.Starts.{AreStarts}
-use Rattle.facet_solver.specs.build.Roles.{alternatives, block, may_be_absent, role_of, role_view}
+use Rattle.facet_solver_shape.specs.Roles.{alternatives, block, may_be_absent, role_of, role_view}
 use Rattle.facet_solver.specs.build.Work.{work_of_fields, work_of_variants}
 use Rattle.facet_solver.specs.declared.build.choices.Part.TheVariants.{Fields}
 use Rattle.facet_solver.proofs.Listing.{alternatives-below, block-below}

@@ -1,7 +1,7 @@
 use Rattle.std.proofs.Common.{◌∙◌, subst}
 use Rattle.facet_solver.specs.build.Emissions.{emit_selector_by}
 use Rattle.facet_solver.specs.build.Outcome.{Gives, take_all}
-use Rattle.facet_solver.specs.build.Representation.{Repr}
+use Rattle.facet_solver_shape.specs.Representation.{Repr}
 use Rattle.facet_solver.specs.build.Place.{chosen_of}
 use Rattle.facet_solver.specs.build.Build.{build_of, repr_for}
 use Rattle.facet_solver.proofs.Outcome.{gives-stopped, take_all-both, take_all-nil, take_all-one, taken-paths}

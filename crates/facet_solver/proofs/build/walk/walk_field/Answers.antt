@@ -4,7 +4,7 @@ use Rattle.facet_solver.specs.build.Build.{build_of}
 use Rattle.facet_solver.specs.build.CatchAlls.{emitted_by}
 use Rattle.facet_solver.specs.build.Outcome.{effect}
 use Rattle.facet_solver.specs.build.Place.{Path}
-use Rattle.facet_solver.specs.build.Roles.{alternatives, block, may_be_absent, role_of, role_view}
+use Rattle.facet_solver_shape.specs.Roles.{alternatives, block, may_be_absent, role_of, role_view}
 use Rattle.facet_solver.specs.build.Walk.{Walked, walk_fields}
 use Rattle.facet_solver.specs.build.Work.{work_of_field}
 use Rattle.facet_solver.proofs.CatchAlls.{fields_walked, struct-alone}

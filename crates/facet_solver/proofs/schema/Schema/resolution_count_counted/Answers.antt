@@ -1,6 +1,6 @@
 use Rattle.std.proofs.lemmas.Result.{IfOk-weaker}
 use Rattle.facet_solver.specs.declared.build.format.Format.TheVariants.{Flat}
-use Rattle.facet_solver.specs.build.Representation.{asked_view}
+use Rattle.facet_solver_shape.specs.Representation.{asked_view}
 use Rattle.facet_solver.proofs.Count.{for_each_format}
 use Rattle.facet_solver.proofs.schema.Schema.resolution_count_counted.Goals as goal
 

@@ -2,7 +2,7 @@ use Rattle.std.proofs.Common.{◌<◌, length, arith, Bool, subst, sym}
 use Rattle.facet_solver.specs.build.Build.{build_of}
 use Rattle.facet_solver.specs.build.Count.{count_fields, count_optional, count_present}
 use Rattle.facet_solver.specs.build.Counts.{CountsTo}
-use Rattle.facet_solver.specs.build.Roles.{role_of}
+use Rattle.facet_solver_shape.specs.Roles.{role_of}
 use Rattle.facet_solver.proofs.Roles.{target_in_role-le, target_in_hand, optional_in_hand}
 use Rattle.facet_solver.proofs.Count.{present_counted}
 use Rattle.facet_solver.proofs.build.count.table.count_field.Goals as goal

@@ -1,7 +1,7 @@
 use Rattle.std.proofs.Common.{◌≡◌, ◌≤◌, ◌+◌, Some, arith, subst, set, true}
 use Rattle.facet_solver.specs.build.NestedTable.{IsMarked}
 use Rattle.facet_solver.specs.build.Reached.{reach}
-use Rattle.facet_solver.specs.build.Roles.{role_of}
+use Rattle.facet_solver_shape.specs.Roles.{role_of}
 use Rattle.facet_solver.proofs.Marks.{set_same}
 use Rattle.facet_solver.proofs.Reached.{field_marked, reached-set}
 use Rattle.facet_solver.proofs.Roles.{target_in, target_in_hand, target_in_role-le}

@@ -5,7 +5,7 @@ use Rattle.facet_solver_shape.specs.declared.shape.Variant.{Variant}
 use Rattle.facet_solver.specs.build.Build.{build_of, repr_for}
 use Rattle.facet_solver.specs.build.NestedTable.{IsMarked}
 use Rattle.facet_solver.specs.build.Reached.{reach}
-use Rattle.facet_solver.specs.build.Representation.{is_walked}
+use Rattle.facet_solver_shape.specs.Representation.{is_walked}
 use Rattle.facet_solver.proofs.Marks.{more-set, set_same}
 use Rattle.facet_solver.proofs.Reached.{apart_marked, shape_marked}
 use Rattle.facet_solver.proofs.Roles.{FieldsBelow-mono, VariantsBelow-mono}

@@ -3,7 +3,7 @@ use Rattle.std.specs.Prelude.{Vec}
 use Rattle.std.specs.declared.alloc.Global.{Global}
 use Rattle.std.proofs.lemmas.Option.{slice_get_within}
 use Rattle.facet_solver.specs.build.Build.{build_of, repr_for}
-use Rattle.facet_solver.specs.build.Representation.{is_walked}
+use Rattle.facet_solver_shape.specs.Representation.{is_walked}
 use Rattle.facet_solver.specs.build.Starts.{IsMoreStarts, starts_or_none}
 use Rattle.facet_solver.proofs.Roles.{KindBelow-mono}
 use Rattle.facet_solver.proofs.Starts.{none_added, one_more_table, root_starts, walked_starts}

@@ -1,0 +1,10 @@
+pub use Rattle.json.specs.Json
+pub use Rattle.json.specs.Lex
+pub use Rattle.json.specs.Reads
+pub use Rattle.json.specs.Scratch
+pub use Rattle.facet_solver_reader.specs.Names
+pub use Rattle.facet_solver_reader.specs.Numbers
+pub use Rattle.facet_solver_reader.specs.Documents
+pub mod Values
+pub mod Places
+pub mod ErrorTexts

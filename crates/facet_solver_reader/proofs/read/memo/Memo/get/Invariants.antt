@@ -1,0 +1,4 @@
+use Rattle.facet_solver_reader.proofs.read.memo.Memo.get.Given as goal
+
+abbrev pub decreases-loop-cursor : goal.decreases-loop-cursor
+decreases-loop-cursor l = l.cursor

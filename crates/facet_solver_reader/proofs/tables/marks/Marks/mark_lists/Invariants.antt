@@ -1,0 +1,12 @@
+use Rattle.std.proofs.Common.{map}
+use Rattle.facet_solver_reader.specs.Marks.{AreAdded, ListIsMarked}
+use Rattle.facet_solver_reader.specs.Views.{list_view}
+use Rattle.facet_solver_reader.proofs.Marks.{EachBefore}
+use Rattle.facet_solver_reader.proofs.tables.marks.Marks.mark_lists.Given as goal
+
+-- what those before this one lead to is marked
+abbrev pub invariant-loop-list : goal.invariant-loop-list
+invariant-loop-list l = record {
+  added : AreAdded l.every l.initial.self l.self;
+  marked : EachBefore (ListIsMarked l.every l.self) (map list_view l.lists) l.list-index;
+}

@@ -1,0 +1,12 @@
+use Rattle.std.proofs.Common.{map}
+use Rattle.facet_solver_reader.specs.Marks.{AreAdded, TargetIsMarked}
+use Rattle.facet_solver_reader.specs.Views.{named_view}
+use Rattle.facet_solver_reader.proofs.Marks.{EachBefore}
+use Rattle.facet_solver_reader.proofs.tables.marks.Marks.mark_named.Given as goal
+
+-- what those before this one lead to is marked
+abbrev pub invariant-loop-variant : goal.invariant-loop-variant
+invariant-loop-variant l = record {
+  added : AreAdded l.every l.initial.self l.self;
+  marked : EachBefore (λ v. TargetIsMarked l.types l.every l.self v.content) (map named_view l.variants) l.variant-index;
+}

@@ -1,0 +1,23 @@
+use Rattle.std.proofs.Common.{arith, map, ◌≤◌, length}
+use Rattle.std.proofs.lemmas.List.{length-map}
+use Rattle.facet_solver_reader.specs.Marks.{PartIsMarked}
+use Rattle.facet_solver_reader.specs.Views.{part_view}
+use Rattle.facet_solver_reader.proofs.Marks.{added_on, each_all, each_more, part_still}
+use Rattle.facet_solver_reader.proofs.tables.marks.Marks.mark_parts.Goals as goal
+
+pub loop-part-preserved : goal.loop-part-preserved
+loop-part-preserved c =
+    let done = c.in_ok-mark_part.ensures in
+    let new = c.mark_part.new.self in
+    record {
+      added = added_on c.args.every.now _ _ _ c.loop-part.invariant.added done.added;
+      marked =
+          each_more (PartIsMarked c.args.types.now c.args.every.now c.loop-part.self)
+          (PartIsMarked c.args.types.now c.args.every.now new) part_view c.args.parts.now c.loop-part.part-index c.part-item.result
+          (part_still c.args.types.now c.args.every.now c.loop-part.self new done.added.kept) c.loop-part.invariant.marked (omega arith) c.part-item.is done.marked;
+    }
+
+pub returns-clause-marked : goal.returns-clause-marked
+returns-clause-marked c =
+    let past : length (map part_view c.args.parts.now) ≤ c.loop-part.part-index = omega (arith, length-map c.args.parts.now part_view) in
+    each_all (PartIsMarked c.args.types.now c.args.every.now c.loop-part.self) (map part_view c.args.parts.now) c.loop-part.part-index c.loop-part.invariant.marked past

@@ -1,0 +1,9 @@
+use Rattle.std.proofs.Common.{◌≡◌, zero, map}
+use Rattle.std.specs.List.{range_with_len}
+use Rattle.facet_solver_reader.specs.Types.{all_join_at, joins_within}
+use Rattle.facet_solver_reader.proofs.types.first_table.Given as goal
+
+-- the table as far as the shape before this one
+abbrev pub invariant-loop-index : goal.invariant-loop-index
+invariant-loop-index l =
+    l.table.items ≡ map (all_join_at (joins_within zero l.shapes) l.shapes) (range_with_len 0 l.index)

@@ -1,0 +1,75 @@
+//! Names with numbers, sorted by name.
+ghost use Rattle.std.specs.Prelude.{◌≡◌, ◌≤◌, ℕ, drop, length, take, Contains, IsPermutation, IsSorted, IsTrue, MatchOption};
+ghost use Rattle.facet_solver_shape.specs.Catalogues.{RepeatsName};
+ghost use Rattle.facet_solver_shape.specs.Names.{name_ref_cmp, names_of};
+ghost use Rattle.facet_solver_reader.specs.Places.{IsLeastRepeated};
+ghost use Rattle.facet_solver_reader.specs.Nodes.{AreByName, entries, names_among};
+
+/// The name of a member, and the number of its value.
+pub(super) type NamedNode<'d> = (&'d str, usize);
+
+/// Sorts those from an index on by name. If a name is twice among them it tells that name, of
+/// several the least by its bytes.
+pub(super) fn sort_from<'d>(named: &mut [NamedNode<'d>], start: usize) -> Option<&'d str>
+    requires { start ≤ length named.old }
+    ensures before { take start named.new ≡ take start named.old }
+    ensures length { length named.new ≡ length named.old }
+    ensures permutation { IsPermutation (drop start named.old) (drop start named.new) }
+    ensures sorted { MatchOption result (AreByName (drop start named.new))
+        (λ name. IsLeastRepeated (names_of (names_among (drop start named.new))) name.now) }
+{
+    sort_by_name(&mut named[start..])
+}
+
+/// Sorts by name. If a name is there twice it tells that name, of several the least by its bytes.
+fn sort_by_name<'d>(named: &mut [NamedNode<'d>]) -> Option<&'d str>
+    ensures length { length named.new ≡ length named.old }
+    ensures permutation { IsPermutation named.old named.new }
+    ensures sorted { MatchOption result (AreByName named.new)
+        (λ name. IsLeastRepeated (names_of (names_among named.new)) name.now) }
+{
+    if are_rising(named) {
+        return None;
+    }
+    named.sort_unstable_by_key(|member| member.0);
+    repeated_name(named)
+}
+
+/// Whether each name is before the next.
+fn are_rising(named: &[NamedNode<'_>]) -> bool
+    ensures { IsTrue result → AreByName named.now }
+{
+    for later in 1..named.len() {
+        if named[later - 1].0 >= named[later].0 {
+            return false;
+        }
+    }
+    true
+}
+
+/// The first of sorted names that is the next one too.
+fn repeated_name<'d>(named: &[NamedNode<'d>]) -> Option<&'d str>
+    requires { IsSorted name_ref_cmp (names_among named.now) }
+    ensures { MatchOption result (AreByName named.now)
+        (λ name. IsLeastRepeated (names_of (names_among named.now)) name.now) }
+{
+    for later in 1..named.len() {
+        if named[later - 1].0 == named[later].0 {
+            return Some(named[later - 1].0);
+        }
+    }
+    None
+}
+
+/// The number that stands with a name, by halving.
+pub(super) fn find_by_name(named: &[NamedNode<'_>], name: &str) -> Option<usize>
+    requires { AreByName named.now }
+    ensures { MatchOption result
+        ((number : ℕ) → ¬ Contains (entries named.now) (name.now, number))
+        (λ number. Contains (entries named.now) (name.now, number)) }
+{
+    match named.binary_search_by_key(&name, |member| member.0) {
+        Ok(index) => Some(named[index].1),
+        Err(_) => None,
+    }
+}

@@ -1,0 +1,99 @@
+//! A reader: what a type says of documents, found once for all of them.
+ghost use Rattle.std.specs.Prelude.{IfErr, IfOk, length};
+ghost use Rattle.facet_solver_reader.specs.Counted.{Counted};
+ghost use Rattle.facet_solver_reader.specs.Documents.{view};
+ghost use Rattle.facet_solver_reader.specs.Parts.{of_shape};
+ghost use Rattle.facet_solver_reader.specs.Readers.{HasNoCount, IsReaderOf, IsRefused};
+ghost use Rattle.facet_solver_reader.specs.Readings.{ReadsValue};
+ghost use Rattle.facet_solver_reader.specs.Types.{rules_of};
+
+mod error;
+
+use crate::count::Count;
+use crate::document::Document;
+use crate::nodes::{DocumentError, Nodes};
+use crate::part::Target;
+use crate::read::{Memo, count_target};
+use crate::tables::Tables;
+pub use error::TypeError;
+use error::type_error_of;
+use facet_solver_shape::{ShapeId, Shapes};
+use std::alloc::Global;
+use std::marker::Model;
+
+/// What a reader does with members of an object that no choice has and no catch-all takes.
+#[derive(Clone, Copy, PartialEq, Eq, Debug)]
+pub enum Unknown {
+    /// They are ignored.
+    Ignored,
+    /// An object that has one is not read.
+    Refused,
+}
+
+/// A reader of documents as a type. It serves any number of documents.
+#[derive(Drop)]
+pub struct Reader<'c> {
+    tables: Tables<'c>,
+    root: ShapeId,
+}
+
+impl<'c> Model for Reader<'c> {
+    ghost use Rattle.facet_solver_reader.specs.Readers.{IsMade, ReaderView, reader_view};
+
+    ghost Value = { ReaderView };
+
+    ghost view = { λ r. reader_view r.tables r.root };
+
+    ghost invariant = { λ r. IsMade r.tables r.root };
+}
+
+impl<'c> Reader<'c> {
+    /// A reader of documents as the shape at an index.
+    ///
+    /// # Errors
+    ///
+    /// For what a document that is read as the shape can come to, and nothing else in the catalogue:
+    ///
+    /// - `NoShape`: the catalogue lacks the index.
+    /// - `ReadsItself`: to read a value as a shape asks to read it as that shape again.
+    /// - `ContainsItself`: the parts of a shape stand among themselves.
+    /// - `DuplicateName`, `TwoCatchAlls`: a choice has two members of one name, or two catch-alls.
+    /// - `OutOfMemory`: memory was refused.
+    pub fn new(
+        alloc: Global,
+        shapes: &'c Shapes,
+        root: ShapeId,
+        unknown: Unknown,
+    ) -> Result<Reader<'c>, TypeError<'c>>
+        ensures made { IfOk result (IsReaderOf shapes.now root unknown) }
+        ensures refused { IfErr result (IsRefused shapes.now root) }
+    {
+        match Tables::new(alloc, shapes, root, unknown == Unknown::Refused) {
+            Ok(tables) => Ok(Reader { tables, root }),
+            Err(fault) => Err(type_error_of(&fault)),
+        }
+    }
+
+    /// How many readings a document has as the type, cut at two.
+    ///
+    /// # Errors
+    ///
+    /// - `NameTwice`: a name stands twice in an object of the document. It is told before any
+    ///   reading.
+    /// - `OutOfMemory`: memory was refused.
+    pub fn count<'d>(
+        &self,
+        alloc: Global,
+        document: &Document<'d>,
+    ) -> Result<Count, DocumentError<'d>>
+        ensures count { IfOk result (Counted (ReadsValue (rules_of self.now.shapes self.now.strict)
+            (of_shape self.now.root) (view document.now))) }
+        ensures error { IfErr result (HasNoCount (view document.now)) }
+    {
+        let nodes = Nodes::new(alloc, document)?;
+        let mut memo = Memo::new(alloc, nodes.len())?;
+        let root = Target::Shape(self.root);
+        let steps = self.tables.steps;
+        Ok(count_target(&self.tables, &nodes, &mut memo, 0, &root, steps)?)
+    }
+}

@@ -1,0 +1,225 @@
+//! The names that the choices of a list have.
+ghost use Rattle.std.specs.Prelude.{◌≡◌, Contains, IfErr, IfOk, IsSorted, IsTrue, MatchOption, OnOk};
+ghost use Rattle.facet_solver_shape.specs.Catalogues.{RepeatsName};
+ghost use Rattle.facet_solver_shape.specs.Names.{name_ref_cmp, names_of};
+ghost use Rattle.facet_solver_reader.specs.Known.{named, rest};
+ghost use Rattle.facet_solver_reader.specs.Parts.{a_selection};
+ghost use Rattle.facet_solver_reader.specs.Places.{IsRepeated};
+ghost use Rattle.facet_solver_reader.specs.Placing.{AreAdded, AreNamesOf, ArePartNames, AreThose, IsRestOf, IsShared, IsWhyShared, list_knows, part_knows};
+ghost use Rattle.facet_solver_reader.specs.Views.{list_view, part_view, parts_view, selection_view};
+
+use super::fault::Fault;
+use super::order::Ordered;
+use crate::part::{ListId, Part, Selection};
+use std::alloc::{AllocError, Global};
+
+/// The names of the members of a list's choices, rising. An error tells one that a choice has
+/// twice.
+pub(super) fn names_of<'c>(
+    alloc: Global,
+    ordered: &Ordered<'c>,
+    list: ListId,
+    parts: &[Part<'c>],
+) -> Result<Vec<&'c str>, Fault<'c>>
+    ensures ok { IfOk result (λ names.
+        ArePartNames ordered.now (parts_view parts.now) names.items) }
+    ensures err { IfErr result (IsWhyShared ordered.now (list_view list) (parts_view parts.now)) }
+{
+    let names = names_of_each(alloc, ordered, parts)?;
+    if let Some(name) = repeated(&names) {
+        return Err(name_twice(ordered, list, parts, name));
+    }
+    Ok(names)
+}
+
+/// The names of the members of each part, rising.
+fn names_of_each<'c>(
+    alloc: Global,
+    ordered: &Ordered<'c>,
+    parts: &[Part<'c>],
+) -> Result<Vec<&'c str>, AllocError>
+    ensures sorted { IfOk result (λ names. IsSorted name_ref_cmp names.items) }
+    ensures names { IfOk result (λ names.
+        AreNamesOf ordered.now (parts_view parts.now) (names_of names.items)) }
+{
+    let mut names = Vec::new(alloc);
+    for part in parts {
+        push_names(alloc, ordered, part, &mut names)?;
+    }
+    names.sort_unstable();
+    Ok(names)
+}
+
+/// Adds the names of the members of a part, each once.
+fn push_names<'c>(
+    alloc: Global,
+    ordered: &Ordered<'c>,
+    part: &Part<'c>,
+    names: &mut Vec<&'c str>,
+) -> Result<(), AllocError>
+    ensures { OnOk result (AreAdded ordered.now (part_view part.now)
+        (names_of names.old.items) (names_of names.new.items)) }
+{
+    match part {
+        Part::Member(member) => names.push(member.name)?,
+        Part::CatchAll(_) => {}
+        Part::Selection(selection) => {
+            let more = names_of_selection(alloc, ordered, selection)?;
+            names.extend_from_slice(&more)?;
+        }
+    }
+    Ok(())
+}
+
+/// The names of the members of the branches of a selection, rising.
+fn names_of_selection<'c>(
+    alloc: Global,
+    ordered: &Ordered<'c>,
+    selection: &Selection,
+) -> Result<Vec<&'c str>, AllocError>
+    ensures { let part = a_selection (selection_view selection.now) in IfOk result (λ names.
+        AreThose (λ x. IsTrue (part_knows ordered.now (named x) part)) (names_of names.items)) }
+{
+    let mut names = Vec::new(alloc);
+    for branch in &selection.branches {
+        if let Some(list) = ordered.entry(*branch) {
+            names.extend_from_slice(&list.names)?;
+        }
+    }
+    names.sort_unstable();
+    distinct(alloc, &names)
+}
+
+/// Each of sorted names once.
+fn distinct<'c>(alloc: Global, names: &[&'c str]) -> Result<Vec<&'c str>, AllocError>
+    requires { IsSorted name_ref_cmp names.now }
+    ensures { IfOk result (λ distinct.
+        AreThose (Contains (names_of names.now)) (names_of distinct.items)) }
+{
+    let mut distinct = Vec::with_capacity(alloc, names.len())?;
+    for index in 0..names.len() {
+        if index == 0 || names[index - 1] != names[index] {
+            distinct.push(names[index])?;
+        }
+    }
+    Ok(distinct)
+}
+
+/// The first of sorted names that is the next one too.
+fn repeated<'c>(names: &[&'c str]) -> Option<&'c str>
+    requires { IsSorted name_ref_cmp names.now }
+    ensures { MatchOption result (¬ RepeatsName (names_of names.now))
+        (λ name. IsRepeated (names_of names.now) name.now) }
+{
+    for later in 1..names.len() {
+        if names[later - 1] == names[later] {
+            return Some(names[later]);
+        }
+    }
+    None
+}
+
+/// The fault of a name that two parts have.
+fn name_twice<'c>(
+    ordered: &Ordered<'c>,
+    list: ListId,
+    parts: &[Part<'c>],
+    name: &'c str,
+) -> Fault<'c>
+    requires { IsShared ordered.now (parts_view parts.now) (named name.now) }
+    ensures { IsWhyShared ordered.now (list_view list) (parts_view parts.now) result }
+{
+    let mut first = parts.len();
+    for (index, part) in parts.iter().enumerate() {
+        if has_name(ordered, part, name) {
+            if first < parts.len() {
+                return Fault::NameTwice {
+                    list,
+                    name,
+                    first,
+                    second: index,
+                };
+            }
+            first = index;
+        }
+    }
+    Fault::NameTwice {
+        list,
+        name,
+        first,
+        second: first,
+    }
+}
+
+/// Whether a choice of a part has a member of the name.
+fn has_name(ordered: &Ordered<'_>, part: &Part<'_>, name: &str) -> bool {
+    match part {
+        Part::Member(member) => member.name == name,
+        Part::CatchAll(_) => false,
+        Part::Selection(selection) => {
+            selection
+                .branches
+                .iter()
+                .any(|branch| list_has_name(ordered, *branch, name))
+        }
+    }
+}
+
+/// Whether a choice of a list that is placed has a member of the name.
+fn list_has_name(ordered: &Ordered<'_>, list: ListId, name: &str) -> bool {
+    match ordered.entry(list) {
+        Some(list) => list.names.iter().any(|known| *known == name),
+        None => false,
+    }
+}
+
+/// Whether a choice of a list has a catch-all. An error tells that one has two.
+pub(super) fn takes_rest<'c>(
+    ordered: &Ordered<'c>,
+    list: ListId,
+    parts: &[Part<'c>],
+) -> Result<bool, Fault<'c>>
+    ensures ok { IfOk result (IsRestOf ordered.now (parts_view parts.now)) }
+    ensures err { IfErr result (IsWhyShared ordered.now (list_view list) (parts_view parts.now)) }
+{
+    let mut taker = None;
+    for (index, part) in parts.iter().enumerate() {
+        if part_takes_rest(ordered, part) {
+            if let Some(first) = taker {
+                return Err(Fault::TwoCatchAlls {
+                    list,
+                    first,
+                    second: index,
+                });
+            }
+            taker = Some(index);
+        }
+    }
+    Ok(taker.is_some())
+}
+
+/// Whether a choice of a part has a catch-all.
+fn part_takes_rest(ordered: &Ordered<'_>, part: &Part<'_>) -> bool
+    ensures { result ≡ part_knows ordered.now rest (part_view part.now) }
+{
+    match part {
+        Part::Member(_) => false,
+        Part::CatchAll(_) => true,
+        Part::Selection(selection) => {
+            selection
+                .branches
+                .iter()
+                .any(|branch| list_takes_rest(ordered, *branch))
+        }
+    }
+}
+
+/// Whether a choice of a list that is placed has a catch-all.
+fn list_takes_rest(ordered: &Ordered<'_>, list: ListId) -> bool
+    ensures { result ≡ list_knows ordered.now rest (list_view list) }
+{
+    match ordered.entry(list) {
+        Some(list) => list.takes_rest,
+        None => false,
+    }
+}
