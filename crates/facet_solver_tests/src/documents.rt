@@ -4,9 +4,7 @@ use crate::answer::Answer;
 use crate::catalogue::Catalogue;
 use facet_solver::ShapeId;
 use facet_solver_json::{JsonError, Scratch, parse};
-use facet_solver_reader::{
-    Count, Document, DocumentError, Number, Reader, TypeError, Unknown,
-};
+use facet_solver_reader::{Count, Document, DocumentError, Number, Reader, TypeError, Unknown};
 
 /// What stands for a line feed in the text of a call.
 const LINE_FEED: char = '¶';
