@@ -39,3 +39,8 @@ pub mod WorkList
 pub mod InRange
 pub mod Ranked
 pub mod NoTables
+pub mod FieldPlaces
+pub mod Steps
+pub mod Told
+pub mod Planned
+pub mod Chosen

@@ -71,7 +71,7 @@ fn parts_of_struct<'c>(
 }
 
 /// The representation of the shape at an index.
-fn repr_at(shapes: &Shapes, id: ShapeId) -> EnumRepr<'_>
+pub(crate) fn repr_at(shapes: &Shapes, id: ShapeId) -> EnumRepr<'_>
     ensures { repr_view result ≡ spec.repr_at shapes.now id }
 {
     match shapes.get(id) {

@@ -3,6 +3,7 @@
 //! A value is read as a target by what that comes to, an object by a list of parts: each list that
 //! its choices go through is counted once, those of branches first.
 mod catch_all;
+mod chosen;
 mod content;
 mod each;
 mod list;
@@ -15,5 +16,7 @@ mod target;
 mod untagged;
 mod variant;
 
+pub(crate) use chosen::chosen_branch;
 pub(crate) use memo::Memo;
+pub(crate) use object::Object;
 pub(crate) use target::count_target;

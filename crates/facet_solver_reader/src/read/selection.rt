@@ -45,7 +45,7 @@ pub(super) fn count_selection(
 }
 
 /// How often an object is read by a branch.
-fn count_branch(
+pub(super) fn count_branch(
     tables: &Tables<'_>,
     nodes: &Nodes<'_, '_>,
     object: &Object<'_, '_>,
@@ -79,7 +79,7 @@ fn count_branch(
 }
 
 /// Whether an object has a member that a selection knows.
-fn touches(
+pub(super) fn touches(
     tables: &Tables<'_>,
     nodes: &Nodes<'_, '_>,
     object: &Object<'_, '_>,

@@ -1,0 +1,73 @@
+-- What the only reading of an object goes through, as it is found before the values of its members.
+use Rattle.std.specs.Prelude.{◌≡◌, ◌×◌, ℕ, All, List, map, Option, Some, None, ⊤}
+use Rattle.facet_solver_reader.specs.declared.nodes.Nodes.{Nodes}
+use Rattle.facet_solver_reader.specs.declared.only.steps.Step as code
+use Rattle.facet_solver_reader.specs.declared.read.object.Object as read
+use Rattle.facet_solver_reader.specs.declared.tables.Tables.{Tables}
+use Rattle.facet_solver_reader.specs.Branches.{ReadsList, ReadsPart}
+use Rattle.facet_solver_reader.specs.Choices.{Choice, ChoiceAt, Reading, lacking, having, taking}
+use Rattle.facet_solver_reader.specs.Counted.{IsOnly}
+use Rattle.facet_solver_reader.specs.FieldPlaces.{Path}
+use Rattle.facet_solver_reader.specs.Objects.{Object, Reads}
+use Rattle.facet_solver_reader.specs.Parts.{CatchAll, MemberPart, Part, a_member, a_catch_all}
+use Rattle.facet_solver_reader.specs.Reading.{object_view}
+use Rattle.facet_solver_reader.specs.Readings.{ReadsValue}
+use Rattle.facet_solver_reader.specs.Rules.{Rules}
+use Rattle.facet_solver_reader.specs.Steps as steps
+use Rattle.facet_solver_reader.specs.Steps.{Step, steps_through, Walk}
+use Rattle.facet_solver_reader.specs.Tables.{rules_at}
+use Rattle.facet_solver_reader.specs.Views.{catch_all_view, list_view, member_view}
+
+-- a step, whatever is read there
+pub data Planned : Type 0 where
+  a_field : Path → MemberPart → Planned
+  a_variant : Path → ℕ → ℕ → Planned
+  a_rest : CatchAll → Planned
+
+-- a step of a choice, whatever is read there
+abbrev pub planned_of : Step → Planned
+planned_of (steps.a_field path m r) = a_field path m
+planned_of (steps.a_variant path id k) = a_variant path id k
+planned_of (steps.a_rest k t) = a_rest k
+
+-- a step in memory
+abbrev pub step_view : code.Step → Planned
+step_view (code.TheVariants.Field path m) = a_field path (member_view m.now)
+step_view (code.TheVariants.Variant path id k) = a_variant path id k
+step_view (code.TheVariants.Rest k) = a_rest (catch_all_view k.now)
+
+-- how a member is chosen, by how it is read if the object has it
+abbrev pub choice_of : Option Reading → ChoiceAt
+choice_of None = lacking
+choice_of (Some r) = having r
+
+-- an object has one reading by a part, and that is it
+pub record IsOnlyAt (rules : Rules) (reads : Reads) (object : Object) (p : Part) (a : ChoiceAt)
+    : Type 0 where
+  pub only : IsOnly (ReadsPart rules reads object p)
+  pub is : only.value ≡ a
+
+-- an object has one reading by the part of a step, and that is the step's
+abbrev pub IsOnlyStep : Rules → Reads → Object → Step → Type 0
+IsOnlyStep rules reads object (steps.a_field path m r) =
+    IsOnlyAt rules reads object (a_member m) (choice_of r)
+IsOnlyStep rules reads object (steps.a_variant path id k) = ⊤
+IsOnlyStep rules reads object (steps.a_rest k t) =
+    IsOnlyAt rules reads object (a_catch_all k) (taking t)
+
+-- the shapes and lists of tables
+abbrev pub walk_at : Tables → Walk
+walk_at t = record { shapes = t.shapes.now; lists = (rules_at t).lists }
+
+-- steps in memory are those of a reading of an object by its list, and at each the object has one
+-- reading
+pub record IsPlan (t : Tables) (nodes : Nodes) (o : read.Object) (found : List code.Step)
+    : Type 0 where
+  pub choice : Choice
+  pub reads :
+      ReadsList (rules_at t) (ReadsValue (rules_at t)) (object_view nodes o)
+      (list_view o.list.now.id) choice
+  pub steps : List Step
+  pub steps_are : steps ≡ steps_through (walk_at t) (list_view o.list.now.id) choice
+  pub planned : map planned_of steps ≡ map step_view found
+  pub only : All (IsOnlyStep (rules_at t) (ReadsValue (rules_at t)) (object_view nodes o)) steps

@@ -1,0 +1,76 @@
+-- What a choice of a list of parts goes through, one step after another.
+use Rattle.std.specs.Prelude.{ℕ, zero, suc, List, [], ◌∷◌, ◌++◌, Option, Some, None, slice_get}
+use Rattle.std.specs.Option.{unwrap_or}
+use Rattle.facet_solver_shape.specs.Catalogues.{Catalogue}
+use Rattle.facet_solver_shape.specs.Names.{Name}
+use Rattle.facet_solver_shape.specs.Paths.{by_variant}
+use Rattle.facet_solver_reader.specs.Choices.{Choice, ChoiceAt, Reading, Taken, done, next}
+use Rattle.facet_solver_reader.specs.Choices.{lacking, having, without, choosing, taking}
+use Rattle.facet_solver_reader.specs.FieldPlaces.{Path, field_name, path_at, variant_name}
+use Rattle.facet_solver_reader.specs.Parts.{CatchAll, ListId, Lists, MemberPart, Part, a_member}
+use Rattle.facet_solver_reader.specs.Parts.{a_selection, a_catch_all, of_branch, Selection}
+
+-- a member with its path, and how it is read if the object has it; the selected variant of an enum
+-- with the path of the enum; or a catch-all with what it takes
+pub data Step : Type 0 where
+  a_field : Path → MemberPart → Option Reading → Step
+  a_variant : Path → ℕ → ℕ → Step
+  a_rest : CatchAll → Taken → Step
+
+-- a part, the name of the field that it is, and its path
+pub record Placed : Type 0 where
+  pub name : Name
+  pub path : Path
+  pub part : Part
+
+-- the parts of a list that stands at a place, from the i-th on
+abbrev pub placed_from : Catalogue → Path → ListId → ℕ → List Part → List Placed
+placed_from shapes place id i [] = []
+placed_from shapes place id i (p ∷ ps) =
+    record { name = field_name shapes id i; path = path_at shapes place id i; part = p }
+    ∷ placed_from shapes place id (suc i) ps
+
+-- a catalogue, and the parts of its lists
+pub record Walk : Type 0 where
+  pub shapes : Catalogue
+  pub lists : Lists
+
+-- the parts of a list that stands at a place
+abbrev pub placed : Walk → Path → ListId → List Placed
+placed w place id = placed_from w.shapes place id 0 (unwrap_or (w.lists id) [])
+
+-- where the parts of a branch stand that is chosen at a part: those of a variant behind it
+abbrev pub place_below : Catalogue → Placed → ListId → Path
+place_below shapes p (of_branch id k) =
+    p.path ++ by_variant p.name (variant_name shapes id k) ∷ []
+place_below shapes p id = p.path
+
+-- the variant that a branch at a path selects, if it is one
+abbrev pub selected : Path → ListId → List Step
+selected path (of_branch id k) = a_variant path id k ∷ []
+selected path id = []
+
+-- what stands before a branch, if there is one, and what its choice goes through
+abbrev pub through : Path → (ListId → List Step) → Option ListId → List Step
+through path inside None = []
+through path inside (Some id) = selected path id ++ inside id
+
+abbrev mutual
+  -- what a choice of parts goes through
+  pub steps_of : Walk → Choice → List Placed → List Step
+  steps_of w (next a c) (p ∷ ps) = step_at w a p p.part ++ steps_of w c ps
+  steps_of w _ _ = []
+
+  -- what a choice at one part goes through
+  pub step_at : Walk → ChoiceAt → Placed → Part → List Step
+  step_at w lacking p (a_member m) = a_field p.path m None ∷ []
+  step_at w (having r) p (a_member m) = a_field p.path m (Some r) ∷ []
+  step_at w (choosing k c) p (a_selection s) =
+      through p.path (λ id. steps_of w c (placed w (place_below w.shapes p id) id))
+      (slice_get s.branches k)
+  step_at w (taking t) p (a_catch_all k) = a_rest k t ∷ []
+  step_at w _ _ _ = []
+
+-- what a choice of an object's list goes through
+abbrev pub steps_through : Walk → ListId → Choice → List Step
+steps_through w id c = steps_of w c (placed w [] id)

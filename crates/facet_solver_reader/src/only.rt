@@ -1,0 +1,5 @@
+//! The only reading of a value, where it has exactly one.
+//!
+//! The counts decide each choice. What an object's choice goes through is found as a list of steps,
+//! so that no call goes as deep as flattened fields nest.
+mod steps;
