@@ -44,3 +44,5 @@ pub mod Steps
 pub mod Told
 pub mod Planned
 pub mod Chosen
+pub mod ToldAt
+pub mod ToldObjects

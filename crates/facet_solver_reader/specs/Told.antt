@@ -14,7 +14,7 @@ use Rattle.facet_solver_reader.specs.declared.reading.ReadingKind.TheVariants as
 use Rattle.facet_solver_reader.specs.declared.reading.VariantName.{VariantName}
 use Rattle.facet_solver_reader.specs.Choices.{Choice, Reading, a_value, each_of, a_variant}
 use Rattle.facet_solver_reader.specs.Choices.{Readings, no_readings, reading, Taken, taken}
-use Rattle.facet_solver_reader.specs.Choices.{none_left, passing} 
+use Rattle.facet_solver_reader.specs.Choices.{none_left, passing}
 use Rattle.facet_solver_reader.specs.Choices as choices
 use Rattle.facet_solver_reader.specs.Documents.{Items, Member, Members, Tree, items, list, members}
 use Rattle.facet_solver_reader.specs.Documents.{member, no_members, object, text, view}
@@ -63,17 +63,21 @@ names_view v = (v.enum_name.now, v.variant_name.now)
 abbrev pub texts : List (Bor Name) → List Name
 texts xs = map (λ x. x.now) xs
 
--- the values that are read as the shapes at their places, each with its end
-abbrev pub ends_at : Rules → List ℕ → List Tree → List (End × Tree)
-ends_at rules ids vs = zip (map rules.end_of ids) vs
+-- a value that is read as an end
+abbrev pub ValueAs : Type 0
+ValueAs = End × Tree
+
+-- values that are read as the shapes at their places
+abbrev pub each_at : Rules → List (ℕ × Tree) → List ValueAs
+each_at rules vs = map (λ v. (rules.end_of v.0, v.1)) vs
 
 -- values that are read as one end
-abbrev pub each_as : End → List Tree → List (End × Tree)
+abbrev pub each_as : End → List Tree → List ValueAs
 each_as e vs = map (λ v. (e, v)) vs
 
--- the values of members
-abbrev pub values_of : List Member → List Tree
-values_of ms = map (λ m. m.value) ms
+-- the values of members, which are read as one end
+abbrev pub each_member_as : End → List Member → List ValueAs
+each_member_as e ms = map (λ m. (e, m.value)) ms
 
 -- the variants that steps select, with their paths
 abbrev pub selections_in : Catalogue → List Step → List Selection
@@ -144,13 +148,13 @@ mutual
         → Tells rules shapes (a_list id) (list vs) (each_of rs) [] (kinds.List ws)
     -- the values of a tuple
     places_of : (ids : List ℕ) (vs : Items) (rs : Readings) (ws : Vec code.Reading Global)
-        → TellsEach rules shapes (ends_at rules ids (items vs)) rs ws.items
+        → TellsEach rules shapes (each_at rules (zip ids (items vs))) rs ws.items
         → Tells rules shapes (a_tuple ids) (list vs) (each_of rs) [] (kinds.List ws)
     -- the entries of a map
     entries_of : (key id : ℕ) (ms : Members) (rs : Readings) (ns : Vec (Bor Name) Global)
         (ws : Vec code.Reading Global)
         → texts ns.items ≡ map (λ m. m.name) (members ms)
-        → TellsEach rules shapes (each_as (rules.end_of id) (values_of (members ms))) rs ws.items
+        → TellsEach rules shapes (each_member_as (rules.end_of id) (members ms)) rs ws.items
         → Tells rules shapes (a_map key id) (object ms) (each_of rs) [] (kinds.Map ns ws)
     -- an object by a list of parts
     by_parts : (id : ListId) (ms : Members) (c : Choice) (o : ObjectReading)
@@ -185,12 +189,12 @@ mutual
 
   -- values, each with its end, are told by readings
   pub data TellsEach (rules : Rules) (shapes : Catalogue) :
-      List (End × Tree) → Readings → List code.Reading → Type 0 where
+      List ValueAs → Readings → List code.Reading → Type 0 where
     no_values : TellsEach rules shapes [] no_readings []
-    one_value : (e : End) (v : Tree) (r : Reading) (w : code.Reading) (vs : List (End × Tree))
-        (rs : Readings) (ws : List code.Reading)
-        → Tells rules shapes e v r w.variants.items w.kind → TellsEach rules shapes vs rs ws
-        → TellsEach rules shapes ((e, v) ∷ vs) (reading r rs) (w ∷ ws)
+    one_value : (v : ValueAs) (r : Reading) (w : code.Reading) (vs : List ValueAs) (rs : Readings)
+        (ws : List code.Reading)
+        → Tells rules shapes v.0 v.1 r w.variants.items w.kind → TellsEach rules shapes vs rs ws
+        → TellsEach rules shapes (v ∷ vs) (reading r rs) (w ∷ ws)
 
   -- a choice of a list of parts, as an object has it, is told
   pub data TellsObject (rules : Rules) (shapes : Catalogue) :
@@ -209,14 +213,19 @@ mutual
   pub data TellsFields (rules : Rules) (shapes : Catalogue) :
       List Member → List FieldStep → List code.Reading → Type 0 where
     no_fields : (ms : List Member) → TellsFields rules shapes ms [] []
-    an_absent : (ms : List Member) (f : FieldStep) (w : code.Reading) (fs : List FieldStep)
-        (ws : List code.Reading) → f.read ≡ None → w.kind ≡ kinds.Absent
+    one_field : (ms : List Member) (f : FieldStep) (w : code.Reading) (fs : List FieldStep)
+        (ws : List code.Reading) → TellsField rules shapes ms f.part f.read w
         → TellsFields rules shapes ms fs ws → TellsFields rules shapes ms (f ∷ fs) (w ∷ ws)
-    a_present : (ms : List Member) (f : FieldStep) (v : Tree) (r : Reading) (w : code.Reading)
-        (fs : List FieldStep) (ws : List code.Reading)
-        → f.read ≡ Some r → find ms f.part.name ≡ Some v
-        → Tells rules shapes (end_of_target rules f.part.target) v r w.variants.items w.kind
-        → TellsFields rules shapes ms fs ws → TellsFields rules shapes ms (f ∷ fs) (w ∷ ws)
+
+  -- a member is told, by how it is read if the object has it
+  pub data TellsField (rules : Rules) (shapes : Catalogue) :
+      List Member → MemberPart → Option Reading → code.Reading → Type 0 where
+    is_absent : (ms : List Member) (m : MemberPart) (w : code.Reading)
+        → w.variants.items ≡ [] → w.kind ≡ kinds.Absent → TellsField rules shapes ms m None w
+    is_present : (ms : List Member) (m : MemberPart) (v : Tree) (r : Reading) (w : code.Reading)
+        → find ms m.name ≡ Some v
+        → Tells rules shapes (end_of_target rules m.target) v r w.variants.items w.kind
+        → TellsField rules shapes ms m (Some r) w
 
   -- the members of no known name are told: as what a catch-all takes, or as ignored
   pub data TellsRest (rules : Rules) (shapes : Catalogue) :

@@ -2,4 +2,14 @@
 //!
 //! The counts decide each choice. What an object's choice goes through is found as a list of steps,
 //! so that no call goes as deep as flattened fields nest.
+mod content;
+mod each;
+mod found;
+mod members;
+mod object;
 mod steps;
+mod target;
+mod untagged;
+mod variant;
+
+pub(crate) use target::read_target;

@@ -1,6 +1,10 @@
 //! The reading of a document.
+ghost use Rattle.std.specs.Prelude.{◌≡◌, []};
+ghost use Rattle.facet_solver_reader.specs.declared.reading.ReadingKind.TheVariants as kinds;
+
 use crate::document::Document;
 use facet_solver_shape::{FieldPath, VariantSelection};
+use std::alloc::Global;
 
 /// The variant of an enum that a value is read as.
 #[derive(Clone, Copy, PartialEq, Eq, Debug)]
@@ -77,4 +81,25 @@ pub enum ReadingKind<'c, 'v, 'd> {
     },
     /// The content of a variant, which stands under the variant's name.
     Content(Box<Reading<'c, 'v, 'd>>),
+}
+
+impl<'c, 'v, 'd> Reading<'c, 'v, 'd> {
+    /// What is read as no variant.
+    pub(crate) fn plain(alloc: Global, kind: ReadingKind<'c, 'v, 'd>) -> Reading<'c, 'v, 'd>
+        ensures variants { result.variants.items ≡ [] }
+        ensures kind { result.kind ≡ kind.entry }
+    {
+        Reading {
+            variants: Vec::new(alloc),
+            kind,
+        }
+    }
+
+    /// A value that is read as it is.
+    pub(crate) fn as_it_is(alloc: Global, value: &'v Document<'d>) -> Reading<'c, 'v, 'd>
+        ensures variants { result.variants.items ≡ [] }
+        ensures kind { result.kind ≡ kinds.Value value.entry }
+    {
+        Reading::plain(alloc, ReadingKind::Value(value))
+    }
 }

@@ -1,0 +1,50 @@
+-- What a reading tells of a numbered value.
+use Rattle.std.specs.Prelude.{◌≡◌, ℕ, List, [], Option, Some, None, Vec}
+use Rattle.std.specs.Global.{Global}
+use Rattle.facet_solver_reader.specs.declared.nodes.Nodes.{Nodes}
+use Rattle.facet_solver_reader.specs.declared.reading.ObjectReading.{ObjectReading}
+use Rattle.facet_solver_reader.specs.declared.reading.Reading as code
+use Rattle.facet_solver_reader.specs.declared.reading.ReadingKind.TheVariants as kinds
+use Rattle.facet_solver_reader.specs.declared.tables.Tables.{Tables}
+use Rattle.facet_solver_reader.specs.Choices.{Choice, Reading, an_object, a_variant}
+use Rattle.facet_solver_reader.specs.Documents.{Tree}
+use Rattle.facet_solver_reader.specs.Nodes.{members_in, value_of}
+use Rattle.facet_solver_reader.specs.Objects.{ReadsObject}
+use Rattle.facet_solver_reader.specs.Parts.{ListId, Target}
+use Rattle.facet_solver_reader.specs.Readings.{ReadsValue, inner}
+use Rattle.facet_solver_reader.specs.Rules.{End, Rules}
+use Rattle.facet_solver_reader.specs.Tables.{rules_at}
+use Rattle.facet_solver_reader.specs.Told.{IsTold, Tells, TellsObject}
+use Rattle.facet_solver_reader.specs.Values.{ReadsEnd}
+
+-- a reading of a numbered value as a target is told
+abbrev pub IsToldAt : Tables → Nodes → ℕ → Target → code.Reading → Type 0
+IsToldAt t nodes node target w =
+    IsTold (rules_at t) t.shapes.now target (value_of nodes node) w
+
+-- a reading of a numbered value as an end is told
+pub record IsToldAs (t : Tables) (nodes : Nodes) (node : ℕ) (e : End) (w : code.Reading)
+    : Type 0 where
+  pub reading : Reading
+  pub reads : ReadsEnd (rules_at t) (inner (rules_at t)) e (value_of nodes node) reading
+  pub tells : Tells (rules_at t) t.shapes.now e (value_of nodes node) reading w.variants.items w.kind
+
+-- a reading of a numbered object by a list of parts is told
+pub record IsToldBy (t : Tables) (nodes : Nodes) (node : ℕ) (id : ListId) (w : code.Reading)
+    : Type 0 where
+  pub choice : Choice
+  pub reads :
+      ReadsObject (rules_at t) (ReadsValue (rules_at t)) id (members_in (value_of nodes node)) choice
+  pub object : ObjectReading
+  pub values : Vec code.Reading Global
+  pub rest : Vec code.Reading Global
+  pub variants_are : w.variants.items ≡ []
+  pub kind_is : w.kind ≡ kinds.Object object values rest
+  pub tells :
+      TellsObject (rules_at t) t.shapes.now id (members_in (value_of nodes node)) choice object
+      values.items rest.items
+
+-- a value is read as an untagged enum: by those of its variants that join, or by the one at an index
+abbrev pub IsUntagged : Rules → End → Tree → Option ℕ → Type 0
+IsUntagged rules e v None = (c : Choice) × ReadsEnd rules (inner rules) e v (an_object c)
+IsUntagged rules e v (Some k) = (r : Reading) × ReadsEnd rules (inner rules) e v (a_variant k r)

@@ -1,0 +1,157 @@
+//! The only readings of an object's members: those of a choice, and those of no known name.
+ghost use Rattle.std.specs.Prelude.{◌≡◌, ◌<◌, All, IfOk, IsSorted, Some, length, map, slice_get};
+ghost use Rattle.facet_solver_reader.specs.declared.count.Count.TheVariants.{One};
+ghost use Rattle.facet_solver_shape.specs.Names.{name_ref_cmp};
+ghost use Rattle.facet_solver_reader.specs.Counted.{Counted};
+ghost use Rattle.facet_solver_reader.specs.Documents.{Member};
+ghost use Rattle.facet_solver_reader.specs.Nodes.{count, members_in, value_of};
+ghost use Rattle.facet_solver_reader.specs.Objects.{Takes};
+ghost use Rattle.facet_solver_reader.specs.Parts.{a_catch_all, a_member};
+ghost use Rattle.facet_solver_reader.specs.Reading.{AreSound, IsObject, IsPartCount};
+ghost use Rattle.facet_solver_reader.specs.Readings.{ReadsValue};
+ghost use Rattle.facet_solver_reader.specs.Tables.{PartIsServed, rules_at};
+ghost use Rattle.facet_solver_reader.specs.Told.{texts};
+ghost use Rattle.facet_solver_reader.specs.ToldObjects.{AreOnlyMembers, AreToldFields, IsToldField, IsToldRest, IsToldTaken, unknown_names};
+ghost use Rattle.facet_solver_reader.specs.Views.{catch_all_view, member_view};
+
+use super::each::push;
+use super::target::{read_shape, read_target};
+use crate::document::Document;
+use crate::nodes::Nodes;
+use crate::part::{CatchAll, MemberPart};
+use crate::read::{Memo, Object, members_of};
+use crate::reading::{Reading, ReadingKind};
+use crate::tables::Tables;
+use std::alloc::{AllocError, Global};
+
+/// The only readings of members that an object has, and absence of those that it lacks.
+#[cycle(only)]
+pub(super) fn read_fields<'c, 'v, 'd>(
+    tables: &Tables<'c>,
+    nodes: &Nodes<'v, 'd>,
+    memo: &mut Memo,
+    object: &Object<'_, 'c>,
+    members: &[&MemberPart<'c>],
+) -> Result<Vec<Reading<'c, 'v, 'd>>, AllocError>
+    requires sound { AreSound tables.now nodes.now memo.old.entries.items }
+    requires object { IsObject tables.now nodes.now object.now }
+    requires served { All (λ m. PartIsServed tables.now (a_member (member_view m.now))) members.now }
+    requires only { AreOnlyMembers tables.now nodes.now object.now
+        (map (λ m. member_view m.now) members.now) }
+    ensures sound { AreSound tables.now nodes.now memo.new.entries.items }
+    ensures told { IfOk result (λ values. AreToldFields tables.now nodes.now object.now
+        (map (λ m. member_view m.now) members.now) values.items) }
+{
+    let mut values = Vec::with_capacity(tables.alloc, members.len())?;
+    for member in members {
+        let reading = read_field(tables, nodes, memo, object, member)?;
+        push(&mut values, reading)?;
+    }
+    Ok(values)
+}
+
+/// The only reading of a member, or its absence.
+#[cycle(only)]
+fn read_field<'c, 'v, 'd>(
+    tables: &Tables<'c>,
+    nodes: &Nodes<'v, 'd>,
+    memo: &mut Memo,
+    object: &Object<'_, 'c>,
+    member: &MemberPart<'c>,
+) -> Result<Reading<'c, 'v, 'd>, AllocError>
+    requires sound { AreSound tables.now nodes.now memo.old.entries.items }
+    requires object { IsObject tables.now nodes.now object.now }
+    requires served { PartIsServed tables.now (a_member (member_view member.now)) }
+    requires one { IsPartCount tables.now nodes.now object.now
+        (a_member (member_view member.now)) One }
+    ensures sound { AreSound tables.now nodes.now memo.new.entries.items }
+    ensures told { IfOk result
+        (IsToldField tables.now nodes.now object.now (member_view member.now)) }
+{
+    match nodes.member(object.node, member.name) {
+        Some(value) => read_target(tables, nodes, memo, value, &member.target, tables.steps),
+        None => Ok(Reading::plain(tables.alloc, ReadingKind::Absent)),
+    }
+}
+
+/// The members of no known name that a catch-all takes: their names, and their only readings.
+#[cycle(only)]
+pub(super) fn read_rest<'c, 'v, 'd>(
+    tables: &Tables<'c>,
+    nodes: &Nodes<'v, 'd>,
+    memo: &mut Memo,
+    object: &Object<'_, 'c>,
+    catch_all: &CatchAll,
+) -> Result<(Vec<&'d str>, Vec<Reading<'c, 'v, 'd>>), AllocError>
+    requires sound { AreSound tables.now nodes.now memo.old.entries.items }
+    requires object { IsObject tables.now nodes.now object.now }
+    requires served { PartIsServed tables.now (a_catch_all (catch_all_view catch_all.now)) }
+    requires one { IsPartCount tables.now nodes.now object.now
+        (a_catch_all (catch_all_view catch_all.now)) One }
+    ensures sound { AreSound tables.now nodes.now memo.new.entries.items }
+    ensures told { IfOk result (λ rest. IsToldRest tables.now nodes.now object.now
+        (catch_all_view catch_all.now) rest) }
+{
+    let Document::Object(members) = nodes.value(object.node) else {
+        return Ok((Vec::new(tables.alloc), Vec::new(tables.alloc)));
+    };
+    let mut names = Vec::new(tables.alloc);
+    let mut readings = Vec::new(tables.alloc);
+    for index in 0..members.len() {
+        let name = members[index].0;
+        if !object.list.has_name(name) {
+            let reading = read_taken(tables, nodes, memo, object.node, index, catch_all)?;
+            names.push(name)?;
+            push(&mut readings, reading)?;
+        }
+    }
+    Ok((names, readings))
+}
+
+/// The only reading of a member that a catch-all takes.
+#[cycle(only)]
+fn read_taken<'c, 'v, 'd>(
+    tables: &Tables<'c>,
+    nodes: &Nodes<'v, 'd>,
+    memo: &mut Memo,
+    node: usize,
+    index: usize,
+    catch_all: &CatchAll,
+) -> Result<Reading<'c, 'v, 'd>, AllocError>
+    requires sound { AreSound tables.now nodes.now memo.old.entries.items }
+    requires inside { node < count nodes.now }
+    requires within { index < length (members_in (value_of nodes.now node)) }
+    requires served { PartIsServed tables.now (a_catch_all (catch_all_view catch_all.now)) }
+    requires one { (m : Member) → slice_get (members_in (value_of nodes.now node)) index ≡ Some m
+        → Counted (Takes (rules_at tables.now) (ReadsValue (rules_at tables.now))
+        (catch_all_view catch_all.now) m) One }
+    ensures sound { AreSound tables.now nodes.now memo.new.entries.items }
+    ensures told { (m : Member) → slice_get (members_in (value_of nodes.now node)) index ≡ Some m
+        → IfOk result (IsToldTaken tables.now (catch_all_view catch_all.now) m) }
+{
+    let member = nodes.child(node, index);
+    match catch_all {
+        CatchAll::Anything => Ok(Reading::as_it_is(tables.alloc, nodes.value(member))),
+        CatchAll::Map(_, value) => read_shape(tables, nodes, memo, member, *value, tables.steps),
+    }
+}
+
+/// The names of an object's members that no choice of its list has, in order.
+pub(super) fn ignored_names<'d>(
+    alloc: Global,
+    nodes: &Nodes<'_, 'd>,
+    object: &Object<'_, '_>,
+) -> Result<Vec<&'d str>, AllocError>
+    requires inside { object.now.node < count nodes.now }
+    requires sorted { IsSorted name_ref_cmp object.now.list.now.names.items }
+    ensures { IfOk result (λ names. texts names.items ≡ unknown_names object.now.list.now
+        (members_in (value_of nodes.now object.now.node))) }
+{
+    let mut names = Vec::new(alloc);
+    for member in members_of(nodes.value(object.node)) {
+        if !object.list.has_name(member.0) {
+            names.push(member.0)?;
+        }
+    }
+    Ok(names)
+}

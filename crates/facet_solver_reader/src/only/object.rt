@@ -1,0 +1,104 @@
+//! The only reading of an object by a list of parts.
+ghost use Rattle.std.specs.Prelude.{◌≡◌, ◌<◌, IfOk};
+ghost use Rattle.facet_solver_reader.specs.declared.count.Count.TheVariants.{One};
+ghost use Rattle.facet_solver_reader.specs.Branches.{ReadsList};
+ghost use Rattle.facet_solver_reader.specs.Choices.{Choice};
+ghost use Rattle.facet_solver_reader.specs.Counted.{Counted};
+ghost use Rattle.facet_solver_reader.specs.Nodes.{count, members_in, value_of};
+ghost use Rattle.facet_solver_reader.specs.Objects.{ReadsObject};
+ghost use Rattle.facet_solver_reader.specs.Planned.{IsPlan};
+ghost use Rattle.facet_solver_reader.specs.Reading.{AreSound, IsObject, object_view};
+ghost use Rattle.facet_solver_reader.specs.Readings.{ReadsValue};
+ghost use Rattle.facet_solver_reader.specs.Tables.{ListIsServed, rules_at};
+ghost use Rattle.facet_solver_reader.specs.ToldAt.{IsToldBy};
+ghost use Rattle.facet_solver_reader.specs.Views.{list_view};
+
+use super::found::Found;
+use super::members::{ignored_names, read_fields, read_rest};
+use super::steps::{Step, steps_of};
+use crate::nodes::Nodes;
+use crate::part::ListId;
+use crate::read::{Memo, Object, count_all, has_unknown, list_counts};
+use crate::reading::{ObjectReading, Reading, ReadingKind};
+use crate::tables::Tables;
+use std::alloc::AllocError;
+
+/// The only reading of an object by a list of parts.
+#[cycle(only)]
+pub(super) fn read_object<'c, 'v, 'd>(
+    tables: &Tables<'c>,
+    nodes: &Nodes<'v, 'd>,
+    memo: &mut Memo,
+    node: usize,
+    id: ListId,
+) -> Result<Reading<'c, 'v, 'd>, AllocError>
+    requires sound { AreSound tables.now nodes.now memo.old.entries.items }
+    requires inside { node < count nodes.now }
+    requires served { ListIsServed tables.now (list_view id) }
+    requires one { Counted (ReadsObject (rules_at tables.now) (ReadsValue (rules_at tables.now))
+        (list_view id) (members_in (value_of nodes.now node))) One }
+    ensures sound { AreSound tables.now nodes.now memo.new.entries.items }
+    ensures told { IfOk result (IsToldBy tables.now nodes.now node (list_view id)) }
+{
+    let Some(list) = tables.list(id) else {
+        unreachable!()
+    };
+    let has_unknown = has_unknown(nodes, node, list);
+    let all = count_all(tables, nodes, memo, node, list, has_unknown)?;
+    let object = Object {
+        node,
+        list,
+        takes: !all.is_none(),
+        has_unknown,
+    };
+    let counts = list_counts(tables, nodes, memo, &object)?;
+    let steps = steps_of(tables, nodes, &object, &counts)?;
+    read_steps(tables, nodes, memo, &object, steps)
+}
+
+/// The reading that goes through steps.
+#[cycle(only)]
+fn read_steps<'c, 'v, 'd>(
+    tables: &Tables<'c>,
+    nodes: &Nodes<'v, 'd>,
+    memo: &mut Memo,
+    object: &Object<'_, 'c>,
+    steps: Vec<Step<'_, 'c>>,
+) -> Result<Reading<'c, 'v, 'd>, AllocError>
+    requires sound { AreSound tables.now nodes.now memo.old.entries.items }
+    requires object { IsObject tables.now nodes.now object.now }
+    requires plan { IsPlan tables.now nodes.now object.now steps.items }
+    requires reads { (c : Choice) → ReadsList (rules_at tables.now) (ReadsValue (rules_at tables.now))
+        (object_view nodes.now object.now) (list_view object.now.list.now.id) c
+        → ReadsObject (rules_at tables.now) (ReadsValue (rules_at tables.now))
+        (list_view object.now.list.now.id) (members_in (value_of nodes.now object.now.node)) c }
+    ensures sound { AreSound tables.now nodes.now memo.new.entries.items }
+    ensures told { IfOk result (IsToldBy tables.now nodes.now object.now.node
+        (list_view object.now.list.now.id)) }
+{
+    let alloc = tables.alloc;
+    let found = Found::new(alloc, tables.shapes, steps)?;
+    let values = read_fields(tables, nodes, memo, object, &found.members)?;
+    let (taken, rest, ignored) = match found.catch_all {
+        Some(catch_all) => {
+            let (names, readings) = read_rest(tables, nodes, memo, object, catch_all)?;
+            (names, readings, Vec::new(alloc))
+        }
+        None => {
+            let ignored = ignored_names(alloc, nodes, object)?;
+            (Vec::new(alloc), Vec::new(alloc), ignored)
+        }
+    };
+    let told = ObjectReading {
+        selections: found.selections,
+        fields: found.fields,
+        taken,
+        ignored,
+    };
+    let kind = ReadingKind::Object {
+        object: told,
+        values,
+        taken: rest,
+    };
+    Ok(Reading::plain(alloc, kind))
+}

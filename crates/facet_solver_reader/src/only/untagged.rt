@@ -1,0 +1,108 @@
+//! The only reading of a value as a variant that it does not name.
+ghost use Rattle.std.specs.Prelude.{◌≡◌, ◌∷◌, [], ◌<◌, All, IfOk, Option, length, map};
+ghost use Rattle.facet_solver_reader.specs.declared.count.Count.TheVariants.{One};
+ghost use Rattle.facet_solver_reader.specs.Counted.{Counted};
+ghost use Rattle.facet_solver_reader.specs.Nodes.{count, value_of};
+ghost use Rattle.facet_solver_reader.specs.Reading.{AreSound, IsRankedAlternative};
+ghost use Rattle.facet_solver_reader.specs.Readings.{inner};
+ghost use Rattle.facet_solver_reader.specs.Rules.{an_untagged_variant};
+ghost use Rattle.facet_solver_reader.specs.Tables.{IsServed, ListIsServed, rules_at};
+ghost use Rattle.facet_solver_reader.specs.ToldAt.{IsToldAs, IsUntagged};
+ghost use Rattle.facet_solver_reader.specs.Values.{ReadsEnd};
+ghost use Rattle.facet_solver_reader.specs.Views.{alternative_view, list_view};
+
+use super::object::read_object;
+use super::target::read_target;
+use super::variant::name_of;
+use crate::document::Document;
+use crate::end::{Alternative, AlternativeKind};
+use crate::nodes::Nodes;
+use crate::part::ListId;
+use crate::read::{Memo, count_alternative, count_object, count_target};
+use crate::reading::Reading;
+use crate::tables::Tables;
+use std::alloc::AllocError;
+
+/// The only reading of a value as an untagged enum.
+#[cycle(only)]
+pub(super) fn read_untagged<'c, 'v, 'd>(
+    tables: &Tables<'c>,
+    nodes: &Nodes<'v, 'd>,
+    memo: &mut Memo,
+    node: usize,
+    joined: ListId,
+    alone: &[Alternative<'c>],
+    steps: usize,
+) -> Result<Reading<'c, 'v, 'd>, AllocError>
+    requires sound { AreSound tables.now nodes.now memo.old.entries.items }
+    requires inside { node < count nodes.now }
+    requires joined { ListIsServed tables.now (list_view joined) }
+    requires served { All (λ a. IsServed tables.now a.content) (map alternative_view alone.now) }
+    requires ranked { All (λ a. IsRankedAlternative (rules_at tables.now) steps a)
+        (map alternative_view alone.now) }
+    requires one { Counted (ReadsEnd (rules_at tables.now) (inner (rules_at tables.now))
+        (an_untagged_variant (list_view joined) (map alternative_view alone.now))
+        (value_of nodes.now node)) One }
+    ensures sound { AreSound tables.now nodes.now memo.new.entries.items }
+    ensures told { IfOk result (IsToldAs tables.now nodes.now node
+        (an_untagged_variant (list_view joined) (map alternative_view alone.now))) }
+{
+    let Some(k) = alternative_index(tables, nodes, memo, node, joined, alone, steps)? else {
+        return read_object(tables, nodes, memo, node, joined);
+    };
+    let alternative = &alone[k];
+    let mut reading = match alternative.kind {
+        AlternativeKind::Null => Reading::as_it_is(tables.alloc, nodes.value(node)),
+        _ => read_target(tables, nodes, memo, node, &alternative.content, steps - 1)?,
+    };
+    let name = name_of(tables.shapes, &alternative.content);
+    reading.variants.insert(0, name)?;
+    Ok(reading)
+}
+
+/// Which variant of an untagged enum reads a value by itself, by its index; `None` where those that
+/// join read it.
+fn alternative_index(
+    tables: &Tables<'_>,
+    nodes: &Nodes<'_, '_>,
+    memo: &mut Memo,
+    node: usize,
+    joined: ListId,
+    alone: &[Alternative<'_>],
+    steps: usize,
+) -> Result<Option<usize>, AllocError>
+    requires sound { AreSound tables.now nodes.now memo.old.entries.items }
+    requires inside { node < count nodes.now }
+    requires joined { ListIsServed tables.now (list_view joined) }
+    requires served { All (λ a. IsServed tables.now a.content) (map alternative_view alone.now) }
+    requires ranked { All (λ a. IsRankedAlternative (rules_at tables.now) steps a)
+        (map alternative_view alone.now) }
+    requires one { Counted (ReadsEnd (rules_at tables.now) (inner (rules_at tables.now))
+        (an_untagged_variant (list_view joined) (map alternative_view alone.now))
+        (value_of nodes.now node)) One }
+    ensures sound { AreSound tables.now nodes.now memo.new.entries.items }
+    ensures chosen { IfOk result (IsUntagged (rules_at tables.now)
+        (an_untagged_variant (list_view joined) (map alternative_view alone.now))
+        (value_of nodes.now node)) }
+{
+    if let Document::Object(_) = nodes.value(node) {
+        if !count_object(tables, nodes, memo, node, joined)?.is_none() {
+            return Ok(None);
+        }
+    }
+    for (k, alternative) in alone.iter().enumerate() {
+        let count = count_alternative(tables, nodes, memo, node, alone, alternative, steps)?;
+        if !count.is_none() {
+            return Ok(Some(k));
+        }
+    }
+    for (k, alternative) in alone.iter().enumerate() {
+        if let AlternativeKind::Fallback = alternative.kind {
+            let count = count_target(tables, nodes, memo, node, &alternative.content, steps - 1)?;
+            if !count.is_none() {
+                return Ok(Some(k));
+            }
+        }
+    }
+    unreachable!()
+}
