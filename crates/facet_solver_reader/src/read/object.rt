@@ -4,7 +4,7 @@ ghost use Rattle.facet_solver_shape.specs.Names.{name_ref_cmp};
 ghost use Rattle.facet_solver_reader.specs.Counted.{Counted};
 ghost use Rattle.facet_solver_reader.specs.Nodes.{count, members_in, value_of};
 ghost use Rattle.facet_solver_reader.specs.Objects.{ReadsAll, ReadsObject};
-ghost use Rattle.facet_solver_reader.specs.Reading.{AreSound, IsListCount, IsListed, IsObject};
+ghost use Rattle.facet_solver_reader.specs.Reading.{AreListCounts, AreSound, IsListCount, IsListed, IsObject};
 ghost use Rattle.facet_solver_reader.specs.Readings.{ReadsValue};
 ghost use Rattle.facet_solver_reader.specs.Tables as spec;
 ghost use Rattle.facet_solver_reader.specs.Tables.{ListIsServed, rules_at};
@@ -42,7 +42,7 @@ impl Object<'_, '_> {
 /// How often an object is read by a list of parts: with all its members or, where nothing takes
 /// those of no known name and the reader is not strict, without these.
 #[cycle(count)]
-pub(super) fn count_object(
+pub(crate) fn count_object(
     tables: &Tables<'_>,
     nodes: &Nodes<'_, '_>,
     memo: &mut Memo,
@@ -76,7 +76,7 @@ pub(super) fn count_object(
 
 /// How often an object is read with all its members.
 #[cycle(count)]
-fn count_all(
+pub(crate) fn count_all(
     tables: &Tables<'_>,
     nodes: &Nodes<'_, '_>,
     memo: &mut Memo,
@@ -107,7 +107,7 @@ fn count_all(
 }
 
 /// Whether an object has a member of a name that no choice of a list has.
-fn has_unknown(nodes: &Nodes<'_, '_>, node: usize, list: &List<'_>) -> bool
+pub(crate) fn has_unknown(nodes: &Nodes<'_, '_>, node: usize, list: &List<'_>) -> bool
     requires inside { node < count nodes.now }
     requires sorted { IsSorted name_ref_cmp list.now.names.items }
     ensures { result ≡ spec.has_unknown list.now (members_in (value_of nodes.now node)) }
@@ -120,8 +120,7 @@ fn has_unknown(nodes: &Nodes<'_, '_>, node: usize, list: &List<'_>) -> bool
     false
 }
 
-/// How often an object is read by the choices of its list: each list that they go through is
-/// counted once, those of branches first.
+/// How often an object is read by the choices of its list.
 #[cycle(count)]
 fn count_members(
     tables: &Tables<'_>,
@@ -135,6 +134,27 @@ fn count_members(
     ensures count { IfOk result
         (IsListCount tables.now nodes.now object.now object.now.list.now) }
 {
+    let mut counts = list_counts(tables, nodes, memo, object)?;
+    Ok(counts.pop().unwrap_or(Count::None))
+}
+
+/// How often an object is read by each list that the choices of its list go through, in the order of
+/// `below`: each is counted once, those of branches first.
+#[cycle(count)]
+pub(crate) fn list_counts(
+    tables: &Tables<'_>,
+    nodes: &Nodes<'_, '_>,
+    memo: &mut Memo,
+    object: &Object<'_, '_>,
+) -> Result<Vec<Count>, AllocError>
+    requires sound { AreSound tables.now nodes.now memo.old.entries.items }
+    requires object { IsObject tables.now nodes.now object.now }
+    ensures sound { AreSound tables.now nodes.now memo.new.entries.items }
+    ensures counts { IfOk result (λ counts.
+        AreListCounts tables.now nodes.now object.now counts.items) }
+    ensures all { IfOk result (λ counts.
+        length counts.items ≡ length object.now.list.now.below.items) }
+{
     let below = &object.list.below;
     let mut counts = Vec::with_capacity(tables.alloc, below.len())?;
     for index in below {
@@ -142,5 +162,5 @@ fn count_members(
         let count = count_list(tables, nodes, memo, object, list, &counts)?;
         counts.push(count)?;
     }
-    Ok(counts.pop().unwrap_or(Count::None))
+    Ok(counts)
 }

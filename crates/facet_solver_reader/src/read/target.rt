@@ -65,7 +65,7 @@ fn count_tag(value: &Document<'_>, name: &str) -> Count
 
 /// How often a value is read as a shape. It is found once for each value.
 #[cycle(count)]
-pub(super) fn count_shape(
+pub(crate) fn count_shape(
     tables: &Tables<'_>,
     nodes: &Nodes<'_, '_>,
     memo: &mut Memo,

@@ -89,7 +89,7 @@ fn count_alone(
 
 /// How often a value is read by one of them.
 #[cycle(count)]
-fn count_alternative(
+pub(crate) fn count_alternative(
     tables: &Tables<'_>,
     nodes: &Nodes<'_, '_>,
     memo: &mut Memo,
@@ -163,7 +163,7 @@ fn is_whole_of(value: &Document<'_>, alternative: &Alternative<'_>) -> bool
 
 /// How often a value is read by the fallbacks.
 #[cycle(count)]
-fn count_fallbacks(
+pub(crate) fn count_fallbacks(
     tables: &Tables<'_>,
     nodes: &Nodes<'_, '_>,
     memo: &mut Memo,

@@ -570,8 +570,8 @@ object::count_all-returns-clause-count t c =
     (λ n h. count_of_takes rules (ReadsValue rules) ms id n known h)
     c.count_members.ensures.count
 
-pub object::count_members-index-list-requires : goal.object::count_members-index-list-requires
-object::count_members-index-list-requires t c =
+pub object::list_counts-index-list-requires : goal.object::list_counts-index-list-requires
+object::list_counts-index-list-requires t c =
     let tb = c.args.tables.now in
     let o = c.args.object.now in
     let position = c.loop-index.index-index in
@@ -582,8 +582,8 @@ object::count_members-index-list-requires t c =
     let within = slice_get_within tb.lists.items index b.0 b.2 in
     omega (arith, within)
 
-pub object::count_members-count_list-requires : goal.object::count_members-count_list-requires
-object::count_members-count_list-requires t c =
+pub object::list_counts-count_list-requires : goal.object::list_counts-count_list-requires
+object::list_counts-count_list-requires t c =
     let tb = c.args.tables.now in
     let o = c.args.object.now in
     let position = c.loop-index.index-index in
@@ -611,8 +611,8 @@ object::count_members-count_list-requires t c =
       ),
     )
 
-pub object::count_members-loop-index-preserved : goal.object::count_members-loop-index-preserved
-object::count_members-loop-index-preserved t c =
+pub object::list_counts-loop-index-preserved : goal.object::list_counts-loop-index-preserved
+object::list_counts-loop-index-preserved t c =
     let tb = c.args.tables.now in
     let o = c.args.object.now in
     let position = c.loop-index.index-index in
@@ -638,21 +638,19 @@ object::count_members-loop-index-preserved t c =
 pub object::count_members-returns-clause-count : goal.object::count_members-returns-clause-count
 object::count_members-returns-clause-count t c =
     let o = c.args.object.now in
-    let items = c.loop-index.counts.items in
+    let items = c.in_ok-counts.counts.items in
     let h = c.requires.object in
     let last = (c.requires.sound.tables.lists h.index o.list.now h.listed).last in
-    let all = ap length c.deref-index-items.ensures.value in
-    let many : length items ≡ last.0 + 1 =
-    omega (arith, all, last.1, c.loop-index.invariant.so_far) in
-    let some : 0 < vec_len c.loop-index.counts = omega (arith, many) in
-    let place : vec_len c.loop-index.counts - 1 ≡ last.0 = omega (arith, many) in
+    let many : length items ≡ last.0 + 1 = omega (arith, last.1, c.in_ok-counts.ensures.all) in
+    let some : 0 < vec_len c.in_ok-counts.counts = omega (arith, many) in
+    let place : vec_len c.in_ok-counts.counts - 1 ≡ last.0 = omega (arith, many) in
     let within : last.0 < length items = omega (arith, many) in
     let is : c.unwrap_or.result ≡ get_or items last.0 NoReading =
     c.unwrap_or.ensures
     ∙ ap (λ r. unwrap_or r NoReading) (c.pop.ensures.value NoReading some)
     ∙ ap (λ i. get_or items i NoReading) place in
     subst (IsListCount c.args.tables.now c.args.nodes.now o o.list.now) (sym is)
-    (c.loop-index.invariant.counts.are last.0 h.index (get_or items last.0 NoReading) o.list.now
+    (c.in_ok-counts.ensures.counts.are last.0 h.index (get_or items last.0 NoReading) o.list.now
     (slice_get-get_or items last.0 NoReading within) last.2 h.listed)
 
 pub object::count_object-returns-in_default-clause-count :

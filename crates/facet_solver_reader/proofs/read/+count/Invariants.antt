@@ -103,23 +103,25 @@ abbrev pub decreases-list::count_part : goal.decreases-list::count_part
 decreases-list::count_part l = levels l.nodes.now l.object.now.node + 3
 
 abbrev pub decreases-object::count_all : goal.decreases-object::count_all
-decreases-object::count_all l = levels l.nodes.now l.node + 6
+decreases-object::count_all l = levels l.nodes.now l.node + 7
 
 abbrev pub decreases-object::count_members : goal.decreases-object::count_members
-decreases-object::count_members l = levels l.nodes.now l.object.now.node + 5
+decreases-object::count_members l = levels l.nodes.now l.object.now.node + 6
+
+abbrev pub decreases-object::count_object : goal.decreases-object::count_object
+decreases-object::count_object l = levels l.nodes.now l.node + 8
+
+abbrev pub decreases-object::list_counts : goal.decreases-object::list_counts
+decreases-object::list_counts l = levels l.nodes.now l.object.now.node + 5
 
 -- the lists before this one have been counted
-abbrev pub invariant-object::count_members-loop-index :
-    goal.invariant-object::count_members-loop-index
-invariant-object::count_members-loop-index l =
+abbrev pub invariant-object::list_counts-loop-index : goal.invariant-object::list_counts-loop-index
+invariant-object::list_counts-loop-index l =
     record {
       sound : AreSound l.tables l.nodes l.memo.entries.items;
       counts : AreListCounts l.tables l.nodes l.object l.counts.items;
       so_far : length l.counts.items ≡ l.index-index;
     }
-
-abbrev pub decreases-object::count_object : goal.decreases-object::count_object
-decreases-object::count_object l = levels l.nodes.now l.node + 7
 
 abbrev pub decreases-target::count_end : goal.decreases-target::count_end
 decreases-target::count_end l = levels l.nodes.now l.node + 16 * l.steps + 13
