@@ -16,7 +16,7 @@ pub mod Repeated
 pub mod RepeatedNames
 pub mod Touching
 pub mod TakenInOrder
-pub mod Only
+pub mod TheOnly
 pub mod SameReads
 pub mod FromBehind
 pub mod Numerals

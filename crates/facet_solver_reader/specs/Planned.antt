@@ -15,7 +15,7 @@ use Rattle.facet_solver_reader.specs.Readings.{ReadsValue}
 use Rattle.facet_solver_reader.specs.Rules.{Rules}
 use Rattle.facet_solver_reader.specs.Steps as steps
 use Rattle.facet_solver_reader.specs.Steps.{Step, steps_through, Walk}
-use Rattle.facet_solver_reader.specs.Tables.{rules_at}
+use Rattle.facet_solver_reader.specs.Tables.{PartIsServed, rules_at}
 use Rattle.facet_solver_reader.specs.Views.{catch_all_view, list_view, member_view}
 
 -- a step, whatever is read there
@@ -55,6 +55,12 @@ IsOnlyStep rules reads object (steps.a_variant path id k) = ⊤
 IsOnlyStep rules reads object (steps.a_rest k t) =
     IsOnlyAt rules reads object (a_catch_all k) (taking t)
 
+-- the tables have what a step leads to
+abbrev pub StepIsServed : Tables → Planned → Type 0
+StepIsServed t (a_field path m) = PartIsServed t (a_member m)
+StepIsServed t (a_variant path id k) = ⊤
+StepIsServed t (a_rest k) = PartIsServed t (a_catch_all k)
+
 -- the shapes and lists of tables
 abbrev pub walk_at : Tables → Walk
 walk_at t = record { shapes = t.shapes.now; lists = (rules_at t).lists }
@@ -71,3 +77,4 @@ pub record IsPlan (t : Tables) (nodes : Nodes) (o : read.Object) (found : List c
   pub steps_are : steps ≡ steps_through (walk_at t) (list_view o.list.now.id) choice
   pub planned : map planned_of steps ≡ map step_view found
   pub only : All (IsOnlyStep (rules_at t) (ReadsValue (rules_at t)) (object_view nodes o)) steps
+  pub served : All (StepIsServed t) (map step_view found)

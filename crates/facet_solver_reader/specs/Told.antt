@@ -14,7 +14,7 @@ use Rattle.facet_solver_reader.specs.declared.reading.ReadingKind.TheVariants as
 use Rattle.facet_solver_reader.specs.declared.reading.VariantName.{VariantName}
 use Rattle.facet_solver_reader.specs.Choices.{Choice, Reading, a_value, each_of, a_variant}
 use Rattle.facet_solver_reader.specs.Choices.{Readings, no_readings, reading, Taken, taken}
-use Rattle.facet_solver_reader.specs.Choices.{none_left, passing} 
+use Rattle.facet_solver_reader.specs.Choices.{none_left, passing}
 use Rattle.facet_solver_reader.specs.Choices as choices
 use Rattle.facet_solver_reader.specs.Documents.{Items, Member, Members, Tree, items, list, members}
 use Rattle.facet_solver_reader.specs.Documents.{member, no_members, object, text, view}

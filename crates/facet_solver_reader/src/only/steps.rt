@@ -60,14 +60,22 @@ pub(super) fn steps_of<'r, 'c>(
         let Some(frame) = frames.pop() else {
             return Ok(steps);
         };
-        step(tables, nodes, object, counts, frame, &mut frames, &mut steps)?;
+        take_part(
+            tables,
+            nodes,
+            object,
+            counts,
+            frame,
+            &mut frames,
+            &mut steps,
+        )?;
     }
     Err(AllocError)
 }
 
 /// Takes the next part of a frame: what it is goes behind the steps, and what is to be gone through
 /// after it goes behind the frames.
-fn step<'r, 'c>(
+fn take_part<'r, 'c>(
     tables: &'r Tables<'c>,
     nodes: &Nodes<'_, '_>,
     object: &Object<'r, 'c>,
