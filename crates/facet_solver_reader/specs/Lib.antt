@@ -46,3 +46,4 @@ pub mod Planned
 pub mod Chosen
 pub mod ToldAt
 pub mod ToldObjects
+pub mod Found

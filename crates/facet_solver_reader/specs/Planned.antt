@@ -1,8 +1,5 @@
 -- What the only reading of an object goes through, as it is found before the values of its members.
-use Rattle.std.specs.Prelude.{◌≡◌, ℕ, All, List, [], ◌∷◌, map, Option, Some, None, ⊤}
-use Rattle.facet_solver_shape.specs.Catalogues.{Catalogue}
-use Rattle.facet_solver_shape.specs.Names.{Name}
-use Rattle.facet_solver_shape.specs.Resolved.{Selection}
+use Rattle.std.specs.Prelude.{◌≡◌, ℕ, All, List, map, Option, Some, None, ⊤}
 use Rattle.facet_solver_reader.specs.declared.nodes.Nodes.{Nodes}
 use Rattle.facet_solver_reader.specs.declared.only.steps.Step as code
 use Rattle.facet_solver_reader.specs.declared.read.object.Object as read
@@ -10,7 +7,7 @@ use Rattle.facet_solver_reader.specs.declared.tables.Tables.{Tables}
 use Rattle.facet_solver_reader.specs.Branches.{ReadsList, ReadsPart}
 use Rattle.facet_solver_reader.specs.Choices.{Choice, ChoiceAt, Reading, lacking, having, taking}
 use Rattle.facet_solver_reader.specs.Counted.{IsOnly}
-use Rattle.facet_solver_reader.specs.FieldPlaces.{Path, shape_name, variant_name}
+use Rattle.facet_solver_reader.specs.FieldPlaces.{Path}
 use Rattle.facet_solver_reader.specs.Objects.{Object, Reads}
 use Rattle.facet_solver_reader.specs.Parts.{CatchAll, MemberPart, Part, a_member, a_catch_all}
 use Rattle.facet_solver_reader.specs.Reading.{object_view}
@@ -81,29 +78,3 @@ pub record IsPlan (t : Tables) (nodes : Nodes) (o : read.Object) (found : List c
   pub planned : map planned_of steps ≡ map step_view found
   pub only : All (IsOnlyStep (rules_at t) (ReadsValue (rules_at t)) (object_view nodes o)) steps
   pub served : All (StepIsServed t) (map step_view found)
-
--- the variants that steps select, with their paths
-abbrev pub selections_in : Catalogue → List Planned → List Selection
-selections_in shapes [] = []
-selections_in shapes (a_variant path id k ∷ ss) =
-    record { path = path; enum_name = shape_name shapes id; variant_name = variant_name shapes id k }
-    ∷ selections_in shapes ss
-selections_in shapes (_ ∷ ss) = selections_in shapes ss
-
--- where the members among steps stand
-abbrev pub places_in : List Planned → List (Path × Name)
-places_in [] = []
-places_in (a_field path m ∷ ss) = (path, m.name) ∷ places_in ss
-places_in (_ ∷ ss) = places_in ss
-
--- the members among steps
-abbrev pub members_in : List Planned → List MemberPart
-members_in [] = []
-members_in (a_field path m ∷ ss) = m ∷ members_in ss
-members_in (_ ∷ ss) = members_in ss
-
--- the first catch-all among steps
-abbrev pub catch_all_in : List Planned → Option CatchAll
-catch_all_in [] = None
-catch_all_in (a_rest k ∷ ss) = Some k
-catch_all_in (_ ∷ ss) = catch_all_in ss

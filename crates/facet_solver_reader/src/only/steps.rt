@@ -60,7 +60,15 @@ pub(super) fn steps_of<'r, 'c>(
         let Some(frame) = frames.pop() else {
             return Ok(steps);
         };
-        take_part(tables, nodes, object, counts, frame, &mut frames, &mut steps)?;
+        take_part(
+            tables,
+            nodes,
+            object,
+            counts,
+            frame,
+            &mut frames,
+            &mut steps,
+        )?;
     }
     Err(AllocError)
 }
