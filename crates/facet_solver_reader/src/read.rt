@@ -15,5 +15,5 @@ mod target;
 mod untagged;
 mod variant;
 
-pub(crate) use memo::Memo;
+pub(crate) use memo::{Asked, Memo};
 pub(crate) use target::count_target;
