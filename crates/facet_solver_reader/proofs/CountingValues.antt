@@ -37,18 +37,18 @@ use Rattle.facet_solver_reader.proofs.UntaggedVariants.{count_of_joined, count_o
 use Rattle.facet_solver_reader.proofs.UntaggedVariants.{count_of_null_alone}
 
 -- one more count that is right
-pub sound_added : (t : Tables) (nodes : Nodes) (old new : List MemoEntry) (node shape : ℕ)
-    (count : Count) → AreSound t nodes old → IsAdded node shape count old new
-    → IsCount t nodes node (of_shape shape) count → AreSound t nodes new
-sound_added t nodes old new node shape count sound added is = record {
+pub sound_added : (t : Tables) (nodes : Nodes) (old new : List MemoEntry) (node : ℕ)
+    (target : Target) (count : Count) → AreSound t nodes old → IsAdded node target count old new
+    → IsCount t nodes node target count → AreSound t nodes new
+sound_added t nodes old new node target count sound added is = record {
   tables = sound.tables;
   numbering = sound.numbering;
   counts = λ n s c noted.
       ⊎_elim (λ (h : IsNoted old n s c). sound.counts n s c h)
-      (λ (e : (n ≡ node) × (s ≡ shape) × (c ≡ count)).
-      subst (λ m. IsCount t nodes m (of_shape s) c) (sym e.0)
-      (subst (λ m. IsCount t nodes node (of_shape m) c) (sym e.1)
-      (subst (λ m. IsCount t nodes node (of_shape shape) m) (sym e.2) is)))
+      (λ (e : (n ≡ node) × (s ≡ target) × (c ≡ count)).
+      subst (λ m. IsCount t nodes m s c) (sym e.0)
+      (subst (λ m. IsCount t nodes node m c) (sym e.1)
+      (subst (λ m. IsCount t nodes node target m) (sym e.2) is)))
       (added.kept n s c noted);
 }
 

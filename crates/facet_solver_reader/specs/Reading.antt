@@ -19,7 +19,7 @@ use Rattle.std.specs.Borrow.{Bor}
 use Rattle.facet_solver_reader.specs.Memo.{IsNoted}
 use Rattle.facet_solver_reader.specs.Nodes.{count, members_in, value_of, IsNumbering}
 use Rattle.facet_solver_reader.specs.Objects.{find, HasUnknown, Object}
-use Rattle.facet_solver_reader.specs.Parts.{MemberPart, Part, a_member, a_selection, Selection, Target, of_shape, of_tag}
+use Rattle.facet_solver_reader.specs.Parts.{MemberPart, Part, a_member, a_selection, Selection, Target, of_tag}
 use Rattle.facet_solver_reader.specs.Readings.{ReadsValue}
 use Rattle.facet_solver_reader.specs.Tables.{AreTables, rules_at}
 use Rattle.facet_solver_reader.specs.Views.{list_view}
@@ -37,8 +37,8 @@ IsCount t nodes node target count =
 pub record AreSound (t : Tables) (nodes : Nodes) (entries : List MemoEntry) : Type 0 where
   pub tables : AreTables t
   pub numbering : IsNumbering nodes
-  pub counts : (node shape : ℕ) (count : Count) → IsNoted entries node shape count
-      → IsCount t nodes node (of_shape shape) count
+  pub counts : (node : ℕ) (target : Target) (count : Count) → IsNoted entries node target count
+      → IsCount t nodes node target count
 
 -- an object of the document, with the name of its list
 abbrev pub object_view : Nodes → code.Object → Object

@@ -18,7 +18,7 @@ mod variant;
 
 pub(crate) use chosen::chosen_branch;
 pub(crate) use members::members_of;
-pub(crate) use memo::Memo;
+pub(crate) use memo::{Asked, Memo};
 pub(crate) use object::{Object, count_all, count_object, has_unknown, list_counts};
 pub(crate) use target::{count_shape, count_target};
 pub(crate) use untagged::{count_alternative, count_fallbacks};

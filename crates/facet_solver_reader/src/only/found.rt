@@ -3,7 +3,7 @@ ghost use Rattle.std.specs.Prelude.{◌≡◌, IfOk, map};
 ghost use Rattle.std.specs.Option.{option_map};
 ghost use Rattle.facet_solver_shape.specs.Resolved.{selection_view};
 ghost use Rattle.facet_solver_reader.specs.Planned.{step_view};
-ghost use Rattle.facet_solver_reader.specs.Found as found;
+ghost use Rattle.facet_solver_reader.specs.Found as spec;
 ghost use Rattle.facet_solver_reader.specs.Told.{place_view};
 ghost use Rattle.facet_solver_reader.specs.Views.{catch_all_view, member_view};
 
@@ -32,13 +32,13 @@ impl<'r, 'c> Found<'r, 'c> {
         steps: Vec<Step<'r, 'c>>,
     ) -> Result<Found<'r, 'c>, AllocError>
         ensures selections { IfOk result (λ f. map selection_view f.selections.items
-            ≡ found.selections_in shapes.now (map step_view steps.entry.items)) }
+            ≡ spec.selections_in shapes.now (map step_view steps.entry.items)) }
         ensures fields { IfOk result (λ f. map place_view f.fields.items
-            ≡ found.places_in (map step_view steps.entry.items)) }
+            ≡ spec.places_in (map step_view steps.entry.items)) }
         ensures members { IfOk result (λ f. map (λ m. member_view m.now) f.members.items
-            ≡ found.members_in (map step_view steps.entry.items)) }
+            ≡ spec.members_in (map step_view steps.entry.items)) }
         ensures catch_all { IfOk result (λ f. option_map (λ k. catch_all_view k.now) f.catch_all
-            ≡ found.catch_all_in (map step_view steps.entry.items)) }
+            ≡ spec.catch_all_in (map step_view steps.entry.items)) }
     {
         let mut found = Found {
             selections: Vec::new(alloc),

@@ -51,8 +51,14 @@ pub(super) fn read_named<'c, 'v, 'd>(
     let kind = match value {
         Document::Object(_) => {
             let content = nodes.child(node, 0);
-            let reading =
-                read_target(tables, nodes, memo, content, &variant.content, tables.steps)?;
+            let reading = read_target(
+                tables,
+                nodes,
+                memo,
+                content,
+                &variant.content,
+                tables.steps,
+            )?;
             ReadingKind::Content(Box::new(tables.alloc, reading)?)
         }
         _ => ReadingKind::Value(value),
@@ -132,8 +138,7 @@ fn content_index(
     let content = nodes.child(node, 0);
     for (k, variant) in variants.iter().enumerate() {
         if variant.name == name {
-            let count =
-                count_target(tables, nodes, memo, content, &variant.content, tables.steps)?;
+            let count = count_target(tables, nodes, memo, content, &variant.content, tables.steps)?;
             if !count.is_none() {
                 return Ok(k);
             }

@@ -9,10 +9,10 @@ ghost use Rattle.facet_solver_reader.specs.Reading.{AreSound, IsCount};
 ghost use Rattle.facet_solver_reader.specs.Tables.{IsServed, rules_at};
 ghost use Rattle.facet_solver_reader.specs.Values.{ReadsNoContent};
 
-use super::Memo;
 use super::each::count_tuple;
 use super::object::count_object;
 use super::target::count_shape;
+use super::{Asked, Memo};
 use crate::content::content_at;
 use crate::count::Count;
 use crate::document::Document;
@@ -23,9 +23,37 @@ use facet_solver_shape::ShapeId;
 use std::alloc::AllocError;
 
 /// How often a value is read as the content of a variant, which asks the same value on in fewer
-/// than so many steps.
+/// than so many steps. It is found once for each value.
 #[cycle(count)]
 pub(super) fn count_content(
+    tables: &Tables<'_>,
+    nodes: &Nodes<'_, '_>,
+    memo: &mut Memo,
+    node: usize,
+    shape: ShapeId,
+    variant: usize,
+    steps: usize,
+) -> Result<Count, AllocError>
+    requires sound { AreSound tables.now nodes.now memo.old.entries.items }
+    requires inside { node < count nodes.now }
+    requires served { IsServed tables.now (of_content shape variant) }
+    requires ranked { IsRanked steps (rules_at tables.now) (of_content shape variant) }
+    ensures sound { AreSound tables.now nodes.now memo.new.entries.items }
+    ensures count { IfOk result
+        (IsCount tables.now nodes.now node (of_content shape variant)) }
+{
+    let asked = Asked::Content(shape, variant);
+    if let Some(count) = memo.get(node, &asked) {
+        return Ok(count);
+    }
+    let count = count_by_content(tables, nodes, memo, node, shape, variant, steps)?;
+    memo.put(node, &asked, count)?;
+    Ok(count)
+}
+
+/// How often a value is read by what the content of a variant is.
+#[cycle(count)]
+fn count_by_content(
     tables: &Tables<'_>,
     nodes: &Nodes<'_, '_>,
     memo: &mut Memo,

@@ -1,16 +1,25 @@
-//! Counts that are known: how often a value is read as a shape.
+//! Counts that are known: how often a value is read as a shape, or as the content of a variant.
 ghost use Rattle.std.specs.Prelude.{◌≡◌, [], IfSome, IfOk, OnOk, OnErr};
-ghost use Rattle.facet_solver_reader.specs.Memo.{IsAdded, IsNoted};
+ghost use Rattle.facet_solver_reader.specs.Memo.{IsAdded, IsNoted, asked_view};
 
 use crate::count::Count;
 use facet_solver_shape::ShapeId;
 use std::alloc::{AllocError, Global};
 
-/// How often a value is read as a shape.
+/// What a value was read as. A tag is not kept, since it is told by its text at once.
+#[derive(Clone, Copy, PartialEq, Eq, Debug)]
+pub(crate) enum Asked {
+    /// A shape.
+    Shape(ShapeId),
+    /// The content of a variant of an enum, by the variant's index.
+    Content(ShapeId, usize),
+}
+
+/// How often a value is read as what was asked.
 #[derive(Clone, Copy, Debug)]
 pub(crate) struct MemoEntry {
     pub(crate) node: usize,
-    pub(crate) shape: ShapeId,
+    pub(crate) asked: Asked,
     pub(crate) count: Count,
     /// One more than the index of the entry before it of the same value, or 0.
     pub(crate) before: usize,
@@ -39,14 +48,14 @@ impl Memo {
         })
     }
 
-    /// How often a value is read as a shape, if that is known.
-    pub(crate) fn get(&self, node: usize, shape: ShapeId) -> Option<Count>
-        ensures { IfSome result (IsNoted self.now.entries.items node shape) }
+    /// How often a value is read as what is asked, if that is known.
+    pub(crate) fn get(&self, node: usize, asked: &Asked) -> Option<Count>
+        ensures { IfSome result (IsNoted self.now.entries.items node (asked_view asked.now)) }
     {
         let mut cursor = *self.last.get(node)?;
         while cursor > 0 {
             let entry = self.entries.get(cursor - 1)?;
-            if entry.node == node && entry.shape == shape {
+            if entry.node == node && entry.asked == *asked {
                 return Some(entry.count);
             }
             // The entry before it has a lower index, so that the way ends.
@@ -55,14 +64,9 @@ impl Memo {
         None
     }
 
-    /// Keeps how often a value is read as a shape.
-    pub(crate) fn put(
-        &mut self,
-        node: usize,
-        shape: ShapeId,
-        count: Count,
-    ) -> Result<(), AllocError>
-        ensures ok { OnOk result (IsAdded node shape count self.old.entries.items
+    /// Keeps how often a value is read as what was asked.
+    pub(crate) fn put(&mut self, node: usize, asked: &Asked, count: Count) -> Result<(), AllocError>
+        ensures ok { OnOk result (IsAdded node (asked_view asked.now) count self.old.entries.items
             self.new.entries.items) }
         ensures err { OnErr result (self.new.entries.items ≡ self.old.entries.items) }
     {
@@ -72,7 +76,7 @@ impl Memo {
         };
         self.entries.push(MemoEntry {
             node,
-            shape,
+            asked: *asked,
             count,
             before,
         })?;

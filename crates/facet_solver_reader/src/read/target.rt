@@ -10,13 +10,13 @@ ghost use Rattle.facet_solver_reader.specs.Tables.{IsEnd, IsServed, ShapeIsServe
 ghost use Rattle.facet_solver_reader.specs.Values.{ReadsTag};
 ghost use Rattle.facet_solver_reader.specs.Views.{target_view};
 
-use super::Memo;
 use super::content::count_content;
 use super::each::{count_entries, count_items, count_tuple};
 use super::object::count_object;
 use super::scalar::{count_scalar, is_scalar_end};
 use super::untagged::count_untagged;
 use super::variant::count_named;
+use super::{Asked, Memo};
 use crate::count::Count;
 use crate::document::Document;
 use crate::end::End;
@@ -84,11 +84,12 @@ pub(crate) fn count_shape(
     if is_scalar_end(end) {
         return Ok(count_scalar(end, nodes.value(node)));
     }
-    if let Some(count) = memo.get(node, shape) {
+    let asked = Asked::Shape(shape);
+    if let Some(count) = memo.get(node, &asked) {
         return Ok(count);
     }
     let count = count_end(tables, nodes, memo, node, shape, end, steps)?;
-    memo.put(node, shape, count)?;
+    memo.put(node, &asked, count)?;
     Ok(count)
 }
 

@@ -729,11 +729,25 @@ object::count_object-returns-clause-count t c =
     (c.is_none.ensures.0 c.if-not-is_none.false) c.in_ok-count.ensures.count h))
     c.count_members.ensures.count
 
+-- ---- a value as the content of a variant, found once
+
+pub content::count_content-count_by_content-requires :
+    goal.content::count_content-count_by_content-requires
+content::count_content-count_by_content-requires t c =
+    (omega arith, (c.requires.sound, (c.requires.inside, (c.requires.served, c.requires.ranked))))
+
+pub content::count_content-returns-clause-sound : goal.content::count_content-returns-clause-sound
+content::count_content-returns-clause-sound t c =
+    sound_added c.args.tables.now c.args.nodes.now c.count_by_content.new.memo.entries.items
+    c.put.new.self.entries.items c.args.node (of_content c.args.shape c.args.variant)
+    c.in_ok-count.count c.in_ok-count.ensures.sound c.in_ok-put.ensures.ok
+    c.in_ok-count.ensures.count
+
 -- ---- the content of a variant, by its form
 
-pub content::count_content-returns-in-None-clause-count :
-    goal.content::count_content-returns-in-None-clause-count
-content::count_content-returns-in-None-clause-count t c =
+pub content::count_by_content-returns-in-None-clause-count :
+    goal.content::count_by_content-returns-in-None-clause-count
+content::count_by_content-returns-in-None-clause-count t c =
     let v : Tree = value_of c.args.nodes.now c.args.node in
     let rules : Rules = rules_at c.args.tables.now in
     let is : rules.content_of c.args.shape c.args.variant ≡ no_content =
@@ -743,8 +757,8 @@ content::count_content-returns-in-None-clause-count t c =
     (subst (λ u. Counted (ReadsNoContent u) c.count_no_content.result) c.value.ensures
     c.count_no_content.ensures)
 
-pub content::count_content-count_shape-requires : goal.content::count_content-count_shape-requires
-content::count_content-count_shape-requires t c =
+pub content::count_by_content-count_shape-requires : goal.content::count_by_content-count_shape-requires
+content::count_by_content-count_shape-requires t c =
     let rules : Rules = rules_at c.args.tables.now in
     let is : rules.content_of c.args.shape c.args.variant ≡ as_shape c.in-Shape.inside =
     sym c.in_ok-content.ensures ∙ ap content_view c.in-Shape.is in
@@ -766,9 +780,9 @@ content::count_content-count_shape-requires t c =
       ),
     )
 
-pub content::count_content-returns-in-Shape-clause-count :
-    goal.content::count_content-returns-in-Shape-clause-count
-content::count_content-returns-in-Shape-clause-count t c =
+pub content::count_by_content-returns-in-Shape-clause-count :
+    goal.content::count_by_content-returns-in-Shape-clause-count
+content::count_by_content-returns-in-Shape-clause-count t c =
     let is : (rules_at c.args.tables.now).content_of c.args.shape c.args.variant
     ≡ as_shape c.in-Shape.inside =
     sym c.in_ok-content.ensures ∙ ap content_view c.in-Shape.is in
@@ -776,8 +790,8 @@ content::count_content-returns-in-Shape-clause-count t c =
     (as_shape c.in-Shape.inside) c.args.steps c.count_shape.result c.requires.ranked is
     c.count_shape.ensures.count
 
-pub content::count_content-count_tuple-requires : goal.content::count_content-count_tuple-requires
-content::count_content-count_tuple-requires t c =
+pub content::count_by_content-count_tuple-requires : goal.content::count_by_content-count_tuple-requires
+content::count_by_content-count_tuple-requires t c =
     let is : (rules_at c.args.tables.now).content_of c.args.shape c.args.variant
     ≡ as_tuple c.deref.result.now =
     sym c.in_ok-content.ensures ∙ (ap content_view c.in-Tuple.is
@@ -792,9 +806,9 @@ content::count_content-count_tuple-requires t c =
       ),
     )
 
-pub content::count_content-returns-in-Tuple-clause-count :
-    goal.content::count_content-returns-in-Tuple-clause-count
-content::count_content-returns-in-Tuple-clause-count t c =
+pub content::count_by_content-returns-in-Tuple-clause-count :
+    goal.content::count_by_content-returns-in-Tuple-clause-count
+content::count_by_content-returns-in-Tuple-clause-count t c =
     let rules : Rules = rules_at c.args.tables.now in
     let is : rules.content_of c.args.shape c.args.variant ≡ as_tuple c.deref.result.now =
     sym c.in_ok-content.ensures ∙ (ap content_view c.in-Tuple.is
@@ -804,9 +818,9 @@ content::count_content-returns-in-Tuple-clause-count t c =
     (if_tuple_content rules (inner rules) c.deref.result.now
     (value_of c.args.nodes.now c.args.node) c.count_tuple.result c.count_tuple.ensures.count)
 
-pub content::count_content-returns-in-Object-value-clause-count :
-    goal.content::count_content-returns-in-Object-value-clause-count
-content::count_content-returns-in-Object-value-clause-count t c =
+pub content::count_by_content-returns-in-Object-value-clause-count :
+    goal.content::count_by_content-returns-in-Object-value-clause-count
+content::count_by_content-returns-in-Object-value-clause-count t c =
     let v : Tree = value_of c.args.nodes.now c.args.node in
     let rules : Rules = rules_at c.args.tables.now in
     let content_is : rules.content_of c.args.shape c.args.variant
@@ -821,8 +835,8 @@ content::count_content-returns-in-Object-value-clause-count t c =
     (if_object_content rules (inner rules) (list_view c.in-Object.list) v c.count_object.result is
     c.count_object.ensures.count)
 
-pub content::count_content-returns-clause-count : goal.content::count_content-returns-clause-count
-content::count_content-returns-clause-count t c =
+pub content::count_by_content-returns-clause-count : goal.content::count_by_content-returns-clause-count
+content::count_by_content-returns-clause-count t c =
     let v : Tree = value_of c.args.nodes.now c.args.node in
     let rules : Rules = rules_at c.args.tables.now in
     let content_is : rules.content_of c.args.shape c.args.variant
@@ -1349,7 +1363,7 @@ target::count_shape-count_end-requires t c = (
 pub target::count_shape-returns-clause-sound : goal.target::count_shape-returns-clause-sound
 target::count_shape-returns-clause-sound t c =
     sound_added c.args.tables.now c.args.nodes.now c.count_end.new.memo.entries.items
-    c.put.new.self.entries.items c.args.node c.args.shape c.in_ok-count.count
+    c.put.new.self.entries.items c.args.node (of_shape c.args.shape) c.in_ok-count.count
     c.in_ok-count.ensures.sound c.in_ok-put.ensures.ok c.in_ok-count.ensures.count
 
 -- ---- a value as a target

@@ -39,6 +39,9 @@ invariant-catch_all::count_catch_all-loop-index l =
 abbrev pub decreases-catch_all::count_taken : goal.decreases-catch_all::count_taken
 decreases-catch_all::count_taken l = levels l.nodes.now l.node + 1
 
+abbrev pub decreases-content::count_by_content : goal.decreases-content::count_by_content
+decreases-content::count_by_content l = levels l.nodes.now l.node + 16 * l.steps + 13
+
 abbrev pub decreases-content::count_content : goal.decreases-content::count_content
 decreases-content::count_content l = levels l.nodes.now l.node + 16 * l.steps + 14
 
