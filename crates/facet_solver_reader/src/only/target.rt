@@ -103,7 +103,7 @@ fn read_end<'c, 'v, 'd>(
         End::Object(list) => read_object(tables, nodes, memo, node, *list),
         End::NamedVariant(variants) => read_named(tables, nodes, memo, node, variants),
         End::UntaggedVariant(joined, alone) => {
-            read_untagged(tables, nodes, memo, node, *joined, alone, steps)
+            read_untagged(tables, nodes, memo, node, joined, alone, steps)
         }
         _ => Ok(Reading::as_it_is(tables.alloc, nodes.value(node))),
     }

