@@ -44,3 +44,4 @@ pub mod Steps
 pub mod Told
 pub mod Planned
 pub mod Chosen
+pub mod UnderWay

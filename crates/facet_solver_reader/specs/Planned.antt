@@ -1,5 +1,5 @@
 -- What the only reading of an object goes through, as it is found before the values of its members.
-use Rattle.std.specs.Prelude.{◌≡◌, ◌×◌, ℕ, All, List, map, Option, Some, None, ⊤}
+use Rattle.std.specs.Prelude.{◌≡◌, ℕ, All, List, map, Option, Some, None, ⊤}
 use Rattle.facet_solver_reader.specs.declared.nodes.Nodes.{Nodes}
 use Rattle.facet_solver_reader.specs.declared.only.steps.Step as code
 use Rattle.facet_solver_reader.specs.declared.read.object.Object as read
