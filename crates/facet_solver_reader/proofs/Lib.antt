@@ -74,3 +74,5 @@ pub mod RankRounds
 pub mod AllTables
 pub mod MarkedBelow
 pub mod ChosenBranch
+pub mod StepsLeft
+pub mod StepsTaken
