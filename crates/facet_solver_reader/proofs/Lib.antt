@@ -76,3 +76,6 @@ pub mod MarkedBelow
 pub mod ChosenBranch
 pub mod StepsLeft
 pub mod StepsTaken
+pub mod ToldEach
+pub mod OneEach
+pub mod OneEnds
