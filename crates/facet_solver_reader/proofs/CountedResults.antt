@@ -84,7 +84,7 @@ unread : {X : Type 0} → IsTrue false × X → ⊥
 unread h = let no : false ≡ true = h.0 in absurd (cc)
 
 -- a tuple as content is read as a tuple at the end of a shape
-tuple_content : (rules : Rules) (reads : Inner) (ss : List ℕ) (v : Tree) (r : Reading)
+pub tuple_content : (rules : Rules) (reads : Inner) (ss : List ℕ) (v : Tree) (r : Reading)
     → ReadsEnd rules reads (a_tuple ss) v r ↔ ReadsContent rules reads (as_tuple ss) v r
 tuple_content rules reads ss (list vs) (each_of rs) = (λ h. h, λ h. h)
 tuple_content rules reads ss (list vs) a_value = (λ h. absurd (unread h), λ h. absurd h)

@@ -79,3 +79,6 @@ pub mod StepsTaken
 pub mod ToldEach
 pub mod OneEach
 pub mod OneEnds
+pub mod ToldValues
+pub mod ToldVariants
+pub mod ToldSeveral

@@ -90,7 +90,7 @@ told_content t nodes node n s k x r w ranked is reads tells =
     }
 
 -- what the test refuses is not read
-unread : {X : Type 0} → IsTrue false × X → ⊥
+pub unread : {X : Type 0} → IsTrue false × X → ⊥
 unread h = let no : false ≡ true = h.0 in absurd (cc)
 
 module _ (rules : Rules) (reads : Inner) where

@@ -67,8 +67,10 @@ abbrev pub ReadsByAlternative : AlternativeKind → Reading → Type 0 → Type 
 ReadsByAlternative types.null_alone r content = r ≡ a_value
 ReadsByAlternative _ r content = content
 
--- a numbered value has one reading as the content of a variant, if that is asked
+-- a variant of a kind reads values by itself, and there is one reading of its content, if that is
+-- asked
 abbrev pub IsOnlyByKind : AlternativeKind → Type 0 → Type 0
+IsOnlyByKind types.joins content = ⊥
 IsOnlyByKind types.null_alone content = ⊤
 IsOnlyByKind _ content = content
 

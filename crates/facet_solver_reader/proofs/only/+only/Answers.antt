@@ -1,118 +1,551 @@
-use Rattle.std.proofs.Common.{rules, ◌<◌, IfOk, ◌≡◌, ℕ, ◌+◌, ◌-◌, ◌*◌, ◌≤◌, length, ◌/◌, ◌%◌, Bool, true, false, nat_eq, nat_lt, List, [], ◌∷◌, ◌++◌, slice_index_or, slice_set, bit_and, bit_or, Fits, w8, w32, w64, Bor, MutBor}
+-- What is told of the only reading of a value is what its parts are told.
+use Rattle.std.proofs.Common.{◌≡◌, ◌∙◌, sym, ap, subst, refl, ℕ, suc, ◌+◌, ◌-◌, ◌<◌, ◌≤◌, List, []}
+use Rattle.std.proofs.Common.{◌∷◌, map, length, Some, slice_get, zip, take, true, false, arith}
+use Rattle.std.proofs.Common.{take_all, IfOk, get_or, rules as basic}
+use Rattle.std.proofs.lemmas.List.{length-map}
+use Rattle.std.proofs.lemmas.Option.{slice_get_read}
+use Rattle.std.proofs.lemmas.Slice.Zip.{length-zip}
 use Rattle.facet_solver_reader.specs.declared.count.Count.TheVariants.{One}
-use Rattle.facet_solver_reader.specs.Nodes.{count}
-use Rattle.facet_solver_reader.specs.Parts.{of_content}
+use Rattle.facet_solver_reader.specs.declared.end.Alternative as code_alternative
+use Rattle.facet_solver_reader.specs.declared.reading.Reading as code_reading
+use Rattle.facet_solver_reader.specs.declared.reading.ReadingKind.TheViews.{roll-Reading}
+use Rattle.facet_solver_reader.specs.Choices as choices
+use Rattle.facet_solver_reader.specs.Choices.{a_value}
+use Rattle.facet_solver_reader.specs.Counted.{Counted}
+use Rattle.facet_solver_reader.specs.Documents.{Member, Tree, items_view, list, members_view, null}
+use Rattle.facet_solver_reader.specs.Documents.{object, view}
+use Rattle.facet_solver_reader.specs.Kinds.{is_list, is_null, is_object}
+use Rattle.facet_solver_reader.specs.Nodes.{children, count, members_in, value_of}
+use Rattle.facet_solver_reader.specs.Parts.{ListId, of_content, of_shape, of_tag}
 use Rattle.facet_solver_reader.specs.Reached.{IsRanked}
-use Rattle.facet_solver_reader.specs.Reading.{AreSound, IsCount}
-use Rattle.facet_solver_reader.specs.Tables.{IsServed, rules_at}
-use Rattle.facet_solver_reader.specs.ToldAt.{IsToldAt}
+use Rattle.facet_solver_reader.specs.Reading.{AreSound, IsCount, IsRankedAlternative}
+use Rattle.facet_solver_reader.specs.Readings.{ReadsValue, inner}
+use Rattle.facet_solver_reader.specs.Rules as types
+use Rattle.facet_solver_reader.specs.Rules.{Alternative, End, NamedVariant, Rules, a_list, a_map}
+use Rattle.facet_solver_reader.specs.Rules.{a_named_variant, a_tuple, an_object, an_option}
+use Rattle.facet_solver_reader.specs.Rules.{an_untagged_variant, as_object, as_shape, as_tuple}
+use Rattle.facet_solver_reader.specs.Rules.{no_content}
+use Rattle.facet_solver_reader.specs.Tables.{ContentIsServed, EndIsServed, IsServed, ShapeIsServed}
+use Rattle.facet_solver_reader.specs.Tables.{rules_at}
+use Rattle.facet_solver_reader.specs.Told.{end_of_target, inside, texts}
+use Rattle.facet_solver_reader.specs.ToldAt.{IsToldAlternative, IsToldAs, IsToldAt, IsToldBy}
+use Rattle.facet_solver_reader.specs.ToldAt.{IsUntagged, ReadsByAlternative}
+use Rattle.facet_solver_reader.specs.Values.{ReadsContent, ReadsEnd, ReadsEntry, ReadsPlace}
+use Rattle.facet_solver_reader.specs.Views.{alternative_view, content_view, end_view, kind_view}
+use Rattle.facet_solver_reader.specs.Views.{list_view, named_view, target_view}
+use Rattle.facet_solver_reader.proofs.Counting.{counted_same}
+use Rattle.facet_solver_reader.proofs.CountedResults.{tuple_content}
+use Rattle.facet_solver_reader.proofs.InMemory.{at_index, at_seen, list_length, member_at, null_seen}
+use Rattle.facet_solver_reader.proofs.InMemory.{object_children, object_length, scalar_rest}
+use Rattle.facet_solver_reader.proofs.Levels.{child_levels}
+use Rattle.facet_solver_reader.proofs.OneEach.{one_at}
+use Rattle.facet_solver_reader.proofs.OneEnds.{items_is_list, one_content, one_end, one_entries}
+use Rattle.facet_solver_reader.proofs.OneEnds.{one_inside, one_items, one_places, option_reads}
+use Rattle.facet_solver_reader.proofs.OneEnds.{told_content, told_end, tuple_is_list}
+use Rattle.facet_solver_reader.proofs.Ranks.{ranked_content, ranked_inside}
+use Rattle.facet_solver_reader.proofs.Readings.{value_by_parts}
+use Rattle.facet_solver_reader.proofs.Seen.{seen_at, seen_list, seen_no_null, seen_no_object}
+use Rattle.facet_solver_reader.proofs.Seen.{seen_null, seen_object}
+use Rattle.facet_solver_reader.proofs.TableRanks.{rank_some, ranked_alternatives, ranked_asked}
+use Rattle.facet_solver_reader.proofs.TableRanks.{ranked_shape, ranked_target}
+use Rattle.facet_solver_reader.proofs.ToldEach.{EachTold, all_told, more_told, none_told}
+use Rattle.facet_solver_reader.proofs.ToldSeveral.{entries_told, items_told, names_more}
+use Rattle.facet_solver_reader.proofs.ToldSeveral.{tuple_told, zip_at}
+use Rattle.facet_solver_reader.proofs.ToldValues.{content_has_one, content_reads, joined_reads}
+use Rattle.facet_solver_reader.proofs.ToldValues.{object_has_one, object_reads, scalar_value}
+use Rattle.facet_solver_reader.proofs.ToldValues.{tag_value, tells_as_it_is, tells_joined}
+use Rattle.facet_solver_reader.proofs.ToldValues.{tells_object, told_as_it_is}
+use Rattle.facet_solver_reader.proofs.ToldVariants.{alternative_told, asks_content, if_told}
+use Rattle.facet_solver_reader.proofs.ToldVariants.{joined_one, member_told, one_alternative}
+use Rattle.facet_solver_reader.proofs.ToldVariants.{one_named, reads_by_content, tells_same}
+use Rattle.facet_solver_reader.proofs.ToldVariants.{text_told, variant_within}
 use Rattle.facet_solver_reader.proofs.only.+only.Goals as goal
+use Rattle.facet_solver_reader.proofs.only.+only.Goals.{untagged::read_alternative-in-Null}
+use Rattle.facet_solver_reader.proofs.only.+only.Goals.{untagged::read_alternative-in_default+in_ok-reading-in_default}
+use Rattle.facet_solver_reader.proofs.only.+only.Goals.{variant::read_named-in-Object+in_ok-reading-in-Object+in_ok-new-in-Object}
+use Rattle.facet_solver_reader.proofs.only.+only.Goals.{variant::read_named-in_default}
 
 -- src/only/content.rt:42:1
 pub content::read_content-returns-in-None-clause-told :
     goal.content::read_content-returns-in-None-clause-told
-content::read_content-returns-in-None-clause-told t c = ?
+content::read_content-returns-in-None-clause-told t c =
+    let tb = c.args.tables.now in
+    let rules : Rules = rules_at tb in
+    let v : Tree = value_of c.args.nodes.now c.args.node in
+    let is : rules.content_of c.args.shape c.args.variant ≡ no_content =
+    sym c.in_ok-content.ensures ∙ ap content_view c.in-None.is in
+    let one : Counted (ReadsContent rules (inner rules) (no_content) v) One =
+    one_content rules c.args.steps c.args.shape c.args.variant (no_content) v c.requires.ranked is
+    c.requires.one in
+    let r = c.requires.one.value in
+    let by_content : ReadsContent rules (inner rules) (rules.content_of c.args.shape c.args.variant) v r =
+    (value_by_parts rules c.args.steps (of_content c.args.shape c.args.variant) v c.requires.ranked
+    r).0 c.requires.one.has in
+    let plain : r ≡ a_value =
+    (subst (λ x. ReadsContent rules (inner rules) x v r) is by_content).1 in
+    told_as_it_is tb c.args.nodes.now c.args.node (of_content c.args.shape c.args.variant)
+    c.as_it_is.result c.value.result r c.value.ensures c.requires.one.has plain
+    c.as_it_is.ensures.variants c.as_it_is.ensures.kind
 
 -- src/only/content.rt:46:35
 pub content::read_content-read_shape-requires : goal.content::read_content-read_shape-requires
-content::read_content-read_shape-requires t c = ?
+content::read_content-read_shape-requires t c =
+    let tb = c.args.tables.now in
+    let rules : Rules = rules_at tb in
+    let v : Tree = value_of c.args.nodes.now c.args.node in
+    let is : rules.content_of c.args.shape c.args.variant ≡ as_shape c.in-Shape.inside =
+    sym c.in_ok-content.ensures ∙ ap content_view c.in-Shape.is in
+    let one : Counted (ReadsContent rules (inner rules) (as_shape c.in-Shape.inside) v) One =
+    one_content rules c.args.steps c.args.shape c.args.variant (as_shape c.in-Shape.inside) v c.requires.ranked is
+    c.requires.one in
+    let steps : 0 < c.args.steps =
+    rank_some rules c.args.steps (of_content c.args.shape c.args.variant) c.requires.ranked in
+    let more : c.args.steps ≡ suc (c.args.steps - 1) = omega arith in (
+      omega arith,
+      (
+        c.requires.sound,
+        (
+          c.requires.inside,
+          (
+            subst (ContentIsServed tb) is c.requires.served,
+            (
+              ranked_content rules (c.args.steps - 1) c.args.shape c.args.variant c.in-Shape.inside
+                  (subst (λ n. IsRanked n rules (of_content c.args.shape c.args.variant)) more
+                  c.requires.ranked) is,
+              one,
+            ),
+          ),
+        ),
+      ),
+    )
 
 -- src/only/content.rt:42:1
 pub content::read_content-returns-in-Shape-clause-told :
     goal.content::read_content-returns-in-Shape-clause-told
-content::read_content-returns-in-Shape-clause-told t c = ?
+content::read_content-returns-in-Shape-clause-told t c =
+    let tb = c.args.tables.now in
+    let rules : Rules = rules_at tb in
+    let v : Tree = value_of c.args.nodes.now c.args.node in
+    let is : rules.content_of c.args.shape c.args.variant ≡ as_shape c.in-Shape.inside =
+    sym c.in_ok-content.ensures ∙ ap content_view c.in-Shape.is in
+    let one : Counted (ReadsContent rules (inner rules) (as_shape c.in-Shape.inside) v) One =
+    one_content rules c.args.steps c.args.shape c.args.variant (as_shape c.in-Shape.inside) v c.requires.ranked is
+    c.requires.one in
+    if_told (IsToldAt tb c.args.nodes.now c.args.node (of_shape c.in-Shape.inside))
+    (IsToldAt tb c.args.nodes.now c.args.node (of_content c.args.shape c.args.variant))
+    c.read_shape.result
+    (λ w h.
+    told_content tb c.args.nodes.now c.args.node c.args.steps c.args.shape c.args.variant
+    (as_shape c.in-Shape.inside) h.reading w c.requires.ranked is h.reads
+    (inside c.in-Shape.inside v h.reading w.variants.items w.kind h.tells))
+    c.read_shape.ensures.told
 
 -- src/only/content.rt:47:35
 pub content::read_content-read_tuple-requires : goal.content::read_content-read_tuple-requires
-content::read_content-read_tuple-requires t c = ?
+content::read_content-read_tuple-requires t c =
+    let tb = c.args.tables.now in
+    let rules : Rules = rules_at tb in
+    let v : Tree = value_of c.args.nodes.now c.args.node in
+    let is : rules.content_of c.args.shape c.args.variant ≡ as_tuple c.deref.result.now =
+    sym c.in_ok-content.ensures ∙ (ap content_view c.in-Tuple.is ∙ ap as_tuple (sym c.deref.ensures.value)) in
+    let one : Counted (ReadsContent rules (inner rules) (as_tuple c.deref.result.now) v) One =
+    one_content rules c.args.steps c.args.shape c.args.variant (as_tuple c.deref.result.now) v c.requires.ranked is
+    c.requires.one in
+    let as_end : Counted (ReadsEnd rules (inner rules) (a_tuple c.deref.result.now) v) One =
+    counted_same (ReadsContent rules (inner rules) (as_tuple c.deref.result.now) v)
+    (ReadsEnd rules (inner rules) (a_tuple c.deref.result.now) v) One
+    (λ r. (tuple_content rules (inner rules) c.deref.result.now v r).1)
+    (λ r. (tuple_content rules (inner rules) c.deref.result.now v r).0) one in (
+      omega arith,
+      (
+        c.requires.sound,
+        (
+          c.requires.inside,
+          (subst (ContentIsServed tb) is c.requires.served, as_end),
+        ),
+      ),
+    )
 
 -- src/only/content.rt:42:1
 pub content::read_content-returns-in-Tuple-clause-told :
     goal.content::read_content-returns-in-Tuple-clause-told
-content::read_content-returns-in-Tuple-clause-told t c = ?
+content::read_content-returns-in-Tuple-clause-told t c =
+    let tb = c.args.tables.now in
+    let rules : Rules = rules_at tb in
+    let v : Tree = value_of c.args.nodes.now c.args.node in
+    let is : rules.content_of c.args.shape c.args.variant ≡ as_tuple c.deref.result.now =
+    sym c.in_ok-content.ensures ∙ (ap content_view c.in-Tuple.is ∙ ap as_tuple (sym c.deref.ensures.value)) in
+    let one : Counted (ReadsContent rules (inner rules) (as_tuple c.deref.result.now) v) One =
+    one_content rules c.args.steps c.args.shape c.args.variant (as_tuple c.deref.result.now) v c.requires.ranked is
+    c.requires.one in
+    if_told (IsToldAs tb c.args.nodes.now c.args.node (a_tuple c.deref.result.now))
+    (IsToldAt tb c.args.nodes.now c.args.node (of_content c.args.shape c.args.variant))
+    c.read_tuple.result
+    (λ w h.
+    told_content tb c.args.nodes.now c.args.node c.args.steps c.args.shape c.args.variant
+    (as_tuple c.deref.result.now) h.reading w c.requires.ranked is
+    ((tuple_content rules (inner rules) c.deref.result.now v h.reading).0 h.reads) h.tells)
+    c.read_tuple.ensures.told
 
 -- src/only/content.rt:48:34
 pub content::read_content-read_object-requires : goal.content::read_content-read_object-requires
-content::read_content-read_object-requires t c = ?
+content::read_content-read_object-requires t c =
+    let tb = c.args.tables.now in
+    let rules : Rules = rules_at tb in
+    let v : Tree = value_of c.args.nodes.now c.args.node in
+    let is : rules.content_of c.args.shape c.args.variant ≡ as_object (list_view c.in-Object.list) =
+    sym c.in_ok-content.ensures ∙ ap content_view c.in-Object.is in
+    let one : Counted (ReadsContent rules (inner rules) (as_object (list_view c.in-Object.list)) v) One =
+    one_content rules c.args.steps c.args.shape c.args.variant (as_object (list_view c.in-Object.list)) v c.requires.ranked is
+    c.requires.one in
+    (
+      omega arith,
+      (
+        c.requires.sound,
+        (
+          c.requires.inside,
+          (
+            subst (ContentIsServed tb) is c.requires.served,
+            (content_has_one rules (inner rules) (list_view c.in-Object.list) v one).1,
+          ),
+        ),
+      ),
+    )
 
 -- src/only/content.rt:25:1
 pub content::read_content-returns-clause-told : goal.content::read_content-returns-clause-told
-content::read_content-returns-clause-told t c = ?
+content::read_content-returns-clause-told t c =
+    let tb = c.args.tables.now in
+    let rules : Rules = rules_at tb in
+    let v : Tree = value_of c.args.nodes.now c.args.node in
+    let is : rules.content_of c.args.shape c.args.variant ≡ as_object (list_view c.in-Object.list) =
+    sym c.in_ok-content.ensures ∙ ap content_view c.in-Object.is in
+    let one : Counted (ReadsContent rules (inner rules) (as_object (list_view c.in-Object.list)) v) One =
+    one_content rules c.args.steps c.args.shape c.args.variant (as_object (list_view c.in-Object.list)) v c.requires.ranked is
+    c.requires.one in
+    let id : ListId = list_view c.in-Object.list in
+    let object = content_has_one rules (inner rules) id v one in
+    if_told (IsToldBy tb c.args.nodes.now c.args.node id)
+    (IsToldAt tb c.args.nodes.now c.args.node (of_content c.args.shape c.args.variant))
+    c.read_object.result
+    (λ w h.
+    told_content tb c.args.nodes.now c.args.node c.args.steps c.args.shape c.args.variant
+    (as_object id) (choices.an_object h.choice) w c.requires.ranked is
+    (content_reads rules (inner rules) id v h.choice object.0 h.reads)
+    (tells_object rules tb.shapes.now id h.object h.values h.rest v h.choice w.variants.items w.kind
+    object.0 h.variants_are h.kind_is h.tells)) c.read_object.ensures.told
 
 -- src/only/each.rt:100:5
 pub each::read_entries-loop-index-init : goal.each::read_entries-loop-index-init
-each::read_entries-loop-index-init t c = ?
+each::read_entries-loop-index-init t c =
+    let tb = c.args.tables.now in
+    let rules : Rules = rules_at tb in
+    let v : Tree = value_of c.args.nodes.now c.args.node in
+    record {
+      sound = c.requires.sound;
+      named = ap texts c.in_ok-names.ensures.items;
+      told = subst (EachTold rules tb.shapes.now (ReadsEntry (rules.is_key c.args.key) (ReadsValue rules) (of_shape c.args.value)) (λ (m : Member). (rules.end_of c.args.value, m.value)) []) (sym c.in_ok-values.ensures.items)
+          (none_told rules tb.shapes.now (ReadsEntry (rules.is_key c.args.key) (ReadsValue rules) (of_shape c.args.value)) (λ (m : Member). (rules.end_of c.args.value, m.value)));
+    }
 
 -- src/only/each.rt:101:9
 pub each::read_entries-returns-in_err-push-clause-sound :
     goal.each::read_entries-returns-in_err-push-clause-sound
-each::read_entries-returns-in_err-push-clause-sound t c = ?
+each::read_entries-returns-in_err-push-clause-sound t c =
+    c.loop-index.invariant.sound
 
 -- src/only/each.rt:102:13
 pub each::read_entries-child-member-requires-clause-index_in_range :
     goal.each::read_entries-child-member-requires-clause-index_in_range
-each::read_entries-child-member-requires-clause-index_in_range t c = ?
+each::read_entries-child-member-requires-clause-index_in_range t c =
+    let tb = c.args.tables.now in
+    let rules : Rules = rules_at tb in
+    let v : Tree = value_of c.args.nodes.now c.args.node in
+    let tree : v ≡ object (members_view c.in-Object.members.items) =
+    sym c.value.ensures ∙ (ap view c.in-Object.is ∙ seen_object c.in-Object.members) in
+    omega (
+      arith,
+      object_children v (ap is_object tree),
+      object_length v c.in-Object.members.items tree,
+    )
 
 -- src/only/each.rt:103:23
 pub each::read_entries-read_shape-requires : goal.each::read_entries-read_shape-requires
-each::read_entries-read_shape-requires t c = ?
+each::read_entries-read_shape-requires t c =
+    let tb = c.args.tables.now in
+    let rules : Rules = rules_at tb in
+    let v : Tree = value_of c.args.nodes.now c.args.node in
+    let tree : v ≡ object (members_view c.in-Object.members.items) =
+    sym c.value.ensures ∙ (ap view c.in-Object.is ∙ seen_object c.in-Object.members) in
+    let there : slice_get c.in-Object.members.items c.loop-index.index ≡ Some c.index.result.now =
+    slice_get_read c.in-Object.members.items (length c.in-Object.members.items) c.loop-index.index
+    c.index.result.now refl (omega arith) c.index.ensures in
+    let w : Tree = value_of c.args.nodes.now c.child-member.result in
+    let m : Member = record { name = c.index.result.now.0.now; value = w } in
+    let here : slice_get (members_in v) c.loop-index.index ≡ Some m =
+    member_at v c.in-Object.members.items c.loop-index.index c.index.result.now w tree there
+    c.child-member.ensures.child in
+    let entry : Counted (ReadsEntry (rules.is_key c.args.key) (ReadsValue rules)
+    (of_shape c.args.value) m) One =
+    one_at (ReadsEntry (rules.is_key c.args.key) (ReadsValue rules) (of_shape c.args.value))
+    (members_in v) c.loop-index.index m here
+    (one_entries rules (inner rules) c.args.key c.args.value v c.requires.one) in
+    let falls = child_levels c.args.nodes.now c.args.node c.child-member.result c.loop-index.index
+    tb.steps c.child-member.ensures.child (omega arith) in (
+      omega arith,
+      (
+        c.loop-index.invariant.sound,
+        (
+          c.child-member.ensures.in_range,
+          (
+            c.requires.served,
+            (
+              ranked_shape tb c.args.value c.requires.sound.tables c.requires.served,
+              counted_same
+                  (ReadsEntry (rules.is_key c.args.key) (ReadsValue rules) (of_shape c.args.value) m)
+                  (ReadsValue rules (of_shape c.args.value) w) One (λ r p. p.1)
+                  (λ r p. (entry.has.0, p)) entry,
+            ),
+          ),
+        ),
+      ),
+    )
 
 -- src/only/each.rt:100:5
 pub each::read_entries-loop-index-preserved : goal.each::read_entries-loop-index-preserved
-each::read_entries-loop-index-preserved t c = ?
+each::read_entries-loop-index-preserved t c =
+    let tb = c.args.tables.now in
+    let rules : Rules = rules_at tb in
+    let v : Tree = value_of c.args.nodes.now c.args.node in
+    let tree : v ≡ object (members_view c.in-Object.members.items) =
+    sym c.value.ensures ∙ (ap view c.in-Object.is ∙ seen_object c.in-Object.members) in
+    let there : slice_get c.in-Object.members.items c.loop-index.index ≡ Some c.index.result.now =
+    slice_get_read c.in-Object.members.items (length c.in-Object.members.items) c.loop-index.index
+    c.index.result.now refl (omega arith) c.index.ensures in
+    let w : Tree = value_of c.args.nodes.now c.child-member.result in
+    let m : Member = record { name = c.index.result.now.0.now; value = w } in
+    let here : slice_get (members_in v) c.loop-index.index ≡ Some m =
+    member_at v c.in-Object.members.items c.loop-index.index c.index.result.now w tree there
+    c.child-member.ensures.child in
+    let entry : Counted (ReadsEntry (rules.is_key c.args.key) (ReadsValue rules)
+    (of_shape c.args.value) m) One =
+    one_at (ReadsEntry (rules.is_key c.args.key) (ReadsValue rules) (of_shape c.args.value))
+    (members_in v) c.loop-index.index m here
+    (one_entries rules (inner rules) c.args.key c.args.value v c.requires.one) in
+    let told = c.in_ok-reading.ensures.told in
+    record {
+      sound = c.in_ok-reading.ensures.sound;
+      named = ap texts c.in_ok-push.ensures.items
+          ∙ names_more c.loop-index.names.items c.index.result.now.0 (members_in v)
+          c.loop-index.index m here refl c.loop-index.invariant.named;
+      told = subst (EachTold rules tb.shapes.now (ReadsEntry (rules.is_key c.args.key) (ReadsValue rules) (of_shape c.args.value)) (λ (m : Member). (rules.end_of c.args.value, m.value))
+          (take (c.loop-index.index + 1) (members_in v))) (sym c.in_ok-push-2.ensures)
+          (more_told rules tb.shapes.now (ReadsEntry (rules.is_key c.args.key) (ReadsValue rules) (of_shape c.args.value)) (λ (m : Member). (rules.end_of c.args.value, m.value)) (members_in v) c.loop-index.index m
+          c.loop-index.values.items told.reading c.in_ok-reading.reading here
+          c.loop-index.invariant.told (entry.has.0, told.reads) told.tells);
+    }
 
 -- src/only/each.rt:78:1
 pub each::read_entries-returns-clause-sound : goal.each::read_entries-returns-clause-sound
-each::read_entries-returns-clause-sound t c = ?
+each::read_entries-returns-clause-sound t c =
+    c.loop-index.invariant.sound
 
 -- src/only/each.rt:78:1
 pub each::read_entries-returns-clause-told : goal.each::read_entries-returns-clause-told
-each::read_entries-returns-clause-told t c = ?
+each::read_entries-returns-clause-told t c =
+    let tb = c.args.tables.now in
+    let rules : Rules = rules_at tb in
+    let v : Tree = value_of c.args.nodes.now c.args.node in
+    let tree : v ≡ object (members_view c.in-Object.members.items) =
+    sym c.value.ensures ∙ (ap view c.in-Object.is ∙ seen_object c.in-Object.members) in
+    let all : length (members_in v) ≤ c.loop-index.index =
+    omega (arith, object_length v c.in-Object.members.items tree) in
+    entries_told tb c.args.nodes.now c.args.node c.plain.result c.plain.ensures.variants c.args.key
+    c.args.value c.loop-index.names c.loop-index.values (ap is_object tree) c.plain.ensures.kind
+    (subst (λ (ms : List Member). texts c.loop-index.names.items ≡ map (λ m. m.name) ms)
+    (take_all c.loop-index.index (members_in v) all) c.loop-index.invariant.named)
+    (all_told rules tb.shapes.now (ReadsEntry (rules.is_key c.args.key) (ReadsValue rules) (of_shape c.args.value)) (λ (m : Member). (rules.end_of c.args.value, m.value)) (members_in v) c.loop-index.index
+    c.loop-index.values.items all c.loop-index.invariant.told)
 
 -- src/only/each.rt:43:5
 pub each::read_items-loop-index-init : goal.each::read_items-loop-index-init
-each::read_items-loop-index-init t c = ?
+each::read_items-loop-index-init t c =
+    let tb = c.args.tables.now in
+    let rules : Rules = rules_at tb in
+    let v : Tree = value_of c.args.nodes.now c.args.node in
+    record {
+      sound = c.requires.sound;
+      told = subst (EachTold rules tb.shapes.now (ReadsValue rules (of_shape c.args.shape)) (λ (w : Tree). (rules.end_of c.args.shape, w)) []) (sym c.in_ok-readings.ensures.items)
+          (none_told rules tb.shapes.now (ReadsValue rules (of_shape c.args.shape)) (λ (w : Tree). (rules.end_of c.args.shape, w)));
+    }
 
 -- src/only/each.rt:44:13
 pub each::read_items-child-item-requires-clause-index_in_range :
     goal.each::read_items-child-item-requires-clause-index_in_range
-each::read_items-child-item-requires-clause-index_in_range t c = ?
+each::read_items-child-item-requires-clause-index_in_range t c =
+    let v : Tree = value_of c.args.nodes.now c.args.node in
+    let tree : v ≡ list (items_view c.in-List.items.items) =
+    sym c.value.ensures ∙ (ap view c.in-List.is ∙ seen_list c.in-List.items) in
+    omega (arith, list_length v c.in-List.items.items tree)
 
 -- src/only/each.rt:45:23
 pub each::read_items-read_shape-requires : goal.each::read_items-read_shape-requires
-each::read_items-read_shape-requires t c = ?
+each::read_items-read_shape-requires t c =
+    let tb = c.args.tables.now in
+    let rules : Rules = rules_at tb in
+    let v : Tree = value_of c.args.nodes.now c.args.node in
+    let falls = child_levels c.args.nodes.now c.args.node c.child-item.result c.loop-index.index
+    tb.steps c.child-item.ensures.child (omega arith) in
+    let is = items_is_list rules (inner rules) c.args.shape v c.requires.one in (
+      omega arith,
+      (
+        c.loop-index.invariant.sound,
+        (
+          c.child-item.ensures.in_range,
+          (
+            c.requires.served,
+            (
+              ranked_shape tb c.args.shape c.requires.sound.tables c.requires.served,
+              one_at (ReadsValue rules (of_shape c.args.shape)) (children v) c.loop-index.index
+                  (value_of c.args.nodes.now c.child-item.result) c.child-item.ensures.child
+                  (one_items rules (inner rules) c.args.shape v is c.requires.one),
+            ),
+          ),
+        ),
+      ),
+    )
 
 -- src/only/each.rt:43:5
 pub each::read_items-loop-index-preserved : goal.each::read_items-loop-index-preserved
-each::read_items-loop-index-preserved t c = ?
+each::read_items-loop-index-preserved t c =
+    let tb = c.args.tables.now in
+    let rules : Rules = rules_at tb in
+    let v : Tree = value_of c.args.nodes.now c.args.node in
+    let told = c.in_ok-reading.ensures.told in
+    record {
+      sound = c.in_ok-reading.ensures.sound;
+      told = subst (EachTold rules tb.shapes.now (ReadsValue rules (of_shape c.args.shape)) (λ (w : Tree). (rules.end_of c.args.shape, w))
+          (take (c.loop-index.index + 1) (children v))) (sym c.in_ok-push.ensures)
+          (more_told rules tb.shapes.now (ReadsValue rules (of_shape c.args.shape)) (λ (w : Tree). (rules.end_of c.args.shape, w)) (children v) c.loop-index.index
+          (value_of c.args.nodes.now c.child-item.result) c.loop-index.readings.items told.reading
+          c.in_ok-reading.reading c.child-item.ensures.child c.loop-index.invariant.told told.reads
+          told.tells);
+    }
 
 -- src/only/each.rt:23:1
 pub each::read_items-returns-clause-sound : goal.each::read_items-returns-clause-sound
-each::read_items-returns-clause-sound t c = ?
+each::read_items-returns-clause-sound t c =
+    c.loop-index.invariant.sound
 
 -- src/only/each.rt:23:1
 pub each::read_items-returns-clause-told : goal.each::read_items-returns-clause-told
-each::read_items-returns-clause-told t c = ?
+each::read_items-returns-clause-told t c =
+    let tb = c.args.tables.now in
+    let rules : Rules = rules_at tb in
+    let v : Tree = value_of c.args.nodes.now c.args.node in
+    let tree : v ≡ list (items_view c.in-List.items.items) =
+    sym c.value.ensures ∙ (ap view c.in-List.is ∙ seen_list c.in-List.items) in
+    items_told tb c.args.nodes.now c.args.node c.plain.result c.plain.ensures.variants c.args.shape
+    c.loop-index.readings (items_is_list rules (inner rules) c.args.shape v c.requires.one)
+    c.plain.ensures.kind
+    (all_told rules tb.shapes.now (ReadsValue rules (of_shape c.args.shape)) (λ (w : Tree). (rules.end_of c.args.shape, w)) (children v) c.loop-index.index
+    c.loop-index.readings.items (omega (arith, list_length v c.in-List.items.items tree))
+    c.loop-index.invariant.told)
 
 -- src/only/each.rt:69:5
 pub each::read_tuple-loop-index-init : goal.each::read_tuple-loop-index-init
-each::read_tuple-loop-index-init t c = ?
+each::read_tuple-loop-index-init t c =
+    let tb = c.args.tables.now in
+    let rules : Rules = rules_at tb in
+    let v : Tree = value_of c.args.nodes.now c.args.node in
+    record {
+      sound = c.requires.sound;
+      told = subst (EachTold rules tb.shapes.now (ReadsPlace (ReadsValue rules)) (λ (p : ℕ × Tree). (rules.end_of p.0, p.1)) []) (sym c.in_ok-readings.ensures.items)
+          (none_told rules tb.shapes.now (ReadsPlace (ReadsValue rules)) (λ (p : ℕ × Tree). (rules.end_of p.0, p.1)));
+    }
 
 -- src/only/each.rt:71:23
 pub each::read_tuple-read_shape-requires : goal.each::read_tuple-read_shape-requires
-each::read_tuple-read_shape-requires t c = ?
+each::read_tuple-read_shape-requires t c =
+    let tb = c.args.tables.now in
+    let rules : Rules = rules_at tb in
+    let v : Tree = value_of c.args.nodes.now c.args.node in
+    let there : slice_get c.args.shapes.now c.loop-index.index ≡ Some c.index-shapes-index.result =
+    slice_get_read c.args.shapes.now (length c.args.shapes.now) c.loop-index.index
+    c.index-shapes-index.result refl c.loop-index-test.true c.index-shapes-index.is in
+    let pair : slice_get (zip c.args.shapes.now (children v)) c.loop-index.index
+    ≡ Some (c.index-shapes-index.result, value_of c.args.nodes.now c.child-item.result) =
+    zip_at c.args.shapes.now (children v) c.loop-index.index c.index-shapes-index.result
+    (value_of c.args.nodes.now c.child-item.result) there c.child-item.ensures.child in
+    let served : ShapeIsServed tb c.index-shapes-index.result =
+    at_index (ShapeIsServed tb) c.args.shapes.now c.loop-index.index c.index-shapes-index.result
+    there c.requires.served in
+    let falls = child_levels c.args.nodes.now c.args.node c.child-item.result c.loop-index.index
+    tb.steps c.child-item.ensures.child (omega arith) in (
+      omega arith,
+      (
+        c.loop-index.invariant.sound,
+        (
+          c.child-item.ensures.in_range,
+          (
+            served,
+            (
+              ranked_shape tb c.index-shapes-index.result c.requires.sound.tables served,
+              one_at (ReadsPlace (ReadsValue rules)) (zip c.args.shapes.now (children v))
+                  c.loop-index.index
+                  (c.index-shapes-index.result, value_of c.args.nodes.now c.child-item.result) pair
+                  (one_places rules (inner rules) c.args.shapes.now v c.requires.one).1,
+            ),
+          ),
+        ),
+      ),
+    )
 
 -- src/only/each.rt:69:5
 pub each::read_tuple-loop-index-preserved : goal.each::read_tuple-loop-index-preserved
-each::read_tuple-loop-index-preserved t c = ?
+each::read_tuple-loop-index-preserved t c =
+    let tb = c.args.tables.now in
+    let rules : Rules = rules_at tb in
+    let v : Tree = value_of c.args.nodes.now c.args.node in
+    let there : slice_get c.args.shapes.now c.loop-index.index ≡ Some c.index-shapes-index.result =
+    slice_get_read c.args.shapes.now (length c.args.shapes.now) c.loop-index.index
+    c.index-shapes-index.result refl c.loop-index-test.true c.index-shapes-index.is in
+    let pair : slice_get (zip c.args.shapes.now (children v)) c.loop-index.index
+    ≡ Some (c.index-shapes-index.result, value_of c.args.nodes.now c.child-item.result) =
+    zip_at c.args.shapes.now (children v) c.loop-index.index c.index-shapes-index.result
+    (value_of c.args.nodes.now c.child-item.result) there c.child-item.ensures.child in
+    let told = c.in_ok-reading.ensures.told in
+    record {
+      sound = c.in_ok-reading.ensures.sound;
+      told = subst (EachTold rules tb.shapes.now (ReadsPlace (ReadsValue rules)) (λ (p : ℕ × Tree). (rules.end_of p.0, p.1))
+          (take (c.loop-index.index + 1) (zip c.args.shapes.now (children v))))
+          (sym c.in_ok-push.ensures)
+          (more_told rules tb.shapes.now (ReadsPlace (ReadsValue rules)) (λ (p : ℕ × Tree). (rules.end_of p.0, p.1)) (zip c.args.shapes.now (children v))
+          c.loop-index.index
+          (c.index-shapes-index.result, value_of c.args.nodes.now c.child-item.result)
+          c.loop-index.readings.items told.reading c.in_ok-reading.reading pair
+          c.loop-index.invariant.told told.reads told.tells);
+    }
 
 -- src/only/each.rt:52:1
 pub each::read_tuple-returns-clause-sound : goal.each::read_tuple-returns-clause-sound
-each::read_tuple-returns-clause-sound t c = ?
+each::read_tuple-returns-clause-sound t c =
+    c.loop-index.invariant.sound
 
 -- src/only/each.rt:52:1
 pub each::read_tuple-returns-clause-told : goal.each::read_tuple-returns-clause-told
-each::read_tuple-returns-clause-told t c = ?
+each::read_tuple-returns-clause-told t c =
+    let tb = c.args.tables.now in
+    let rules : Rules = rules_at tb in
+    let v : Tree = value_of c.args.nodes.now c.args.node in
+    let places = one_places rules (inner rules) c.args.shapes.now v c.requires.one in
+    tuple_told tb c.args.nodes.now c.args.node c.plain.result c.plain.ensures.variants
+    c.args.shapes.now c.loop-index.readings
+    (tuple_is_list rules (inner rules) c.args.shapes.now v c.requires.one) places.0
+    c.plain.ensures.kind
+    (all_told rules tb.shapes.now (ReadsPlace (ReadsValue rules)) (λ (p : ℕ × Tree). (rules.end_of p.0, p.1)) (zip c.args.shapes.now (children v)) c.loop-index.index
+    c.loop-index.readings.items (omega (arith, length-zip c.args.shapes.now (children v)))
+    c.loop-index.invariant.told)
 
 -- src/only/members.rt:77:24
 pub members::read_field-read_target-requires : goal.members::read_field-read_target-requires
@@ -237,135 +670,670 @@ object::read_steps-returns-clause-told t c = ?
 
 -- src/only/target.rt:98:18
 pub target::read_end-read_shape-requires : goal.target::read_end-read_shape-requires
-target::read_end-read_shape-requires t c = ?
+target::read_end-read_shape-requires t c =
+    let tb = c.args.tables.now in
+    let rules : Rules = rules_at tb in
+    let v : Tree = value_of c.args.nodes.now c.args.node in
+    let ends : end_view c.args.end.now ≡ an_option c.in-Option.inside = ap end_view c.in-Option.is in
+    let is : rules.end_of c.args.shape ≡ an_option c.in-Option.inside = sym c.requires.end.same ∙ ends in
+    let served : EndIsServed tb (an_option c.in-Option.inside) = subst (EndIsServed tb) ends c.requires.end.served in
+    let one : Counted (ReadsEnd rules (inner rules) (an_option c.in-Option.inside) v) One =
+    one_end rules c.args.steps c.args.shape (an_option c.in-Option.inside) v c.requires.ranked is c.requires.one in
+    let some : is_null v ≡ false =
+    ap is_null (sym c.value.ensures)
+    ∙ seen_no_null c.value.result.now c.in_default-value.not-Null in
+    let steps : 0 < c.args.steps =
+    rank_some rules c.args.steps (of_shape c.args.shape) c.requires.ranked in
+    let more : c.args.steps ≡ suc (c.args.steps - 1) = omega arith in (
+      omega arith,
+      (
+        c.requires.sound,
+        (
+          c.requires.inside,
+          (
+            served,
+            (
+              ranked_inside rules (c.args.steps - 1) c.args.shape c.in-Option.inside
+                  (subst (λ n. IsRanked n rules (of_shape c.args.shape)) more c.requires.ranked) is,
+              one_inside rules (inner rules) c.in-Option.inside v some one,
+            ),
+          ),
+        ),
+      ),
+    )
 
 -- src/only/target.rt:100:28
 pub target::read_end-read_items-requires : goal.target::read_end-read_items-requires
-target::read_end-read_items-requires t c = ?
+target::read_end-read_items-requires t c =
+    let tb = c.args.tables.now in
+    let rules : Rules = rules_at tb in
+    let v : Tree = value_of c.args.nodes.now c.args.node in
+    let ends : end_view c.args.end.now ≡ a_list c.in-List.item = ap end_view c.in-List.is in
+    let is : rules.end_of c.args.shape ≡ a_list c.in-List.item = sym c.requires.end.same ∙ ends in
+    let served : EndIsServed tb (a_list c.in-List.item) = subst (EndIsServed tb) ends c.requires.end.served in
+    let one : Counted (ReadsEnd rules (inner rules) (a_list c.in-List.item) v) One =
+    one_end rules c.args.steps c.args.shape (a_list c.in-List.item) v c.requires.ranked is c.requires.one in
+    (
+      omega arith,
+      (c.requires.sound, (c.requires.inside, (served, one))),
+    )
 
 -- src/only/target.rt:101:31
 pub target::read_end-read_tuple-requires : goal.target::read_end-read_tuple-requires
-target::read_end-read_tuple-requires t c = ?
+target::read_end-read_tuple-requires t c =
+    let tb = c.args.tables.now in
+    let rules : Rules = rules_at tb in
+    let v : Tree = value_of c.args.nodes.now c.args.node in
+    let ends : end_view c.args.end.now ≡ a_tuple c.deref.result.now = ap end_view c.in-Tuple.is ∙ ap a_tuple (sym c.deref.ensures.value) in
+    let is : rules.end_of c.args.shape ≡ a_tuple c.deref.result.now = sym c.requires.end.same ∙ ends in
+    let served : EndIsServed tb (a_tuple c.deref.result.now) = subst (EndIsServed tb) ends c.requires.end.served in
+    let one : Counted (ReadsEnd rules (inner rules) (a_tuple c.deref.result.now) v) One =
+    one_end rules c.args.steps c.args.shape (a_tuple c.deref.result.now) v c.requires.ranked is c.requires.one in
+    (
+      omega arith,
+      (c.requires.sound, (c.requires.inside, (served, one))),
+    )
 
 -- src/only/target.rt:102:33
 pub target::read_end-read_entries-requires : goal.target::read_end-read_entries-requires
-target::read_end-read_entries-requires t c = ?
+target::read_end-read_entries-requires t c =
+    let tb = c.args.tables.now in
+    let rules : Rules = rules_at tb in
+    let v : Tree = value_of c.args.nodes.now c.args.node in
+    let ends : end_view c.args.end.now ≡ a_map c.in-Map.key c.in-Map.value = ap end_view c.in-Map.is in
+    let is : rules.end_of c.args.shape ≡ a_map c.in-Map.key c.in-Map.value = sym c.requires.end.same ∙ ends in
+    let served : EndIsServed tb (a_map c.in-Map.key c.in-Map.value) = subst (EndIsServed tb) ends c.requires.end.served in
+    let one : Counted (ReadsEnd rules (inner rules) (a_map c.in-Map.key c.in-Map.value) v) One =
+    one_end rules c.args.steps c.args.shape (a_map c.in-Map.key c.in-Map.value) v c.requires.ranked is c.requires.one in
+    (
+      omega arith,
+      (c.requires.sound, (c.requires.inside, (served, one))),
+    )
 
 -- src/only/target.rt:103:30
 pub target::read_end-read_object-requires : goal.target::read_end-read_object-requires
-target::read_end-read_object-requires t c = ?
+target::read_end-read_object-requires t c =
+    let tb = c.args.tables.now in
+    let rules : Rules = rules_at tb in
+    let v : Tree = value_of c.args.nodes.now c.args.node in
+    let ends : end_view c.args.end.now ≡ an_object (list_view c.in-Object.list) = ap end_view c.in-Object.is in
+    let is : rules.end_of c.args.shape ≡ an_object (list_view c.in-Object.list) = sym c.requires.end.same ∙ ends in
+    let served : EndIsServed tb (an_object (list_view c.in-Object.list)) = subst (EndIsServed tb) ends c.requires.end.served in
+    let one : Counted (ReadsEnd rules (inner rules) (an_object (list_view c.in-Object.list)) v) One =
+    one_end rules c.args.steps c.args.shape (an_object (list_view c.in-Object.list)) v c.requires.ranked is c.requires.one in
+    (
+      omega arith,
+      (c.requires.sound, (c.requires.inside, (served, (object_has_one rules (inner rules) (list_view c.in-Object.list) v one).1))),
+    )
 
 -- src/only/target.rt:104:40
 pub target::read_end-read_named-requires : goal.target::read_end-read_named-requires
-target::read_end-read_named-requires t c = ?
+target::read_end-read_named-requires t c =
+    let tb = c.args.tables.now in
+    let rules : Rules = rules_at tb in
+    let v : Tree = value_of c.args.nodes.now c.args.node in
+    let ends : end_view c.args.end.now ≡ a_named_variant (map named_view c.deref-in-NamedVariant.result.now) = 
+    ap end_view c.in-NamedVariant.is
+    ∙ ap (λ vs. a_named_variant (map named_view vs)) (sym c.deref-in-NamedVariant.ensures.value) in
+    let is : rules.end_of c.args.shape ≡ a_named_variant (map named_view c.deref-in-NamedVariant.result.now) = sym c.requires.end.same ∙ ends in
+    let served : EndIsServed tb (a_named_variant (map named_view c.deref-in-NamedVariant.result.now)) = subst (EndIsServed tb) ends c.requires.end.served in
+    let one : Counted (ReadsEnd rules (inner rules) (a_named_variant (map named_view c.deref-in-NamedVariant.result.now)) v) One =
+    one_end rules c.args.steps c.args.shape (a_named_variant (map named_view c.deref-in-NamedVariant.result.now)) v c.requires.ranked is c.requires.one in
+    (
+      omega arith,
+      (c.requires.sound, (c.requires.inside, (served, one))),
+    )
 
 -- src/only/target.rt:106:13
 pub target::read_end-read_untagged-requires : goal.target::read_end-read_untagged-requires
-target::read_end-read_untagged-requires t c = ?
+target::read_end-read_untagged-requires t c =
+    let tb = c.args.tables.now in
+    let rules : Rules = rules_at tb in
+    let v : Tree = value_of c.args.nodes.now c.args.node in
+    let joined : ListId = list_view c.in-UntaggedVariant.joined in
+    let alone : List Alternative = map alternative_view c.deref-in-UntaggedVariant.result.now in
+    let ends : end_view c.args.end.now ≡ an_untagged_variant joined alone = 
+    ap end_view c.in-UntaggedVariant.is
+    ∙ ap (λ (others : List code_alternative.Alternative).
+    an_untagged_variant (list_view c.in-UntaggedVariant.joined) (map alternative_view others))
+    (sym c.deref-in-UntaggedVariant.ensures.value) in
+    let is : rules.end_of c.args.shape ≡ an_untagged_variant joined alone = sym c.requires.end.same ∙ ends in
+    let served : EndIsServed tb (an_untagged_variant joined alone) = subst (EndIsServed tb) ends c.requires.end.served in
+    let one : Counted (ReadsEnd rules (inner rules) (an_untagged_variant joined alone) v) One =
+    one_end rules c.args.steps c.args.shape (an_untagged_variant joined alone) v c.requires.ranked is c.requires.one in
+    (
+      omega arith,
+      (c.requires.sound, (c.requires.inside, (
+          served.0,
+          (
+            served.1,
+            (
+              ranked_alternatives rules c.args.steps c.args.shape joined alone c.requires.ranked is,
+              one,
+            ),
+          ),
+        ))),
+    )
 
 -- src/only/target.rt:77:1
 pub target::read_end-returns-in-Null-clause-told :
     goal.target::read_end-returns-in-Null-clause-told
-target::read_end-returns-in-Null-clause-told t c = ?
+target::read_end-returns-in-Null-clause-told t c =
+    let tb = c.args.tables.now in
+    let rules : Rules = rules_at tb in
+    let v : Tree = value_of c.args.nodes.now c.args.node in
+    let r = c.requires.one.value in
+    let is : rules.end_of c.args.shape ≡ an_option c.in-Option.inside =
+    sym c.requires.end.same ∙ ap end_view c.in-Option.is in
+    let tree : v ≡ null = sym c.value.ensures ∙ (ap view c.in-Null.is ∙ seen_null) in
+    let by_end : ReadsEnd rules (inner rules) (rules.end_of c.args.shape) v r =
+    (value_by_parts rules c.args.steps (of_shape c.args.shape) v c.requires.ranked r).0
+    c.requires.one.has in
+    let plain : r ≡ a_value =
+    subst (λ u. ReadsEnd rules (inner rules) (an_option c.in-Option.inside) u r) tree
+    (subst (λ e. ReadsEnd rules (inner rules) e v r) is by_end) in
+    told_as_it_is tb c.args.nodes.now c.args.node (of_shape c.args.shape) c.as_it_is.result
+    c.value-in-Null.result r c.value-in-Null.ensures c.requires.one.has plain
+    c.as_it_is.ensures.variants c.as_it_is.ensures.kind
 
 -- src/only/target.rt:77:1
 pub target::read_end-returns-in_default-value : goal.target::read_end-returns-in_default-value
-target::read_end-returns-in_default-value t c = ?
+target::read_end-returns-in_default-value t c =
+    let tb = c.args.tables.now in
+    let rules : Rules = rules_at tb in
+    let v : Tree = value_of c.args.nodes.now c.args.node in
+    let ends : end_view c.args.end.now ≡ an_option c.in-Option.inside = ap end_view c.in-Option.is in
+    let is : rules.end_of c.args.shape ≡ an_option c.in-Option.inside = sym c.requires.end.same ∙ ends in
+    let served : EndIsServed tb (an_option c.in-Option.inside) = subst (EndIsServed tb) ends c.requires.end.served in
+    let one : Counted (ReadsEnd rules (inner rules) (an_option c.in-Option.inside) v) One =
+    one_end rules c.args.steps c.args.shape (an_option c.in-Option.inside) v c.requires.ranked is c.requires.one in
+    let some : is_null v ≡ false =
+    ap is_null (sym c.value.ensures)
+    ∙ seen_no_null c.value.result.now c.in_default-value.not-Null in
+    record {
+      sound = c.read_shape.ensures.sound;
+      told = if_told (IsToldAt tb c.args.nodes.now c.args.node (of_shape c.in-Option.inside))
+          (IsToldAt tb c.args.nodes.now c.args.node (of_shape c.args.shape)) c.read_shape.result
+          (λ w h.
+          told_end tb c.args.nodes.now c.args.node c.args.steps c.args.shape
+          (an_option c.in-Option.inside) w c.requires.ranked is
+          (record {
+            reading = h.reading;
+            reads = option_reads rules (inner rules) c.in-Option.inside v h.reading some h.reads;
+            tells = inside c.in-Option.inside v h.reading w.variants.items w.kind h.tells;
+          })) c.read_shape.ensures.told;
+    }
 
 -- src/only/target.rt:77:1
 pub target::read_end-returns-in-List-clause-told :
     goal.target::read_end-returns-in-List-clause-told
-target::read_end-returns-in-List-clause-told t c = ?
+target::read_end-returns-in-List-clause-told t c =
+    let tb = c.args.tables.now in
+    let rules : Rules = rules_at tb in
+    let ends : end_view c.args.end.now ≡ a_list c.in-List.item = ap end_view c.in-List.is in
+    let is : rules.end_of c.args.shape ≡ a_list c.in-List.item = sym c.requires.end.same ∙ ends in
+    if_told (IsToldAs tb c.args.nodes.now c.args.node (a_list c.in-List.item)) (IsToldAt tb c.args.nodes.now c.args.node (of_shape c.args.shape)) c.read_items.result
+    (λ w h. 
+    told_end tb c.args.nodes.now c.args.node c.args.steps c.args.shape (a_list c.in-List.item) w c.requires.ranked is h) c.read_items.ensures.told
 
 -- src/only/target.rt:77:1
 pub target::read_end-returns-in-Tuple-clause-told :
     goal.target::read_end-returns-in-Tuple-clause-told
-target::read_end-returns-in-Tuple-clause-told t c = ?
+target::read_end-returns-in-Tuple-clause-told t c =
+    let tb = c.args.tables.now in
+    let rules : Rules = rules_at tb in
+    let ends : end_view c.args.end.now ≡ a_tuple c.deref.result.now = ap end_view c.in-Tuple.is ∙ ap a_tuple (sym c.deref.ensures.value) in
+    let is : rules.end_of c.args.shape ≡ a_tuple c.deref.result.now = sym c.requires.end.same ∙ ends in
+    if_told (IsToldAs tb c.args.nodes.now c.args.node (a_tuple c.deref.result.now)) (IsToldAt tb c.args.nodes.now c.args.node (of_shape c.args.shape)) c.read_tuple.result
+    (λ w h. 
+    told_end tb c.args.nodes.now c.args.node c.args.steps c.args.shape (a_tuple c.deref.result.now) w c.requires.ranked is h) c.read_tuple.ensures.told
 
 -- src/only/target.rt:77:1
 pub target::read_end-returns-in-Map-clause-told : goal.target::read_end-returns-in-Map-clause-told
-target::read_end-returns-in-Map-clause-told t c = ?
+target::read_end-returns-in-Map-clause-told t c =
+    let tb = c.args.tables.now in
+    let rules : Rules = rules_at tb in
+    let ends : end_view c.args.end.now ≡ a_map c.in-Map.key c.in-Map.value = ap end_view c.in-Map.is in
+    let is : rules.end_of c.args.shape ≡ a_map c.in-Map.key c.in-Map.value = sym c.requires.end.same ∙ ends in
+    if_told (IsToldAs tb c.args.nodes.now c.args.node (a_map c.in-Map.key c.in-Map.value)) (IsToldAt tb c.args.nodes.now c.args.node (of_shape c.args.shape)) c.read_entries.result
+    (λ w h. 
+    told_end tb c.args.nodes.now c.args.node c.args.steps c.args.shape (a_map c.in-Map.key c.in-Map.value) w c.requires.ranked is h) c.read_entries.ensures.told
 
 -- src/only/target.rt:77:1
 pub target::read_end-returns-in-Object-clause-told :
     goal.target::read_end-returns-in-Object-clause-told
-target::read_end-returns-in-Object-clause-told t c = ?
+target::read_end-returns-in-Object-clause-told t c =
+    let tb = c.args.tables.now in
+    let rules : Rules = rules_at tb in
+    let v : Tree = value_of c.args.nodes.now c.args.node in
+    let ends : end_view c.args.end.now ≡ an_object (list_view c.in-Object.list) = ap end_view c.in-Object.is in
+    let is : rules.end_of c.args.shape ≡ an_object (list_view c.in-Object.list) = sym c.requires.end.same ∙ ends in
+    let served : EndIsServed tb (an_object (list_view c.in-Object.list)) = subst (EndIsServed tb) ends c.requires.end.served in
+    let one : Counted (ReadsEnd rules (inner rules) (an_object (list_view c.in-Object.list)) v) One =
+    one_end rules c.args.steps c.args.shape (an_object (list_view c.in-Object.list)) v c.requires.ranked is c.requires.one in
+    let id : ListId = list_view c.in-Object.list in
+    let object = object_has_one rules (inner rules) id v one in
+    if_told (IsToldBy tb c.args.nodes.now c.args.node id)
+    (IsToldAt tb c.args.nodes.now c.args.node (of_shape c.args.shape)) c.read_object.result
+    (λ w h.
+    told_end tb c.args.nodes.now c.args.node c.args.steps c.args.shape (an_object id) w
+    c.requires.ranked is
+    (record {
+      reading = choices.an_object h.choice;
+      reads = object_reads rules (inner rules) id v h.choice object.0 h.reads;
+      tells = tells_object rules tb.shapes.now id h.object h.values h.rest v h.choice
+          w.variants.items w.kind object.0 h.variants_are h.kind_is h.tells;
+    })) c.read_object.ensures.told
 
 -- src/only/target.rt:77:1
 pub target::read_end-returns-in-NamedVariant-clause-told :
     goal.target::read_end-returns-in-NamedVariant-clause-told
-target::read_end-returns-in-NamedVariant-clause-told t c = ?
+target::read_end-returns-in-NamedVariant-clause-told t c =
+    let tb = c.args.tables.now in
+    let rules : Rules = rules_at tb in
+    let ends : end_view c.args.end.now ≡ a_named_variant (map named_view c.deref-in-NamedVariant.result.now) = 
+    ap end_view c.in-NamedVariant.is
+    ∙ ap (λ vs. a_named_variant (map named_view vs)) (sym c.deref-in-NamedVariant.ensures.value) in
+    let is : rules.end_of c.args.shape ≡ a_named_variant (map named_view c.deref-in-NamedVariant.result.now) = sym c.requires.end.same ∙ ends in
+    if_told (IsToldAs tb c.args.nodes.now c.args.node (a_named_variant (map named_view c.deref-in-NamedVariant.result.now))) (IsToldAt tb c.args.nodes.now c.args.node (of_shape c.args.shape)) c.read_named.result
+    (λ w h. 
+    told_end tb c.args.nodes.now c.args.node c.args.steps c.args.shape (a_named_variant (map named_view c.deref-in-NamedVariant.result.now)) w c.requires.ranked is h) c.read_named.ensures.told
 
 -- src/only/target.rt:77:1
 pub target::read_end-returns-in-UntaggedVariant-clause-told :
     goal.target::read_end-returns-in-UntaggedVariant-clause-told
-target::read_end-returns-in-UntaggedVariant-clause-told t c = ?
+target::read_end-returns-in-UntaggedVariant-clause-told t c =
+    let tb = c.args.tables.now in
+    let rules : Rules = rules_at tb in
+    let joined : ListId = list_view c.in-UntaggedVariant.joined in
+    let alone : List Alternative = map alternative_view c.deref-in-UntaggedVariant.result.now in
+    let ends : end_view c.args.end.now ≡ an_untagged_variant joined alone = 
+    ap end_view c.in-UntaggedVariant.is
+    ∙ ap (λ (others : List code_alternative.Alternative).
+    an_untagged_variant (list_view c.in-UntaggedVariant.joined) (map alternative_view others))
+    (sym c.deref-in-UntaggedVariant.ensures.value) in
+    let is : rules.end_of c.args.shape ≡ an_untagged_variant joined alone = sym c.requires.end.same ∙ ends in
+    if_told (IsToldAs tb c.args.nodes.now c.args.node (an_untagged_variant joined alone)) (IsToldAt tb c.args.nodes.now c.args.node (of_shape c.args.shape)) c.read_untagged.result
+    (λ w h. 
+    told_end tb c.args.nodes.now c.args.node c.args.steps c.args.shape (an_untagged_variant joined alone) w c.requires.ranked is h) c.read_untagged.ensures.told
 
 -- src/only/target.rt:77:1
 pub target::read_end-returns-in_default-clause-told :
     goal.target::read_end-returns-in_default-clause-told
-target::read_end-returns-in_default-clause-told t c = ?
+target::read_end-returns-in_default-clause-told t c =
+    let tb = c.args.tables.now in
+    let rules : Rules = rules_at tb in
+    let v : Tree = value_of c.args.nodes.now c.args.node in
+    let r = c.requires.one.value in
+    let end : End = end_view c.args.end.now in
+    let by_end : ReadsEnd rules (inner rules) (rules.end_of c.args.shape) v r =
+    (value_by_parts rules c.args.steps (of_shape c.args.shape) v c.requires.ranked r).0
+    c.requires.one.has in
+    let plain : r ≡ a_value =
+    scalar_value rules (inner rules) end v r
+    (scalar_rest c.args.end.now (λ i. c.in_default.not-Option i) (λ i. c.in_default.not-List i)
+    (λ is. c.in_default.not-Tuple is) (λ k i. c.in_default.not-Map k i)
+    (λ id. c.in_default.not-Object id) (λ vs. c.in_default.not-NamedVariant vs)
+    (λ id vs. c.in_default.not-UntaggedVariant id vs))
+    (subst (λ e. ReadsEnd rules (inner rules) e v r) (sym c.requires.end.same) by_end) in
+    told_as_it_is tb c.args.nodes.now c.args.node (of_shape c.args.shape)
+    c.as_it_is-in_default.result c.value-in_default.result r c.value-in_default.ensures
+    c.requires.one.has plain c.as_it_is-in_default.ensures.variants
+    c.as_it_is-in_default.ensures.kind
 
 -- src/only/target.rt:73:5
 pub target::read_shape-read_end-requires : goal.target::read_shape-read_end-requires
-target::read_shape-read_end-requires t c = ?
+target::read_shape-read_end-requires t c =
+    (
+      omega arith,
+      (
+        c.requires.sound,
+        (
+          c.requires.inside,
+          (
+            c.requires.sound.tables.ends c.args.shape c.end.result.now c.end.ensures,
+            (c.requires.ranked, c.requires.one),
+          ),
+        ),
+      ),
+    )
 
 -- src/only/target.rt:47:33
 pub target::read_target-read_shape-requires : goal.target::read_target-read_shape-requires
-target::read_target-read_shape-requires t c = ?
+target::read_target-read_shape-requires t c =
+    let tb = c.args.tables.now in
+    let is : target_view c.args.target.now ≡ of_shape c.in-Shape.shape =
+    ap target_view c.in-Shape.is in (
+      omega arith,
+      (
+        c.requires.sound,
+        (
+          c.requires.inside,
+          (
+            subst (IsServed tb) is c.requires.served,
+            (
+              subst (IsRanked c.args.steps (rules_at tb)) is c.requires.ranked,
+              subst (λ x. IsCount tb c.args.nodes.now c.args.node x One) is c.requires.one,
+            ),
+          ),
+        ),
+      ),
+    )
 
 -- src/only/target.rt:49:13
 pub target::read_target-read_content-requires : goal.target::read_target-read_content-requires
-target::read_target-read_content-requires t c = ?
+target::read_target-read_content-requires t c =
+    let tb = c.args.tables.now in
+    let is : target_view c.args.target.now ≡ of_content c.in-Content.shape c.in-Content.variant =
+    ap target_view c.in-Content.is in (
+      omega arith,
+      (
+        c.requires.sound,
+        (
+          c.requires.inside,
+          (
+            subst (IsServed tb) is c.requires.served,
+            (
+              subst (IsRanked c.args.steps (rules_at tb)) is c.requires.ranked,
+              subst (λ x. IsCount tb c.args.nodes.now c.args.node x One) is c.requires.one,
+            ),
+          ),
+        ),
+      ),
+    )
 
 -- src/only/target.rt:29:1
 pub target::read_target-returns-in-Tag-clause-told :
     goal.target::read_target-returns-in-Tag-clause-told
-target::read_target-returns-in-Tag-clause-told t c = ?
+target::read_target-returns-in-Tag-clause-told t c =
+    let tb = c.args.tables.now in
+    let v : Tree = value_of c.args.nodes.now c.args.node in
+    let r = c.requires.one.value in
+    let is : target_view c.args.target.now ≡ of_tag c.in-Tag.field-0.now =
+    ap target_view c.in-Tag.is in
+    told_as_it_is tb c.args.nodes.now c.args.node (target_view c.args.target.now) c.as_it_is.result
+    c.value.result r c.value.ensures c.requires.one.has
+    (tag_value (rules_at tb) c.in-Tag.field-0.now v r
+    (subst (λ x. ReadsValue (rules_at tb) x v r) is c.requires.one.has))
+    c.as_it_is.ensures.variants c.as_it_is.ensures.kind
 
 -- src/only/untagged.rt:78:14
 pub untagged::read_alternative-read_target-requires :
     goal.untagged::read_alternative-read_target-requires
-untagged::read_alternative-read_target-requires t c = ?
+untagged::read_alternative-read_target-requires t c =
+    let tb = c.args.tables.now in
+    let rules : Rules = rules_at tb in
+    let v : Tree = value_of c.args.nodes.now c.args.node in
+    let a : Alternative = alternative_view c.args.alternative.now in
+    let asks = asks_content a.kind a.content (IsCount tb c.args.nodes.now c.args.node a.content One)
+    (λ e. c.in_default.not-Null (null_seen c.args.alternative.now.kind e)) c.requires.one in
+    let ranked : IsRankedAlternative rules c.args.steps a = c.requires.ranked in
+    let some : c.args.steps ≡ ranked.0 + 1 = ranked.1 in (
+      omega arith,
+      (
+        c.requires.sound,
+        (
+          c.requires.inside,
+          (
+            c.requires.served,
+            (ranked_asked rules c.args.steps a ranked asks.0, asks.1),
+          ),
+        ),
+      ),
+    )
 
 -- src/only/untagged.rt:57:1
 pub untagged::read_alternative-returns-clause-told :
     goal.untagged::read_alternative-returns-clause-told
-untagged::read_alternative-returns-clause-told t c = ?
+untagged::read_alternative-returns-clause-told t c =
+    let tb = c.args.tables.now in
+    let rules : Rules = rules_at tb in
+    let v : Tree = value_of c.args.nodes.now c.args.node in
+    let a : Alternative = alternative_view c.args.alternative.now in
+    let new = c.in_ok-put_within.ensures in
+    elim c.match-alternative.branch [
+      | untagged::read_alternative-in-Null w ↦
+          let none : c.match-alternative.reading.variants.items ≡ [] =
+          ap (λ (q : code_reading.Reading). q.variants.items) w.reading-is
+          ∙ w.as_it_is-reading.ensures.variants in
+          record {
+            reading = a_value;
+            reads = subst
+                (λ kind. ReadsByAlternative kind a_value (ReadsValue rules a.content v a_value))
+                (sym (ap kind_view w.in-Null.is)) refl;
+            name = new.name;
+            names = [];
+            is_of = new.is_of;
+            variants_are = new.variants_are ∙ ap (λ ns. new.name ∷ ns) none;
+            tells = tells_as_it_is rules tb.shapes.now (end_of_target rules a.content) v a_value []
+                c.put_within.new.reading.kind w.value.result w.value.ensures refl refl
+                (new.kind_is ∙ (ap (λ (q : code_reading.Reading). q.kind) w.reading-is
+                ∙ w.as_it_is-reading.ensures.kind));
+          }
+      | untagged::read_alternative-in_default+in_ok-reading-in_default w ↦
+          let told = w.in_ok-reading-in_default.ensures.told in
+          let apart = λ (e : a.kind ≡ types.null_alone).
+          w.in_default.not-Null (null_seen c.args.alternative.now.kind e) in
+          record {
+            reading = told.reading;
+            reads = reads_by_content a.kind told.reading
+                (ReadsValue rules a.content v told.reading) apart told.reads;
+            name = new.name;
+            names = w.in_ok-reading-in_default.reading.variants.items;
+            is_of = new.is_of;
+            variants_are = new.variants_are
+                ∙ ap (λ (q : code_reading.Reading). new.name ∷ q.variants.items) w.reading-is;
+            tells = tells_same rules tb.shapes.now (end_of_target rules a.content) v told.reading
+                w.in_ok-reading-in_default.reading.variants.items
+                w.in_ok-reading-in_default.reading.variants.items
+                w.in_ok-reading-in_default.reading.kind c.put_within.new.reading.kind refl
+                (sym (new.kind_is ∙ ap (λ (q : code_reading.Reading). q.kind) w.reading-is))
+                told.tells;
+          }
+    ]
 
 -- src/only/untagged.rt:51:17
 pub untagged::read_untagged-read_object-requires :
     goal.untagged::read_untagged-read_object-requires
-untagged::read_untagged-read_object-requires t c = ?
+untagged::read_untagged-read_object-requires t c =
+    let tb = c.args.tables.now in
+    let rules : Rules = rules_at tb in
+    let v : Tree = value_of c.args.nodes.now c.args.node in
+    let joined : ListId = list_view c.args.joined.now in
+    let alone : List Alternative = map alternative_view c.args.alone.now in
+    let read = subst (IsUntagged rules (an_untagged_variant joined alone) v) c.in-None.is
+    c.in_ok-alternative_index.ensures.chosen in
+    let object = joined_one rules (inner rules) joined alone v read.0 read.1 c.requires.one in
+    (
+      omega arith,
+      (
+        c.in_ok-alternative_index.ensures.sound,
+        (c.requires.inside, (c.requires.joined, object.1)),
+      ),
+    )
 
 -- src/only/untagged.rt:52:20
 pub untagged::read_untagged-read_alternative-requires :
     goal.untagged::read_untagged-read_alternative-requires
-untagged::read_untagged-read_alternative-requires t c = ?
+untagged::read_untagged-read_alternative-requires t c =
+    let tb = c.args.tables.now in
+    let rules : Rules = rules_at tb in
+    let v : Tree = value_of c.args.nodes.now c.args.node in
+    let joined : ListId = list_view c.args.joined.now in
+    let alone : List Alternative = map alternative_view c.args.alone.now in
+    let k : ℕ = c.in-Some.k in
+    let read = subst (IsUntagged rules (an_untagged_variant joined alone) v) c.in-Some.is
+    c.in_ok-alternative_index.ensures.chosen in
+    let within : k < length alone =
+    variant_within rules (inner rules) joined alone v k read.0 read.1 in
+    let there : slice_get c.args.alone.now k ≡ Some c.index-alone-k.result =
+    slice_get_read c.args.alone.now (length c.args.alone.now) k c.index-alone-k.result refl
+    (omega (arith, length-map c.args.alone.now alternative_view)) c.index-alone-k.is in
+    let a : Alternative = alternative_view c.index-alone-k.result in
+    let seen : slice_get alone k ≡ Some a =
+    seen_at alternative_view c.args.alone.now k c.index-alone-k.result there in
+    (
+      omega arith,
+      (
+        c.in_ok-alternative_index.ensures.sound,
+        (
+          c.requires.inside,
+          (
+            at_seen (λ (b : Alternative). IsServed tb b.content) alternative_view c.args.alone.now k
+                c.index-alone-k.result there c.requires.served,
+            (
+              at_seen (λ (b : Alternative). IsRankedAlternative rules c.args.steps b)
+                  alternative_view c.args.alone.now k c.index-alone-k.result there
+                  c.requires.ranked,
+              one_alternative rules (inner rules) joined alone v k a seen c.requires.one read.0
+                  read.1,
+            ),
+          ),
+        ),
+      ),
+    )
 
 -- src/only/untagged.rt:27:1
 pub untagged::read_untagged-returns-in-None-clause-told :
     goal.untagged::read_untagged-returns-in-None-clause-told
-untagged::read_untagged-returns-in-None-clause-told t c = ?
+untagged::read_untagged-returns-in-None-clause-told t c =
+    let tb = c.args.tables.now in
+    let rules : Rules = rules_at tb in
+    let v : Tree = value_of c.args.nodes.now c.args.node in
+    let joined : ListId = list_view c.args.joined.now in
+    let alone : List Alternative = map alternative_view c.args.alone.now in
+    let read = subst (IsUntagged rules (an_untagged_variant joined alone) v) c.in-None.is
+    c.in_ok-alternative_index.ensures.chosen in
+    let object = joined_one rules (inner rules) joined alone v read.0 read.1 c.requires.one in
+    if_told (IsToldBy tb c.args.nodes.now c.args.node joined)
+    (IsToldAs tb c.args.nodes.now c.args.node (an_untagged_variant joined alone))
+    c.read_object.result
+    (λ w h. record {
+      reading = choices.an_object h.choice;
+      reads = joined_reads rules (inner rules) joined alone v h.choice object.0 h.reads;
+      tells = tells_joined rules tb.shapes.now joined h.object h.values h.rest alone v h.choice
+          w.variants.items w.kind object.0 h.variants_are h.kind_is h.tells;
+    }) c.read_object.ensures.told
 
 -- src/only/untagged.rt:27:1
 pub untagged::read_untagged-returns-in-Some-clause-told :
     goal.untagged::read_untagged-returns-in-Some-clause-told
-untagged::read_untagged-returns-in-Some-clause-told t c = ?
+untagged::read_untagged-returns-in-Some-clause-told t c =
+    let tb = c.args.tables.now in
+    let rules : Rules = rules_at tb in
+    let v : Tree = value_of c.args.nodes.now c.args.node in
+    let joined : ListId = list_view c.args.joined.now in
+    let alone : List Alternative = map alternative_view c.args.alone.now in
+    let k : ℕ = c.in-Some.k in
+    let read = subst (IsUntagged rules (an_untagged_variant joined alone) v) c.in-Some.is
+    c.in_ok-alternative_index.ensures.chosen in
+    let within : k < length alone =
+    variant_within rules (inner rules) joined alone v k read.0 read.1 in
+    let there : slice_get c.args.alone.now k ≡ Some c.index-alone-k.result =
+    slice_get_read c.args.alone.now (length c.args.alone.now) k c.index-alone-k.result refl
+    (omega (arith, length-map c.args.alone.now alternative_view)) c.index-alone-k.is in
+    let a : Alternative = alternative_view c.index-alone-k.result in
+    let seen : slice_get alone k ≡ Some a =
+    seen_at alternative_view c.args.alone.now k c.index-alone-k.result there in
+    if_told (IsToldAlternative tb c.args.nodes.now c.args.node a)
+    (IsToldAs tb c.args.nodes.now c.args.node (an_untagged_variant joined alone))
+    c.read_alternative.result
+    (λ w h.
+    alternative_told tb c.args.nodes.now c.args.node joined alone k a read.0 w seen read.1
+    c.requires.one h) c.read_alternative.ensures.told
 
 -- src/only/variant.rt:54:27
 pub variant::read_named-read_target-requires : goal.variant::read_named-read_target-requires
-variant::read_named-read_target-requires t c = ?
+variant::read_named-read_target-requires t c =
+    let tb = c.args.tables.now in
+    let rules : Rules = rules_at tb in
+    let v : Tree = value_of c.args.nodes.now c.args.node in
+    let vs : List NamedVariant = map named_view c.args.variants.now in
+    let k : ℕ = c.in_ok-k.k in
+    let read = c.in_ok-k.ensures.chosen in
+    let there : slice_get c.args.variants.now k ≡ Some c.index-variants-k.result =
+    slice_get_read c.args.variants.now (length c.args.variants.now) k c.index-variants-k.result refl
+    c.in_ok-k.ensures.within c.index-variants-k.is in
+    let a : NamedVariant = named_view c.index-variants-k.result in
+    let seen : slice_get vs k ≡ Some a =
+    seen_at named_view c.args.variants.now k c.index-variants-k.result there in
+    let is : is_object v ≡ true =
+    ap is_object (sym c.value-value.ensures ∙ (ap view c.in-Object.is
+    ∙ seen_object c.in-Object.field-0)) in
+    let served : IsServed tb a.content =
+    at_seen (λ (b : NamedVariant). IsServed tb b.content) named_view c.args.variants.now k
+    c.index-variants-k.result there c.requires.served in
+    let falls = child_levels c.args.nodes.now c.args.node c.child-content.result 0 tb.steps
+    c.child-content.ensures.child (omega arith) in (
+      omega arith,
+      (
+        c.in_ok-k.ensures.sound,
+        (
+          c.child-content.ensures.in_range,
+          (
+            served,
+            (
+              ranked_target tb a.content c.requires.sound.tables served,
+              one_named rules (inner rules) vs v k a read.0
+                  (value_of c.args.nodes.now c.child-content.result) seen c.requires.one read.1 is
+                  c.child-content.ensures.child,
+            ),
+          ),
+        ),
+      ),
+    )
 
 -- src/only/variant.rt:68:19
 pub variant::read_named-returns-in_err-vec-clause-sound :
     goal.variant::read_named-returns-in_err-vec-clause-sound
-variant::read_named-returns-in_err-vec-clause-sound t c = ?
+variant::read_named-returns-in_err-vec-clause-sound t c =
+    elim c.match-value.branch [
+      | variant::read_named-in-Object+in_ok-reading-in-Object+in_ok-new-in-Object w ↦
+          rw w.memo-is w.in_ok-reading-in-Object.ensures.sound
+      | variant::read_named-in_default w ↦ rw w.memo-is c.in_ok-k.ensures.sound
+    ]
 
 -- src/only/variant.rt:31:1
 pub variant::read_named-returns-clause-sound : goal.variant::read_named-returns-clause-sound
-variant::read_named-returns-clause-sound t c = ?
+variant::read_named-returns-clause-sound t c =
+    elim c.match-value.branch [
+      | variant::read_named-in-Object+in_ok-reading-in-Object+in_ok-new-in-Object w ↦
+          rw w.memo-is w.in_ok-reading-in-Object.ensures.sound
+      | variant::read_named-in_default w ↦ rw w.memo-is c.in_ok-k.ensures.sound
+    ]
 
 -- src/only/variant.rt:31:1
 pub variant::read_named-returns-clause-told : goal.variant::read_named-returns-clause-told
-variant::read_named-returns-clause-told t c = ?
+variant::read_named-returns-clause-told t c =
+    let tb = c.args.tables.now in
+    let rules : Rules = rules_at tb in
+    let v : Tree = value_of c.args.nodes.now c.args.node in
+    let vs : List NamedVariant = map named_view c.args.variants.now in
+    let k : ℕ = c.in_ok-k.k in
+    let read = c.in_ok-k.ensures.chosen in
+    let there : slice_get c.args.variants.now k ≡ Some c.index-variants-k.result =
+    slice_get_read c.args.variants.now (length c.args.variants.now) k c.index-variants-k.result refl
+    c.in_ok-k.ensures.within c.index-variants-k.is in
+    let a : NamedVariant = named_view c.index-variants-k.result in
+    let seen : slice_get vs k ≡ Some a =
+    seen_at named_view c.args.variants.now k c.index-variants-k.result there in
+    let found = roll-Reading (record { variants = c.in_ok-vec.field-0; kind = c.match-value.kind }) in
+    elim c.match-value.branch [
+      | variant::read_named-in-Object+in_ok-reading-in-Object+in_ok-new-in-Object w ↦
+          let is : is_object v ≡ true =
+          ap is_object (sym c.value-value.ensures ∙ (ap view w.in-Object.is
+          ∙ seen_object w.in-Object.field-0)) in
+          member_told tb c.args.nodes.now c.args.node w.child-content.result vs k a read.0
+          c.name_of-name.result w.in_ok-new-in-Object.field-0 found seen read.1 is
+          w.child-content.ensures.child
+          (subst (IsToldAt tb c.args.nodes.now w.child-content.result a.content)
+          (sym w.in_ok-new-in-Object.ensures.ok) w.in_ok-reading-in-Object.ensures.told)
+          c.name_of-name.ensures c.in_ok-vec.ensures.items w.kind-is
+      | variant::read_named-in_default w ↦
+          let is_not : is_object v ≡ false =
+          ap is_object (sym c.value-value.ensures)
+          ∙ seen_no_object c.value-value.result.now w.in_default.not-Object in
+          text_told tb c.args.nodes.now c.args.node vs k a read.0 c.name_of-name.result
+          c.value-value.result found seen read.1 is_not c.value-value.ensures
+          c.name_of-name.ensures c.in_ok-vec.ensures.items w.kind-is
+    ]
