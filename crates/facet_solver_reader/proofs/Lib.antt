@@ -76,3 +76,4 @@ pub mod MarkedBelow
 pub mod ChosenBranch
 pub mod StepsLeft
 pub mod StepsTaken
+pub mod NothingTold

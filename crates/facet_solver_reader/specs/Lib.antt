@@ -45,3 +45,4 @@ pub mod Told
 pub mod Planned
 pub mod Chosen
 pub mod UnderWay
+pub mod Tells

@@ -3,3 +3,4 @@
 //! The counts decide each choice. What an object's choice goes through is found as a list of steps,
 //! so that no call goes as deep as flattened fields nest.
 mod steps;
+mod tells;
