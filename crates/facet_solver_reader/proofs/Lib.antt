@@ -82,3 +82,4 @@ pub mod OneEnds
 pub mod ToldValues
 pub mod ToldVariants
 pub mod ToldSeveral
+pub mod NothingTold

@@ -1,6 +1,7 @@
 -- The next part of the innermost list is taken, and what it is goes behind the steps so far.
 use Rattle.std.proofs.Common.{◌≡◌, ◌∙◌, sym, ap, subst, refl, ℕ, ◌<◌, ◌≤◌, List, [], ◌∷◌, ◌++◌}
-use Rattle.std.proofs.Common.{append_assoc, drop, length, map, Option, Some, None, slice_get, arith}
+use Rattle.std.proofs.Common.{⊎_elim, append_assoc, drop, length, map, Option, Some, None}
+use Rattle.std.proofs.Common.{slice_get, arith}
 use Rattle.std.proofs.lemmas.List.{append-nil, map-append}
 use Rattle.std.proofs.lemmas.List.Elements.{All-append}
 use Rattle.std.proofs.lemmas.Option.{slice_get_within}
@@ -11,7 +12,6 @@ use Rattle.facet_solver_reader.specs.declared.count.Count.TheVariants.{One}
 use Rattle.facet_solver_reader.specs.declared.nodes.Nodes.{Nodes}
 use Rattle.facet_solver_reader.specs.declared.only.steps.Frame.{Frame}
 use Rattle.facet_solver_reader.specs.declared.only.steps.Step as code
-use Rattle.facet_solver_reader.specs.declared.only.steps.Way.{Way}
 use Rattle.facet_solver_reader.specs.declared.read.object.Object as read
 use Rattle.facet_solver_reader.specs.declared.tables.List.{List as ListEntry}
 use Rattle.facet_solver_reader.specs.declared.tables.Tables.{Tables}
@@ -19,6 +19,7 @@ use Rattle.facet_solver_reader.specs.Branches.{ReadsList, ReadsPart, ReadsParts}
 use Rattle.facet_solver_reader.specs.Choices.{Choice, ChoiceAt, Reading, lacking, having}
 use Rattle.facet_solver_reader.specs.Choices.{without, choosing, taking}
 use Rattle.facet_solver_reader.specs.FieldPlaces.{Path}
+use Rattle.facet_solver_reader.specs.Known.{Chooses}
 use Rattle.facet_solver_reader.specs.Objects.{Object, Reads}
 use Rattle.facet_solver_reader.specs.Parts.{CatchAll, ListId, MemberPart, Part, Selection, a_member}
 use Rattle.facet_solver_reader.specs.Parts.{a_selection, a_catch_all, of_struct, of_enum, of_joined}
@@ -36,11 +37,14 @@ use Rattle.facet_solver_reader.specs.Steps.{place_below, placed}
 use Rattle.facet_solver_reader.specs.Steps.{placed_from, selected, step_at, steps_of, through}
 use Rattle.facet_solver_reader.specs.Tables.{AreTables, BranchIsBefore, PartIsBefore}
 use Rattle.facet_solver_reader.specs.Tables.{PartIsServed, rules_at}
-use Rattle.facet_solver_reader.specs.UnderWay.{AreLeft, IsBelow, IsEntered, IsUnderWay}
+use Rattle.facet_solver_reader.specs.Tells.{TellsNothing}
+use Rattle.facet_solver_reader.specs.UnderWay.{AreLeft, IsBelow, IsEntered, IsSelected}
+use Rattle.facet_solver_reader.specs.UnderWay.{IsUnderWay}
 use Rattle.facet_solver_reader.specs.Views.{list_view, parts_view}
 use Rattle.facet_solver_reader.proofs.ChosenBranch.{only_of_branch}
 use Rattle.facet_solver_reader.proofs.CountingObjects.{before_at}
 use Rattle.facet_solver_reader.proofs.Lists.{readings_of_list}
+use Rattle.facet_solver_reader.proofs.NothingTold.{nothing_told}
 use Rattle.facet_solver_reader.proofs.Quantifiers.{all_at, all_from, all_of_more, all_of_none}
 use Rattle.facet_solver_reader.proofs.StepsLeft.{behind_next, left_in, left_last, left_more}
 use Rattle.facet_solver_reader.proofs.StepsLeft.{next_part, none_left, placed_next}
@@ -322,18 +326,33 @@ module _ (t : Tables) (nodes : Nodes) (o : read.Object) where
     chosen : taken.choice ≡ choosing k c
     chosen = sym (taken.only.1 (choosing k c) r)
 
+    -- what the branch selects is found, and the others are left
+    selected_then : (gs : List Frame) (new : List code.Step)
+        → map planned_of (selected (placed_next t f (a_selection s)).path id) ≡ map step_view new
+        → (others : List Step)
+        → h.others ≡ selected (placed_next t f (a_selection s)).path id ++ others
+        → AreLeft t nodes o gs others → IsUnderWay t nodes o gs (old ++ new)
+    selected_then gs new new_are others all_are left =
+        more_steps (fs ++ f ∷ []) gs old new h (selected here.path id) others all_are new_are
+        (only_selected here.path id)
+        (subst (All (StepIsServed t)) new_are (served_selected here.path id)) left
+
     -- a selection that is read by a branch has the steps of that branch's list
-    pub branch_taken : (way new : Way) → way.frames.items ≡ fs ++ behind_next f ∷ []
-        → way.steps.items ≡ old
+    pub branch_taken : (gs : List Frame) (new : List code.Step)
         → PartIsBefore t o.list.now.below.items (length o.list.now.below.items) (a_selection s)
-        → IsEntered t (placed_next t f (a_selection s)).path (placed_next t f (a_selection s)).name
-        id way new
-        → IsUnderWay t nodes o new.frames.items new.steps.items
-    branch_taken way new frames_are steps_are before e =
+        → IsSelected (placed_next t f (a_selection s)).path id old new
+        → IsEntered t id
+        (place_below t.shapes.now (placed_next t f (a_selection s)).path
+        (placed_next t f (a_selection s)).name id)
+        (fs ++ behind_next f ∷ []) gs
+        → IsUnderWay t nodes o gs new
+    branch_taken gs new before selects e =
         let all = o.list.now.below.items in
         let l = e.frame.list.now in
         let ps = parts_view l.parts.items in
         let shapes = t.shapes.now in
+        let place = place_below shapes here.path here.name id in
+        let outer : List Frame = fs ++ behind_next f ∷ [] in
         let parts_are : rules.lists id ≡ Some ps =
         subst (λ i. rules.lists i ≡ Some ps) e.same (tables.lists e.index l e.listed).same in
         let R = ReadsPart rules reads object (a_selection s) in
@@ -354,14 +373,13 @@ module _ (t : Tables) (nodes : Nodes) (o : read.Object) where
         } in
         let inner = left_in t nodes o e.frame ps c below (ap (λ n. drop n ps) e.first) of_parts in
         let steps_from : Path → ListId → ℕ → List Part → List Step =
-        λ place i n qs. steps_of walk c (placed_from shapes place i n qs) in
-        let place = place_below shapes here.path here.name id in
+        λ p i n qs. steps_of walk c (placed_from shapes p i n qs) in
         let inside : List Step = steps_from e.frame.place (list_view l.id) e.frame.next ps in
         let same : steps_of walk c (placed walk place id) ≡ inside =
         ap (λ q. steps_from place id 0 (unwrap_or q [])) parts_are
         ∙ ap (λ i. steps_from place i 0 ps) (sym e.same)
         ∙ ap (λ n. steps_from place (list_view l.id) n ps) (sym e.first)
-        ∙ ap (λ (p : Path). steps_from p (list_view l.id) e.frame.next ps) (sym e.place) in
+        ∙ ap (λ (p : Path). steps_from p (list_view l.id) e.frame.next ps) (sym e.place_is) in
         let steps_here : step_at walk taken.choice here (a_selection s)
         ≡ selected here.path id ++ inside =
         ap (λ a. step_at walk a here (a_selection s)) chosen
@@ -370,21 +388,26 @@ module _ (t : Tables) (nodes : Nodes) (o : read.Object) where
         through here.path
         (λ i. steps_of walk c (placed walk (place_below shapes here.path here.name i) i)) b) at
         ∙ ap (λ (x : List Step). selected here.path id ++ x) same in
-        let others : List Step = inside ++ taken.others in
-        let all_are : h.others ≡ selected here.path id ++ others =
+        let all_are : h.others ≡ selected here.path id ++ (inside ++ taken.others) =
         taken.steps_are ∙ ap (λ (x : List Step). x ++ taken.others) steps_here
         ∙ append_assoc (selected here.path id) inside taken.others in
-        let gs : List Frame = fs ++ behind_next f ∷ [] in
-        let under_way = more_steps (fs ++ f ∷ []) (gs ++ e.frame ∷ []) old e.taken h
-        (selected here.path id) others all_are e.taken_are (only_selected here.path id)
-        (subst (All (StepIsServed t)) e.taken_are (served_selected here.path id))
-        (left_more t nodes o gs e.frame inside taken.others taken.left inner) in
-        let frames_new : gs ++ e.frame ∷ [] ≡ new.frames.items =
-        ap (λ (x : List Frame). x ++ e.frame ∷ []) (sym frames_are) ∙ sym e.frames_are in
-        let steps_new : old ++ e.taken ≡ new.steps.items =
-        ap (λ (x : List code.Step). x ++ e.taken) (sym steps_are) ∙ sym e.steps_are in
-        subst (λ (x : List code.Step). IsUnderWay t nodes o new.frames.items x) steps_new
-        (subst (λ (x : List Frame). IsUnderWay t nodes o x (old ++ e.taken)) frames_new under_way)
+        subst (λ (x : List code.Step). IsUnderWay t nodes o gs x) (sym selects.steps_are)
+        (⊎_elim
+        (λ (pushed : gs ≡ outer ++ e.frame ∷ []).
+        selected_then gs selects.taken selects.taken_are (inside ++ taken.others) all_are
+        (subst (λ (x : List Frame). AreLeft t nodes o x (inside ++ taken.others)) (sym pushed)
+        (left_more t nodes o outer e.frame inside taken.others taken.left inner)))
+        (λ (passed : (gs ≡ outer) × TellsNothing t l).
+        let empty : inside ≡ [] =
+        sym same ∙ ap (λ i. steps_of walk c (placed walk place i)) (sym e.same)
+        ∙ nothing_told t tables e.index l e.listed passed.1 c of_list.0.items
+        (subst (λ i. Chooses rules.lists i c of_list.0.items) (sym e.same) of_list.0.chooses)
+        place in
+        selected_then gs selects.taken selects.taken_are taken.others
+        (all_are
+        ∙ ap (λ (x : List Step). selected here.path id ++ (x ++ taken.others)) empty)
+        (subst (λ (x : List Frame). AreLeft t nodes o x taken.others) (sym passed.0) taken.left))
+        e.frames_are)
 
   -- at first an object's list is under way
   pub first_under_way : AreTables t → IsObject t nodes o

@@ -48,3 +48,4 @@ pub mod ToldAt
 pub mod ToldObjects
 pub mod Found
 pub mod UnderWay
+pub mod Tells

@@ -1,10 +1,8 @@
 -- The steps of the only reading of an object, as they are found one after another.
-use Rattle.std.specs.Prelude.{◌≡◌, ℕ, All, List, [], ◌∷◌, ◌++◌, drop, map, Some, slice_get}
-use Rattle.facet_solver_shape.specs.Names.{Name}
+use Rattle.std.specs.Prelude.{◌≡◌, ◌⊎◌, ℕ, All, List, [], ◌∷◌, ◌++◌, drop, map, Some, slice_get}
 use Rattle.facet_solver_reader.specs.declared.nodes.Nodes.{Nodes}
 use Rattle.facet_solver_reader.specs.declared.only.steps.Frame.{Frame}
 use Rattle.facet_solver_reader.specs.declared.only.steps.Step as code
-use Rattle.facet_solver_reader.specs.declared.only.steps.Way.{Way}
 use Rattle.facet_solver_reader.specs.declared.read.object.Object as read
 use Rattle.facet_solver_reader.specs.declared.tables.List.{List as ListEntry}
 use Rattle.facet_solver_reader.specs.declared.tables.Tables.{Tables}
@@ -18,9 +16,10 @@ use Rattle.facet_solver_reader.specs.Planned.{walk_at}
 use Rattle.facet_solver_reader.specs.Reading.{object_view}
 use Rattle.facet_solver_reader.specs.Readings.{ReadsValue}
 use Rattle.facet_solver_reader.specs.Slots.{index_of}
-use Rattle.facet_solver_reader.specs.Steps.{Placed, Step, place_below, placed_from, selected}
+use Rattle.facet_solver_reader.specs.Steps.{Placed, Step, placed_from, selected}
 use Rattle.facet_solver_reader.specs.Steps.{steps_of, steps_through}
 use Rattle.facet_solver_reader.specs.Tables.{rules_at}
+use Rattle.facet_solver_reader.specs.Tells.{TellsNothing}
 use Rattle.facet_solver_reader.specs.Views.{list_view, parts_view}
 
 -- a list of the tables is one of those that the choices of an object's list go through
@@ -78,18 +77,19 @@ pub record IsUnderWay (t : Tables) (nodes : Nodes) (o : read.Object) (frames : L
   pub served : All (StepIsServed t) (map step_view found)
   pub left : AreLeft t nodes o frames others
 
--- the list of a branch that is chosen at the path of a field comes behind those that are under way,
--- at its place, and the variant that it selects, if it is one, behind the steps
-pub record IsEntered (t : Tables) (path : Path) (field : Name) (id : ListId) (old new : Way)
-    : Type 0 where
+-- the variant that a branch at a path selects, if it is one, comes behind the steps in memory
+pub record IsSelected (path : Path) (id : ListId) (old new : List code.Step) : Type 0 where
+  pub taken : List code.Step
+  pub taken_are : map planned_of (selected path id) ≡ map step_view taken
+  pub steps_are : new ≡ old ++ taken
+
+-- the list of a branch at a place comes behind those that are under way, unless it tells nothing
+pub record IsEntered (t : Tables) (id : ListId) (place : Path) (old new : List Frame) : Type 0 where
   pub frame : Frame
   pub index : ℕ
   pub is_at : index_of t.slots id ≡ Some index
   pub listed : slice_get t.lists.items index ≡ Some frame.list.now
   pub same : list_view frame.list.now.id ≡ id
   pub first : frame.next ≡ 0
-  pub place : frame.place ≡ place_below t.shapes.now path field id
-  pub frames_are : new.frames.items ≡ old.frames.items ++ frame ∷ []
-  pub taken : List code.Step
-  pub taken_are : map planned_of (selected path id) ≡ map step_view taken
-  pub steps_are : new.steps.items ≡ old.steps.items ++ taken
+  pub place_is : frame.place ≡ place
+  pub frames_are : (new ≡ old ++ frame ∷ []) ⊎ ((new ≡ old) × TellsNothing t frame.list.now)

@@ -6,6 +6,7 @@ ghost use Rattle.facet_solver_shape.specs.Representation.{repr_view};
 ghost use Rattle.facet_solver_reader.specs.FieldPlaces as spec;
 ghost use Rattle.facet_solver_reader.specs.FieldPlaces.{field_of_branch, fields_of_kind};
 ghost use Rattle.facet_solver_reader.specs.FieldPlaces.{fields_of_variant};
+ghost use Rattle.facet_solver_reader.specs.Steps.{place_below};
 ghost use Rattle.facet_solver_reader.specs.Views.{list_view};
 
 use crate::part::ListId;
@@ -96,6 +97,24 @@ pub(crate) fn path_at<'c>(
     match field_at(shapes, list, index) {
         Some(field) => place.push_field(alloc, field.name.as_str()),
         None => Ok(FieldPath::from(Vec::from_slice(alloc, place.segments())?)),
+    }
+}
+
+/// Where the parts of a branch stand that is chosen at the path of a field: those of a variant
+/// behind it.
+pub(crate) fn place_below<'c>(
+    alloc: Global,
+    shapes: &'c Shapes,
+    path: &FieldPath<'c>,
+    field: &'c str,
+    branch: ListId,
+) -> Result<FieldPath<'c>, AllocError>
+    ensures { IfOk result
+        (λ place. place ≡ place_below shapes.now path.now field.now (list_view branch)) }
+{
+    match branch {
+        ListId::Branch(id, k) => path.push_variant(alloc, field, variant_name(shapes, id, k)),
+        _ => Ok(FieldPath::from(Vec::from_slice(alloc, path.segments())?)),
     }
 }
 

@@ -9,6 +9,7 @@ mod members;
 mod object;
 mod steps;
 mod target;
+mod tells;
 mod untagged;
 mod variant;
 

@@ -4,12 +4,14 @@ ghost use Rattle.facet_solver_reader.specs.declared.count.Count.TheVariants.{One
 ghost use Rattle.facet_solver_reader.specs.Known.{Chooses, HasChoice};
 ghost use Rattle.facet_solver_reader.specs.Planned.{IsPlan};
 ghost use Rattle.facet_solver_reader.specs.Reading.{AreListCounts, IsListCount, IsObject};
+ghost use Rattle.facet_solver_reader.specs.Steps.{place_below};
 ghost use Rattle.facet_solver_reader.specs.Tables.{AreTables, ListIsServed, rules_at};
-ghost use Rattle.facet_solver_reader.specs.UnderWay.{IsEntered, IsUnderWay};
+ghost use Rattle.facet_solver_reader.specs.UnderWay.{IsEntered, IsSelected, IsUnderWay};
 ghost use Rattle.facet_solver_reader.specs.Views.{list_view};
 
+use super::tells::tells;
 use crate::count::Count;
-use crate::field_at::{field_name, path_at, variant_name};
+use crate::field_at::{field_name, path_at, place_below};
 use crate::nodes::Nodes;
 use crate::part::{CatchAll, ListId, MemberPart, Part};
 use crate::read::{Object, chosen_branch};
@@ -67,7 +69,7 @@ pub(super) fn steps_of<'r, 'c>(
         next: 0,
         place: FieldPath::empty(tables.alloc),
     })?;
-    // No memory holds so many steps, so that the loop ends by its first way out.
+    // Far fewer parts are gone through, so that the loop ends by its first way out.
     'parts: for _ in 0..u64::MAX {
         let Some(frame) = way.frames.pop() else {
             return Ok(way.steps);
@@ -116,44 +118,56 @@ impl<'r, 'c> Way<'r, 'c> {
             Part::CatchAll(catch_all) => self.steps.push(Step::Rest(catch_all))?,
             Part::Selection(selection) => {
                 if let Some(k) = chosen_branch(tables, nodes, object, selection, counts) {
-                    self.enter(tables, path, name, selection.branches[k])?;
+                    let branch = &selection.branches[k];
+                    self.enter(tables, &path, name, branch)?;
+                    self.select(path, branch)?;
                 }
             }
         }
         Ok(())
     }
 
-    /// Goes into a branch that is chosen at a path, where the field of that name stands. A variant
-    /// is a step of its own.
+    /// The variant that a branch at a path selects, if it is one, goes behind the steps.
+    fn select(&mut self, path: FieldPath<'c>, branch: &ListId) -> Result<(), AllocError>
+        ensures steps { OnOk result (IsSelected path.entry (list_view branch.now)
+            self.old.steps.items self.new.steps.items) }
+        ensures frames { self.new.frames.items ≡ self.old.frames.items }
+    {
+        if let ListId::Branch(id, k) = branch {
+            self.steps.push(Step::Variant(path, *id, *k))?;
+        }
+        Ok(())
+    }
+
+    /// Goes into the list of a branch that is chosen at the path of a field. One that has nothing
+    /// to tell is passed over.
     fn enter(
         &mut self,
         tables: &'r Tables<'c>,
-        path: FieldPath<'c>,
-        name: &'c str,
-        branch: ListId,
+        path: &FieldPath<'c>,
+        field: &'c str,
+        branch: &ListId,
     ) -> Result<(), AllocError>
-        requires served { ListIsServed tables.now (list_view branch) }
-        requires chosen { HasChoice (Chooses (rules_at tables.now).lists (list_view branch)) }
-        ensures { OnOk result
-            (IsEntered tables.now path.entry name.now (list_view branch) self.old self.new) }
+        requires tables { AreTables tables.now }
+        requires served { ListIsServed tables.now (list_view branch.now) }
+        requires chosen { HasChoice (Chooses (rules_at tables.now).lists (list_view branch.now)) }
+        ensures entered { OnOk result (IsEntered tables.now (list_view branch.now)
+            (place_below tables.now.shapes.now path.now field.now (list_view branch.now))
+            self.old.frames.items self.new.frames.items) }
+        ensures steps { self.new.steps.items ≡ self.old.steps.items }
     {
-        let Some(index) = tables.slots.index_of(branch) else {
+        let Some(index) = tables.slots.index_of(*branch) else {
             unreachable!()
         };
-        let place = match &branch {
-            ListId::Branch(id, k) => {
-                let variant = variant_name(tables.shapes, *id, *k);
-                let place = path.push_variant(tables.alloc, name, variant)?;
-                self.steps.push(Step::Variant(path, *id, *k))?;
-                place
-            }
-            _ => path,
-        };
-        self.frames.push(Frame {
-            list: &tables.lists[index],
-            next: 0,
-            place,
-        })?;
+        let list = &tables.lists[index];
+        if tells(tables, list) {
+            let place = place_below(tables.alloc, tables.shapes, path, field, *branch)?;
+            self.frames.push(Frame {
+                list,
+                next: 0,
+                place,
+            })?;
+        }
         Ok(())
     }
 }

@@ -5,7 +5,6 @@ use Rattle.std.proofs.lemmas.Option.{slice_get_within}
 use Rattle.facet_solver_reader.specs.declared.only.steps.Frame.{Frame}
 use Rattle.facet_solver_reader.specs.declared.only.steps.Step as code
 use Rattle.facet_solver_reader.specs.declared.nodes.Nodes.{Nodes}
-use Rattle.facet_solver_reader.specs.declared.only.steps.Way.{Way}
 use Rattle.facet_solver_reader.specs.declared.part.ListId as code_list
 use Rattle.facet_solver_reader.specs.declared.part.Part as code_part
 use Rattle.facet_solver_reader.specs.declared.read.object.Object as read
@@ -17,7 +16,8 @@ use Rattle.facet_solver_reader.specs.Known.{Chooses, HasChoice}
 use Rattle.facet_solver_reader.specs.Parts.{ListId, a_member, a_selection, a_catch_all}
 use Rattle.facet_solver_reader.specs.Planned as planned
 use Rattle.facet_solver_reader.specs.Tables.{AreTables, ListIsServed, PartIsBefore, rules_at}
-use Rattle.facet_solver_reader.specs.UnderWay.{IsEntered, IsUnderWay}
+use Rattle.facet_solver_reader.specs.Steps.{place_below}
+use Rattle.facet_solver_reader.specs.UnderWay.{IsEntered, IsSelected, IsUnderWay}
 use Rattle.facet_solver_reader.specs.Views.{catch_all_view, list_view, member_view, part_view}
 use Rattle.facet_solver_reader.specs.Views.{parts_view, selection_view}
 use Rattle.facet_solver_reader.proofs.CountingObjects.{seen_read}
@@ -178,8 +178,8 @@ returns-in_default-chosen_branch c =
     c.in_ok-push.ensures.items refl
     (absent_taken t nodes o fs f (selection_view s) old h x c.in_default-chosen_branch.ensures)
 
-pub index-requires : goal.index-requires
-index-requires c =
+pub index-branch-requires : goal.index-branch-requires
+index-branch-requires c =
     let b = c.in-Some-chosen_branch.ensures.1.chooses.chooses in
     let ids = c.in-Selection.selection.branches in
     omega (arith, branch_within ids.items c.in-Some-chosen_branch.k b.list b.branch_is)
@@ -201,20 +201,22 @@ enter-requires-clause-served c =
     let ids = s.branches.items in
     let k = c.in-Some-chosen_branch.k in
     let b = c.in-Some-chosen_branch.ensures.1.chooses.chooses in
-    all_at (ListIsServed t) (map list_view ids) k (list_view c.index.result.now)
+    all_at (ListIsServed t) (map list_view ids) k (list_view c.index-branch.result.now)
     (part_served t nodes o c.requires.tables fs f p h.others x)
-    (branch_at ids k c.index.result.now (branch_within ids k b.list b.branch_is) c.index.ensures)
+    (branch_at ids k c.index-branch.result.now (branch_within ids k b.list b.branch_is)
+    c.index-branch.ensures)
 
 pub enter-requires-clause-chosen : goal.enter-requires-clause-chosen
 enter-requires-clause-chosen c =
     let ids = c.in-Selection.selection.branches.items in
     let k = c.in-Some-chosen_branch.k in
     let b = c.in-Some-chosen_branch.ensures.1.chooses.chooses in
-    let both : Some b.list ≡ Some (list_view c.index.result.now) =
+    let both : Some b.list ≡ Some (list_view c.index-branch.result.now) =
     sym b.branch_is
-    ∙ branch_at ids k c.index.result.now (branch_within ids k b.list b.branch_is) c.index.ensures
+    ∙ branch_at ids k c.index-branch.result.now (branch_within ids k b.list b.branch_is)
+    c.index-branch.ensures
     in
-    let same : b.list ≡ list_view c.index.result.now = cc in
+    let same : b.list ≡ list_view c.index-branch.result.now = cc in
     subst (λ id. HasChoice (Chooses (rules_at c.args.tables.now).lists id)) same
     (record {
       choice = c.in-Some-chosen_branch.ensures.0;
@@ -222,8 +224,8 @@ enter-requires-clause-chosen c =
       chooses = b.chooses;
     })
 
-pub returns-in_ok-enter-in-Selection : goal.returns-in_ok-enter-in-Selection
-returns-in_ok-enter-in-Selection c =
+pub returns-in_ok-select-in-Selection : goal.returns-in_ok-select-in-Selection
+returns-in_ok-select-in-Selection c =
     let t = c.args.tables.now in
     let nodes = c.args.nodes.now in
     let o = c.args.object.now in
@@ -240,15 +242,30 @@ returns-in_ok-enter-in-Selection c =
     let k = c.in-Some-chosen_branch.k in
     let r = c.in-Some-chosen_branch.ensures.1 in
     let b = r.chooses.chooses in
-    let at = branch_at ids k c.index.result.now (branch_within ids k b.list b.branch_is)
-    c.index.ensures in
-    let id = list_view c.index.result.now in
-    let way : Way = record { steps = c.args.self.now.steps; frames = c.push.new.self } in
+    let branch = c.index-branch.result.now in
+    let id = list_view branch in
+    let at = branch_at ids k branch (branch_within ids k b.list b.branch_is) c.index-branch.ensures
+    in
     let path = spec.path_at t.shapes.now f.place (list_view f.list.now.id) f.next in
-    let entered = subst (λ (n : Name). IsEntered t path n id way c.enter.new.self)
-    c.field_name-name.ensures
-    (subst (λ (q : Path). IsEntered t q c.field_name-name.result.now id way c.enter.new.self)
-    c.in_ok-path.ensures c.in_ok-enter-in-Selection.ensures) in
-    branch_taken t nodes o c.requires.tables fs f (selection_view s) old h x k
-    c.in-Some-chosen_branch.ensures.0 id r at way c.enter.new.self c.in_ok-push.ensures.items refl
-    (part_before t nodes o c.requires.tables c.requires.object fs f p h.others x) entered
+    let field = spec.field_name t.shapes.now (list_view f.list.now.id) f.next in
+    let place = place_below t.shapes.now path field id in
+    let place_is : place_below t.shapes.now c.in_ok-path.path c.field_name-name.result.now id
+    ≡ place =
+    ap (λ (q : Path). place_below t.shapes.now q c.field_name-name.result.now id)
+    c.in_ok-path.ensures
+    ∙ ap (λ (n : Name). place_below t.shapes.now path n id) c.field_name-name.ensures in
+    let gs = c.enter.new.self.frames.items in
+    let entered = subst (λ (q : Path). IsEntered t id q (fs ++ behind_next f ∷ []) gs) place_is
+    (subst
+    (λ (x : List Frame).
+    IsEntered t id
+    (place_below t.shapes.now c.in_ok-path.path c.field_name-name.result.now id) x gs)
+    c.in_ok-push.ensures.items c.in_ok-enter-in-Selection.ensures.entered) in
+    let new = c.select.new.self.steps.items in
+    let selects = subst (λ (q : Path). IsSelected q id old new) c.in_ok-path.ensures
+    (subst (λ (x : List code.Step). IsSelected c.in_ok-path.path id x new) c.enter.ensures.steps
+    c.in_ok-select-in-Selection.ensures.steps) in
+    moved t nodes o gs c.select.new.self.frames.items new new c.select.ensures.frames refl
+    (branch_taken t nodes o c.requires.tables fs f (selection_view s) old h x k
+    c.in-Some-chosen_branch.ensures.0 id r at gs new
+    (part_before t nodes o c.requires.tables c.requires.object fs f p h.others x) selects entered)
