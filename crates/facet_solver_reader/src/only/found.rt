@@ -1,6 +1,6 @@
 //! What steps select, which members they have, and what takes the rest.
-ghost use Rattle.std.specs.Prelude.{◌≡◌, IfOk, map};
-ghost use Rattle.std.specs.Option.{option_map};
+ghost use Rattle.std.specs.Prelude.{◌≡◌, ◌++◌, ◌∷◌, [], IfOk, OnOk, map};
+ghost use Rattle.std.specs.Option.{option_map, option_or};
 ghost use Rattle.facet_solver_shape.specs.Resolved.{selection_view};
 ghost use Rattle.facet_solver_reader.specs.Planned.{step_view};
 ghost use Rattle.facet_solver_reader.specs.Found as spec;
@@ -53,7 +53,19 @@ impl<'r, 'c> Found<'r, 'c> {
     }
 
     /// Adds a step.
-    fn add(&mut self, shapes: &'c Shapes, step: Step<'r, 'c>) -> Result<(), AllocError> {
+    fn add(&mut self, shapes: &'c Shapes, step: Step<'r, 'c>) -> Result<(), AllocError>
+        ensures selections { OnOk result (map selection_view self.new.selections.items
+            ≡ map selection_view self.old.selections.items
+            ++ spec.selections_in shapes.now (step_view step.entry ∷ [])) }
+        ensures fields { OnOk result (map place_view self.new.fields.items
+            ≡ map place_view self.old.fields.items ++ spec.places_in (step_view step.entry ∷ [])) }
+        ensures members { OnOk result (map (λ m. member_view m.now) self.new.members.items
+            ≡ map (λ m. member_view m.now) self.old.members.items
+            ++ spec.members_in (step_view step.entry ∷ [])) }
+        ensures catch_all { OnOk result (option_map (λ k. catch_all_view k.now) self.new.catch_all
+            ≡ option_or (option_map (λ k. catch_all_view k.now) self.old.catch_all)
+            (spec.catch_all_in (step_view step.entry ∷ []))) }
+    {
         match step {
             Step::Field(path, member) => {
                 self.fields.push(FieldPlace {
