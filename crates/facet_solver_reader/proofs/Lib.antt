@@ -73,3 +73,4 @@ pub mod Ranked
 pub mod RankRounds
 pub mod AllTables
 pub mod MarkedBelow
+pub mod VariantIndices
