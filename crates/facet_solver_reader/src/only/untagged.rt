@@ -1,7 +1,7 @@
 //! The only reading of a value as a variant that it does not name.
 ghost use Rattle.std.specs.Prelude.{◌≡◌, ◌∷◌, [], ◌<◌, All, IfOk, MatchOption, length, map};
 ghost use Rattle.facet_solver_reader.specs.declared.count.Count.TheVariants.{None as NoCount, One};
-ghost use Rattle.facet_solver_reader.specs.Choices.{Reading, a_variant};
+ghost use Rattle.facet_solver_reader.specs.Choices as choices;
 ghost use Rattle.facet_solver_reader.specs.Counted.{Counted};
 ghost use Rattle.facet_solver_reader.specs.Nodes.{count, value_of};
 ghost use Rattle.facet_solver_reader.specs.Reading.{AreSound, IsRankedAlternative};
@@ -117,8 +117,8 @@ fn direct_index(
     ensures chosen { IfOk result (λ found. MatchOption found
         (Counted (ReadsAlone (ReadsValue (rules_at tables.now)) (map alternative_view alone.now)
         (value_of nodes.now node)) NoCount)
-        (λ k. (r : Reading) × ReadsAlone (ReadsValue (rules_at tables.now))
-        (map alternative_view alone.now) (value_of nodes.now node) (a_variant k r))) }
+        (λ k. (r : choices.Reading) × ReadsAlone (ReadsValue (rules_at tables.now))
+        (map alternative_view alone.now) (value_of nodes.now node) (choices.a_variant k r))) }
 {
     for (k, alternative) in alone.iter().enumerate() {
         let count = count_alternative(tables, nodes, memo, node, alone, alternative, steps)?;
@@ -143,12 +143,12 @@ fn fallback_index(
     requires served { All (λ a. IsServed tables.now a.content) (map alternative_view alone.now) }
     requires ranked { All (λ a. IsRankedAlternative (rules_at tables.now) steps a)
         (map alternative_view alone.now) }
-    requires read { (r : Reading) × ReadsFallback (ReadsValue (rules_at tables.now))
+    requires read { (r : choices.Reading) × ReadsFallback (ReadsValue (rules_at tables.now))
         (map alternative_view alone.now) (value_of nodes.now node) r }
     ensures sound { AreSound tables.now nodes.now memo.new.entries.items }
-    ensures chosen { IfOk result (λ k. (r : Reading) × ReadsFallback (ReadsValue
+    ensures chosen { IfOk result (λ k. (r : choices.Reading) × ReadsFallback (ReadsValue
         (rules_at tables.now)) (map alternative_view alone.now) (value_of nodes.now node)
-        (a_variant k r)) }
+        (choices.a_variant k r)) }
 {
     for (k, alternative) in alone.iter().enumerate() {
         if let AlternativeKind::Fallback = alternative.kind {
