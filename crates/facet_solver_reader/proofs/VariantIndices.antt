@@ -1,6 +1,6 @@
 -- Which variant a value is read as, by its index.
 use Rattle.std.proofs.Common.{◌≡◌, ◌≢◌, ◌∷◌, [], refl, subst, ℕ, List, Option, Some, slice_get, inl}
-use Rattle.std.proofs.Common.{inr, sym, true, ◌⊎◌, ⊎_elim}
+use Rattle.std.proofs.Common.{arith, inr, length, sym, true, ◌⊎◌, ⊎_elim}
 use Rattle.facet_solver_shape.specs.Names.{Name}
 use Rattle.facet_solver_reader.specs.declared.count.Count.{Count}
 use Rattle.facet_solver_reader.specs.declared.count.Count.TheVariants.{None as NoCount, One}
@@ -19,6 +19,7 @@ use Rattle.facet_solver_reader.specs.Rules.{an_untagged_variant}
 use Rattle.facet_solver_reader.specs.Values.{Inner, NamesUnit, ReadsAlone, ReadsDirectly, ReadsEnd}
 use Rattle.facet_solver_reader.specs.Values.{ReadsFallback, ReadsJoined, ReadsLast, ReadsNamed}
 use Rattle.facet_solver_reader.specs.Values.{ReadsNamedVariant}
+use Rattle.facet_solver_reader.proofs.NamedVariants.{count_of_other_members}
 use Rattle.facet_solver_reader.proofs.UntaggedVariants.{count_directly}
 
 -- what is counted, and not none of it, is there
@@ -42,6 +43,15 @@ unit_named reads vs v x r is h = of r (subst (λ u. ReadsNamedVariant reads vs u
     of (a_variant k (each_of rs)) w = absurd w
     of (a_variant k (an_object c)) w = absurd w
     of (a_variant k (a_variant j q)) w = absurd w
+
+-- an object that is read as a variant has one member
+pub single_named : (reads : Reads) (vs : List NamedVariant) (ms : Members) (r : Reading)
+    → ReadsNamedVariant reads vs (object ms) r → length (members ms) ≡ 1
+single_named reads vs no_members r h =
+    absurd (count_of_other_members reads vs no_members (λ e. cc) r h)
+single_named reads vs (member n v no_members) r h = refl
+single_named reads vs (member n v (member n2 v2 ms)) r h =
+    absurd (count_of_other_members reads vs (member n v (member n2 v2 ms)) (λ e. omega arith) r h)
 
 -- an object of one member is read as the variant that reads the member
 pub named_by_member : (reads : Reads) (vs : List NamedVariant) (ms : Members) (x : Member) (k : ℕ)

@@ -91,11 +91,10 @@ fn alternative_index(
             return Ok(None);
         }
     }
-    let direct = direct_index(tables, nodes, memo, node, alone, steps)?;
-    if direct.is_some() {
-        return Ok(direct);
-    }
-    let k = fallback_index(tables, nodes, memo, node, alone, steps)?;
+    let k = match direct_index(tables, nodes, memo, node, alone, steps)? {
+        Some(k) => k,
+        None => fallback_index(tables, nodes, memo, node, alone, steps)?,
+    };
     Ok(Some(k))
 }
 

@@ -107,10 +107,10 @@ fn named_index(
 {
     match nodes.value(node) {
         Document::Text(text) => Ok(unit_index(variants, text)),
-        Document::Object(members) => match members.as_slice() {
-            [(name, _)] => content_index(tables, nodes, memo, node, variants, name),
-            _ => unreachable!(),
-        },
+        // An object that is read so has one member.
+        Document::Object(members) => {
+            content_index(tables, nodes, memo, node, variants, members[0].0)
+        }
         _ => unreachable!(),
     }
 }
