@@ -74,3 +74,6 @@ pub mod RankRounds
 pub mod AllTables
 pub mod MarkedBelow
 pub mod VariantIndices
+pub mod ChosenBranch
+pub mod StepsLeft
+pub mod StepsTaken

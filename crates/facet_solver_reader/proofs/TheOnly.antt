@@ -34,6 +34,38 @@ only_of_joined P Q W join j x y p q = (
       ∙ ap (λ v. join x v) (q.1 f.second f.has_second),
 )
 
+-- the parts of the only pair are the only ones
+pub record AreOnlyParts {X Y Z : Type 0} (P : X → Type 0) (Q : Y → Type 0) (join : X → Y → Z)
+    (z : Z) : Type 0 where
+  pub first : X
+  pub second : Y
+  pub only_first : IsTheOnly P first
+  pub only_second : IsTheOnly Q second
+  pub is_joined : z ≡ join first second
+
+pub parts_of_only : {X Y Z : Type 0} (P : X → Type 0) (Q : Y → Type 0) (W : Z → Type 0)
+    (join : X → Y → Z) → AreJoined P Q W join
+    → (z : Z) → IsTheOnly W z → AreOnlyParts P Q join z
+parts_of_only P Q W join j z w =
+    let f = j.part z w.0 in
+    record {
+      first = f.first;
+      second = f.second;
+      only_first = (
+        f.has_first,
+        λ x p.
+            j.same_first x f.first f.second f.second
+            (w.1 (join x f.second) (j.into x f.second p f.has_second) ∙ f.is_joined),
+      );
+      only_second = (
+        f.has_second,
+        λ y q.
+            j.same_second f.first f.first y f.second
+            (w.1 (join f.first y) (j.into f.first y f.has_first q) ∙ f.is_joined),
+      );
+      is_joined = f.is_joined;
+    }
+
 -- the only image is of the only one
 pub only_of_image : {X Z : Type 0} (P : X → Type 0) (W : Z → Type 0) (image : X → Z)
     → AreImages P W image → (x : X) → IsTheOnly P x → IsTheOnly W (image x)

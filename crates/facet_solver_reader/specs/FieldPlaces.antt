@@ -1,16 +1,17 @@
 -- Where in a type the parts of a list stand.
-use Rattle.std.specs.Prelude.{ℕ, zero, suc, List, [], ◌∷◌, ◌++◌, Option, Some, None, slice_get, option_and_then, string_bytes}
+use Rattle.std.specs.Prelude.{ℕ, zero, suc, List, [], ◌∷◌, ◌++◌, Option, None, slice_get}
+use Rattle.std.specs.Prelude.{string_bytes}
 use Rattle.std.specs.Option.{option_map_or}
 use Rattle.facet_solver_shape.specs.declared.shape.Field.{Field}
-use Rattle.facet_solver_shape.specs.declared.shape.Shape.{Shape}
 use Rattle.facet_solver_shape.specs.declared.shape.ShapeKind.{ShapeKind}
 use Rattle.facet_solver_shape.specs.declared.shape.ShapeKind.TheVariants.{Struct}
-use Rattle.facet_solver_shape.specs.declared.shape.Variant.{Variant}
 use Rattle.facet_solver_shape.specs.Catalogues.{Catalogue, kind_at}
 use Rattle.facet_solver_shape.specs.Names.{Name}
-use Rattle.facet_solver_shape.specs.Paths.{Segment, by_field, by_variant}
-use Rattle.facet_solver_shape.specs.Representation.{Repr, flattened, externally_tagged, internally_tagged, adjacently_tagged}
-use Rattle.facet_solver_reader.specs.Parts.{ListId, of_struct, of_enum, of_joined, of_branch, of_fields}
+use Rattle.facet_solver_shape.specs.Paths.{Segment, by_field}
+use Rattle.facet_solver_shape.specs.Representation.{Repr, flattened, externally_tagged}
+use Rattle.facet_solver_shape.specs.Representation.{internally_tagged, adjacently_tagged}
+use Rattle.facet_solver_reader.specs.Parts.{ListId, of_struct, of_enum, of_joined, of_branch}
+use Rattle.facet_solver_reader.specs.Parts.{of_fields}
 use Rattle.facet_solver_reader.specs.Types.{repr_at, variant_at}
 
 -- the segments from the type of an object on
@@ -26,8 +27,8 @@ fields_of_kind _ = []
 abbrev pub fields_of_variant : Catalogue → ℕ → ℕ → List Field
 fields_of_variant shapes id k = option_map_or (λ v. v.fields.items) (variant_at shapes id k) []
 
--- the field that the i-th part of a branch is, by the representation: the tag comes first, and where
--- the content stands apart there is none
+-- the field that the i-th part of a branch is, by the representation: the tag comes first, and
+-- where the content stands apart there is none
 abbrev pub field_of_branch : Repr → List Field → ℕ → Option Field
 field_of_branch flattened fields i = slice_get fields i
 field_of_branch (internally_tagged tag) fields zero = None

@@ -47,3 +47,4 @@ pub mod Chosen
 pub mod ToldAt
 pub mod ToldObjects
 pub mod Found
+pub mod UnderWay

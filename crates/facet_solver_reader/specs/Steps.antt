@@ -1,14 +1,14 @@
 -- What a choice of a list of parts goes through, one step after another.
-use Rattle.std.specs.Prelude.{ℕ, zero, suc, List, [], ◌∷◌, ◌++◌, Option, Some, None, slice_get}
+use Rattle.std.specs.Prelude.{ℕ, suc, List, [], ◌∷◌, ◌++◌, Option, Some, None, slice_get}
 use Rattle.std.specs.Option.{unwrap_or}
 use Rattle.facet_solver_shape.specs.Catalogues.{Catalogue}
 use Rattle.facet_solver_shape.specs.Names.{Name}
 use Rattle.facet_solver_shape.specs.Paths.{by_variant}
-use Rattle.facet_solver_reader.specs.Choices.{Choice, ChoiceAt, Reading, Taken, done, next}
-use Rattle.facet_solver_reader.specs.Choices.{lacking, having, without, choosing, taking}
+use Rattle.facet_solver_reader.specs.Choices.{Choice, ChoiceAt, Reading, Taken, next}
+use Rattle.facet_solver_reader.specs.Choices.{lacking, having, choosing, taking}
 use Rattle.facet_solver_reader.specs.FieldPlaces.{Path, field_name, path_at, variant_name}
 use Rattle.facet_solver_reader.specs.Parts.{CatchAll, ListId, Lists, MemberPart, Part, a_member}
-use Rattle.facet_solver_reader.specs.Parts.{a_selection, a_catch_all, of_branch, Selection}
+use Rattle.facet_solver_reader.specs.Parts.{a_selection, a_catch_all, of_branch}
 
 -- a member with its path, and how it is read if the object has it; the selected variant of an enum
 -- with the path of the enum; or a catch-all with what it takes
@@ -39,11 +39,12 @@ pub record Walk : Type 0 where
 abbrev pub placed : Walk → Path → ListId → List Placed
 placed w place id = placed_from w.shapes place id 0 (unwrap_or (w.lists id) [])
 
--- where the parts of a branch stand that is chosen at a part: those of a variant behind it
-abbrev pub place_below : Catalogue → Placed → ListId → Path
-place_below shapes p (of_branch id k) =
-    p.path ++ by_variant p.name (variant_name shapes id k) ∷ []
-place_below shapes p id = p.path
+-- where the parts of a branch stand that is chosen at the path of a field: those of a variant
+-- behind it
+abbrev pub place_below : Catalogue → Path → Name → ListId → Path
+place_below shapes path field (of_branch id k) =
+    path ++ by_variant field (variant_name shapes id k) ∷ []
+place_below shapes path field id = path
 
 -- the variant that a branch at a path selects, if it is one
 abbrev pub selected : Path → ListId → List Step
@@ -66,7 +67,7 @@ abbrev mutual
   step_at w lacking p (a_member m) = a_field p.path m None ∷ []
   step_at w (having r) p (a_member m) = a_field p.path m (Some r) ∷ []
   step_at w (choosing k c) p (a_selection s) =
-      through p.path (λ id. steps_of w c (placed w (place_below w.shapes p id) id))
+      through p.path (λ id. steps_of w c (placed w (place_below w.shapes p.path p.name id) id))
       (slice_get s.branches k)
   step_at w (taking t) p (a_catch_all k) = a_rest k t ∷ []
   step_at w _ _ _ = []

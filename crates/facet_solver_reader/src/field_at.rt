@@ -4,7 +4,8 @@ ghost use Rattle.std.specs.Option.{option_copied};
 ghost use Rattle.facet_solver_shape.specs.Catalogues.{kind_at};
 ghost use Rattle.facet_solver_shape.specs.Representation.{repr_view};
 ghost use Rattle.facet_solver_reader.specs.FieldPlaces as spec;
-ghost use Rattle.facet_solver_reader.specs.FieldPlaces.{field_of_branch, fields_of_kind, fields_of_variant};
+ghost use Rattle.facet_solver_reader.specs.FieldPlaces.{field_of_branch, fields_of_kind};
+ghost use Rattle.facet_solver_reader.specs.FieldPlaces.{fields_of_variant};
 ghost use Rattle.facet_solver_reader.specs.Views.{list_view};
 
 use crate::part::ListId;

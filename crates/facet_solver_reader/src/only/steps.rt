@@ -1,9 +1,12 @@
 //! What the only reading of an object goes through.
-ghost use Rattle.std.specs.Prelude.{◌≡◌, IfOk, length};
+ghost use Rattle.std.specs.Prelude.{◌≡◌, ◌++◌, ◌∷◌, [], IfOk, OnOk, length};
 ghost use Rattle.facet_solver_reader.specs.declared.count.Count.TheVariants.{One};
+ghost use Rattle.facet_solver_reader.specs.Known.{Chooses, HasChoice};
 ghost use Rattle.facet_solver_reader.specs.Planned.{IsPlan};
 ghost use Rattle.facet_solver_reader.specs.Reading.{AreListCounts, IsListCount, IsObject};
-ghost use Rattle.facet_solver_reader.specs.Tables.{AreTables};
+ghost use Rattle.facet_solver_reader.specs.Tables.{AreTables, ListIsServed, rules_at};
+ghost use Rattle.facet_solver_reader.specs.UnderWay.{IsEntered, IsUnderWay};
+ghost use Rattle.facet_solver_reader.specs.Views.{list_view};
 
 use crate::count::Count;
 use crate::field_at::{field_name, path_at, variant_name};
@@ -26,11 +29,18 @@ pub(super) enum Step<'r, 'c> {
 }
 
 /// A list of parts that stands at a place, and the next of them.
-#[derive(Debug, Drop)]
+#[derive(Drop)]
 struct Frame<'r, 'c> {
     list: &'r List<'c>,
     next: usize,
     place: FieldPath<'c>,
+}
+
+/// The steps so far, and the lists that are under way: the innermost is the last.
+#[derive(Drop)]
+struct Way<'r, 'c> {
+    steps: Vec<Step<'r, 'c>>,
+    frames: Vec<Frame<'r, 'c>>,
 }
 
 /// What the only reading of an object by its list goes through, by the counts of the lists that its
@@ -48,82 +58,102 @@ pub(super) fn steps_of<'r, 'c>(
     requires one { IsListCount tables.now nodes.now object.now object.now.list.now One }
     ensures { IfOk result (λ steps. IsPlan tables.now nodes.now object.now steps.items) }
 {
-    let mut steps = Vec::new(tables.alloc);
-    let mut frames = Vec::new(tables.alloc);
-    frames.push(Frame {
+    let mut way = Way {
+        steps: Vec::new(tables.alloc),
+        frames: Vec::new(tables.alloc),
+    };
+    way.frames.push(Frame {
         list: object.list,
         next: 0,
         place: FieldPath::empty(tables.alloc),
     })?;
-    // No memory holds more steps, so that the loop ends by its first way out.
-    for _ in 0..u64::MAX {
-        let Some(frame) = frames.pop() else {
-            return Ok(steps);
+    // No memory holds so many steps, so that the loop ends by its first way out.
+    'parts: for _ in 0..u64::MAX {
+        let Some(frame) = way.frames.pop() else {
+            return Ok(way.steps);
         };
-        take_part(
-            tables,
-            nodes,
-            object,
-            counts,
-            frame,
-            &mut frames,
-            &mut steps,
-        )?;
+        way.go_on(tables, nodes, object, counts, frame)?;
     }
     Err(AllocError)
 }
 
-/// Takes the next part of a frame: what it is goes behind the steps, and what is to be gone through
-/// after it goes behind the frames.
-fn take_part<'r, 'c>(
-    tables: &'r Tables<'c>,
-    nodes: &Nodes<'_, '_>,
-    object: &Object<'r, 'c>,
-    counts: &[Count],
-    frame: Frame<'r, 'c>,
-    frames: &mut Vec<Frame<'r, 'c>>,
-    steps: &mut Vec<Step<'r, 'c>>,
-) -> Result<(), AllocError> {
-    let Frame { list, next, place } = frame;
-    let Some(part) = list.parts.get(next) else {
-        return Ok(());
-    };
-    let path = path_at(tables.alloc, tables.shapes, &place, list.id, next)?;
-    frames.push(Frame {
-        list,
-        next: next + 1,
-        place,
-    })?;
-    match part {
-        Part::Member(member) => steps.push(Step::Field(path, member))?,
-        Part::CatchAll(catch_all) => steps.push(Step::Rest(catch_all))?,
-        Part::Selection(selection) => {
-            let Some(k) = chosen_branch(tables, nodes, object, selection, counts) else {
-                return Ok(());
-            };
-            let branch = selection.branches[k];
-            let Some(below) = tables.list(branch) else {
-                unreachable!()
-            };
-            let place = match branch {
-                ListId::Branch(id, variant) => {
-                    let name = field_name(tables.shapes, list.id, next);
-                    let place = path.push_variant(
-                        tables.alloc,
-                        name,
-                        variant_name(tables.shapes, id, variant),
-                    )?;
-                    steps.push(Step::Variant(path, id, variant))?;
-                    place
+impl<'r, 'c> Way<'r, 'c> {
+    /// Takes the next part of the innermost list. What it is goes behind the steps, and a list that
+    /// is chosen there behind the others.
+    fn go_on(
+        &mut self,
+        tables: &'r Tables<'c>,
+        nodes: &Nodes<'_, '_>,
+        object: &Object<'r, 'c>,
+        counts: &[Count],
+        mut frame: Frame<'r, 'c>,
+    ) -> Result<(), AllocError>
+        requires tables { AreTables tables.now }
+        requires object { IsObject tables.now nodes.now object.now }
+        requires counts { AreListCounts tables.now nodes.now object.now counts.now }
+        requires all { length counts.now ≡ length object.now.list.now.below.items }
+        requires under_way { IsUnderWay tables.now nodes.now object.now
+            (self.old.frames.items ++ frame ∷ []) self.old.steps.items }
+        ensures { OnOk result (IsUnderWay tables.now nodes.now object.now self.new.frames.items
+            self.new.steps.items) }
+    {
+        let list = frame.list;
+        let Some(part) = list.parts.get(frame.next) else {
+            return Ok(());
+        };
+        let path = path_at(
+            tables.alloc,
+            tables.shapes,
+            &frame.place,
+            list.id,
+            frame.next,
+        )?;
+        let name = field_name(tables.shapes, list.id, frame.next);
+        frame.next += 1;
+        self.frames.push(frame)?;
+        match part {
+            Part::Member(member) => self.steps.push(Step::Field(path, member))?,
+            Part::CatchAll(catch_all) => self.steps.push(Step::Rest(catch_all))?,
+            Part::Selection(selection) => {
+                if let Some(k) = chosen_branch(tables, nodes, object, selection, counts) {
+                    self.enter(tables, path, name, selection.branches[k])?;
                 }
-                _ => path,
-            };
-            frames.push(Frame {
-                list: below,
-                next: 0,
-                place,
-            })?;
+            }
         }
+        Ok(())
     }
-    Ok(())
+
+    /// Goes into a branch that is chosen at a path, where the field of that name stands. A variant
+    /// is a step of its own.
+    fn enter(
+        &mut self,
+        tables: &'r Tables<'c>,
+        path: FieldPath<'c>,
+        name: &'c str,
+        branch: ListId,
+    ) -> Result<(), AllocError>
+        requires served { ListIsServed tables.now (list_view branch) }
+        requires chosen { HasChoice (Chooses (rules_at tables.now).lists (list_view branch)) }
+        ensures { OnOk result
+            (IsEntered tables.now path.entry name.now (list_view branch) self.old self.new) }
+    {
+        let Some(index) = tables.slots.index_of(branch) else {
+            unreachable!()
+        };
+        let place = match &branch {
+            ListId::Branch(id, k) => {
+                let variant = variant_name(tables.shapes, *id, *k);
+                let place = path.push_variant(tables.alloc, name, variant)?;
+                self.steps.push(Step::Variant(path, *id, *k))?;
+                place
+            }
+            _ => path,
+        };
+        self.frames.push(Frame {
+            list: &tables.lists[index],
+            next: 0,
+            place,
+        })?;
+        Ok(())
+    }
 }

@@ -1,0 +1,95 @@
+-- The steps of the only reading of an object, as they are found one after another.
+use Rattle.std.specs.Prelude.{◌≡◌, ℕ, All, List, [], ◌∷◌, ◌++◌, drop, map, Some, slice_get}
+use Rattle.facet_solver_shape.specs.Names.{Name}
+use Rattle.facet_solver_reader.specs.declared.nodes.Nodes.{Nodes}
+use Rattle.facet_solver_reader.specs.declared.only.steps.Frame.{Frame}
+use Rattle.facet_solver_reader.specs.declared.only.steps.Step as code
+use Rattle.facet_solver_reader.specs.declared.only.steps.Way.{Way}
+use Rattle.facet_solver_reader.specs.declared.read.object.Object as read
+use Rattle.facet_solver_reader.specs.declared.tables.List.{List as ListEntry}
+use Rattle.facet_solver_reader.specs.declared.tables.Tables.{Tables}
+use Rattle.facet_solver_reader.specs.Branches.{ReadsList, ReadsParts}
+use Rattle.facet_solver_reader.specs.Choices.{Choice}
+use Rattle.facet_solver_reader.specs.Counted.{IsOnly}
+use Rattle.facet_solver_reader.specs.FieldPlaces.{Path}
+use Rattle.facet_solver_reader.specs.Parts.{ListId, Part}
+use Rattle.facet_solver_reader.specs.Planned.{IsOnlyStep, StepIsServed, planned_of, step_view}
+use Rattle.facet_solver_reader.specs.Planned.{walk_at}
+use Rattle.facet_solver_reader.specs.Reading.{object_view}
+use Rattle.facet_solver_reader.specs.Readings.{ReadsValue}
+use Rattle.facet_solver_reader.specs.Slots.{index_of}
+use Rattle.facet_solver_reader.specs.Steps.{Placed, Step, place_below, placed_from, selected}
+use Rattle.facet_solver_reader.specs.Steps.{steps_of, steps_through}
+use Rattle.facet_solver_reader.specs.Tables.{rules_at}
+use Rattle.facet_solver_reader.specs.Views.{list_view, parts_view}
+
+-- a list of the tables is one of those that the choices of an object's list go through
+pub record IsBelow (t : Tables) (o : read.Object) (l : ListEntry) : Type 0 where
+  pub position : ℕ
+  pub index : ℕ
+  pub is_below : slice_get o.list.now.below.items position ≡ Some index
+  pub listed : slice_get t.lists.items index ≡ Some l
+
+-- the parts of a list that are still to come
+abbrev pub parts_left : Frame → List Part
+parts_left f = drop f.next (parts_view f.list.now.parts.items)
+
+-- the same with their places
+abbrev pub placed_left : Tables → Frame → List Placed
+placed_left t f =
+    placed_from t.shapes.now f.place (list_view f.list.now.id) f.next (parts_left f)
+
+-- steps are those of the only reading of an object by the parts of a list that are still to come
+pub record AreLeftIn (t : Tables) (nodes : Nodes) (o : read.Object) (f : Frame) (steps : List Step)
+    : Type 0 where
+  pub below : IsBelow t o f.list.now
+  pub only :
+      IsOnly
+      (ReadsParts (rules_at t) (ReadsValue (rules_at t)) (object_view nodes o) (parts_left f))
+  pub steps_are : steps ≡ steps_of (walk_at t) only.value (placed_left t f)
+
+-- steps of one and of another
+pub record AreBothSteps (S T : List Step → Type 0) (steps : List Step) : Type 0 where
+  pub first : List Step
+  pub second : List Step
+  pub are_first : S first
+  pub are_second : T second
+  pub steps_are : steps ≡ first ++ second
+
+-- the same of several lists, of which the last one comes first
+abbrev pub AreLeft : Tables → Nodes → read.Object → List Frame → List Step → Type 0
+AreLeft t nodes o [] steps = steps ≡ []
+AreLeft t nodes o (f ∷ fs) steps =
+    AreBothSteps (AreLeft t nodes o fs) (AreLeftIn t nodes o f) steps
+
+-- steps in memory are the first ones of a reading of an object by its list, and at each the object
+-- has one reading; the others are those of lists that are under way
+pub record IsUnderWay (t : Tables) (nodes : Nodes) (o : read.Object) (frames : List Frame)
+    (found : List code.Step) : Type 0 where
+  pub choice : Choice
+  pub reads :
+      ReadsList (rules_at t) (ReadsValue (rules_at t)) (object_view nodes o)
+      (list_view o.list.now.id) choice
+  pub steps : List Step
+  pub others : List Step
+  pub all : steps_through (walk_at t) (list_view o.list.now.id) choice ≡ steps ++ others
+  pub planned : map planned_of steps ≡ map step_view found
+  pub only : All (IsOnlyStep (rules_at t) (ReadsValue (rules_at t)) (object_view nodes o)) steps
+  pub served : All (StepIsServed t) (map step_view found)
+  pub left : AreLeft t nodes o frames others
+
+-- the list of a branch that is chosen at the path of a field comes behind those that are under way,
+-- at its place, and the variant that it selects, if it is one, behind the steps
+pub record IsEntered (t : Tables) (path : Path) (field : Name) (id : ListId) (old new : Way)
+    : Type 0 where
+  pub frame : Frame
+  pub index : ℕ
+  pub is_at : index_of t.slots id ≡ Some index
+  pub listed : slice_get t.lists.items index ≡ Some frame.list.now
+  pub same : list_view frame.list.now.id ≡ id
+  pub first : frame.next ≡ 0
+  pub place : frame.place ≡ place_below t.shapes.now path field id
+  pub frames_are : new.frames.items ≡ old.frames.items ++ frame ∷ []
+  pub taken : List code.Step
+  pub taken_are : map planned_of (selected path id) ≡ map step_view taken
+  pub steps_are : new.steps.items ≡ old.steps.items ++ taken
