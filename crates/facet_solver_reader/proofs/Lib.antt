@@ -77,3 +77,4 @@ pub mod VariantIndices
 pub mod ChosenBranch
 pub mod StepsLeft
 pub mod StepsTaken
+pub mod UnknownNames
