@@ -78,3 +78,4 @@ pub mod ChosenBranch
 pub mod StepsLeft
 pub mod StepsTaken
 pub mod UnknownNames
+pub mod FoundSteps
