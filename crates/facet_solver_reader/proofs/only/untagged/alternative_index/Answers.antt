@@ -60,8 +60,7 @@ fallback_index-requires-clause-read c =
           ∙ seen_no_object c.value.result.now w.in_default.not-Object)
     ] in
     let direct : Counted (ReadsAlone (ReadsValue rules) alone v) NoCount =
-    rw c.in-None.is at c.in_ok-k.ensures.chosen in
-    (
+    rw c.in-None.is at c.in_ok-k.ensures.chosen in (
       c.requires.one.value,
       read_by_last rules (inner rules) (list_view c.args.joined) alone v joined direct
           c.requires.one.value c.requires.one.has,
