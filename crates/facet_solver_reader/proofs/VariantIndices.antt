@@ -1,6 +1,6 @@
 -- Which variant a value is read as, by its index.
-use Rattle.std.proofs.Common.{◌≡◌, ◌≢◌, ◌∷◌, [], refl, subst, ℕ, List, Option, Some, slice_get, inl}
-use Rattle.std.proofs.Common.{arith, inr, length, sym, true, ◌⊎◌, ⊎_elim}
+use Rattle.std.proofs.Common.{◌≡◌, ◌≢◌, ◌∷◌, [], refl, subst, ℕ, List, slice_get, inl}
+use Rattle.std.proofs.Common.{arith, inr, length, true, ⊎_elim}
 use Rattle.facet_solver_shape.specs.Names.{Name}
 use Rattle.facet_solver_reader.specs.declared.count.Count.{Count}
 use Rattle.facet_solver_reader.specs.declared.count.Count.TheVariants.{None as NoCount, One}
@@ -14,7 +14,7 @@ use Rattle.facet_solver_reader.specs.Kinds.{is_object}
 use Rattle.facet_solver_reader.specs.Nodes.{members_in}
 use Rattle.facet_solver_reader.specs.Objects.{Reads, ReadsObject}
 use Rattle.facet_solver_reader.specs.Parts.{ListId}
-use Rattle.facet_solver_reader.specs.Rules.{Alternative, End, NamedVariant, Rules}
+use Rattle.facet_solver_reader.specs.Rules.{Alternative, NamedVariant, Rules}
 use Rattle.facet_solver_reader.specs.Rules.{an_untagged_variant}
 use Rattle.facet_solver_reader.specs.Values.{Inner, NamesUnit, ReadsAlone, ReadsDirectly, ReadsEnd}
 use Rattle.facet_solver_reader.specs.Values.{ReadsFallback, ReadsJoined, ReadsLast, ReadsNamed}

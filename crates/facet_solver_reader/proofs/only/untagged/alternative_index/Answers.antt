@@ -1,5 +1,5 @@
 -- The variants that join read the value; or one by itself does; or no variant but a fallback does.
-use Rattle.std.proofs.Common.{◌≡◌, ◌∙◌, ap, false, inl, inr, map, rules as basic, subst, sym, true}
+use Rattle.std.proofs.Common.{◌≡◌, ◌∙◌, ap, false, map, subst, sym, true}
 use Rattle.facet_solver_reader.specs.declared.count.Count.TheVariants.{None as NoCount}
 use Rattle.facet_solver_reader.specs.Choices.{a_variant}
 use Rattle.facet_solver_reader.specs.Counted.{Counted}
@@ -45,7 +45,8 @@ fallback_index-requires-clause-read c =
     let v = value_of c.args.nodes.now c.args.node in
     let rules = rules_at c.args.tables.now in
     let alone = map alternative_view c.args.alone.now in
-    let joined : Counted (ReadsJoined rules (ReadsValue rules) (list_view c.args.joined) v) NoCount =
+    let joined : Counted (ReadsJoined rules (ReadsValue rules) (list_view c.args.joined) v)
+    NoCount =
     elim c.match-value.branch [
       | in-Object+in_ok-count_object+else-not-is_none w ↦
           joined_object rules (ReadsValue rules) (list_view c.args.joined) v NoCount
@@ -71,7 +72,8 @@ returns-in_ok-k-in-None-clause-chosen c =
     let v = value_of c.args.nodes.now c.args.node in
     let rules = rules_at c.args.tables.now in
     let alone = map alternative_view c.args.alone.now in
-    let joined : Counted (ReadsJoined rules (ReadsValue rules) (list_view c.args.joined) v) NoCount =
+    let joined : Counted (ReadsJoined rules (ReadsValue rules) (list_view c.args.joined) v)
+    NoCount =
     elim c.match-value.branch [
       | in-Object+in_ok-count_object+else-not-is_none w ↦
           joined_object rules (ReadsValue rules) (list_view c.args.joined) v NoCount

@@ -7,7 +7,7 @@ use Rattle.std.proofs.lemmas.Option.{slice_get_read}
 use Rattle.facet_solver_reader.specs.declared.count.Count.TheVariants.{None as NoCount}
 use Rattle.facet_solver_reader.specs.Choices.{a_variant}
 use Rattle.facet_solver_reader.specs.Counted.{Counted}
-use Rattle.facet_solver_reader.specs.Documents.{Member, Tree, object}
+use Rattle.facet_solver_reader.specs.Documents.{Member, Tree}
 use Rattle.facet_solver_reader.specs.Nodes.{value_of}
 use Rattle.facet_solver_reader.specs.Objects.{Reads}
 use Rattle.facet_solver_reader.specs.Readings.{ReadsValue}

@@ -1,5 +1,5 @@
 -- The first variant that the test takes is a unit of the name, and one is there.
-use Rattle.std.proofs.Common.{◌≡◌, Some, arith, length, map, refl, rules, slice_get, subst, sym}
+use Rattle.std.proofs.Common.{◌≡◌, arith, length, map, refl, rules, subst, sym}
 use Rattle.std.proofs.lemmas.List.{length-map}
 use Rattle.std.proofs.lemmas.Option.{slice_get_read}
 use Rattle.facet_solver_reader.specs.declared.count.Count.TheVariants.{None as NoCount}
