@@ -73,6 +73,7 @@ pub mod Ranked
 pub mod RankRounds
 pub mod AllTables
 pub mod MarkedBelow
+pub mod VariantIndices
 pub mod ChosenBranch
 pub mod StepsLeft
 pub mod StepsTaken
@@ -83,3 +84,5 @@ pub mod ToldValues
 pub mod ToldVariants
 pub mod ToldSeveral
 pub mod NothingTold
+pub mod UnknownNames
+pub mod FoundSteps

@@ -52,96 +52,96 @@ names_more xs x ms i m there same before =
     ∙ (sym (map-append named (take i ms) (m ∷ [])) ∙ ap (map named) (sym more))))
 
 module _ (t : Tables) (nodes : Nodes) (node : ℕ) (w : code.Reading) (none : w.variants.items ≡ [])
-    where
-  -- what is told of the items of a list
-  pub items_told : (s : ℕ) (ws : Vec code.Reading Global) → is_list (value_of nodes node) ≡ true
-      → w.kind ≡ kinds.List ws
-      → EachTold (rules_at t) t.shapes.now (ReadsValue (rules_at t) (of_shape s))
-      (λ v. ((rules_at t).end_of s, v)) (children (value_of nodes node)) ws.items
-      → IsToldAs t nodes node (a_list s) w
-  items_told s ws is kind h =
-      let rules = rules_at t in
-      let both = go (value_of nodes node) is h in
-      record {
-        reading = each_of h.readings;
-        reads = both.0;
-        tells = tells_same rules t.shapes.now (a_list s) (value_of nodes node) (each_of h.readings)
-            [] w.variants.items (kinds.List ws) w.kind (sym none) (sym kind) both.1;
-      }
-    where
-      go : (v : Tree) → is_list v ≡ true
-          → (h : EachTold (rules_at t) t.shapes.now (ReadsValue (rules_at t) (of_shape s))
-          (λ u. ((rules_at t).end_of s, u)) (children v) ws.items)
-          → ReadsEnd (rules_at t) (inner (rules_at t)) (a_list s) v (each_of h.readings)
-          × Tells (rules_at t) t.shapes.now (a_list s) v (each_of h.readings) []
-          (kinds.List ws)
-      go (list vs) is h = (h.reads, items_of s vs h.readings ws h.tells)
-      go null is h = absurd (cc)
-      go (truth b) is h = absurd (cc)
-      go (number n) is h = absurd (cc)
-      go (text x) is h = absurd (cc)
-      go (object ms) is h = absurd (cc)
+  where
+    -- what is told of the items of a list
+    pub items_told : (s : ℕ) (ws : Vec code.Reading Global) → is_list (value_of nodes node) ≡ true
+        → w.kind ≡ kinds.List ws
+        → EachTold (rules_at t) t.shapes.now (ReadsValue (rules_at t) (of_shape s))
+        (λ v. ((rules_at t).end_of s, v)) (children (value_of nodes node)) ws.items
+        → IsToldAs t nodes node (a_list s) w
+    items_told s ws is kind h =
+        let rules = rules_at t in
+        let both = go (value_of nodes node) is h in
+        record {
+          reading = each_of h.readings;
+          reads = both.0;
+          tells = tells_same rules t.shapes.now (a_list s) (value_of nodes node) (each_of h.readings)
+              [] w.variants.items (kinds.List ws) w.kind (sym none) (sym kind) both.1;
+        }
+      where
+        go : (v : Tree) → is_list v ≡ true
+            → (h : EachTold (rules_at t) t.shapes.now (ReadsValue (rules_at t) (of_shape s))
+            (λ u. ((rules_at t).end_of s, u)) (children v) ws.items)
+            → ReadsEnd (rules_at t) (inner (rules_at t)) (a_list s) v (each_of h.readings)
+            × Tells (rules_at t) t.shapes.now (a_list s) v (each_of h.readings) []
+            (kinds.List ws)
+        go (list vs) is h = (h.reads, items_of s vs h.readings ws h.tells)
+        go null is h = absurd (cc)
+        go (truth b) is h = absurd (cc)
+        go (number n) is h = absurd (cc)
+        go (text x) is h = absurd (cc)
+        go (object ms) is h = absurd (cc)
 
-  -- what is told of the values of a tuple
-  pub tuple_told : (ss : List ℕ) (ws : Vec code.Reading Global)
-      → is_list (value_of nodes node) ≡ true
-      → length ss ≡ length (children (value_of nodes node)) → w.kind ≡ kinds.List ws
-      → EachTold (rules_at t) t.shapes.now (ReadsPlace (ReadsValue (rules_at t)))
-      (λ p. ((rules_at t).end_of p.0, p.1)) (zip ss (children (value_of nodes node))) ws.items
-      → IsToldAs t nodes node (a_tuple ss) w
-  tuple_told ss ws is same kind h =
-      let rules = rules_at t in
-      let both = go (value_of nodes node) is same h in
-      record {
-        reading = each_of h.readings;
-        reads = both.0;
-        tells = tells_same rules t.shapes.now (a_tuple ss) (value_of nodes node)
-            (each_of h.readings) [] w.variants.items (kinds.List ws) w.kind (sym none) (sym kind)
-            both.1;
-      }
-    where
-      go : (v : Tree) → is_list v ≡ true → length ss ≡ length (children v)
-          → (h : EachTold (rules_at t) t.shapes.now (ReadsPlace (ReadsValue (rules_at t)))
-          (λ p. ((rules_at t).end_of p.0, p.1)) (zip ss (children v)) ws.items)
-          → ReadsEnd (rules_at t) (inner (rules_at t)) (a_tuple ss) v (each_of h.readings)
-          × Tells (rules_at t) t.shapes.now (a_tuple ss) v (each_of h.readings) []
-          (kinds.List ws)
-      go (list vs) is same h = ((same, h.reads), places_of ss vs h.readings ws h.tells)
-      go null is same h = absurd (cc)
-      go (truth b) is same h = absurd (cc)
-      go (number n) is same h = absurd (cc)
-      go (text x) is same h = absurd (cc)
-      go (object ms) is same h = absurd (cc)
+    -- what is told of the values of a tuple
+    pub tuple_told : (ss : List ℕ) (ws : Vec code.Reading Global)
+        → is_list (value_of nodes node) ≡ true
+        → length ss ≡ length (children (value_of nodes node)) → w.kind ≡ kinds.List ws
+        → EachTold (rules_at t) t.shapes.now (ReadsPlace (ReadsValue (rules_at t)))
+        (λ p. ((rules_at t).end_of p.0, p.1)) (zip ss (children (value_of nodes node))) ws.items
+        → IsToldAs t nodes node (a_tuple ss) w
+    tuple_told ss ws is same kind h =
+        let rules = rules_at t in
+        let both = go (value_of nodes node) is same h in
+        record {
+          reading = each_of h.readings;
+          reads = both.0;
+          tells = tells_same rules t.shapes.now (a_tuple ss) (value_of nodes node)
+              (each_of h.readings) [] w.variants.items (kinds.List ws) w.kind (sym none) (sym kind)
+              both.1;
+        }
+      where
+        go : (v : Tree) → is_list v ≡ true → length ss ≡ length (children v)
+            → (h : EachTold (rules_at t) t.shapes.now (ReadsPlace (ReadsValue (rules_at t)))
+            (λ p. ((rules_at t).end_of p.0, p.1)) (zip ss (children v)) ws.items)
+            → ReadsEnd (rules_at t) (inner (rules_at t)) (a_tuple ss) v (each_of h.readings)
+            × Tells (rules_at t) t.shapes.now (a_tuple ss) v (each_of h.readings) []
+            (kinds.List ws)
+        go (list vs) is same h = ((same, h.reads), places_of ss vs h.readings ws h.tells)
+        go null is same h = absurd (cc)
+        go (truth b) is same h = absurd (cc)
+        go (number n) is same h = absurd (cc)
+        go (text x) is same h = absurd (cc)
+        go (object ms) is same h = absurd (cc)
 
-  -- what is told of the entries of a map
-  pub entries_told : (key s : ℕ) (ns : Vec (Bor Name) Global) (ws : Vec code.Reading Global)
-      → is_object (value_of nodes node) ≡ true → w.kind ≡ kinds.Map ns ws
-      → texts ns.items ≡ map (λ m. m.name) (members_in (value_of nodes node))
-      → EachTold (rules_at t) t.shapes.now
-      (ReadsEntry ((rules_at t).is_key key) (ReadsValue (rules_at t)) (of_shape s))
-      (λ m. ((rules_at t).end_of s, m.value)) (members_in (value_of nodes node)) ws.items
-      → IsToldAs t nodes node (a_map key s) w
-  entries_told key s ns ws is kind named h =
-      let rules = rules_at t in
-      let both = go (value_of nodes node) is named h in
-      record {
-        reading = each_of h.readings;
-        reads = both.0;
-        tells = tells_same rules t.shapes.now (a_map key s) (value_of nodes node)
-            (each_of h.readings) [] w.variants.items (kinds.Map ns ws) w.kind (sym none) (sym kind)
-            both.1;
-      }
-    where
-      go : (v : Tree) → is_object v ≡ true → texts ns.items ≡ map (λ m. m.name) (members_in v)
-          → (h : EachTold (rules_at t) t.shapes.now
-          (ReadsEntry ((rules_at t).is_key key) (ReadsValue (rules_at t)) (of_shape s))
-          (λ m. ((rules_at t).end_of s, m.value)) (members_in v) ws.items)
-          → ReadsEnd (rules_at t) (inner (rules_at t)) (a_map key s) v (each_of h.readings)
-          × Tells (rules_at t) t.shapes.now (a_map key s) v (each_of h.readings) []
-          (kinds.Map ns ws)
-      go (object ms) is named h = (h.reads, entries_of key s ms h.readings ns ws named h.tells)
-      go null is named h = absurd (cc)
-      go (truth b) is named h = absurd (cc)
-      go (number n) is named h = absurd (cc)
-      go (text x) is named h = absurd (cc)
-      go (list vs) is named h = absurd (cc)
+    -- what is told of the entries of a map
+    pub entries_told : (key s : ℕ) (ns : Vec (Bor Name) Global) (ws : Vec code.Reading Global)
+        → is_object (value_of nodes node) ≡ true → w.kind ≡ kinds.Map ns ws
+        → texts ns.items ≡ map (λ m. m.name) (members_in (value_of nodes node))
+        → EachTold (rules_at t) t.shapes.now
+        (ReadsEntry ((rules_at t).is_key key) (ReadsValue (rules_at t)) (of_shape s))
+        (λ m. ((rules_at t).end_of s, m.value)) (members_in (value_of nodes node)) ws.items
+        → IsToldAs t nodes node (a_map key s) w
+    entries_told key s ns ws is kind named h =
+        let rules = rules_at t in
+        let both = go (value_of nodes node) is named h in
+        record {
+          reading = each_of h.readings;
+          reads = both.0;
+          tells = tells_same rules t.shapes.now (a_map key s) (value_of nodes node)
+              (each_of h.readings) [] w.variants.items (kinds.Map ns ws) w.kind (sym none) (sym kind)
+              both.1;
+        }
+      where
+        go : (v : Tree) → is_object v ≡ true → texts ns.items ≡ map (λ m. m.name) (members_in v)
+            → (h : EachTold (rules_at t) t.shapes.now
+            (ReadsEntry ((rules_at t).is_key key) (ReadsValue (rules_at t)) (of_shape s))
+            (λ m. ((rules_at t).end_of s, m.value)) (members_in v) ws.items)
+            → ReadsEnd (rules_at t) (inner (rules_at t)) (a_map key s) v (each_of h.readings)
+            × Tells (rules_at t) t.shapes.now (a_map key s) v (each_of h.readings) []
+            (kinds.Map ns ws)
+        go (object ms) is named h = (h.reads, entries_of key s ms h.readings ns ws named h.tells)
+        go null is named h = absurd (cc)
+        go (truth b) is named h = absurd (cc)
+        go (number n) is named h = absurd (cc)
+        go (text x) is named h = absurd (cc)
+        go (list vs) is named h = absurd (cc)

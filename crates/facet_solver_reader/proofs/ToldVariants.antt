@@ -43,200 +43,200 @@ use Rattle.facet_solver_reader.specs.Values.{ReadsNamed, ReadsNamedVariant, Name
 use Rattle.facet_solver_reader.proofs.OneEach.{one_into}
 
 module _ (rules : Rules) (reads : Inner) (joined : ListId) (alone : List Alternative) (v : Tree)
-    where
-  -- a reading of the value as the untagged enum
-  abbrev W : Reading → Type 0
-  W r = ReadsEnd rules reads (an_untagged_variant joined alone) v r
+  where
+    -- a reading of the value as the untagged enum
+    abbrev W : Reading → Type 0
+    W r = ReadsEnd rules reads (an_untagged_variant joined alone) v r
 
-  -- a variant that joins is no variant that is read by itself
-  no_joined : (w : Tree) (k : ℕ) (r : Reading) → ReadsJoined rules reads.within joined w (a_variant k r)
-      → ⊥
-  no_joined (object ms) k r h = h
-  no_joined null k r h = h
-  no_joined (truth b) k r h = h
-  no_joined (number n) k r h = h
-  no_joined (text x) k r h = h
-  no_joined (list vs) k r h = h
+    -- a variant that joins is no variant that is read by itself
+    no_joined : (w : Tree) (k : ℕ) (r : Reading) → ReadsJoined rules reads.within joined w (a_variant k r)
+        → ⊥
+    no_joined (object ms) k r h = h
+    no_joined null k r h = h
+    no_joined (truth b) k r h = h
+    no_joined (number n) k r h = h
+    no_joined (text x) k r h = h
+    no_joined (list vs) k r h = h
 
-  -- a reading as a variant by itself is by one that is no fallback, or by a fallback where there is
-  -- no other
-  pub by_variant : (k : ℕ) (r : Reading) → W (a_variant k r)
-      → ReadsByOne reads.itself alone (slice_get alone k) v r
-      ⊎ (((q : Reading) → ReadsDirectly rules reads (an_untagged_variant joined alone) v q → ⊥)
-      × ReadsByFallback reads.itself (slice_get alone k) v r)
-  by_variant k r h =
-      ⊎_elim
-      (λ (d : ReadsDirectly rules reads (an_untagged_variant joined alone) v (a_variant k r)).
-      ⊎_elim (λ (j : ReadsJoined rules reads.within joined v (a_variant k r)).
-      absurd (no_joined v k r j))
-      (λ (a : ReadsAlone reads.itself alone v (a_variant k r)). inl a) d)
-      (λ (l : ReadsLast rules reads (an_untagged_variant joined alone) v (a_variant k r)).
-      inr (l.0, l.1)) h
-
-  -- such a variant is there
-  pub variant_within : (k : ℕ) (r : Reading) → W (a_variant k r) → k < length alone
-  variant_within k r h = go (slice_get alone k) refl (by_variant k r h)
-    where
-      go : (o : Option Alternative) → slice_get alone k ≡ o
-          → ReadsByOne reads.itself alone o v r
-          ⊎ (((q : Reading) → ReadsDirectly rules reads (an_untagged_variant joined alone) v q → ⊥)
-          × ReadsByFallback reads.itself o v r)
-          → k < length alone
-      go None e h =
-          ⊎_elim (λ (a : ReadsByOne reads.itself alone None v r). absurd a)
-          (λ (f : ((q : Reading)
-          → ReadsDirectly rules reads (an_untagged_variant joined alone) v q → ⊥)
-          × ReadsByFallback reads.itself None v r). absurd f.1) h
-      go (Some a) e h = slice_get_within alone k a e
-
-  module _ (k : ℕ) (a : Alternative) (there : slice_get alone k ≡ Some a) where
-    -- how the variant reads the value
-    abbrev ByAlternative : Reading → Type 0
-    ByAlternative r =
-        ReadsByItself reads.itself alone a v r
+    -- a reading as a variant by itself is by one that is no fallback, or by a fallback where there is
+    -- no other
+    pub by_variant : (k : ℕ) (r : Reading) → W (a_variant k r)
+        → ReadsByOne reads.itself alone (slice_get alone k) v r
         ⊎ (((q : Reading) → ReadsDirectly rules reads (an_untagged_variant joined alone) v q → ⊥)
-        × ((a.kind ≡ a_fallback) × reads.itself a.content v r))
+        × ReadsByFallback reads.itself (slice_get alone k) v r)
+    by_variant k r h =
+        ⊎_elim
+        (λ (d : ReadsDirectly rules reads (an_untagged_variant joined alone) v (a_variant k r)).
+        ⊎_elim (λ (j : ReadsJoined rules reads.within joined v (a_variant k r)).
+        absurd (no_joined v k r j))
+        (λ (a : ReadsAlone reads.itself alone v (a_variant k r)). inl a) d)
+        (λ (l : ReadsLast rules reads (an_untagged_variant joined alone) v (a_variant k r)).
+        inr (l.0, l.1)) h
 
-    -- a reading as the variant is one by it
-    pub out_of : (r : Reading) → W (a_variant k r) → ByAlternative r
-    out_of r h =
-        subst (λ (o : Option Alternative).
-        ReadsByOne reads.itself alone o v r
-        ⊎ (((q : Reading) → ReadsDirectly rules reads (an_untagged_variant joined alone) v q → ⊥)
-        × ReadsByFallback reads.itself o v r)) there (by_variant k r h)
-
-    -- and the other way round
-    pub into : (r : Reading) → ByAlternative r → W (a_variant k r)
-    into r h =
-        let back = subst (λ (o : Option Alternative).
-        ReadsByOne reads.itself alone o v r
-        ⊎ (((q : Reading) → ReadsDirectly rules reads (an_untagged_variant joined alone) v q → ⊥)
-        × ReadsByFallback reads.itself o v r)) (sym there) h in
-        ⊎_elim (λ (p : ReadsByOne reads.itself alone (slice_get alone k) v r). inl (inr p))
-        (λ (p : ((q : Reading)
-        → ReadsDirectly rules reads (an_untagged_variant joined alone) v q → ⊥)
-        × ReadsByFallback reads.itself (slice_get alone k) v r). inr (p.0, p.1)) back
-
-    -- how a variant of a kind reads the value
-    abbrev By : AlternativeKind → Reading → Type 0
-    By kind r =
-        ReadsByKind kind (list_any (is_whole_of v) alone) v r (reads.itself a.content v r)
-        ⊎ (((q : Reading) → ReadsDirectly rules reads (an_untagged_variant joined alone) v q → ⊥)
-        × ((kind ≡ a_fallback) × reads.itself a.content v r))
-
-    -- null alone is read as it is
-    null_value : (w : Tree) (r : Reading)
-        → ReadsByKind types.null_alone (list_any (is_whole_of v) alone) w r
-        (reads.itself a.content v r) → r ≡ a_value
-    null_value null r h = h
-    null_value (truth b) r h = absurd h
-    null_value (number n) r h = absurd h
-    null_value (text x) r h = absurd h
-    null_value (list vs) r h = absurd h
-    null_value (object ms) r h = absurd h
-
-    -- what the value is read as by a kind of variant
-    content_by : (kind : AlternativeKind) (r : Reading) → By kind r
-        → ReadsByAlternative kind r (reads.itself a.content v r)
-    content_by joins r (inl h) = absurd h
-    content_by joins r (inr h) = h.1.1
-    content_by types.null_alone r (inl h) = null_value v r h
-    content_by types.null_alone r (inr h) =
-        let no : types.null_alone ≡ a_fallback = h.1.0 in absurd (cc)
-    content_by (types.a_whole range) r (inl h) = h
-    content_by (types.a_whole range) r (inr h) = h.1.1
-    content_by types.a_float r (inl h) = h.1
-    content_by types.a_float r (inr h) = h.1.1
-    content_by a_fallback r (inl h) = absurd h
-    content_by a_fallback r (inr h) = h.1.1
-    content_by other r (inl h) = h
-    content_by other r (inr h) = h.1.1
-
-    -- another reading of the content is one as the variant
-    other_by : (kind : AlternativeKind) (r q : Reading) → By kind r
-        → (kind ≡ types.null_alone → ⊥) → reads.itself a.content v q → By kind q
-    other_by joins r q (inl h) apart p = absurd h
-    other_by joins r q (inr h) apart p = inr (h.0, (h.1.0, p))
-    other_by types.null_alone r q h apart p = absurd (apart refl)
-    other_by (types.a_whole range) r q (inl h) apart p = inl p
-    other_by (types.a_whole range) r q (inr h) apart p = inr (h.0, (h.1.0, p))
-    other_by types.a_float r q (inl h) apart p = inl (h.0, p)
-    other_by types.a_float r q (inr h) apart p = inr (h.0, (h.1.0, p))
-    other_by a_fallback r q (inl h) apart p = absurd h
-    other_by a_fallback r q (inr h) apart p = inr (h.0, (h.1.0, p))
-    other_by other r q (inl h) apart p = inl p
-    other_by other r q (inr h) apart p = inr (h.0, (h.1.0, p))
-
-    -- a reading as the variant reads its content
-    pub content_read : (r : Reading) → W (a_variant k r)
-        → ReadsByAlternative a.kind r (reads.itself a.content v r)
-    content_read r h = content_by a.kind r (out_of r h)
-
-    -- where the value has one reading, it has one as the content
-    pub one_alternative : Counted W One → (r : Reading) → W (a_variant k r)
-        → IsOnlyByKind a.kind (Counted (reads.itself a.content v) One)
-    one_alternative one r h = go a.kind (out_of r h) (λ q p. into q p)
+    -- such a variant is there
+    pub variant_within : (k : ℕ) (r : Reading) → W (a_variant k r) → k < length alone
+    variant_within k r h = go (slice_get alone k) refl (by_variant k r h)
       where
-        one_by : (kind : AlternativeKind) → By kind r → (kind ≡ types.null_alone → ⊥)
-            → reads.itself a.content v r → ((q : Reading) → By kind q → W (a_variant k q))
-            → Counted (reads.itself a.content v) One
-        one_by kind b apart p back =
-            one_into (reads.itself a.content v) W (a_variant k)
-            (λ q s. back q (other_by kind r q b apart s)) (λ x y e. cc) one r p
+        go : (o : Option Alternative) → slice_get alone k ≡ o
+            → ReadsByOne reads.itself alone o v r
+            ⊎ (((q : Reading) → ReadsDirectly rules reads (an_untagged_variant joined alone) v q → ⊥)
+            × ReadsByFallback reads.itself o v r)
+            → k < length alone
+        go None e h =
+            ⊎_elim (λ (a : ReadsByOne reads.itself alone None v r). absurd a)
+            (λ (f : ((q : Reading)
+            → ReadsDirectly rules reads (an_untagged_variant joined alone) v q → ⊥)
+            × ReadsByFallback reads.itself None v r). absurd f.1) h
+        go (Some a) e h = slice_get_within alone k a e
 
-        go : (kind : AlternativeKind) → By kind r → ((q : Reading) → By kind q → W (a_variant k q))
-            → IsOnlyByKind kind (Counted (reads.itself a.content v) One)
-        go joins (inl b) back = absurd b
-        go joins (inr b) back = let fallback : joins ≡ a_fallback = b.1.0 in absurd (cc)
-        go types.null_alone b back = tt
-        go (types.a_whole range) b back =
-            one_by (types.a_whole range) b (λ e. cc) (content_by (types.a_whole range) r b) back
-        go types.a_float b back =
-            one_by types.a_float b (λ e. cc) (content_by types.a_float r b) back
-        go a_fallback b back = one_by a_fallback b (λ e. cc) (content_by a_fallback r b) back
-        go other b back = one_by other b (λ e. cc) (content_by other r b) back
+    module _ (k : ℕ) (a : Alternative) (there : slice_get alone k ≡ Some a) where
+      -- how the variant reads the value
+      abbrev ByAlternative : Reading → Type 0
+      ByAlternative r =
+          ReadsByItself reads.itself alone a v r
+          ⊎ (((q : Reading) → ReadsDirectly rules reads (an_untagged_variant joined alone) v q → ⊥)
+          × ((a.kind ≡ a_fallback) × reads.itself a.content v r))
 
-    -- two readings by one kind of variant are one, where the value has one reading
-    pub same_by : (kind : AlternativeKind) (r q : Reading)
-        → IsOnlyByKind kind (Counted (reads.itself a.content v) One)
-        → ReadsByAlternative kind r (reads.itself a.content v r)
-        → ReadsByAlternative kind q (reads.itself a.content v q) → q ≡ r
-    same_by joins r q one h g = absurd one
-    same_by types.null_alone r q one h g = g ∙ sym h
-    same_by (types.a_whole range) r q one h g = one.only q g ∙ sym (one.only r h)
-    same_by types.a_float r q one h g = one.only q g ∙ sym (one.only r h)
-    same_by a_fallback r q one h g = one.only q g ∙ sym (one.only r h)
-    same_by other r q one h g = one.only q g ∙ sym (one.only r h)
+      -- a reading as the variant is one by it
+      pub out_of : (r : Reading) → W (a_variant k r) → ByAlternative r
+      out_of r h =
+          subst (λ (o : Option Alternative).
+          ReadsByOne reads.itself alone o v r
+          ⊎ (((q : Reading) → ReadsDirectly rules reads (an_untagged_variant joined alone) v q → ⊥)
+          × ReadsByFallback reads.itself o v r)) there (by_variant k r h)
 
-  -- a reading by the variants that join is of an object
-  pub joined_one : (c : Choice) → W (an_object c) → Counted W One
-      → (is_object v ≡ true) × Counted (ReadsObject rules reads.within joined (members_in v)) One
-  joined_one c h one = go v refl (direct h)
-    where
-      direct : W (an_object c) → ReadsJoined rules reads.within joined v (an_object c)
-      direct h =
-          ⊎_elim
-          (λ (d : ReadsDirectly rules reads (an_untagged_variant joined alone) v (an_object c)).
-          ⊎_elim (λ (j : ReadsJoined rules reads.within joined v (an_object c)). j)
-          (λ (a : ReadsAlone reads.itself alone v (an_object c)). absurd a) d)
-          (λ (l : ReadsLast rules reads (an_untagged_variant joined alone) v (an_object c)).
-          absurd l.1) h
+      -- and the other way round
+      pub into : (r : Reading) → ByAlternative r → W (a_variant k r)
+      into r h =
+          let back = subst (λ (o : Option Alternative).
+          ReadsByOne reads.itself alone o v r
+          ⊎ (((q : Reading) → ReadsDirectly rules reads (an_untagged_variant joined alone) v q → ⊥)
+          × ReadsByFallback reads.itself o v r)) (sym there) h in
+          ⊎_elim (λ (p : ReadsByOne reads.itself alone (slice_get alone k) v r). inl (inr p))
+          (λ (p : ((q : Reading)
+          → ReadsDirectly rules reads (an_untagged_variant joined alone) v q → ⊥)
+          × ReadsByFallback reads.itself (slice_get alone k) v r). inr (p.0, p.1)) back
 
-      go : (w : Tree) → v ≡ w → ReadsJoined rules reads.within joined w (an_object c)
-          → (is_object v ≡ true)
-          × Counted (ReadsObject rules reads.within joined (members_in v)) One
-      go (object ms) e j = (
-        ap is_object e,
-        subst (λ u. Counted (ReadsObject rules reads.within joined (members_in u)) One) (sym e)
-            (one_into (ReadsObject rules reads.within joined (members ms)) W an_object
-            (λ d p. inl (inl (subst (λ u. ReadsJoined rules reads.within joined u (an_object d))
-            (sym e) p))) (λ x y q. cc) one c j),
-      )
-      go null e j = absurd j
-      go (truth b) e j = absurd j
-      go (number n) e j = absurd j
-      go (text x) e j = absurd j
-      go (list vs) e j = absurd j
+      -- how a variant of a kind reads the value
+      abbrev By : AlternativeKind → Reading → Type 0
+      By kind r =
+          ReadsByKind kind (list_any (is_whole_of v) alone) v r (reads.itself a.content v r)
+          ⊎ (((q : Reading) → ReadsDirectly rules reads (an_untagged_variant joined alone) v q → ⊥)
+          × ((kind ≡ a_fallback) × reads.itself a.content v r))
+
+      -- null alone is read as it is
+      null_value : (w : Tree) (r : Reading)
+          → ReadsByKind types.null_alone (list_any (is_whole_of v) alone) w r
+          (reads.itself a.content v r) → r ≡ a_value
+      null_value null r h = h
+      null_value (truth b) r h = absurd h
+      null_value (number n) r h = absurd h
+      null_value (text x) r h = absurd h
+      null_value (list vs) r h = absurd h
+      null_value (object ms) r h = absurd h
+
+      -- what the value is read as by a kind of variant
+      content_by : (kind : AlternativeKind) (r : Reading) → By kind r
+          → ReadsByAlternative kind r (reads.itself a.content v r)
+      content_by joins r (inl h) = absurd h
+      content_by joins r (inr h) = h.1.1
+      content_by types.null_alone r (inl h) = null_value v r h
+      content_by types.null_alone r (inr h) =
+          let no : types.null_alone ≡ a_fallback = h.1.0 in absurd (cc)
+      content_by (types.a_whole range) r (inl h) = h
+      content_by (types.a_whole range) r (inr h) = h.1.1
+      content_by types.a_float r (inl h) = h.1
+      content_by types.a_float r (inr h) = h.1.1
+      content_by a_fallback r (inl h) = absurd h
+      content_by a_fallback r (inr h) = h.1.1
+      content_by other r (inl h) = h
+      content_by other r (inr h) = h.1.1
+
+      -- another reading of the content is one as the variant
+      other_by : (kind : AlternativeKind) (r q : Reading) → By kind r
+          → (kind ≡ types.null_alone → ⊥) → reads.itself a.content v q → By kind q
+      other_by joins r q (inl h) apart p = absurd h
+      other_by joins r q (inr h) apart p = inr (h.0, (h.1.0, p))
+      other_by types.null_alone r q h apart p = absurd (apart refl)
+      other_by (types.a_whole range) r q (inl h) apart p = inl p
+      other_by (types.a_whole range) r q (inr h) apart p = inr (h.0, (h.1.0, p))
+      other_by types.a_float r q (inl h) apart p = inl (h.0, p)
+      other_by types.a_float r q (inr h) apart p = inr (h.0, (h.1.0, p))
+      other_by a_fallback r q (inl h) apart p = absurd h
+      other_by a_fallback r q (inr h) apart p = inr (h.0, (h.1.0, p))
+      other_by other r q (inl h) apart p = inl p
+      other_by other r q (inr h) apart p = inr (h.0, (h.1.0, p))
+
+      -- a reading as the variant reads its content
+      pub content_read : (r : Reading) → W (a_variant k r)
+          → ReadsByAlternative a.kind r (reads.itself a.content v r)
+      content_read r h = content_by a.kind r (out_of r h)
+
+      -- where the value has one reading, it has one as the content
+      pub one_alternative : Counted W One → (r : Reading) → W (a_variant k r)
+          → IsOnlyByKind a.kind (Counted (reads.itself a.content v) One)
+      one_alternative one r h = go a.kind (out_of r h) (λ q p. into q p)
+        where
+          one_by : (kind : AlternativeKind) → By kind r → (kind ≡ types.null_alone → ⊥)
+              → reads.itself a.content v r → ((q : Reading) → By kind q → W (a_variant k q))
+              → Counted (reads.itself a.content v) One
+          one_by kind b apart p back =
+              one_into (reads.itself a.content v) W (a_variant k)
+              (λ q s. back q (other_by kind r q b apart s)) (λ x y e. cc) one r p
+
+          go : (kind : AlternativeKind) → By kind r → ((q : Reading) → By kind q → W (a_variant k q))
+              → IsOnlyByKind kind (Counted (reads.itself a.content v) One)
+          go joins (inl b) back = absurd b
+          go joins (inr b) back = let fallback : joins ≡ a_fallback = b.1.0 in absurd (cc)
+          go types.null_alone b back = tt
+          go (types.a_whole range) b back =
+              one_by (types.a_whole range) b (λ e. cc) (content_by (types.a_whole range) r b) back
+          go types.a_float b back =
+              one_by types.a_float b (λ e. cc) (content_by types.a_float r b) back
+          go a_fallback b back = one_by a_fallback b (λ e. cc) (content_by a_fallback r b) back
+          go other b back = one_by other b (λ e. cc) (content_by other r b) back
+
+      -- two readings by one kind of variant are one, where the value has one reading
+      pub same_by : (kind : AlternativeKind) (r q : Reading)
+          → IsOnlyByKind kind (Counted (reads.itself a.content v) One)
+          → ReadsByAlternative kind r (reads.itself a.content v r)
+          → ReadsByAlternative kind q (reads.itself a.content v q) → q ≡ r
+      same_by joins r q one h g = absurd one
+      same_by types.null_alone r q one h g = g ∙ sym h
+      same_by (types.a_whole range) r q one h g = one.only q g ∙ sym (one.only r h)
+      same_by types.a_float r q one h g = one.only q g ∙ sym (one.only r h)
+      same_by a_fallback r q one h g = one.only q g ∙ sym (one.only r h)
+      same_by other r q one h g = one.only q g ∙ sym (one.only r h)
+
+    -- a reading by the variants that join is of an object
+    pub joined_one : (c : Choice) → W (an_object c) → Counted W One
+        → (is_object v ≡ true) × Counted (ReadsObject rules reads.within joined (members_in v)) One
+    joined_one c h one = go v refl (direct h)
+      where
+        direct : W (an_object c) → ReadsJoined rules reads.within joined v (an_object c)
+        direct h =
+            ⊎_elim
+            (λ (d : ReadsDirectly rules reads (an_untagged_variant joined alone) v (an_object c)).
+            ⊎_elim (λ (j : ReadsJoined rules reads.within joined v (an_object c)). j)
+            (λ (a : ReadsAlone reads.itself alone v (an_object c)). absurd a) d)
+            (λ (l : ReadsLast rules reads (an_untagged_variant joined alone) v (an_object c)).
+            absurd l.1) h
+
+        go : (w : Tree) → v ≡ w → ReadsJoined rules reads.within joined w (an_object c)
+            → (is_object v ≡ true)
+            × Counted (ReadsObject rules reads.within joined (members_in v)) One
+        go (object ms) e j = (
+          ap is_object e,
+          subst (λ u. Counted (ReadsObject rules reads.within joined (members_in u)) One) (sym e)
+              (one_into (ReadsObject rules reads.within joined (members ms)) W an_object
+              (λ d p. inl (inl (subst (λ u. ReadsJoined rules reads.within joined u (an_object d))
+              (sym e) p))) (λ x y q. cc) one c j),
+        )
+        go null e j = absurd j
+        go (truth b) e j = absurd j
+        go (number n) e j = absurd j
+        go (text x) e j = absurd j
+        go (list vs) e j = absurd j
 
 module _ (rules : Rules) (reads : Inner) (vs : List NamedVariant) (v : Tree) where
   -- a reading of the value as a named variant

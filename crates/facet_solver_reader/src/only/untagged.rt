@@ -1,14 +1,15 @@
 //! The only reading of a value as a variant that it does not name.
-ghost use Rattle.std.specs.Prelude.{◌≡◌, ◌∷◌, [], ◌<◌, All, IfOk, Option, length, map};
-ghost use Rattle.facet_solver_reader.specs.declared.count.Count.TheVariants.{One};
+ghost use Rattle.std.specs.Prelude.{◌<◌, All, IfOk, MatchOption, length, map};
+ghost use Rattle.facet_solver_reader.specs.declared.count.Count.TheVariants.{None as NoCount, One};
+ghost use Rattle.facet_solver_reader.specs.Choices as choices;
 ghost use Rattle.facet_solver_reader.specs.Counted.{Counted};
 ghost use Rattle.facet_solver_reader.specs.Nodes.{count, value_of};
 ghost use Rattle.facet_solver_reader.specs.Reading.{AreSound, IsRankedAlternative};
-ghost use Rattle.facet_solver_reader.specs.Readings.{inner};
+ghost use Rattle.facet_solver_reader.specs.Readings.{ReadsValue, inner};
 ghost use Rattle.facet_solver_reader.specs.Rules.{an_untagged_variant};
 ghost use Rattle.facet_solver_reader.specs.Tables.{IsServed, ListIsServed, rules_at};
 ghost use Rattle.facet_solver_reader.specs.ToldAt.{IsOnlyAlternative, IsToldAlternative, IsToldAs, IsUntagged};
-ghost use Rattle.facet_solver_reader.specs.Values.{ReadsEnd};
+ghost use Rattle.facet_solver_reader.specs.Values.{ReadsAlone, ReadsEnd, ReadsFallback};
 ghost use Rattle.facet_solver_reader.specs.Views.{alternative_view, list_view};
 
 use super::object::read_object;
@@ -106,5 +107,76 @@ fn alternative_index(
         (an_untagged_variant (list_view joined.now) (map alternative_view alone.now))
         (value_of nodes.now node)) }
 {
-    Err(AllocError)
+    if let Document::Object(_) = nodes.value(node) {
+        if !count_object(tables, nodes, memo, node, *joined)?.is_none() {
+            return Ok(None);
+        }
+    }
+    let k = match direct_index(tables, nodes, memo, node, alone, steps)? {
+        Some(k) => k,
+        None => fallback_index(tables, nodes, memo, node, alone, steps)?,
+    };
+    Ok(Some(k))
+}
+
+/// The first variant that reads a value by itself and is no fallback, by its index.
+fn direct_index(
+    tables: &Tables<'_>,
+    nodes: &Nodes<'_, '_>,
+    memo: &mut Memo,
+    node: usize,
+    alone: &[Alternative<'_>],
+    steps: usize,
+) -> Result<Option<usize>, AllocError>
+    requires sound { AreSound tables.now nodes.now memo.old.entries.items }
+    requires inside { node < count nodes.now }
+    requires served { All (λ a. IsServed tables.now a.content) (map alternative_view alone.now) }
+    requires ranked { All (λ a. IsRankedAlternative (rules_at tables.now) steps a)
+        (map alternative_view alone.now) }
+    ensures sound { AreSound tables.now nodes.now memo.new.entries.items }
+    ensures chosen { IfOk result (λ found. MatchOption found
+        (Counted (ReadsAlone (ReadsValue (rules_at tables.now)) (map alternative_view alone.now)
+        (value_of nodes.now node)) NoCount)
+        (λ k. (r : choices.Reading) × ReadsAlone (ReadsValue (rules_at tables.now))
+        (map alternative_view alone.now) (value_of nodes.now node) (choices.a_variant k r))) }
+{
+    for (k, alternative) in alone.iter().enumerate() {
+        let count = count_alternative(tables, nodes, memo, node, alone, alternative, steps)?;
+        if !count.is_none() {
+            return Ok(Some(k));
+        }
+    }
+    Ok(None)
+}
+
+/// The first fallback that reads a value, by its index.
+fn fallback_index(
+    tables: &Tables<'_>,
+    nodes: &Nodes<'_, '_>,
+    memo: &mut Memo,
+    node: usize,
+    alone: &[Alternative<'_>],
+    steps: usize,
+) -> Result<usize, AllocError>
+    requires sound { AreSound tables.now nodes.now memo.old.entries.items }
+    requires inside { node < count nodes.now }
+    requires served { All (λ a. IsServed tables.now a.content) (map alternative_view alone.now) }
+    requires ranked { All (λ a. IsRankedAlternative (rules_at tables.now) steps a)
+        (map alternative_view alone.now) }
+    requires read { (r : choices.Reading) × ReadsFallback (ReadsValue (rules_at tables.now))
+        (map alternative_view alone.now) (value_of nodes.now node) r }
+    ensures sound { AreSound tables.now nodes.now memo.new.entries.items }
+    ensures chosen { IfOk result (λ k. (r : choices.Reading) × ReadsFallback (ReadsValue
+        (rules_at tables.now)) (map alternative_view alone.now) (value_of nodes.now node)
+        (choices.a_variant k r)) }
+{
+    for (k, alternative) in alone.iter().enumerate() {
+        if let AlternativeKind::Fallback = alternative.kind {
+            let count = count_target(tables, nodes, memo, node, &alternative.content, steps - 1)?;
+            if !count.is_none() {
+                return Ok(k);
+            }
+        }
+    }
+    unreachable!()
 }

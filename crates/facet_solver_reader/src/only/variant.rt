@@ -1,18 +1,17 @@
 //! The only reading of a value as a variant that it names.
-ghost use Rattle.std.specs.Prelude.{◌≡◌, ◌∷◌, [], ◌<◌, All, IfOk, OnOk, length, map};
+ghost use Rattle.std.specs.Prelude.{◌≡◌, ◌<◌, ℕ, All, IfOk, OnOk, length, map, slice_get};
 ghost use Rattle.facet_solver_reader.specs.declared.count.Count.TheVariants.{One};
-ghost use Rattle.facet_solver_reader.specs.declared.reading.ReadingKind.TheVariants as kinds;
 ghost use Rattle.facet_solver_reader.specs.Choices as choices;
 ghost use Rattle.facet_solver_reader.specs.Counted.{Counted};
 ghost use Rattle.facet_solver_reader.specs.Documents.{text};
 ghost use Rattle.facet_solver_reader.specs.Nodes.{count, value_of};
 ghost use Rattle.facet_solver_reader.specs.Reading.{AreSound, IsOnlyMember};
-ghost use Rattle.facet_solver_reader.specs.Readings.{inner};
+ghost use Rattle.facet_solver_reader.specs.Readings.{ReadsValue, inner};
 ghost use Rattle.facet_solver_reader.specs.Rules.{a_named_variant};
 ghost use Rattle.facet_solver_reader.specs.Tables.{IsServed, rules_at};
 ghost use Rattle.facet_solver_reader.specs.Told.{names_of, names_view};
 ghost use Rattle.facet_solver_reader.specs.ToldAt.{IsToldAs, IsWithin};
-ghost use Rattle.facet_solver_reader.specs.Values.{ReadsEnd};
+ghost use Rattle.facet_solver_reader.specs.Values.{NamesUnit, ReadsEnd, ReadsNamedVariant};
 ghost use Rattle.facet_solver_reader.specs.Views.{named_view, target_view};
 
 use super::target::read_target;
@@ -118,11 +117,22 @@ fn named_index(
         (inner (rules_at tables.now)) (a_named_variant (map named_view variants.now))
         (value_of nodes.now node) (choices.a_variant k r)) }
 {
-    Err(AllocError)
+    match nodes.value(node) {
+        Document::Text(text) => Ok(unit_index(variants, text)),
+        // An object that is read so has one member.
+        Document::Object(members) => {
+            content_index(tables, nodes, memo, node, variants, members[0].0)
+        }
+        _ => unreachable!(),
+    }
 }
 
 /// Which variant without content a text names, by its index.
-fn unit_index(variants: &[NamedVariant<'_>], name: &str) -> usize {
+fn unit_index(variants: &[NamedVariant<'_>], name: &str) -> usize
+    requires named { (k : ℕ) × NamesUnit (slice_get (map named_view variants.now) k) name.now }
+    ensures within { result < length variants.now }
+    ensures chosen { NamesUnit (slice_get (map named_view variants.now) result) name.now }
+{
     for (k, variant) in variants.iter().enumerate() {
         if variant.is_unit && variant.name == name {
             return k;
@@ -140,7 +150,19 @@ fn content_index(
     node: usize,
     variants: &[NamedVariant<'_>],
     name: &str,
-) -> Result<usize, AllocError> {
+) -> Result<usize, AllocError>
+    requires sound { AreSound tables.now nodes.now memo.old.entries.items }
+    requires inside { node < count nodes.now }
+    requires single { IsOnlyMember (value_of nodes.now node) name.now }
+    requires served { All (λ v. IsServed tables.now v.content) (map named_view variants.now) }
+    requires read { (r : choices.Reading) × ReadsNamedVariant (ReadsValue (rules_at tables.now))
+        (map named_view variants.now) (value_of nodes.now node) r }
+    ensures sound { AreSound tables.now nodes.now memo.new.entries.items }
+    ensures within { IfOk result (λ k. k < length variants.now) }
+    ensures chosen { IfOk result (λ k. (r : choices.Reading)
+        × ReadsNamedVariant (ReadsValue (rules_at tables.now)) (map named_view variants.now)
+        (value_of nodes.now node) (choices.a_variant k r)) }
+{
     let content = nodes.child(node, 0);
     for (k, variant) in variants.iter().enumerate() {
         if variant.name == name {

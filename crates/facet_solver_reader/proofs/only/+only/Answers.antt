@@ -197,8 +197,7 @@ content::read_content-read_object-requires t c =
     sym c.in_ok-content.ensures ∙ ap content_view c.in-Object.is in
     let one : Counted (ReadsContent rules (inner rules) (as_object (list_view c.in-Object.list)) v) One =
     one_content rules c.args.steps c.args.shape c.args.variant (as_object (list_view c.in-Object.list)) v c.requires.ranked is
-    c.requires.one in
-    (
+    c.requires.one in (
       omega arith,
       (
         c.requires.sound,
@@ -712,8 +711,7 @@ target::read_end-read_items-requires t c =
     let is : rules.end_of c.args.shape ≡ a_list c.in-List.item = sym c.requires.end.same ∙ ends in
     let served : EndIsServed tb (a_list c.in-List.item) = subst (EndIsServed tb) ends c.requires.end.served in
     let one : Counted (ReadsEnd rules (inner rules) (a_list c.in-List.item) v) One =
-    one_end rules c.args.steps c.args.shape (a_list c.in-List.item) v c.requires.ranked is c.requires.one in
-    (
+    one_end rules c.args.steps c.args.shape (a_list c.in-List.item) v c.requires.ranked is c.requires.one in (
       omega arith,
       (c.requires.sound, (c.requires.inside, (served, one))),
     )
@@ -728,8 +726,7 @@ target::read_end-read_tuple-requires t c =
     let is : rules.end_of c.args.shape ≡ a_tuple c.deref.result.now = sym c.requires.end.same ∙ ends in
     let served : EndIsServed tb (a_tuple c.deref.result.now) = subst (EndIsServed tb) ends c.requires.end.served in
     let one : Counted (ReadsEnd rules (inner rules) (a_tuple c.deref.result.now) v) One =
-    one_end rules c.args.steps c.args.shape (a_tuple c.deref.result.now) v c.requires.ranked is c.requires.one in
-    (
+    one_end rules c.args.steps c.args.shape (a_tuple c.deref.result.now) v c.requires.ranked is c.requires.one in (
       omega arith,
       (c.requires.sound, (c.requires.inside, (served, one))),
     )
@@ -744,8 +741,7 @@ target::read_end-read_entries-requires t c =
     let is : rules.end_of c.args.shape ≡ a_map c.in-Map.key c.in-Map.value = sym c.requires.end.same ∙ ends in
     let served : EndIsServed tb (a_map c.in-Map.key c.in-Map.value) = subst (EndIsServed tb) ends c.requires.end.served in
     let one : Counted (ReadsEnd rules (inner rules) (a_map c.in-Map.key c.in-Map.value) v) One =
-    one_end rules c.args.steps c.args.shape (a_map c.in-Map.key c.in-Map.value) v c.requires.ranked is c.requires.one in
-    (
+    one_end rules c.args.steps c.args.shape (a_map c.in-Map.key c.in-Map.value) v c.requires.ranked is c.requires.one in (
       omega arith,
       (c.requires.sound, (c.requires.inside, (served, one))),
     )
@@ -760,8 +756,7 @@ target::read_end-read_object-requires t c =
     let is : rules.end_of c.args.shape ≡ an_object (list_view c.in-Object.list) = sym c.requires.end.same ∙ ends in
     let served : EndIsServed tb (an_object (list_view c.in-Object.list)) = subst (EndIsServed tb) ends c.requires.end.served in
     let one : Counted (ReadsEnd rules (inner rules) (an_object (list_view c.in-Object.list)) v) One =
-    one_end rules c.args.steps c.args.shape (an_object (list_view c.in-Object.list)) v c.requires.ranked is c.requires.one in
-    (
+    one_end rules c.args.steps c.args.shape (an_object (list_view c.in-Object.list)) v c.requires.ranked is c.requires.one in (
       omega arith,
       (c.requires.sound, (c.requires.inside, (served, (object_has_one rules (inner rules) (list_view c.in-Object.list) v one).1))),
     )
@@ -772,14 +767,13 @@ target::read_end-read_named-requires t c =
     let tb = c.args.tables.now in
     let rules : Rules = rules_at tb in
     let v : Tree = value_of c.args.nodes.now c.args.node in
-    let ends : end_view c.args.end.now ≡ a_named_variant (map named_view c.deref-in-NamedVariant.result.now) = 
+    let ends : end_view c.args.end.now ≡ a_named_variant (map named_view c.deref-in-NamedVariant.result.now) =
     ap end_view c.in-NamedVariant.is
     ∙ ap (λ vs. a_named_variant (map named_view vs)) (sym c.deref-in-NamedVariant.ensures.value) in
     let is : rules.end_of c.args.shape ≡ a_named_variant (map named_view c.deref-in-NamedVariant.result.now) = sym c.requires.end.same ∙ ends in
     let served : EndIsServed tb (a_named_variant (map named_view c.deref-in-NamedVariant.result.now)) = subst (EndIsServed tb) ends c.requires.end.served in
     let one : Counted (ReadsEnd rules (inner rules) (a_named_variant (map named_view c.deref-in-NamedVariant.result.now)) v) One =
-    one_end rules c.args.steps c.args.shape (a_named_variant (map named_view c.deref-in-NamedVariant.result.now)) v c.requires.ranked is c.requires.one in
-    (
+    one_end rules c.args.steps c.args.shape (a_named_variant (map named_view c.deref-in-NamedVariant.result.now)) v c.requires.ranked is c.requires.one in (
       omega arith,
       (c.requires.sound, (c.requires.inside, (served, one))),
     )
@@ -792,7 +786,7 @@ target::read_end-read_untagged-requires t c =
     let v : Tree = value_of c.args.nodes.now c.args.node in
     let joined : ListId = list_view c.in-UntaggedVariant.joined in
     let alone : List Alternative = map alternative_view c.deref-in-UntaggedVariant.result.now in
-    let ends : end_view c.args.end.now ≡ an_untagged_variant joined alone = 
+    let ends : end_view c.args.end.now ≡ an_untagged_variant joined alone =
     ap end_view c.in-UntaggedVariant.is
     ∙ ap (λ (others : List code_alternative.Alternative).
     an_untagged_variant (list_view c.in-UntaggedVariant.joined) (map alternative_view others))
@@ -800,19 +794,24 @@ target::read_end-read_untagged-requires t c =
     let is : rules.end_of c.args.shape ≡ an_untagged_variant joined alone = sym c.requires.end.same ∙ ends in
     let served : EndIsServed tb (an_untagged_variant joined alone) = subst (EndIsServed tb) ends c.requires.end.served in
     let one : Counted (ReadsEnd rules (inner rules) (an_untagged_variant joined alone) v) One =
-    one_end rules c.args.steps c.args.shape (an_untagged_variant joined alone) v c.requires.ranked is c.requires.one in
-    (
+    one_end rules c.args.steps c.args.shape (an_untagged_variant joined alone) v c.requires.ranked is c.requires.one in (
       omega arith,
-      (c.requires.sound, (c.requires.inside, (
-          served.0,
+      (
+        c.requires.sound,
+        (
+          c.requires.inside,
           (
-            served.1,
+            served.0,
             (
-              ranked_alternatives rules c.args.steps c.args.shape joined alone c.requires.ranked is,
-              one,
+              served.1,
+              (
+                ranked_alternatives rules c.args.steps c.args.shape joined alone c.requires.ranked is,
+                one,
+              ),
             ),
           ),
-        ))),
+        ),
+      ),
     )
 
 -- src/only/target.rt:77:1
@@ -873,7 +872,7 @@ target::read_end-returns-in-List-clause-told t c =
     let ends : end_view c.args.end.now ≡ a_list c.in-List.item = ap end_view c.in-List.is in
     let is : rules.end_of c.args.shape ≡ a_list c.in-List.item = sym c.requires.end.same ∙ ends in
     if_told (IsToldAs tb c.args.nodes.now c.args.node (a_list c.in-List.item)) (IsToldAt tb c.args.nodes.now c.args.node (of_shape c.args.shape)) c.read_items.result
-    (λ w h. 
+    (λ w h.
     told_end tb c.args.nodes.now c.args.node c.args.steps c.args.shape (a_list c.in-List.item) w c.requires.ranked is h) c.read_items.ensures.told
 
 -- src/only/target.rt:77:1
@@ -885,7 +884,7 @@ target::read_end-returns-in-Tuple-clause-told t c =
     let ends : end_view c.args.end.now ≡ a_tuple c.deref.result.now = ap end_view c.in-Tuple.is ∙ ap a_tuple (sym c.deref.ensures.value) in
     let is : rules.end_of c.args.shape ≡ a_tuple c.deref.result.now = sym c.requires.end.same ∙ ends in
     if_told (IsToldAs tb c.args.nodes.now c.args.node (a_tuple c.deref.result.now)) (IsToldAt tb c.args.nodes.now c.args.node (of_shape c.args.shape)) c.read_tuple.result
-    (λ w h. 
+    (λ w h.
     told_end tb c.args.nodes.now c.args.node c.args.steps c.args.shape (a_tuple c.deref.result.now) w c.requires.ranked is h) c.read_tuple.ensures.told
 
 -- src/only/target.rt:77:1
@@ -896,7 +895,7 @@ target::read_end-returns-in-Map-clause-told t c =
     let ends : end_view c.args.end.now ≡ a_map c.in-Map.key c.in-Map.value = ap end_view c.in-Map.is in
     let is : rules.end_of c.args.shape ≡ a_map c.in-Map.key c.in-Map.value = sym c.requires.end.same ∙ ends in
     if_told (IsToldAs tb c.args.nodes.now c.args.node (a_map c.in-Map.key c.in-Map.value)) (IsToldAt tb c.args.nodes.now c.args.node (of_shape c.args.shape)) c.read_entries.result
-    (λ w h. 
+    (λ w h.
     told_end tb c.args.nodes.now c.args.node c.args.steps c.args.shape (a_map c.in-Map.key c.in-Map.value) w c.requires.ranked is h) c.read_entries.ensures.told
 
 -- src/only/target.rt:77:1
@@ -931,12 +930,12 @@ pub target::read_end-returns-in-NamedVariant-clause-told :
 target::read_end-returns-in-NamedVariant-clause-told t c =
     let tb = c.args.tables.now in
     let rules : Rules = rules_at tb in
-    let ends : end_view c.args.end.now ≡ a_named_variant (map named_view c.deref-in-NamedVariant.result.now) = 
+    let ends : end_view c.args.end.now ≡ a_named_variant (map named_view c.deref-in-NamedVariant.result.now) =
     ap end_view c.in-NamedVariant.is
     ∙ ap (λ vs. a_named_variant (map named_view vs)) (sym c.deref-in-NamedVariant.ensures.value) in
     let is : rules.end_of c.args.shape ≡ a_named_variant (map named_view c.deref-in-NamedVariant.result.now) = sym c.requires.end.same ∙ ends in
     if_told (IsToldAs tb c.args.nodes.now c.args.node (a_named_variant (map named_view c.deref-in-NamedVariant.result.now))) (IsToldAt tb c.args.nodes.now c.args.node (of_shape c.args.shape)) c.read_named.result
-    (λ w h. 
+    (λ w h.
     told_end tb c.args.nodes.now c.args.node c.args.steps c.args.shape (a_named_variant (map named_view c.deref-in-NamedVariant.result.now)) w c.requires.ranked is h) c.read_named.ensures.told
 
 -- src/only/target.rt:77:1
@@ -947,14 +946,14 @@ target::read_end-returns-in-UntaggedVariant-clause-told t c =
     let rules : Rules = rules_at tb in
     let joined : ListId = list_view c.in-UntaggedVariant.joined in
     let alone : List Alternative = map alternative_view c.deref-in-UntaggedVariant.result.now in
-    let ends : end_view c.args.end.now ≡ an_untagged_variant joined alone = 
+    let ends : end_view c.args.end.now ≡ an_untagged_variant joined alone =
     ap end_view c.in-UntaggedVariant.is
     ∙ ap (λ (others : List code_alternative.Alternative).
     an_untagged_variant (list_view c.in-UntaggedVariant.joined) (map alternative_view others))
     (sym c.deref-in-UntaggedVariant.ensures.value) in
     let is : rules.end_of c.args.shape ≡ an_untagged_variant joined alone = sym c.requires.end.same ∙ ends in
     if_told (IsToldAs tb c.args.nodes.now c.args.node (an_untagged_variant joined alone)) (IsToldAt tb c.args.nodes.now c.args.node (of_shape c.args.shape)) c.read_untagged.result
-    (λ w h. 
+    (λ w h.
     told_end tb c.args.nodes.now c.args.node c.args.steps c.args.shape (an_untagged_variant joined alone) w c.requires.ranked is h) c.read_untagged.ensures.told
 
 -- src/only/target.rt:77:1
@@ -983,20 +982,19 @@ target::read_end-returns-in_default-clause-told t c =
 
 -- src/only/target.rt:73:5
 pub target::read_shape-read_end-requires : goal.target::read_shape-read_end-requires
-target::read_shape-read_end-requires t c =
+target::read_shape-read_end-requires t c = (
+  omega arith,
+  (
+    c.requires.sound,
     (
-      omega arith,
+      c.requires.inside,
       (
-        c.requires.sound,
-        (
-          c.requires.inside,
-          (
-            c.requires.sound.tables.ends c.args.shape c.end.result.now c.end.ensures,
-            (c.requires.ranked, c.requires.one),
-          ),
-        ),
+        c.requires.sound.tables.ends c.args.shape c.end.result.now c.end.ensures,
+        (c.requires.ranked, c.requires.one),
       ),
-    )
+    ),
+  ),
+)
 
 -- src/only/target.rt:47:33
 pub target::read_target-read_shape-requires : goal.target::read_target-read_shape-requires
@@ -1143,8 +1141,7 @@ untagged::read_untagged-read_object-requires t c =
     let alone : List Alternative = map alternative_view c.args.alone.now in
     let read = subst (IsUntagged rules (an_untagged_variant joined alone) v) c.in-None.is
     c.in_ok-alternative_index.ensures.chosen in
-    let object = joined_one rules (inner rules) joined alone v read.0 read.1 c.requires.one in
-    (
+    let object = joined_one rules (inner rules) joined alone v read.0 read.1 c.requires.one in (
       omega arith,
       (
         c.in_ok-alternative_index.ensures.sound,
@@ -1171,8 +1168,7 @@ untagged::read_untagged-read_alternative-requires t c =
     (omega (arith, length-map c.args.alone.now alternative_view)) c.index-alone-k.is in
     let a : Alternative = alternative_view c.index-alone-k.result in
     let seen : slice_get alone k ≡ Some a =
-    seen_at alternative_view c.args.alone.now k c.index-alone-k.result there in
-    (
+    seen_at alternative_view c.args.alone.now k c.index-alone-k.result there in (
       omega arith,
       (
         c.in_ok-alternative_index.ensures.sound,
