@@ -86,3 +86,4 @@ pub mod ToldSeveral
 pub mod NothingTold
 pub mod UnknownNames
 pub mod FoundSteps
+pub mod FoundMore

@@ -27,13 +27,13 @@ returns-then-not-is_none-clause-chosen c =
     let v = value_of c.args.nodes.now c.args.node in
     let rules = rules_at c.args.tables.now in
     let found = some_counted
-    (ReadsObject rules (ReadsValue rules) (list_view c.args.joined) (members_in v))
+    (ReadsObject rules (ReadsValue rules) (list_view c.args.joined.now) (members_in v))
     c.in_ok-count_object.field-0
     (λ e. let none : c.is_none.result ≡ true = c.is_none.ensures.1 e in
     let some : c.is_none.result ≡ false = c.if-not-is_none.true in absurd (cc))
     c.in_ok-count_object.ensures.count in (
       found.0,
-      read_by_joined rules (inner rules) (list_view c.args.joined)
+      read_by_joined rules (inner rules) (list_view c.args.joined.now)
           (map alternative_view c.args.alone.now) v found.0
           (ap is_object
           (sym c.value.ensures ∙ (ap view c.in-Object.is ∙ seen_object c.in-Object.field-0)))
@@ -45,25 +45,25 @@ fallback_index-requires-clause-read c =
     let v = value_of c.args.nodes.now c.args.node in
     let rules = rules_at c.args.tables.now in
     let alone = map alternative_view c.args.alone.now in
-    let joined : Counted (ReadsJoined rules (ReadsValue rules) (list_view c.args.joined) v)
+    let joined : Counted (ReadsJoined rules (ReadsValue rules) (list_view c.args.joined.now) v)
     NoCount =
     elim c.match-value.branch [
       | in-Object+in_ok-count_object+else-not-is_none w ↦
-          joined_object rules (ReadsValue rules) (list_view c.args.joined) v NoCount
+          joined_object rules (ReadsValue rules) (list_view c.args.joined.now) v NoCount
           (ap is_object
           (sym c.value.ensures ∙ (ap view w.in-Object.is ∙ seen_object w.in-Object.field-0)))
           (subst
-          (Counted (ReadsObject rules (ReadsValue rules) (list_view c.args.joined) (members_in v)))
+          (Counted (ReadsObject rules (ReadsValue rules) (list_view c.args.joined.now) (members_in v)))
           (w.is_none.ensures.0 w.if-not-is_none.false) w.in_ok-count_object.ensures.count)
       | in_default w ↦
-          count_of_none_joined rules (ReadsValue rules) (list_view c.args.joined) v
+          count_of_none_joined rules (ReadsValue rules) (list_view c.args.joined.now) v
           (ap is_object (sym c.value.ensures)
           ∙ seen_no_object c.value.result.now w.in_default.not-Object)
     ] in
     let direct : Counted (ReadsAlone (ReadsValue rules) alone v) NoCount =
     rw c.in-None.is at c.in_ok-k.ensures.chosen in (
       c.requires.one.value,
-      read_by_last rules (inner rules) (list_view c.args.joined) alone v joined direct
+      read_by_last rules (inner rules) (list_view c.args.joined.now) alone v joined direct
           c.requires.one.value c.requires.one.has,
     )
 
@@ -72,18 +72,18 @@ returns-in_ok-k-in-None-clause-chosen c =
     let v = value_of c.args.nodes.now c.args.node in
     let rules = rules_at c.args.tables.now in
     let alone = map alternative_view c.args.alone.now in
-    let joined : Counted (ReadsJoined rules (ReadsValue rules) (list_view c.args.joined) v)
+    let joined : Counted (ReadsJoined rules (ReadsValue rules) (list_view c.args.joined.now) v)
     NoCount =
     elim c.match-value.branch [
       | in-Object+in_ok-count_object+else-not-is_none w ↦
-          joined_object rules (ReadsValue rules) (list_view c.args.joined) v NoCount
+          joined_object rules (ReadsValue rules) (list_view c.args.joined.now) v NoCount
           (ap is_object
           (sym c.value.ensures ∙ (ap view w.in-Object.is ∙ seen_object w.in-Object.field-0)))
           (subst
-          (Counted (ReadsObject rules (ReadsValue rules) (list_view c.args.joined) (members_in v)))
+          (Counted (ReadsObject rules (ReadsValue rules) (list_view c.args.joined.now) (members_in v)))
           (w.is_none.ensures.0 w.if-not-is_none.false) w.in_ok-count_object.ensures.count)
       | in_default w ↦
-          count_of_none_joined rules (ReadsValue rules) (list_view c.args.joined) v
+          count_of_none_joined rules (ReadsValue rules) (list_view c.args.joined.now) v
           (ap is_object (sym c.value.ensures)
           ∙ seen_no_object c.value.result.now w.in_default.not-Object)
     ] in
@@ -91,6 +91,6 @@ returns-in_ok-k-in-None-clause-chosen c =
     rw c.in-None.is at c.in_ok-k.ensures.chosen in
     let found = c.in_ok-k-in-None.ensures.chosen in (
       found.0,
-      read_last rules (inner rules) (list_view c.args.joined) alone v joined direct
+      read_last rules (inner rules) (list_view c.args.joined.now) alone v joined direct
           (a_variant c.in_ok-k-in-None.k found.0) found.1,
     )
