@@ -86,4 +86,3 @@ pub mod ToldSeveral
 pub mod NothingTold
 pub mod UnknownNames
 pub mod FoundSteps
-pub mod FoundMore
