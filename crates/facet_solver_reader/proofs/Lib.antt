@@ -79,3 +79,9 @@ pub mod StepsTaken
 pub mod ToldEach
 pub mod OneEach
 pub mod OneEnds
+pub mod UnknownNames
+pub mod FoundSteps
+pub mod ToldMembers
+pub mod OneObject
+pub mod OneParts
+pub mod ToldObject
