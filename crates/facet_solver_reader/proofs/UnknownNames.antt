@@ -1,5 +1,5 @@
 -- The names of members that no choice of a list has.
-use Rattle.std.proofs.Common.{◌≡◌, ◌∷◌, ◌++◌, [], Bool, List, ap, false, if◌then◌else◌, refl, subst}
+use Rattle.std.proofs.Common.{◌≡◌, ◌∷◌, ◌++◌, [], Bool, List, ap, false, if◌then◌else◌, refl}
 use Rattle.std.proofs.Common.{sym, true, ◌∙◌, ℕ, ◌+◌, ◌<◌, take, map, length, get_or, arith}
 use Rattle.std.proofs.lemmas.List.{append-nil, length-map, take_more}
 use Rattle.std.proofs.lemmas.Option.{get_or_from_slice_get}
@@ -67,8 +67,8 @@ are_unknown t tables id l h [] = no_member
 are_unknown t tables id l h (m ∷ ms) =
     at (are_unknown t tables id l h ms) (knows l (named m.name)) refl
   where
-    at : AreUnknown (rules_at t) id ms (unknown_names l ms) → (b : Bool) → b ≡ knows l (named m.name)
-        → AreUnknown (rules_at t) id (m ∷ ms)
+    at : AreUnknown (rules_at t) id ms (unknown_names l ms) → (b : Bool)
+        → b ≡ knows l (named m.name) → AreUnknown (rules_at t) id (m ∷ ms)
         (if b then unknown_names l ms else m.name ∷ unknown_names l ms)
     at u true e =
         a_known m ms (unknown_names l ms)
