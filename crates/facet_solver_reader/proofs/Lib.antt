@@ -85,3 +85,4 @@ pub mod ToldMembers
 pub mod OneObject
 pub mod OneParts
 pub mod ToldObject
+pub mod FirstRest

@@ -74,7 +74,7 @@ invariant-each::read_entries-loop-index l = record {
   named : texts l.names.items
       ≡ map (λ m. m.name) (take l.index (members_in (value_of l.nodes l.node)));
   told : EachTold (rules_at l.tables) l.tables.shapes.now
-      (ReadsEntry ((rules_at l.tables).is_key l.key) (ReadsValue (rules_at l.tables))
+      (ReadsEntry ((rules_at l.tables).is_key l.fn.key) (ReadsValue (rules_at l.tables))
       (of_shape l.value))
       (λ m. ((rules_at l.tables).end_of l.value, m.value))
       (take l.index (members_in (value_of l.nodes l.node))) l.values.items;
