@@ -1,6 +1,6 @@
 -- The first catch-all among steps, as they are gone through one by one.
-use Rattle.std.proofs.Common.{◌≡◌, ◌∙◌, ap, subst, refl, ℕ, zero, suc, ◌+◌, ◌<◌, List, [], ◌∷◌}
-use Rattle.std.proofs.Common.{◌++◌, take, get_or, slice_get, Some, None, Bor, arith}
+use Rattle.std.proofs.Common.{◌≡◌, ◌∙◌, ap, refl, ℕ, zero, suc, ◌+◌, ◌<◌, List, [], ◌∷◌}
+use Rattle.std.proofs.Common.{◌++◌, take, slice_get, Some, None, Bor, arith}
 use Rattle.std.proofs.lemmas.List.{take_more}
 use Rattle.std.proofs.lemmas.Option.{get_or_from_slice_get, slice_get_within}
 use Rattle.std.specs.Option.{option_or}

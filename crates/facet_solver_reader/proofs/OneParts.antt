@@ -1,12 +1,11 @@
 -- Where an object has one reading by a part, that is what is told: of a member, and of a catch-all.
-use Rattle.std.proofs.Common.{◌≡◌, sym, subst, List, [], Some, None, Bool, true, false, IsTrue}
+use Rattle.std.proofs.Common.{◌≡◌, sym, subst, [], Some, None, Bool, true, false, IsTrue}
 use Rattle.std.proofs.Common.{IfOk, Result, Ok, Err, refl, Bor, ℕ}
 use Rattle.facet_solver_reader.specs.declared.document.Document.{Document}
 use Rattle.facet_solver_reader.specs.declared.nodes.Nodes.{Nodes}
 use Rattle.facet_solver_reader.specs.declared.read.object.Object as read
 use Rattle.facet_solver_reader.specs.declared.reading.Reading as code
 use Rattle.facet_solver_reader.specs.declared.reading.ReadingKind.TheVariants as kinds
-use Rattle.facet_solver_reader.specs.declared.reading.VariantName.{VariantName}
 use Rattle.facet_solver_reader.specs.declared.tables.Tables.{Tables}
 use Rattle.facet_solver_reader.specs.declared.count.Count.TheVariants.{One}
 use Rattle.facet_solver_reader.specs.Branches.{ReadsPart}
@@ -24,7 +23,7 @@ use Rattle.facet_solver_reader.specs.Reading.{IsPartCount, object_view}
 use Rattle.facet_solver_reader.specs.Readings.{ReadsValue}
 use Rattle.facet_solver_reader.specs.Rules.{Rules, anything}
 use Rattle.facet_solver_reader.specs.Tables.{rules_at}
-use Rattle.facet_solver_reader.specs.Told.{IsTold, Tells, TellsTaken, as_it_is, end_taken}
+use Rattle.facet_solver_reader.specs.Told.{IsTold, Tells, as_it_is}
 use Rattle.facet_solver_reader.specs.Told.{is_absent, is_present, texts}
 use Rattle.facet_solver_reader.specs.ToldObjects.{IsToldField, IsToldRest, IsToldTaken, Rest}
 use Rattle.facet_solver_reader.proofs.CatchAlls.{catch_all_images, count_of_no_catch_all}

@@ -1,7 +1,7 @@
 -- What is told of the members of an object, one after another: those of a choice, and those that a
 -- catch-all takes.
 use Rattle.std.proofs.Common.{◌≡◌, ◌∙◌, sym, ap, subst, refl, ℕ, zero, suc, ◌+◌, ◌<◌, List, [], ◌∷◌}
-use Rattle.std.proofs.Common.{◌++◌, take, get_or, length, slice_get, map, Option, Some, None, arith}
+use Rattle.std.proofs.Common.{◌++◌, take, slice_get, map, Option, Some, None, arith}
 use Rattle.std.proofs.lemmas.List.{append-nil, take_more}
 use Rattle.std.proofs.lemmas.List.Elements.{All-head, All-tail}
 use Rattle.std.proofs.lemmas.Option.{get_or_from_slice_get, slice_get_within}
@@ -24,7 +24,7 @@ use Rattle.facet_solver_reader.specs.Parts.{CatchAll, MemberPart, Part, a_catch_
 use Rattle.facet_solver_reader.specs.Planned.{IsOnlyAt, IsOnlyStep, Planned, choice_of, planned_of}
 use Rattle.facet_solver_reader.specs.Reading.{object_view}
 use Rattle.facet_solver_reader.specs.Readings.{ReadsValue}
-use Rattle.facet_solver_reader.specs.Rules.{End, Rules}
+use Rattle.facet_solver_reader.specs.Rules.{Rules}
 use Rattle.facet_solver_reader.specs.Steps.{Step, a_field, a_rest, a_variant}
 use Rattle.facet_solver_reader.specs.Tables.{rules_at}
 use Rattle.facet_solver_reader.specs.Told.{Tells, TellsField, TellsFields, TellsTaken, end_taken}
@@ -78,6 +78,7 @@ module _ (rules : Rules) (shapes : Catalogue) (object : Object) (k : CatchAll) w
   nothing_taken =
       record { takes = none_left; reads = tt; tells = none_taken (end_taken rules k) }
 
+  -- so where there are no members
   pub none_told : (ms : List Member) (ns : List Name) (ws : List code.Reading) → ms ≡ [] → ns ≡ []
       → ws ≡ [] → TakenTold ms ns ws
   none_told ms ns ws e f g =

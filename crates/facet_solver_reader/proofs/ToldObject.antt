@@ -1,6 +1,6 @@
 -- The reading of an object is told: by what its steps go through, the readings of its members, and
 -- what becomes of the members of no known name.
-use Rattle.std.proofs.Common.{◌≡◌, ◌∙◌, sym, ap, subst, ℕ, zero, suc, List, [], ◌∷◌, map, Option}
+use Rattle.std.proofs.Common.{◌≡◌, ◌∙◌, sym, ap, subst, ℕ, zero, suc, List, [], ◌∷◌, map}
 use Rattle.std.proofs.Common.{Some, None, Vec, Global, slice_get, arith, ◌<◌, refl, Bor}
 use Rattle.std.proofs.lemmas.List.Elements.{All-cons, All-head, All-nil, All-tail}
 use Rattle.std.proofs.lemmas.Option.{slice_get_within}
@@ -23,7 +23,7 @@ use Rattle.facet_solver_reader.specs.Nodes.{members_in, value_of}
 use Rattle.facet_solver_reader.specs.Objects.{ReadsObject}
 use Rattle.facet_solver_reader.specs.Parts.{CatchAll, MemberPart, a_catch_all, a_member}
 use Rattle.facet_solver_reader.specs.Planned as planned
-use Rattle.facet_solver_reader.specs.Planned.{IsOnlyAt, IsOnlyStep, IsPlan, Planned, StepIsServed}
+use Rattle.facet_solver_reader.specs.Planned.{IsOnlyStep, IsPlan, Planned, StepIsServed}
 use Rattle.facet_solver_reader.specs.Planned.{planned_of, step_view}
 use Rattle.facet_solver_reader.specs.Reading.{object_view}
 use Rattle.facet_solver_reader.specs.Readings.{ReadsValue}
@@ -97,6 +97,7 @@ module _ (t : Tables) (nodes : Nodes) (o : read.Object) where
       members_of_steps ss (All-tail P (a_rest k u) ss h)
 
   module _ (steps : List code_step.Step) (plan : IsPlan t nodes o steps) where
+    -- so has it by those among the steps of a plan
     pub members_of_plan : AreOnlyMembers t nodes o (found.members_in (map step_view steps))
     members_of_plan =
         subst (λ (ss : List Planned). AreOnlyMembers t nodes o (found.members_in ss)) plan.planned

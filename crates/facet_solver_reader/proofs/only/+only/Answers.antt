@@ -7,7 +7,8 @@ use Rattle.facet_solver_reader.specs.Reached.{IsRanked}
 use Rattle.facet_solver_reader.specs.Reading.{AreSound, IsCount}
 use Rattle.facet_solver_reader.specs.Tables.{IsServed, rules_at}
 use Rattle.facet_solver_reader.specs.ToldAt.{IsToldAt}
-use Rattle.std.proofs.Common.{map, refl, sym, ap, subst, ◌∙◌, take, take_all, Some, None, slice_get, not, option_map, arith}
+use Rattle.std.proofs.Common.{map, refl, sym, ap, subst, ◌∙◌, take, take_all, Some, None, slice_get}
+use Rattle.std.proofs.Common.{not, option_map, arith}
 use Rattle.std.proofs.lemmas.List.{length-map, map-append}
 use Rattle.std.proofs.lemmas.Option.{slice_get_read, slice_get_within}
 use Rattle.facet_solver_shape.specs.Names.{Name}
@@ -47,10 +48,12 @@ use Rattle.facet_solver_reader.proofs.ToldObject.{member_at, members_of_plan, no
 use Rattle.facet_solver_reader.proofs.ToldObject.{rest_is_ignored, rest_is_taken, rest_of_plan, rest_served}
 use Rattle.facet_solver_reader.proofs.ToldObject.{told_by_plan}
 use Rattle.facet_solver_reader.proofs.UnknownNames.{are_unknown}
-use Rattle.facet_solver_reader.proofs.only.+only.Goals.{members::read_fields-in-Field+in_ok-reading+in_ok-push, members::read_fields-in_default}
+use Rattle.facet_solver_reader.proofs.only.+only.Goals.{members::read_fields-in-Field+in_ok-reading+in_ok-push}
+use Rattle.facet_solver_reader.proofs.only.+only.Goals.{members::read_fields-in_default}
 use Rattle.facet_solver_reader.proofs.only.+only.Goals.{members::read_rest-then-not-has_name+in_ok-reading+in_ok-push+in_ok-push-2}
 use Rattle.facet_solver_reader.proofs.only.+only.Goals.{members::read_rest-else-not-has_name}
-use Rattle.facet_solver_reader.proofs.only.+only.Goals.{object::read_steps-in-Some+in_ok-read_rest-in-Some, object::read_steps-in-None}
+use Rattle.facet_solver_reader.proofs.only.+only.Goals.{object::read_steps-in-Some+in_ok-read_rest-in-Some}
+use Rattle.facet_solver_reader.proofs.only.+only.Goals.{object::read_steps-in-None}
 use Rattle.facet_solver_reader.proofs.only.+only.Goals.{object::read_steps-in-Some-catch_all_in}
 use Rattle.facet_solver_reader.proofs.only.+only.Goals.{object::read_steps-in-None-catch_all_in+in_ok-ignored-in-None-catch_all_in}
 use Rattle.facet_solver_reader.proofs.only.+only.Goals as goal
