@@ -26,8 +26,8 @@ use Rattle.facet_solver_reader.specs.Planned.{IsPlan, StepIsServed, step_view}
 use Rattle.facet_solver_reader.specs.Reading.{IsListed, object_view}
 use Rattle.facet_solver_reader.specs.Readings.{ReadsValue}
 use Rattle.facet_solver_reader.specs.Tables.{PartIsServed}
-use Rattle.facet_solver_reader.specs.Told.{AreUnknown, IsTold, TellsRest, TellsTaken, end_taken, rest_in}
-use Rattle.facet_solver_reader.specs.Told.{texts}
+use Rattle.facet_solver_reader.specs.Told.{AreUnknown, IsTold, TellsRest, TellsTaken, end_taken}
+use Rattle.facet_solver_reader.specs.Told.{rest_in, texts}
 use Rattle.facet_solver_reader.specs.ToldObjects.{AreToldFields, IsToldField, IsToldTaken, Rest}
 use Rattle.facet_solver_reader.specs.Views.{catch_all_view, list_view, member_view}
 use Rattle.facet_solver_reader.proofs.CountingLists.{child_of_member, found_levels, member_within}
@@ -45,8 +45,8 @@ use Rattle.facet_solver_reader.proofs.TableRanks.{ranked_shape, ranked_target}
 use Rattle.facet_solver_reader.proofs.ToldMembers.{TakenTold, more_field, more_passed, more_taken}
 use Rattle.facet_solver_reader.proofs.ToldMembers.{no_field_more, none_told, one_taken_at}
 use Rattle.facet_solver_reader.proofs.ToldObject.{member_at, members_of_plan, no_member}
-use Rattle.facet_solver_reader.proofs.ToldObject.{rest_is_ignored, rest_is_taken, rest_of_plan, rest_served}
-use Rattle.facet_solver_reader.proofs.ToldObject.{told_by_plan}
+use Rattle.facet_solver_reader.proofs.ToldObject.{rest_is_ignored, rest_is_taken, rest_of_plan}
+use Rattle.facet_solver_reader.proofs.ToldObject.{rest_served, told_by_plan}
 use Rattle.facet_solver_reader.proofs.UnknownNames.{are_unknown}
 use Rattle.facet_solver_reader.proofs.only.+only.Goals.{members::read_fields-in-Field+in_ok-reading+in_ok-push}
 use Rattle.facet_solver_reader.proofs.only.+only.Goals.{members::read_fields-in_default}
