@@ -1,5 +1,5 @@
--- Where an object has one reading, by whatever it does with its members of no known name, it has one
--- by the list of its parts.
+-- Where an object has one reading, whatever becomes of its members of no known name, it has one by
+-- the list of its parts.
 use Rattle.std.proofs.Common.{◌≡◌, ◌↔◌, subst, ⊎_elim, List, Bool, true, false, not, IsTrue, refl}
 use Rattle.facet_solver_reader.specs.declared.count.Count.{Count}
 use Rattle.facet_solver_reader.specs.declared.count.Count.TheVariants.{One, None as NoReading}
@@ -43,7 +43,8 @@ module _ (rules : Rules) (reads : Reads) (members : List Member) (list : ListId)
 
   -- its readings by the list are all that there are
   pub reads_by_list : (n : Count) (none : Bool) → IsTrue none ↔ (n ≡ NoReading)
-      → Counted (ReadsAll rules reads members list) n → Counted (ReadsObject rules reads list members) One
+      → Counted (ReadsAll rules reads members list) n
+      → Counted (ReadsObject rules reads list members) One
       → (c : Choice)
       → ReadsList rules reads (taken_unless none) list c
       ↔ ReadsObject rules reads list members c
@@ -61,7 +62,8 @@ module _ (rules : Rules) (reads : Reads) (members : List Member) (list : ListId)
 
   -- so there is one by the list
   pub one_by_list : (n : Count) (none : Bool) → IsTrue none ↔ (n ≡ NoReading)
-      → Counted (ReadsAll rules reads members list) n → Counted (ReadsObject rules reads list members) One
+      → Counted (ReadsAll rules reads members list) n
+      → Counted (ReadsObject rules reads list members) One
       → Counted (ReadsList rules reads (taken_unless none) list) One
   one_by_list n none iff h one =
       counted_same (ReadsObject rules reads list members)

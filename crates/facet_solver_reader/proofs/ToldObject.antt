@@ -29,11 +29,11 @@ use Rattle.facet_solver_reader.specs.Reading.{object_view}
 use Rattle.facet_solver_reader.specs.Readings.{ReadsValue}
 use Rattle.facet_solver_reader.specs.Steps.{Step, a_field, a_rest, a_variant}
 use Rattle.facet_solver_reader.specs.Tables.{PartIsServed, rules_at}
-use Rattle.facet_solver_reader.specs.Told.{AreUnknown, TellsRest, TellsTaken, all_ignored, all_taken}
-use Rattle.facet_solver_reader.specs.Told.{end_taken, place_view, rest_in, steps_told, texts}
+use Rattle.facet_solver_reader.specs.Told.{AreUnknown, TellsRest, TellsTaken, all_ignored}
+use Rattle.facet_solver_reader.specs.Told.{all_taken, end_taken, place_view, rest_in, steps_told, texts}
 use Rattle.facet_solver_reader.specs.ToldAt.{IsToldBy}
-use Rattle.facet_solver_reader.specs.ToldObjects.{AreOnlyMembers, AreToldFields, IsOnlyOf, IsToldRest}
-use Rattle.facet_solver_reader.specs.ToldObjects.{Rest}
+use Rattle.facet_solver_reader.specs.ToldObjects.{AreOnlyMembers, AreToldFields, IsOnlyOf}
+use Rattle.facet_solver_reader.specs.ToldObjects.{IsToldRest, Rest}
 use Rattle.facet_solver_reader.specs.Views.{list_view}
 use Rattle.facet_solver_reader.proofs.FoundSteps.{all_rest, no_rest, places_planned}
 use Rattle.facet_solver_reader.proofs.FoundSteps.{selections_planned, some_rest}
