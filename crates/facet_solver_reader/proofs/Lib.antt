@@ -86,3 +86,4 @@ pub mod OneObject
 pub mod OneParts
 pub mod ToldObject
 pub mod FirstRest
+pub mod MoreSteps

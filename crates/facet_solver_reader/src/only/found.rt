@@ -23,7 +23,17 @@ pub(super) fn selections_in<'c>(
     ensures { IfOk result (λ selections. map selection_view selections.items
         ≡ spec.selections_in shapes.now (map step_view steps.now)) }
 {
-    Err(AllocError)
+    let mut selections = Vec::new(alloc);
+    for step in steps {
+        if let Step::Variant(path, shape, variant) = step {
+            selections.push(VariantSelection {
+                path: copied(alloc, path)?,
+                enum_name: shape_name(shapes, *shape),
+                variant_name: variant_name(shapes, *shape, *variant),
+            })?;
+        }
+    }
+    Ok(selections)
 }
 
 /// Where the members among steps stand.
@@ -34,7 +44,16 @@ pub(super) fn places_in<'c>(
     ensures { IfOk result (λ places. map place_view places.items
         ≡ spec.places_in (map step_view steps.now)) }
 {
-    Err(AllocError)
+    let mut places = Vec::new(alloc);
+    for step in steps {
+        if let Step::Field(path, member) = step {
+            places.push(FieldPlace {
+                path: copied(alloc, path)?,
+                name: member.name,
+            })?;
+        }
+    }
+    Ok(places)
 }
 
 /// The first catch-all among steps.
