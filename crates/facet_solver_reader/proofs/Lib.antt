@@ -86,3 +86,9 @@ pub mod ToldSeveral
 pub mod NothingTold
 pub mod UnknownNames
 pub mod FoundSteps
+pub mod ToldMembers
+pub mod OneObject
+pub mod OneParts
+pub mod ToldObject
+pub mod FirstRest
+pub mod MoreSteps

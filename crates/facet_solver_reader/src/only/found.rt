@@ -26,9 +26,8 @@ pub(super) fn selections_in<'c>(
     let mut selections = Vec::new(alloc);
     for step in steps {
         if let Step::Variant(path, shape, variant) = step {
-            let path = copied(alloc, path)?;
             selections.push(VariantSelection {
-                path,
+                path: copied(alloc, path)?,
                 enum_name: shape_name(shapes, *shape),
                 variant_name: variant_name(shapes, *shape, *variant),
             })?;
@@ -48,9 +47,8 @@ pub(super) fn places_in<'c>(
     let mut places = Vec::new(alloc);
     for step in steps {
         if let Step::Field(path, member) = step {
-            let path = copied(alloc, path)?;
             places.push(FieldPlace {
-                path,
+                path: copied(alloc, path)?,
                 name: member.name,
             })?;
         }
