@@ -152,5 +152,11 @@ pub(super) fn ignored_names<'d>(
     ensures { IfOk result (λ names. texts names.items ≡ unknown_names object.now.list.now
         (members_in (value_of nodes.now object.now.node))) }
 {
-    Err(AllocError)
+    let mut names = Vec::new(alloc);
+    for member in members_of(nodes.value(object.node)) {
+        if !object.list.has_name(member.0) {
+            names.push(member.0)?;
+        }
+    }
+    Ok(names)
 }
