@@ -2,6 +2,8 @@
 ghost use Rattle.std.specs.Prelude.{◌≡◌, []};
 ghost use Rattle.facet_solver_reader.specs.declared.reading.ReadingKind.TheVariants as kinds;
 
+mod text;
+
 use crate::document::Document;
 use facet_solver_shape::{FieldPath, VariantSelection};
 use std::alloc::Global;
