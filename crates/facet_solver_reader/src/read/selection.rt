@@ -69,12 +69,18 @@ fn count_branch(
     let Some(index) = tables.slots.index_of(branch) else {
         return Count::None;
     };
-    if !fits(tables, nodes, object, selection, &tables.lists[index]) {
+    let Ok(position) = object.list.below.binary_search(&index) else {
+        return Count::None;
+    };
+    let count = counts[position];
+    // Names are compared only where the branch reads the object.
+    if count.is_none() {
         return Count::None;
     }
-    match object.list.below.binary_search(&index) {
-        Ok(position) => counts[position],
-        Err(_) => Count::None,
+    if fits(tables, nodes, object, selection, &tables.lists[index]) {
+        count
+    } else {
+        Count::None
     }
 }
 
