@@ -164,6 +164,23 @@ module _ (rules : Rules) (reads : Reads) (object : Object) (s : Selection) where
         out (taking t) w = absurd w
         out (choosing j c) w = (c, list_reads j c w, ap (λ i. choosing i c) w.0)
 
+    -- the only branch of a selection has all that the selection knows
+    pub only_fits : length s.branches ≡ 1 → Fits rules object s id
+    only_fits one x has known =
+        let within = slice_get_within s.branches k id e in
+        let there = slice_get_within s.branches known.branch known.chooses.list
+        known.chooses.branch_is in
+        let same : known.branch ≡ k = omega (arith, within, there, one) in
+        let is : known.chooses.list ≡ id =
+        some_same (sym known.chooses.branch_is ∙ (ap (slice_get s.branches) same ∙ e)) in
+        subst (λ i. IsKnown (Chooses rules.lists i) x) is
+        (record {
+          choice = known.choice;
+          items = known.items;
+          chooses = known.chooses.chooses;
+          has = known.has;
+        })
+
     -- the count at a branch whose list fits
     pub count_at_branch : (n : Count) → Fits rules object s id → CanBePresent rules object s
         → Counted (ReadsList rules reads object id) n

@@ -77,9 +77,9 @@ fn count_branch(
         return Count::None;
     };
     let count = counts[position];
-    // Names are compared only where the branch reads the object.
-    if count.is_none() {
-        return Count::None;
+    // Names are compared only where the branch reads the object, and another may have more.
+    if count.is_none() || selection.branches.len() == 1 {
+        return count;
     }
     if fits(tables, nodes, object, selection, &tables.lists[index]) {
         count

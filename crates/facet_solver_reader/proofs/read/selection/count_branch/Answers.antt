@@ -1,4 +1,5 @@
-use Rattle.std.proofs.Common.{◌≡◌, ◌∙◌, ap, subst, ◌<◌, length, get_or}
+use Rattle.std.proofs.Common.{◌≡◌, ◌∙◌, ap, sym, subst, ◌<◌, length, get_or, arith}
+use Rattle.std.proofs.lemmas.List.{length-map}
 use Rattle.std.proofs.lemmas.Option.{slice_get-get_or}
 use Rattle.facet_solver_reader.specs.declared.count.Count.TheVariants.{None as NoReading}
 use Rattle.facet_solver_reader.specs.Branches.{Fits, Misfits, ReadsList}
@@ -9,7 +10,9 @@ use Rattle.facet_solver_reader.specs.Tables.{rules_at}
 use Rattle.facet_solver_reader.specs.Views.{list_view, selection_view}
 use Rattle.facet_solver_reader.proofs.CountingObjects.{halved_before, list_at, list_read}
 use Rattle.facet_solver_reader.proofs.Selections.{count_at_branch, count_at_misfit, count_at_none}
+use Rattle.facet_solver_reader.proofs.Selections.{only_fits}
 use Rattle.facet_solver_reader.proofs.read.selection.count_branch.Goals as goal
+use Rattle.facet_solver_reader.proofs.read.selection.count_branch.Goals.{then-is_none-via-then-is_none, then-is_none-via-else-is_none+then-len-eq1}
 
 pub returns-then-is_none : goal.returns-then-is_none
 returns-then-is_none c = λ k e.
@@ -25,15 +28,30 @@ returns-then-is_none c = λ k e.
     c.binary_search.result c.in-Some.ensures c.requires.before c.deref.ensures.value
     c.binary_search.ensures.position in
     let same : b.0 ≡ c.in-Ok.position = cc (b.3, c.in-Ok.is) in
-    let none : get_or counts b.0 NoReading ≡ NoReading =
-    ap (λ q. get_or counts q NoReading) same ∙ c.is_none.ensures.0 c.if-is_none.true in
-    let counted = c.requires.counts.are b.0 c.in-Some.index (get_or counts b.0 NoReading) at.entry
-    (slice_get-get_or counts b.0 NoReading b.1) b.2 at.is_there in
-    count_at_none rules (ReadsValue rules) object s k id e
-    (subst (Counted (ReadsList rules (ReadsValue rules) object id)) none
-    (subst
-    (λ i. Counted (ReadsList rules (ReadsValue rules) object i) (get_or counts b.0 NoReading))
-    at.same counted))
+    let count = get_or counts b.0 NoReading in
+    let counted : Counted (ReadsList rules (ReadsValue rules) object id) count =
+    subst (λ i. Counted (ReadsList rules (ReadsValue rules) object i) count) at.same
+    (c.requires.counts.are b.0 c.in-Some.index count at.entry
+    (slice_get-get_or counts b.0 NoReading b.1) b.2 at.is_there) in
+    let here : IsBranchCount t c.args.nodes.now c.args.object.now s k count =
+    elim c.then-is_none.branch [
+      | then-is_none-via-then-is_none w ↦
+          let none : count ≡ NoReading =
+          ap (λ q. get_or counts q NoReading) same ∙ c.is_none.ensures.0 w.if-is_none.true in
+          subst (λ n. IsBranchCount t c.args.nodes.now c.args.object.now s k n) (sym none)
+          (count_at_none rules (ReadsValue rules) object s k id e
+          (subst (Counted (ReadsList rules (ReadsValue rules) object id)) none counted))
+      | then-is_none-via-else-is_none+then-len-eq1 w ↦
+          let mapped = length-map c.args.selection.now.branches.items list_view in
+          let len = w.len.ensures in
+          let is_one = w.if-len-eq1.true in
+          let one : length s.branches ≡ 1 = omega (arith, mapped, len, is_one) in
+          count_at_branch rules (ReadsValue rules) object s k id e count
+          (only_fits rules (ReadsValue rules) object s k id e one) c.requires.present counted
+    ] in
+    subst
+    (λ q. IsBranchCount t c.args.nodes.now c.args.object.now s k (get_or counts q NoReading))
+    same here
 
 pub returns-else-fits : goal.returns-else-fits
 returns-else-fits c = λ k e.
