@@ -130,12 +130,12 @@ found_where_it_is xs x r q up h e = go r (searched xs x r h flat)
         sides i = grind arith
 
 -- what is so is not not so
-not_both : (b : Bool) → not b ≡ true → b ≡ true → ⊥
+pub not_both : (b : Bool) → not b ≡ true → b ≡ true → ⊥
 not_both true p q = absurd (cc)
 not_both false p q = absurd (cc)
 
 -- what cannot be so is not so
-other : (b : Bool) → (b ≡ true → ⊥) → not b ≡ true
+pub other : (b : Bool) → (b ≡ true → ⊥) → not b ≡ true
 other true f = absurd (f refl)
 other false f = refl
 
@@ -163,7 +163,7 @@ not_false true p = refl
 not_false false p = absurd (cc)
 
 -- where there are both, there is one and the other
-both : (a b : Bool) → IsTrue (a && b) ↔ (IsTrue a × IsTrue b)
+pub both : (a b : Bool) → IsTrue (a && b) ↔ (IsTrue a × IsTrue b)
 both true b = (λ p. (refl, p), λ p. p.1)
 both false b = (λ p. absurd (cc), λ p. p.0)
 

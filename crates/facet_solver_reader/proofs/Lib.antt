@@ -15,6 +15,7 @@ pub mod Distinct
 pub mod Repeated
 pub mod RepeatedNames
 pub mod Touching
+pub mod KnownNames
 pub mod TakenInOrder
 pub mod TheOnly
 pub mod SameReads

@@ -112,6 +112,29 @@ module _ (rules : Rules) (reads : Reads) (object : Object) (s : Selection) where
       key_behind s w.chooses.of_branch x (subst (λ is. HasKey is x) w.chooses.items_are n)
 
   module _ (k : ℕ) (id : ListId) (e : slice_get s.branches k ≡ Some id) where
+    -- the choice of a reading at the branch reads the object by its list
+    pub list_reads : (j : ℕ) (c : Choice) → ReadsAt R k (choosing j c)
+        → ReadsList rules reads object id c
+    list_reads j c w =
+        let r = w.1 in
+        let of_branch = r.chooses.of_branch in
+        record {
+          items = of_branch;
+          chooses = choice_at rules.lists s j id c of_branch
+              (ap (slice_get s.branches) w.0 ∙ e) r.chooses.chooses;
+          known = λ x has known.
+              branch_known j c r x
+              (r.known x has (known_by_branch rules.lists s x (record {
+                branch = k;
+                choice = known.choice;
+                items = known.items;
+                chooses = record { list = id; branch_is = e; chooses = known.chooses };
+                has = known.has;
+              })));
+          agrees = Agrees-right rules reads object (presence s) of_branch
+              (subst (Agrees rules reads object) r.chooses.items_are r.agrees);
+        }
+
     -- the readings of a branch whose list fits are those of the list
     pub at_branch : Fits rules object s id → CanBePresent rules object s
         → AreImages (ReadsList rules reads object id)
@@ -139,28 +162,24 @@ module _ (rules : Rules) (reads : Reads) (object : Object) (s : Selection) where
         out (having q) w = absurd w
         out without w = absurd w
         out (taking t) w = absurd w
-        out (choosing j c) w =
-            let r = w.1 in
-            let of_branch = r.chooses.of_branch in (
-              c,
-              record {
-                items = of_branch;
-                chooses = choice_at rules.lists s j id c of_branch
-                    (ap (slice_get s.branches) w.0 ∙ e) r.chooses.chooses;
-                known = λ x has known.
-                    branch_known j c r x
-                    (r.known x has (known_by_branch rules.lists s x (record {
-                      branch = k;
-                      choice = known.choice;
-                      items = known.items;
-                      chooses = record { list = id; branch_is = e; chooses = known.chooses };
-                      has = known.has;
-                    })));
-                agrees = Agrees-right rules reads object (presence s) of_branch
-                    (subst (Agrees rules reads object) r.chooses.items_are r.agrees);
-              },
-              ap (λ i. choosing i c) w.0,
-            )
+        out (choosing j c) w = (c, list_reads j c w, ap (λ i. choosing i c) w.0)
+
+    -- the only branch of a selection has all that the selection knows
+    pub only_fits : length s.branches ≡ 1 → Fits rules object s id
+    only_fits one x has known =
+        let within = slice_get_within s.branches k id e in
+        let there = slice_get_within s.branches known.branch known.chooses.list
+        known.chooses.branch_is in
+        let same : known.branch ≡ k = omega (arith, within, there, one) in
+        let is : known.chooses.list ≡ id =
+        some_same (sym known.chooses.branch_is ∙ (ap (slice_get s.branches) same ∙ e)) in
+        subst (λ i. IsKnown (Chooses rules.lists i) x) is
+        (record {
+          choice = known.choice;
+          items = known.items;
+          chooses = known.chooses.chooses;
+          has = known.has;
+        })
 
     -- the count at a branch whose list fits
     pub count_at_branch : (n : Count) → Fits rules object s id → CanBePresent rules object s
@@ -190,6 +209,18 @@ module _ (rules : Rules) (reads : Reads) (object : Object) (s : Selection) where
               has = branch_known j c r m.key
                   (r.known m.key m.has (known_by_branch rules.lists s m.key m.known));
             })
+
+    -- nor has one whose list has none
+    pub count_at_none : Counted (ReadsList rules reads object id) NoReading
+        → Counted (ReadsAt (ReadsPart rules reads object (a_selection s)) k) NoReading
+    count_at_none h = none
+      where
+        none : (z : ChoiceAt) → ReadsAt R k z → ⊥
+        none lacking w = w
+        none (having q) w = w
+        none without w = w
+        none (taking t) w = w
+        none (choosing j c) w = h c (list_reads j c w)
 
     -- nor has one whose list has no choice
     pub count_at_no_choice : (HasChoice (Chooses rules.lists id) → ⊥)

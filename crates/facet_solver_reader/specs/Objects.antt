@@ -1,5 +1,6 @@
 -- The readings of an object by a list of parts.
 use Rattle.std.specs.Prelude.{◌≡◌, ◌⊎◌, ⊤, Bool, true, false, IsTrue, List, [], ◌∷◌, if◌then◌else◌, Option, Some, None}
+use Rattle.std.specs.Option.{is_some}
 use Rattle.std.specs.Str.{bytes_eq}
 use Rattle.facet_solver_shape.specs.Names.{Name}
 use Rattle.facet_solver_reader.specs.Documents.{Tree, Member}
@@ -21,6 +22,10 @@ find (m ∷ ms) x = if bytes_eq m.name x then Some m.value else find ms x
 pub record HasNamed (members : List Member) (x : Name) : Type 0 where
   pub value : Tree
   pub found : find members x ≡ Some value
+
+-- whether it has one
+abbrev pub has_name : List Member → Name → Bool
+has_name ms x = is_some (find ms x)
 
 -- the members of an object, the list of parts that it is read by, and whether catch-alls take the
 -- members of no known name. If they don't, choices with a catch-all don't read it

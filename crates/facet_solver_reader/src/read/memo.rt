@@ -15,22 +15,60 @@ pub(crate) enum Asked {
     Content(ShapeId, usize),
 }
 
+impl Asked {
+    /// A number that tells apart most of what is asked of one value.
+    fn key(&self) -> usize {
+        match self {
+            Asked::Shape(shape) => shape.index(),
+            Asked::Content(shape, variant) => shape.index().wrapping_add(*variant),
+        }
+    }
+}
+
 /// How often a value is read as what was asked.
 #[derive(Clone, Copy, Debug)]
 pub(crate) struct MemoEntry {
     pub(crate) node: usize,
     pub(crate) asked: Asked,
     pub(crate) count: Count,
-    /// One more than the index of the entry before it of the same value, or 0.
-    pub(crate) before: usize,
+}
+
+/// The ways on from an entry, by a bit of the key that is sought: to one more than the index of a
+/// later entry of the same value, or 0.
+#[derive(Clone, Copy, Debug)]
+struct Ways {
+    zero: usize,
+    one: usize,
+}
+
+impl Ways {
+    /// The way on by the lowest bit of a key.
+    fn by(&self, key: usize) -> usize {
+        if key % 2 == 0 { self.zero } else { self.one }
+    }
+
+    /// Leads that way to a number.
+    fn lead(&mut self, key: usize, number: usize) {
+        if key % 2 == 0 {
+            self.zero = number;
+        } else {
+            self.one = number;
+        }
+    }
 }
 
 /// The counts of the values of one document.
+///
+/// Those of a value are a tree by the bits of what was asked, so that one is found in a few steps,
+/// however much was asked of the value. No clause says so: a count that no way leads to would be
+/// found anew.
 #[derive(Debug, Drop)]
 pub(crate) struct Memo {
-    /// One more than the index of the last entry of each value, or 0.
-    last: Vec<usize>,
+    /// One more than the index of the first entry of each value, or 0.
+    first: Vec<usize>,
     entries: Vec<MemoEntry>,
+    /// Those of each entry.
+    ways: Vec<Ways>,
 }
 
 impl Memo {
@@ -38,13 +76,14 @@ impl Memo {
     pub(crate) fn new(alloc: Global, nodes: usize) -> Result<Memo, AllocError>
         ensures { IfOk result (λ memo. memo.entries.items ≡ []) }
     {
-        let mut last = Vec::with_capacity(alloc, nodes)?;
+        let mut first = Vec::with_capacity(alloc, nodes)?;
         for _ in 0..nodes {
-            last.push(0)?;
+            first.push(0)?;
         }
         Ok(Memo {
-            last,
+            first,
             entries: Vec::new(alloc),
+            ways: Vec::new(alloc),
         })
     }
 
@@ -52,14 +91,20 @@ impl Memo {
     pub(crate) fn get(&self, node: usize, asked: &Asked) -> Option<Count>
         ensures { IfSome result (IsNoted self.now.entries.items node (asked_view asked.now)) }
     {
-        let mut cursor = *self.last.get(node)?;
+        let mut cursor = *self.first.get(node)?;
+        let mut key = asked.key();
         while cursor > 0 {
             let entry = self.entries.get(cursor - 1)?;
             if entry.node == node && entry.asked == *asked {
                 return Some(entry.count);
             }
-            // The entry before it has a lower index, so that the way ends.
-            cursor = entry.before.min(cursor - 1);
+            let next = self.ways.get(cursor - 1)?.by(key);
+            // A way on leads to a later entry, so that it ends.
+            if next <= cursor {
+                return None;
+            }
+            cursor = next;
+            key /= 2;
         }
         None
     }
@@ -70,20 +115,38 @@ impl Memo {
             self.new.entries.items) }
         ensures err { OnErr result (self.new.entries.items ≡ self.old.entries.items) }
     {
-        let before = match self.last.get(node) {
-            Some(before) => *before,
-            None => 0,
-        };
+        self.ways.push(Ways { zero: 0, one: 0 })?;
         self.entries.push(MemoEntry {
             node,
             asked: *asked,
             count,
-            before,
         })?;
-        let index = self.entries.len();
-        if let Some(last) = self.last.get_mut(node) {
-            *last = index;
+        let number = self.entries.len();
+        if let Some(first) = self.first.get_mut(node) {
+            if *first == 0 {
+                *first = number;
+            } else {
+                lead(&mut self.ways, *first, asked.key(), number);
+            }
         }
         Ok(())
+    }
+}
+
+/// Leads the way of a key, from an entry on, to a new one.
+fn lead(ways: &mut Vec<Ways>, first: usize, key: usize, number: usize) {
+    let mut cursor = first;
+    let mut key = key;
+    while cursor > 0 && cursor < number {
+        let Some(way) = ways.get_mut(cursor - 1) else {
+            return;
+        };
+        let next = way.by(key);
+        if next <= cursor {
+            way.lead(key, number);
+            return;
+        }
+        cursor = next;
+        key /= 2;
     }
 }

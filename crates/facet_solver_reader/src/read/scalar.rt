@@ -2,7 +2,7 @@
 ghost use Rattle.std.specs.Prelude.{◌≡◌};
 ghost use Rattle.facet_solver_reader.specs.Counted.{Counted};
 ghost use Rattle.facet_solver_reader.specs.Documents.{view};
-ghost use Rattle.facet_solver_reader.specs.Values.{ReadsScalar, is_scalar_end, is_scalar_of};
+ghost use Rattle.facet_solver_reader.specs.Values.{ReadsScalar, is_scalar_of};
 ghost use Rattle.facet_solver_reader.specs.Views.{end_view};
 
 use crate::count::Count;
@@ -10,10 +10,9 @@ use crate::document::Document;
 use crate::end::End;
 use crate::key::has_one_char;
 
-/// Whether a shape that comes to this asks nothing else of a value, nor of those within.
-pub(super) fn is_scalar_end(end: &End<'_>) -> bool
-    ensures { result ≡ is_scalar_end (end_view end.now) }
-{
+/// Whether nothing need be kept of what a shape comes to: it is told at once, or an option, of which
+/// the inside is kept.
+pub(super) fn is_told_at_once(end: &End<'_>) -> bool {
     match end {
         End::Null
         | End::Truth
@@ -21,7 +20,8 @@ pub(super) fn is_scalar_end(end: &End<'_>) -> bool
         | End::Float
         | End::Text
         | End::Character
-        | End::Anything => true,
+        | End::Anything
+        | End::Option(_) => true,
         _ => false,
     }
 }

@@ -1,14 +1,16 @@
 //! The readings of an object by a selection.
-ghost use Rattle.std.specs.Prelude.{◌≡◌, ◌↔◌, ◌&&◌, ℕ, All, IsTrue, Some, false, length, slice_get};
-ghost use Rattle.facet_solver_reader.specs.Branches.{CanBePresent, Fits, Misfits};
+ghost use Rattle.std.specs.Prelude.{◌≡◌, ◌↔◌, ◌&&◌, ◌<◌, ℕ, All, IsSorted, IsTrue, Some, false, length, not, slice_get};
+ghost use Rattle.std.specs.List.{list_any};
+ghost use Rattle.facet_solver_shape.specs.Names.{name_ref_cmp};
+ghost use Rattle.facet_solver_reader.specs.Branches.{CanBePresent, Fits, KnowsMember, KnowsOther, Misfits};
 ghost use Rattle.facet_solver_reader.specs.Known.{Chooses, IsKnown, IsKnownIn, named, rest};
-ghost use Rattle.facet_solver_reader.specs.Objects.{Touches};
+ghost use Rattle.facet_solver_reader.specs.Nodes.{count, members_in, value_of, IsNumbering};
+ghost use Rattle.facet_solver_reader.specs.Objects.{Touches, has_name};
 ghost use Rattle.facet_solver_reader.specs.Parts.{a_selection};
 ghost use Rattle.facet_solver_reader.specs.Reading.{AreListCounts, IsBranchCount, IsListed, IsObject, IsPartCount, object_view};
-ghost use Rattle.facet_solver_reader.specs.Tables.{AreTables, BranchIsBefore, ListIsServed, PartIsBefore, rules_at};
+ghost use Rattle.facet_solver_reader.specs.Tables.{AreTables, BranchIsBefore, ListIsServed, PartIsBefore, knows, rules_at};
 ghost use Rattle.facet_solver_reader.specs.Views.{list_view, selection_view};
 
-use super::members::members_of;
 use super::object::Object;
 use crate::count::Count;
 use crate::nodes::Nodes;
@@ -26,6 +28,7 @@ pub(super) fn count_selection(
     counts: &[Count],
 ) -> Count
     requires tables { AreTables tables.now }
+    requires numbering { IsNumbering nodes.now }
     requires object { IsObject tables.now nodes.now object.now }
     requires counts { AreListCounts tables.now nodes.now object.now counts.now }
     requires served { All (ListIsServed tables.now) (selection_view selection.now).branches }
@@ -54,6 +57,7 @@ pub(super) fn count_branch(
     counts: &[Count],
 ) -> Count
     requires tables { AreTables tables.now }
+    requires numbering { IsNumbering nodes.now }
     requires object { IsObject tables.now nodes.now object.now }
     requires counts { AreListCounts tables.now nodes.now object.now counts.now }
     requires served { All (ListIsServed tables.now) (selection_view selection.now).branches }
@@ -69,12 +73,18 @@ pub(super) fn count_branch(
     let Some(index) = tables.slots.index_of(branch) else {
         return Count::None;
     };
-    if !fits(tables, nodes, object, selection, &tables.lists[index]) {
+    let Ok(position) = object.list.below.binary_search(&index) else {
         return Count::None;
+    };
+    let count = counts[position];
+    // Names are compared only where the branch reads the object, and another may have more.
+    if count.is_none() || selection.branches.len() == 1 {
+        return count;
     }
-    match object.list.below.binary_search(&index) {
-        Ok(position) => counts[position],
-        Err(_) => Count::None,
+    if fits(tables, nodes, object, selection, &tables.lists[index]) {
+        count
+    } else {
+        Count::None
     }
 }
 
@@ -86,13 +96,14 @@ pub(super) fn touches(
     selection: &Selection,
 ) -> bool
     requires tables { AreTables tables.now }
+    requires numbering { IsNumbering nodes.now }
     requires object { IsObject tables.now nodes.now object.now }
     requires served { All (ListIsServed tables.now) (selection_view selection.now).branches }
     ensures { IsTrue result ↔ Touches (rules_at tables.now) (object_view nodes.now object.now)
         (selection_view selection.now) }
 {
-    for member in members_of(nodes.value(object.node)) {
-        if knows_name(tables, selection, member.0) {
+    for branch in &selection.branches {
+        if knows_member(tables, nodes, object.node, *branch) {
             return true;
         }
     }
@@ -119,6 +130,7 @@ fn fits(
     list: &List<'_>,
 ) -> bool
     requires tables { AreTables tables.now }
+    requires numbering { IsNumbering nodes.now }
     requires object { IsObject tables.now nodes.now object.now }
     requires served { All (ListIsServed tables.now) (selection_view selection.now).branches }
     requires listed { IsListed tables.now list.now }
@@ -127,40 +139,81 @@ fn fits(
     ensures no { result ≡ false → Misfits (rules_at tables.now) (object_view nodes.now object.now)
         (selection_view selection.now) (list_view list.now.id) }
 {
-    for member in members_of(nodes.value(object.node)) {
-        if !list.has_name(member.0) && knows_name(tables, selection, member.0) {
+    for branch in &selection.branches {
+        if knows_other(tables, nodes, object.node, *branch, list) {
             return false;
         }
     }
     list.takes_rest || !touches_rest(tables, object, selection)
 }
 
-/// Whether a choice of a branch has a member of the name.
-fn knows_name(tables: &Tables<'_>, selection: &Selection, name: &str) -> bool
+/// Whether a choice of a branch has a member that an object has. Its names are looked up among the
+/// object's, so that all selections of a list cost no more than the names of its choices.
+fn knows_member(tables: &Tables<'_>, nodes: &Nodes<'_, '_>, node: usize, branch: ListId) -> bool
     requires tables { AreTables tables.now }
-    requires served { All (ListIsServed tables.now) (selection_view selection.now).branches }
-    ensures { IsTrue result ↔ IsKnownIn (rules_at tables.now).lists
-        (selection_view selection.now) (named name.now) }
-{
-    for branch in &selection.branches {
-        if branch_knows_name(tables, *branch, name) {
-            return true;
-        }
-    }
-    false
-}
-
-/// Whether a choice of one branch has a member of the name.
-fn branch_knows_name(tables: &Tables<'_>, branch: ListId, name: &str) -> bool
-    requires tables { AreTables tables.now }
+    requires numbering { IsNumbering nodes.now }
+    requires inside { node < count nodes.now }
     requires served { ListIsServed tables.now (list_view branch) }
-    ensures { IsTrue result ↔ IsKnown (Chooses (rules_at tables.now).lists (list_view branch))
-        (named name.now) }
+    ensures { IsTrue result ↔ KnowsMember (rules_at tables.now)
+        (members_in (value_of nodes.now node)) (list_view branch) }
 {
     match tables.list(branch) {
-        Some(list) => list.has_name(name),
+        Some(known) => has_any(nodes, node, &known.names),
         None => false,
     }
+}
+
+/// Whether an object has a member of one of some names.
+fn has_any(nodes: &Nodes<'_, '_>, node: usize, names: &[&str]) -> bool
+    requires numbering { IsNumbering nodes.now }
+    requires inside { node < count nodes.now }
+    ensures { result ≡ list_any
+        (λ name. has_name (members_in (value_of nodes.now node)) name.now) names.now }
+{
+    names.iter().any(|name| has_name(nodes, node, name))
+}
+
+/// Whether a choice of a branch has a member that an object has, and no choice of another list has.
+fn knows_other(
+    tables: &Tables<'_>,
+    nodes: &Nodes<'_, '_>,
+    node: usize,
+    branch: ListId,
+    other: &List<'_>,
+) -> bool
+    requires tables { AreTables tables.now }
+    requires numbering { IsNumbering nodes.now }
+    requires inside { node < count nodes.now }
+    requires served { ListIsServed tables.now (list_view branch) }
+    requires listed { IsListed tables.now other.now }
+    ensures { IsTrue result ↔ KnowsOther (rules_at tables.now)
+        (members_in (value_of nodes.now node)) (list_view branch) (list_view other.now.id) }
+{
+    match tables.list(branch) {
+        Some(known) => has_any_but(nodes, node, &known.names, other),
+        None => false,
+    }
+}
+
+/// Whether an object has a member of one of some names that a list lacks.
+fn has_any_but(nodes: &Nodes<'_, '_>, node: usize, names: &[&str], other: &List<'_>) -> bool
+    requires numbering { IsNumbering nodes.now }
+    requires inside { node < count nodes.now }
+    requires sorted { IsSorted name_ref_cmp other.now.names.items }
+    ensures { result ≡ list_any
+        (λ name. not (knows other.now (named name.now))
+        && has_name (members_in (value_of nodes.now node)) name.now) names.now }
+{
+    names.iter().any(|name| !other.has_name(name) && has_name(nodes, node, name))
+}
+
+/// Whether an object has a member of the name.
+fn has_name(nodes: &Nodes<'_, '_>, node: usize, name: &str) -> bool
+    requires numbering { IsNumbering nodes.now }
+    requires inside { node < count nodes.now }
+    ensures { result ≡ has_name (members_in (value_of nodes.now node)) name.now }
+{
+    nodes.member(node, name).is_some()
 }
 
 /// Whether a choice of a branch has a catch-all.

@@ -13,7 +13,7 @@ ghost use Rattle.facet_solver_reader.specs.Views.{target_view};
 use super::content::count_content;
 use super::each::{count_entries, count_items, count_tuple};
 use super::object::count_object;
-use super::scalar::{count_scalar, is_scalar_end};
+use super::scalar::{count_scalar, is_told_at_once};
 use super::untagged::count_untagged;
 use super::variant::count_named;
 use super::{Asked, Memo};
@@ -63,7 +63,8 @@ fn count_tag(value: &Document<'_>, name: &str) -> Count
     }
 }
 
-/// How often a value is read as a shape. It is found once for each value.
+/// How often a value is read as a shape. Where that is not told at once, it is found once for each
+/// value.
 #[cycle(count)]
 pub(crate) fn count_shape(
     tables: &Tables<'_>,
@@ -81,8 +82,8 @@ pub(crate) fn count_shape(
     ensures count { IfOk result (IsCount tables.now nodes.now node (of_shape shape)) }
 {
     let end = tables.end(shape);
-    if is_scalar_end(end) {
-        return Ok(count_scalar(end, nodes.value(node)));
+    if is_told_at_once(end) {
+        return count_end(tables, nodes, memo, node, shape, end, steps);
     }
     let asked = Asked::Shape(shape);
     if let Some(count) = memo.get(node, &asked) {

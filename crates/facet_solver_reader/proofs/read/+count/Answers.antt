@@ -25,7 +25,7 @@ use Rattle.facet_solver_reader.specs.Rules.{Alternative, End, NamedVariant, Rule
 use Rattle.facet_solver_reader.specs.Rules.{a_named_variant, a_tuple, an_object, an_option}
 use Rattle.facet_solver_reader.specs.Rules.{an_untagged_variant, as_object, as_shape, as_tuple}
 use Rattle.facet_solver_reader.specs.Rules.{no_content}
-use Rattle.facet_solver_reader.specs.Tables.{ContentIsServed, EndIsServed, IsEnd, IsServed}
+use Rattle.facet_solver_reader.specs.Tables.{ContentIsServed, EndIsServed, IsServed}
 use Rattle.facet_solver_reader.specs.Tables.{ShapeIsServed, rules_at, PartIsBefore, PartIsServed}
 use Rattle.facet_solver_reader.specs.Values.{ReadsDirectly, ReadsEnd, ReadsEntry, ReadsJoined}
 use Rattle.facet_solver_reader.specs.Values.{ReadsNamedVariant, ReadsNoContent, ReadsPlace}
@@ -1329,22 +1329,6 @@ target::count_end-returns-in_default-clause-count t c =
 
 -- ---- a value as a shape, found once
 
-pub target::count_shape-returns-then-is_scalar_end-clause-count :
-    goal.target::count_shape-returns-then-is_scalar_end-clause-count
-target::count_shape-returns-then-is_scalar_end-clause-count t c =
-    let v : Tree = value_of c.args.nodes.now c.args.node in
-    let rules : Rules = rules_at c.args.tables.now in
-    let end : End = end_view c.end-end.result.now in
-    let is : IsEnd c.args.tables.now c.args.shape c.end-end.result.now =
-    c.requires.sound.tables.ends c.args.shape c.end-end.result.now c.end-end.ensures in
-    let scalar : Counted (ReadsScalar end v) c.count_scalar.result =
-    subst (λ u. Counted (ReadsScalar end u) c.count_scalar.result) c.value.ensures
-    c.count_scalar.ensures in
-    count_of_shape rules c.args.steps c.args.shape end v c.count_scalar.result c.requires.ranked
-    (sym is.same)
-    (scalar_count rules (inner rules) end v c.count_scalar.result
-    (sym c.is_scalar_end.ensures ∙ c.if-is_scalar_end.true) scalar)
-
 pub target::count_shape-count_end-requires : goal.target::count_shape-count_end-requires
 target::count_shape-count_end-requires t c = (
   omega arith,
@@ -1360,9 +1344,25 @@ target::count_shape-count_end-requires t c = (
   ),
 )
 
+pub target::count_shape-count_end-requires-2 :
+    goal.target::count_shape-count_end-requires-2
+target::count_shape-count_end-requires-2 t c = (
+  omega arith,
+  (
+    c.requires.sound,
+    (
+      c.requires.inside,
+      (
+        c.requires.sound.tables.ends c.args.shape c.end-end.result.now c.end-end.ensures,
+        c.requires.ranked,
+      ),
+    ),
+  ),
+)
+
 pub target::count_shape-returns-clause-sound : goal.target::count_shape-returns-clause-sound
 target::count_shape-returns-clause-sound t c =
-    sound_added c.args.tables.now c.args.nodes.now c.count_end.new.memo.entries.items
+    sound_added c.args.tables.now c.args.nodes.now c.count_end-2.new.memo.entries.items
     c.put.new.self.entries.items c.args.node (of_shape c.args.shape) c.in_ok-count.count
     c.in_ok-count.ensures.sound c.in_ok-put.ensures.ok c.in_ok-count.ensures.count
 

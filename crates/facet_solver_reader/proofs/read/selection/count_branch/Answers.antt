@@ -1,4 +1,5 @@
-use Rattle.std.proofs.Common.{◌≡◌, subst, ◌<◌, length, get_or}
+use Rattle.std.proofs.Common.{◌≡◌, ◌∙◌, ap, sym, subst, ◌<◌, length, get_or, arith}
+use Rattle.std.proofs.lemmas.List.{length-map}
 use Rattle.std.proofs.lemmas.Option.{slice_get-get_or}
 use Rattle.facet_solver_reader.specs.declared.count.Count.TheVariants.{None as NoReading}
 use Rattle.facet_solver_reader.specs.Branches.{Fits, Misfits, ReadsList}
@@ -8,11 +9,52 @@ use Rattle.facet_solver_reader.specs.Readings.{ReadsValue}
 use Rattle.facet_solver_reader.specs.Tables.{rules_at}
 use Rattle.facet_solver_reader.specs.Views.{list_view, selection_view}
 use Rattle.facet_solver_reader.proofs.CountingObjects.{halved_before, list_at, list_read}
-use Rattle.facet_solver_reader.proofs.Selections.{count_at_branch, count_at_misfit}
+use Rattle.facet_solver_reader.proofs.Selections.{count_at_branch, count_at_misfit, count_at_none}
+use Rattle.facet_solver_reader.proofs.Selections.{only_fits}
 use Rattle.facet_solver_reader.proofs.read.selection.count_branch.Goals as goal
+use Rattle.facet_solver_reader.proofs.read.selection.count_branch.Goals.{then-is_none-via-then-is_none, then-is_none-via-else-is_none+then-len-eq1}
 
-pub returns-then-not-fits : goal.returns-then-not-fits
-returns-then-not-fits c = λ k e.
+pub returns-then-is_none : goal.returns-then-is_none
+returns-then-is_none c = λ k e.
+    let t = c.args.tables.now in
+    let rules = rules_at t in
+    let object = object_view c.args.nodes.now c.args.object.now in
+    let s = selection_view c.args.selection.now in
+    let id = list_view c.args.branch in
+    let counts = c.args.counts.now in
+    let at = list_at t id c.in-Some.index c.in-Some.ensures c.requires.branch in
+    let b = halved_before t c.args.nodes.now c.args.object.now c.requires.object
+    c.requires.tables (length counts) id c.in-Some.index c.deref.result.now
+    c.binary_search.result c.in-Some.ensures c.requires.before c.deref.ensures.value
+    c.binary_search.ensures.position in
+    let same : b.0 ≡ c.in-Ok.position = cc (b.3, c.in-Ok.is) in
+    let count = get_or counts b.0 NoReading in
+    let counted : Counted (ReadsList rules (ReadsValue rules) object id) count =
+    subst (λ i. Counted (ReadsList rules (ReadsValue rules) object i) count) at.same
+    (c.requires.counts.are b.0 c.in-Some.index count at.entry
+    (slice_get-get_or counts b.0 NoReading b.1) b.2 at.is_there) in
+    let here : IsBranchCount t c.args.nodes.now c.args.object.now s k count =
+    elim c.then-is_none.branch [
+      | then-is_none-via-then-is_none w ↦
+          let none : count ≡ NoReading =
+          ap (λ q. get_or counts q NoReading) same ∙ c.is_none.ensures.0 w.if-is_none.true in
+          subst (λ n. IsBranchCount t c.args.nodes.now c.args.object.now s k n) (sym none)
+          (count_at_none rules (ReadsValue rules) object s k id e
+          (subst (Counted (ReadsList rules (ReadsValue rules) object id)) none counted))
+      | then-is_none-via-else-is_none+then-len-eq1 w ↦
+          let mapped = length-map c.args.selection.now.branches.items list_view in
+          let len = w.len.ensures in
+          let is_one = w.if-len-eq1.true in
+          let one : length s.branches ≡ 1 = omega (arith, mapped, len, is_one) in
+          count_at_branch rules (ReadsValue rules) object s k id e count
+          (only_fits rules (ReadsValue rules) object s k id e one) c.requires.present counted
+    ] in
+    subst
+    (λ q. IsBranchCount t c.args.nodes.now c.args.object.now s k (get_or counts q NoReading))
+    same here
+
+pub returns-else-fits : goal.returns-else-fits
+returns-else-fits c = λ k e.
     let t = c.args.tables.now in
     let rules = rules_at t in
     let object = object_view c.args.nodes.now c.args.object.now in
@@ -21,19 +63,10 @@ returns-then-not-fits c = λ k e.
     let read = list_read t id c.in-Some.index c.index.result.now
     (list_at t id c.in-Some.index c.in-Some.ensures c.requires.branch) c.index.ensures in
     count_at_misfit rules (ReadsValue rules) object s k id e
-    (subst (Misfits rules object s) read.1 (c.fits.ensures.no c.if-not-fits.true))
+    (subst (Misfits rules object s) read.1 (c.fits.ensures.no c.if-fits.false))
 
-pub bounds-counts-position : goal.bounds-counts-position
-bounds-counts-position c =
-    let b = halved_before c.args.tables.now c.args.nodes.now c.args.object.now c.requires.object
-    c.requires.tables (length c.args.counts.now) (list_view c.args.branch) c.in-Some.index
-    c.deref.result.now c.binary_search.result c.in-Some.ensures c.requires.before
-    c.deref.ensures.value c.binary_search.ensures.position in
-    let same : b.0 ≡ c.in-Ok.position = cc (b.3, c.in-Ok.is) in
-    subst (λ q. q < length c.args.counts.now) same b.1
-
-pub returns-in-Ok : goal.returns-in-Ok
-returns-in-Ok c = λ k e.
+pub returns-then-fits : goal.returns-then-fits
+returns-then-fits c = λ k e.
     let t = c.args.tables.now in
     let rules = rules_at t in
     let object = object_view c.args.nodes.now c.args.object.now in
@@ -51,7 +84,7 @@ returns-in-Ok c = λ k e.
     let count = get_or counts b.0 NoReading in
     let counted = c.requires.counts.are b.0 c.in-Some.index count l
     (slice_get-get_or counts b.0 NoReading b.1) b.2 read.0 in
-    let fits = subst (Fits rules object s) read.1 (c.fits.ensures.yes c.if-not-fits.false) in
+    let fits = subst (Fits rules object s) read.1 (c.fits.ensures.yes c.if-fits.true) in
     let at = count_at_branch rules (ReadsValue rules) object s k id e count fits
     c.requires.present
     (subst (λ i. Counted (ReadsList rules (ReadsValue rules) object i) count) read.1 counted) in
@@ -59,10 +92,19 @@ returns-in-Ok c = λ k e.
     (λ q. IsBranchCount t c.args.nodes.now c.args.object.now s k (get_or counts q NoReading))
     same at
 
-pub returns-in-Err : goal.returns-in-Err
-returns-in-Err c = λ k e x w.
+pub bounds-counts-position : goal.bounds-counts-position
+bounds-counts-position c =
     let b = halved_before c.args.tables.now c.args.nodes.now c.args.object.now c.requires.object
     c.requires.tables (length c.args.counts.now) (list_view c.args.branch) c.in-Some.index
     c.deref.result.now c.binary_search.result c.in-Some.ensures c.requires.before
     c.deref.ensures.value c.binary_search.ensures.position in
-    absurd (cc (b.3, c.in-Err.is))
+    let same : b.0 ≡ c.in-Ok.position = cc (b.3, c.in-Ok.is) in
+    subst (λ q. q < length c.args.counts.now) same b.1
+
+pub returns-in_default-binary_search : goal.returns-in_default-binary_search
+returns-in_default-binary_search c = λ k e x w.
+    let b = halved_before c.args.tables.now c.args.nodes.now c.args.object.now c.requires.object
+    c.requires.tables (length c.args.counts.now) (list_view c.args.branch) c.in-Some.index
+    c.deref.result.now c.binary_search.result c.in-Some.ensures c.requires.before
+    c.deref.ensures.value c.binary_search.ensures.position in
+    absurd (c.in_default-binary_search.not-Ok b.0 b.3)

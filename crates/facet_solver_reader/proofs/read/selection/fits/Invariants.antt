@@ -1,17 +1,17 @@
 use Rattle.std.proofs.Common.{map, take}
 use Rattle.std.specs.List.{All}
-use Rattle.facet_solver_reader.specs.Documents.{Member}
-use Rattle.facet_solver_reader.specs.Known.{Chooses, IsKnown, IsKnownIn, named}
-use Rattle.facet_solver_reader.specs.Reading.{member_view}
+use Rattle.facet_solver_reader.specs.Branches.{KnowsOther}
+use Rattle.facet_solver_reader.specs.Nodes.{members_in, value_of}
+use Rattle.facet_solver_reader.specs.Parts.{ListId}
 use Rattle.facet_solver_reader.specs.Tables.{rules_at}
-use Rattle.facet_solver_reader.specs.Views.{list_view, selection_view}
+use Rattle.facet_solver_reader.specs.Views.{list_view}
 use Rattle.facet_solver_reader.proofs.read.selection.fits.Given as goal
 
--- the list knows each member before this one that the selection knows
-abbrev pub invariant-loop-member : goal.invariant-loop-member
-invariant-loop-member l =
+-- no branch before this one knows a member that the list doesn't
+abbrev pub invariant-loop-branch : goal.invariant-loop-branch
+invariant-loop-branch l =
     All
-    (λ (m : Member).
-    IsKnownIn (rules_at l.tables).lists (selection_view l.selection) (named m.name)
-    → IsKnown (Chooses (rules_at l.tables).lists (list_view l.list.id)) (named m.name))
-    (take l.member-index (map member_view l.member-items))
+    (λ (id : ListId).
+    KnowsOther (rules_at l.tables) (members_in (value_of l.nodes l.object.node)) id
+    (list_view l.list.id) → ⊥)
+    (take l.branch-index (map list_view l.branch-items))

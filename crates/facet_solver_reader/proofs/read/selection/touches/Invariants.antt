@@ -1,16 +1,16 @@
 use Rattle.std.proofs.Common.{map, take}
 use Rattle.std.specs.List.{All}
-use Rattle.facet_solver_reader.specs.Documents.{Member}
-use Rattle.facet_solver_reader.specs.Known.{IsKnownIn, named}
-use Rattle.facet_solver_reader.specs.Reading.{member_view}
+use Rattle.facet_solver_reader.specs.Branches.{KnowsMember}
+use Rattle.facet_solver_reader.specs.Nodes.{members_in, value_of}
+use Rattle.facet_solver_reader.specs.Parts.{ListId}
 use Rattle.facet_solver_reader.specs.Tables.{rules_at}
-use Rattle.facet_solver_reader.specs.Views.{selection_view}
+use Rattle.facet_solver_reader.specs.Views.{list_view}
 use Rattle.facet_solver_reader.proofs.read.selection.touches.Given as goal
 
--- the selection knows no member before this one
-abbrev pub invariant-loop-member : goal.invariant-loop-member
-invariant-loop-member l =
+-- no branch before this one knows a member
+abbrev pub invariant-loop-branch : goal.invariant-loop-branch
+invariant-loop-branch l =
     All
-    (λ (m : Member).
-    IsKnownIn (rules_at l.tables).lists (selection_view l.selection) (named m.name) → ⊥)
-    (take l.member-index (map member_view l.member-items))
+    (λ (id : ListId).
+    KnowsMember (rules_at l.tables) (members_in (value_of l.nodes l.object.node)) id → ⊥)
+    (take l.branch-index (map list_view l.branch-items))

@@ -1,0 +1,41 @@
+use Rattle.std.proofs.Common.{◌≡◌, ◌∙◌, ◌&&◌, ap, true, false, not}
+use Rattle.std.specs.Borrow.{Bor}
+use Rattle.std.specs.List.{list_any}
+use Rattle.facet_solver_shape.specs.Names.{Name}
+use Rattle.facet_solver_reader.specs.Known.{named}
+use Rattle.facet_solver_reader.specs.Nodes.{members_in, value_of}
+use Rattle.facet_solver_reader.specs.Objects.{has_name}
+use Rattle.facet_solver_reader.specs.Tables.{knows}
+use Rattle.facet_solver_reader.specs.Views.{list_view}
+use Rattle.facet_solver_reader.proofs.KnownNames.{knows_other}
+use Rattle.facet_solver_reader.proofs.read.selection.knows_other.Goals as goal
+
+pub has_any_but-requires : goal.has_any_but-requires
+has_any_but-requires c =
+    let of = c.requires.listed in
+    record {
+      numbering = c.requires.numbering;
+      inside = c.requires.inside;
+      sorted = (c.requires.tables.lists of.index c.args.other.now of.listed).sorted;
+    }
+
+pub returns-in-Some : goal.returns-in-Some
+returns-in-Some c =
+    let ms = members_in (value_of c.args.nodes.now c.args.node) in
+    let other = c.args.other.now in
+    knows_other c.args.tables.now c.requires.tables ms (list_view c.args.branch)
+    c.in-Some.known.now c.in-Some.ensures other c.requires.listed c.has_any_but.result
+    (c.has_any_but.ensures
+    ∙ ap (list_any (λ (n : Bor Name). not (knows other (named n.now)) && has_name ms n.now))
+    c.deref.ensures.value)
+
+pub returns-in-None : goal.returns-in-None
+returns-in-None c = (
+  λ (p : false ≡ true). absurd (cc),
+  λ k.
+      absurd (c.in-None.ensures (record {
+        choice = k.known.choice;
+        items = k.known.items;
+        chooses = k.known.chooses;
+      })),
+)
