@@ -1,0 +1,10 @@
+pub mod Asking
+pub mod Agreeing
+pub mod Contents
+pub mod Walks
+pub mod Root
+pub mod Emitted
+pub mod Named
+pub mod Keys
+pub mod Kept
+pub mod Repeated

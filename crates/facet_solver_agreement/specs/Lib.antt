@@ -1,0 +1,5 @@
+pub mod Asked
+pub mod Met
+pub mod Alike
+pub mod Same
+pub mod Kept
