@@ -1,5 +1,5 @@
 -- The keys of an object's members, and what its reading asks of them.
-use Rattle.std.proofs.Common.{◌≡◌, ⊎_elim, refl, sym, ap, ◌∙◌, zero, suc, Bool, true, false, ◌||◌}
+use Rattle.std.proofs.Common.{◌≡◌, ⊎_elim, refl, sym, ap, ◌∙◌, zero, suc, Bool, true, false}
 use Rattle.std.proofs.Common.{List, [], ◌∷◌, Option, Some, None, Contains, arith}
 use Rattle.std.specs.Prelude.{Any, if◌then◌else◌}
 use Rattle.std.specs.List.{list_any}
@@ -14,7 +14,7 @@ use Rattle.facet_solver_reader.specs.Objects.{Agrees, HasNamed, Object, Reads, R
 use Rattle.facet_solver_reader.specs.Parts.{MemberPart}
 use Rattle.facet_solver_reader.specs.Rules.{Rules}
 use Rattle.facet_solver_reader.proofs.Quantifiers.{any_of_more, any_of_none}
-use Rattle.facet_solver_agreement.specs.Asked.{asked_by_items}
+use Rattle.facet_solver_agreement.specs.Asked.{asked_by_items, asked_by_member}
 use Rattle.facet_solver_agreement.specs.Kept.{IsRequiredOf, keys_of}
 
 -- a name is found where it stands first, or among the rest
@@ -44,17 +44,29 @@ key_is_named (m ∷ ms) key (suc k, low, same) =
 
 -- a name that is found is that of a key
 pub named_by_key : (ms : List Member) (x : Name) (v : Tree) → find ms x ≡ Some v
-    → list_any (λ key. name_eq key.name x) (keys_of ms) ≡ true
+    → Contains (keys_of ms) (flat_key x)
 named_by_key [] x v e = absurd (cc)
 named_by_key (m ∷ ms) x v e =
     go (bytes_eq m.name x) refl e (λ later. named_by_key ms x v later)
   where
     go : (b : Bool) → bytes_eq m.name x ≡ b → (if b then Some m.value else find ms x) ≡ Some v
-        → (find ms x ≡ Some v → list_any (λ key. name_eq key.name x) (keys_of ms) ≡ true)
-        → (bytes_eq m.name x || list_any (λ key. name_eq key.name x) (keys_of ms)) ≡ true
-    go true is e later = or_left (bytes_eq m.name x) (list_any (λ key. name_eq key.name x) (keys_of ms)) is
-    go false is e later =
-        or_right (bytes_eq m.name x) (list_any (λ key. name_eq key.name x) (keys_of ms)) (later e)
+        → (find ms x ≡ Some v → Contains (keys_of ms) (flat_key x))
+        → Contains (keys_of (m ∷ ms)) (flat_key x)
+    go true is e later = (0, omega arith, ap flat_key ((bytes_eq-Decides m.name x).0 is))
+    go false is e later = let k = later e in (suc k.0, omega (arith, k.1), k.2)
+
+-- a test that a key among others passes
+pub key_passes : (test : Key → Bool) (keys : List Key) (key : Key) → Contains keys key
+    → test key ≡ true → list_any test keys ≡ true
+key_passes test [] key (k, low, same) h = absurd (omega arith)
+key_passes test (x ∷ keys) key (zero, low, same) h =
+    or_left (test x) (list_any test keys) (ap test same ∙ h)
+key_passes test (x ∷ keys) key (suc k, low, same) h =
+    or_right (test x) (list_any test keys) (key_passes test keys key (k, omega arith, same) h)
+
+-- a name is itself
+pub same_name : (x : Name) → name_eq x x ≡ true
+same_name x = (bytes_eq-Decides x x).1 refl
 
 -- what an object that is read has to have is there
 module _ (rules : Rules) (reads : Reads) (object : Object) where
@@ -70,10 +82,10 @@ module _ (rules : Rules) (reads : Reads) (object : Object) where
   required_found [] h x a = absurd (any_of_none (IsRequiredOf x) a)
   required_found (member_of m r ∷ items) h x a =
       ⊎_elim
-      (λ (is : IsRequiredOf x (record { name = m.name; required = m.required })).
+      (λ (is : IsRequiredOf x (asked_by_member m)).
       let there = of_member m (find object.members m.name) r h.0 is.required in
       (there.0, ap (find object.members) (sym is.same_name) ∙ there.1))
       (λ (later : Any (IsRequiredOf x) (asked_by_items items)). required_found items h.1 x later)
-      ((any_of_more (IsRequiredOf x) (record { name = m.name; required = m.required }) (asked_by_items items)).0 a)
+      ((any_of_more (IsRequiredOf x) (asked_by_member m) (asked_by_items items)).0 a)
   required_found (catch_all_of k t ∷ items) h x a = required_found items h.1 x a
   required_found (presence_of s ∷ items) h x a = required_found items h.1 x a

@@ -32,18 +32,16 @@ use Rattle.facet_solver.proofs.Outcome.{required_names}
 use Rattle.facet_solver_reader.specs.Choices.{Item, member_of, catch_all_of, presence_of}
 use Rattle.facet_solver_reader.specs.Known.{HasKey, named, rest}
 use Rattle.facet_solver_reader.proofs.Quantifiers.{any_of_more, any_of_none}
-use Rattle.facet_solver_agreement.specs.Asked.{Asked, asked_by_items, asked_by_walk}
-use Rattle.facet_solver_agreement.specs.Kept.{IsRequiredOf, IsResolutionOf}
+use Rattle.facet_solver_agreement.specs.Asked.{Asked, asked_by_field, asked_by_items}
+use Rattle.facet_solver_agreement.specs.Asked.{asked_by_member}
+use Rattle.facet_solver_agreement.specs.Asked.{asked_by_walk}
+use Rattle.facet_solver_agreement.specs.Kept.{HasNamesOf, IsRequiredOf}
 use Rattle.facet_solver_agreement.proofs.Emitted.{IsEmitted, is_emitted, is_required_name}
 use Rattle.facet_solver_agreement.proofs.Emitted.{is_stored}
 
 -- a name is asked for
 abbrev pub IsNameOf : Name → Asked → Type 0
 IsNameOf x a = a.name ≡ x
-
--- what a field asks
-abbrev pub asked_by_field : FieldView → Asked
-asked_by_field f = record { name = f.name; required = f.is_required }
 
 module _ (P : Asked → Type 0) where
   -- what is asked of an emitted field is asked by its walk
@@ -77,9 +75,9 @@ pub asked_by_key : (items : List Item) (x : Name) → HasKey items (named x)
 asked_by_key [] x h = absurd h
 asked_by_key (member_of m r ∷ items) x (inl e) =
     let same : m.name ≡ x = cc in
-    (any_of_more (IsNameOf x) (record { name = m.name; required = m.required }) (asked_by_items items)).1 (inl same)
+    (any_of_more (IsNameOf x) (asked_by_member m) (asked_by_items items)).1 (inl same)
 asked_by_key (member_of m r ∷ items) x (inr h) =
-    (any_of_more (IsNameOf x) (record { name = m.name; required = m.required }) (asked_by_items items)).1 (inr (asked_by_key items x h))
+    (any_of_more (IsNameOf x) (asked_by_member m) (asked_by_items items)).1 (inr (asked_by_key items x h))
 asked_by_key (catch_all_of k t ∷ items) x (inl e) = let no : rest ≡ named x = e in absurd (cc)
 asked_by_key (catch_all_of k t ∷ items) x (inr h) = asked_by_key items x h
 asked_by_key (presence_of s ∷ items) x h = asked_by_key items x h
@@ -90,7 +88,7 @@ key_of_asked [] x h = absurd (any_of_none (IsNameOf x) h)
 key_of_asked (member_of m r ∷ items) x h =
     ⊎_elim (λ (e : m.name ≡ x). inl (ap named e))
     (λ (q : Any (IsNameOf x) (asked_by_items items)). inr (key_of_asked items x q))
-    ((any_of_more (IsNameOf x) (record { name = m.name; required = m.required }) (asked_by_items items)).0 h)
+    ((any_of_more (IsNameOf x) (asked_by_member m) (asked_by_items items)).0 h)
 key_of_asked (catch_all_of k t ∷ items) x h = inr (key_of_asked items x h)
 key_of_asked (presence_of s ∷ items) x h = key_of_asked items x h
 
@@ -167,10 +165,10 @@ module _ (build : Build) (root : ℕ) (is_flat : build.format ≡ Flat) (choice 
       (subst (λ (y : Name). set.contains (resolution_from is.emissions).required_names y ≡ true) e.2.same_name
       (is_required_name is.emissions e.0 e.1 e.2.required))
 
-  -- so it is the resolution of a choice that asks the same
-  pub is_resolution_of : (items : List Item) → asked_by_walk is.emissions ≡ asked_by_items items
-      → IsResolutionOf items r
-  is_resolution_of items same = record {
+  -- so it has the names of a choice that asks the same
+  pub has_names_of : (items : List Item) → asked_by_walk is.emissions ≡ asked_by_items items
+      → HasNamesOf items r
+  has_names_of items same = record {
     names = λ x. (
       λ h. key_of_asked items x (subst (Any (IsNameOf x)) same (name_asked x h)),
       λ k. asked_named x (subst (Any (IsNameOf x)) (sym same) (asked_by_key items x k)),

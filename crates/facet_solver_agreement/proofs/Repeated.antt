@@ -1,7 +1,8 @@
 -- A type of which no choice of a reader has a name twice has no duplicate keys.
-use Rattle.std.proofs.Common.{◌≡◌, ◌⊎◌, inl, inr, sym, ap, ◌∙◌, subst, ℕ, zero, suc, ◌<◌, List, []}
+use Rattle.std.proofs.Common.{Bool, true, false, ◌≡◌, ◌⊎◌, inl, inr, ⊎_elim, sym, ap, ◌∙◌, subst, ℕ}
+use Rattle.std.proofs.Common.{zero, suc, ◌<◌, List, []}
 use Rattle.std.proofs.Common.{◌∷◌, Some, None, slice_get, arith}
-use Rattle.std.specs.Prelude.{Any}
+use Rattle.std.specs.Prelude.{Any, if◌then◌else◌}
 use Rattle.facet_solver_shape.specs.Catalogues.{Catalogue, IsChecked}
 use Rattle.facet_solver_shape.specs.Fields.{FieldView}
 use Rattle.facet_solver_shape.specs.Keys.{Key}
@@ -13,13 +14,15 @@ use Rattle.facet_solver.specs.build.Emissions.{Emission, a_field, some_key_paths
 use Rattle.facet_solver.specs.build.Emissions.{a_catch_all}
 use Rattle.facet_solver.specs.build.Place.{Path}
 use Rattle.facet_solver_reader.specs.Choices.{Item, member_of, catch_all_of, presence_of}
-use Rattle.facet_solver_reader.specs.Known.{Chooses, HasTwice, IsDistinct}
-use Rattle.facet_solver_reader.specs.Parts.{of_struct}
+use Rattle.facet_solver_reader.specs.Known.{Chooses, HasKey, HasTwice, IsDistinct, named}
+use Rattle.facet_solver_reader.proofs.Quantifiers.{any_of_more, any_of_none}
+use Rattle.facet_solver_reader.specs.Parts.{Target, of_struct}
 use Rattle.facet_solver_reader.specs.Types.{parts_of}
 use Rattle.facet_solver_agreement.specs.Alike.{IsTakenAlike}
-use Rattle.facet_solver_agreement.specs.Asked.{Asked, asked_by_items, asked_by_walk}
+use Rattle.facet_solver_agreement.specs.Asked.{Asked, asked_but, asked_by_member, asked_by_walk}
+use Rattle.facet_solver_agreement.specs.Asked.{is_adjacent_content}
 use Rattle.facet_solver_agreement.proofs.Emitted.{IsEmitted}
-use Rattle.facet_solver_agreement.proofs.Named.{IsNameOf, asked_of_emitted, key_of_asked}
+use Rattle.facet_solver_agreement.proofs.Named.{IsNameOf, asked_of_emitted}
 use Rattle.facet_solver_agreement.proofs.Root.{chosen_as}
 
 -- one name is asked for twice
@@ -63,24 +66,53 @@ asked_twice (a_selection s ∷ es) (suc i) (suc j) f g lt e h same =
 asked_twice (a_catch_all y ∷ es) (suc i) (suc j) f g lt e h same =
     asked_twice es i j f g (omega arith) e h same
 
--- a choice that asks for a name twice has a key twice
-key_twice : (items : List Item) → Twice (asked_by_items items) → HasTwice items
-key_twice [] h = absurd h
-key_twice (member_of m r ∷ items) (inl h) = inl (key_of_asked items m.name h)
-key_twice (member_of m r ∷ items) (inr h) = inr (key_twice items h)
-key_twice (catch_all_of k t ∷ items) h = inr (key_twice items h)
-key_twice (presence_of s ∷ items) h = key_twice items h
+module _ (left_out : Target → Bool) where
+  -- a name that is asked for, whatever else is left out, is a key
+  key_of : (items : List Item) (x : Name) → Any (IsNameOf x) (asked_but left_out items)
+      → HasKey items (named x)
+  key_of [] x h = absurd (any_of_none (IsNameOf x) h)
+  key_of (member_of m r ∷ items) x h = go (left_out m.target) h (λ later. key_of items x later)
+    where
+      go : (b : Bool)
+          → Any (IsNameOf x)
+          (if b then asked_but left_out items else asked_by_member m ∷ asked_but left_out items)
+          → (Any (IsNameOf x) (asked_but left_out items) → HasKey items (named x))
+          → HasKey (member_of m r ∷ items) (named x)
+      go true h later = inr (later h)
+      go false h later =
+          ⊎_elim (λ (e : m.name ≡ x). inl (ap named e))
+          (λ (q : Any (IsNameOf x) (asked_but left_out items)). inr (later q))
+          ((any_of_more (IsNameOf x) (asked_by_member m) (asked_but left_out items)).0 h)
+  key_of (catch_all_of k t ∷ items) x h = inr (key_of items x h)
+  key_of (presence_of s ∷ items) x h = key_of items x h
 
-module _ (shapes : Catalogue) (root : ℕ) (format : Format) (checked : IsChecked shapes) (alike : IsTakenAlike shapes root) where
-  -- so what a reader takes has no duplicate keys
-  pub none_twice : IsDistinct (Chooses (parts_of shapes) (of_struct root))
-      → (name : Name) (first second : Path)
-      → ¬ IsChoiceDuplicate (build_with shapes None format) root name first second
-  none_twice distinct name first second d =
-      let c = chosen_as shapes root format checked alike d.choice d.emissions d.emitted in
-      let pair = d.duplicates in
-      let same : d.second.name ≡ d.first.name = sym (ap (λ (k : Key). k.name) pair.same_key) in
-      let twice : Twice (asked_by_walk d.emissions) =
-      asked_twice d.emissions pair.first_at pair.second_at d.first d.second pair.in_order
-      pair.first_is pair.second_is same in
-      distinct c.choice c.items c.chooses (key_twice c.items (subst Twice (sym c.same) twice))
+  -- a choice that asks for a name twice has a key twice
+  key_twice : (items : List Item) → Twice (asked_but left_out items) → HasTwice items
+  key_twice [] h = absurd h
+  key_twice (member_of m r ∷ items) h = go (left_out m.target) h (λ later. key_twice items later)
+    where
+      go : (b : Bool)
+          → Twice (if b then asked_but left_out items else asked_by_member m ∷ asked_but left_out items)
+          → (Twice (asked_but left_out items) → HasTwice items) → HasTwice (member_of m r ∷ items)
+      go true h later = inr (later h)
+      go false (inl h) later = inl (key_of items m.name h)
+      go false (inr h) later = inr (later h)
+  key_twice (catch_all_of k t ∷ items) h = inr (key_twice items h)
+  key_twice (presence_of s ∷ items) h = key_twice items h
+
+module _ (shapes : Catalogue) (root : ℕ) (format : Format) (checked : IsChecked shapes)
+    (alike : IsTakenAlike shapes root)
+  where
+    -- so what a reader takes has no duplicate keys
+    pub none_twice : IsDistinct (Chooses (parts_of shapes) (of_struct root))
+        → (name : Name) (first second : Path)
+        → ¬ IsChoiceDuplicate (build_with shapes None format) root name first second
+    none_twice distinct name first second d =
+        let c = chosen_as shapes root format checked alike d.choice d.emissions d.emitted in
+        let pair = d.duplicates in
+        let same : d.second.name ≡ d.first.name = sym (ap (λ (k : Key). k.name) pair.same_key) in
+        let twice : Twice (asked_by_walk d.emissions) =
+        asked_twice d.emissions pair.first_at pair.second_at d.first d.second pair.in_order
+        pair.first_is pair.second_is same in
+        distinct c.readers c.items c.chooses
+        (key_twice (is_adjacent_content shapes) c.items (subst Twice (sym c.same) twice))

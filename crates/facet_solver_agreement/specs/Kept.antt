@@ -5,11 +5,12 @@ use Rattle.facet_solver_shape.specs.Catalogues.{Catalogue}
 use Rattle.facet_solver_shape.specs.Keys.{Key, flat_key}
 use Rattle.facet_solver_shape.specs.Names.{Name}
 use Rattle.facet_solver_shape.specs.Resolved.{Resolved}
+use Rattle.facet_solver.specs.build.Choice.{IsResolution}
 use Rattle.facet_solver.specs.Resolutions.{has_field_named}
 use Rattle.facet_solver.specs.schema.Schema.{SchemaView}
 use Rattle.facet_solver.specs.solver.Report.{viable}
-use Rattle.facet_solver.specs.solver.State.{State, new_solver}
-use Rattle.facet_solver.specs.solver.Told.{see_keys}
+use Rattle.facet_solver.specs.solver.State.{new_solver}
+use Rattle.facet_solver.specs.solver.Told.{HaveSameKeys, see_keys}
 use Rattle.facet_solver_reader.specs.Choices.{Choice, Item, Reading, an_object}
 use Rattle.facet_solver_reader.specs.Documents.{Member, Members, Tree, object, members}
 use Rattle.facet_solver_reader.specs.Known.{Chooses, HasKey, named}
@@ -18,6 +19,7 @@ use Rattle.facet_solver_reader.specs.Objects.{ReadsObject}
 use Rattle.facet_solver_reader.specs.Readings.{ReadsValue}
 use Rattle.facet_solver_reader.specs.Types.{parts_of, rules_of}
 use Rattle.facet_solver_agreement.specs.Asked.{Asked, asked_by_items}
+use Rattle.facet_solver_agreement.specs.Indices.{indices_of}
 
 -- an object is read by a choice of the root's parts, strict or not
 abbrev pub ReadsAsRoot : Catalogue → ℕ → Bool → List Member → Choice → Type 0
@@ -25,40 +27,43 @@ ReadsAsRoot shapes root strict ms c =
     let rules = rules_of shapes strict in
     ReadsObject rules (ReadsValue rules) (of_struct root) ms c
 
--- the keys of an object's members: each name, in order
+-- the keys of an object's members: each name
 abbrev pub keys_of : List Member → List Key
 keys_of ms = map (λ m. flat_key m.name) ms
 
--- a new solver of a schema that was told an object's names, one after another
-abbrev pub told : SchemaView → List Member → State
-told schema ms = see_keys (keys_of ms) (new_solver schema)
+-- keys tell the names of an object's members, in whatever order and however often
+abbrev pub TellNames : List Key → List Member → Type 0
+TellNames keys ms = HaveSameKeys keys (keys_of ms)
 
 -- a name is one that has to be there
 pub record IsRequiredOf (x : Name) (asked : Asked) : Type 0 where
   pub same_name : asked.name ≡ x
   pub required : asked.required ≡ true
 
--- the resolution of a choice: its fields' names are those of the choice's members, and its required
--- names those of the members that have to be there
-pub record IsResolutionOf (items : List Item) (r : Resolved) : Type 0 where
+-- a resolution has the names of the items of a choice: its fields' names are those of the members,
+-- and its required names those of the members that have to be there
+pub record HasNamesOf (items : List Item) (r : Resolved) : Type 0 where
   pub names : (x : Name) → (has_field_named x r ≡ true) ↔ HasKey items (named x)
   pub required : (x : Name)
       → (set.contains r.required_names x ≡ true) ↔ Any (IsRequiredOf x) (asked_by_items items)
 
--- of a new solver that was told an object's names the resolution of a choice is viable
-pub record KeepsChoice (schema : SchemaView) (ms : List Member) (c : Choice) : Type 0 where
-  pub items : List Item
-  pub chooses : Chooses (parts_of schema.build.catalogue) (of_struct schema.root) c items
+-- of a new solver that was told some keys the resolution of a reader's choice is viable
+pub record KeepsChoice (schema : SchemaView) (keys : List Key) (c : Choice) : Type 0 where
   pub index : ℕ
   pub resolution : Resolved
   pub is_there : slice_get schema.resolutions index ≡ Some resolution
-  pub is_of_choice : IsResolutionOf items resolution
-  pub is_viable : Contains (viable (told schema ms)) index
+  pub is_viable : Contains (viable (see_keys keys (new_solver schema))) index
+  pub is_of_choice : IsResolution schema.build schema.root
+      (indices_of schema.build.catalogue schema.root c) resolution
+  pub items : List Item
+  pub chooses : Chooses (parts_of schema.build.catalogue) (of_struct schema.root) c items
+  pub has_names : HasNamesOf items resolution
 
--- a document is an object that is read by a choice, and the solver keeps that choice
+-- a document is an object that is read by a choice, and each solver that is told its names keeps
+-- that choice
 pub record KeepsReading (schema : SchemaView) (v : Tree) (r : Reading) : Type 0 where
   pub inner : Members
   pub choice : Choice
   pub is_object : v ≡ object inner
   pub is_choice : r ≡ an_object choice
-  pub keeps : KeepsChoice schema (members inner) choice
+  pub keeps : (keys : List Key) → TellNames keys (members inner) → KeepsChoice schema keys choice

@@ -1,4 +1,5 @@
 pub mod Asked
+pub mod Indices
 pub mod Met
 pub mod Alike
 pub mod Same

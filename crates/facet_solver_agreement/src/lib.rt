@@ -5,17 +5,25 @@
 //! Each function here is a law that ties the one to the other: it does nothing, and its contract is
 //! the law. So neither library needs the other.
 //!
-//! The laws are of the types that both take alike, as `IsTakenAlike` in `specs/Alike.antt` says: the
-//! root is a struct with named fields, which is no metadata container and has no `inner` and no
-//! `proxy`. Of the enums that are flattened into it, at whatever level, none is adjacently tagged.
-//! A variant whose content stands among other members (of an untagged enum or one with a tag alone)
-//! has no fields, fields with names, or a single field `0` that comes by `inner` and `proxy` alone
-//! to a struct with named fields. Elsewhere the two differ: of a field `0` that comes to an enum,
-//! for example, a schema has a field named `0`, and a reader has the branches of that enum.
+//! The laws are of the types that both take alike (`IsTakenAlike` in `specs/Alike.antt`):
+//!
+//! - The root is a struct with named fields. It is no metadata container, and has no `inner` and no
+//!   `proxy`.
+//! - Of each enum that is flattened into it, at whatever level, and is untagged or has a tag alone,
+//!   each variant has no fields, fields with names, or a single field `0` that comes, by `inner` and
+//!   `proxy` alone, to a struct with named fields.
+//!
+//! That what is read is viable is moreover of types that flatten no adjacently tagged enum
+//! (`IsKeptAlike`).
+//!
+//! Elsewhere the two differ. Of a field `0` that comes to an enum, for example, a schema has a field
+//! named `0`, where a reader has the branches of that enum. Of the content of an adjacently tagged
+//! enum a schema has no field.
 #![tactic(auto)]
 
 ghost use Rattle.std.specs.Prelude.{ℕ, Bool, List, None};
 ghost use Rattle.facet_solver_shape.specs.Catalogues.{Catalogue, IsChecked};
+ghost use Rattle.facet_solver_shape.specs.Keys.{Key};
 ghost use Rattle.facet_solver_shape.specs.Names.{Name};
 ghost use Rattle.facet_solver.specs.build.Build.{build_with};
 ghost use Rattle.facet_solver.specs.build.Choice.{Emits, IsChoiceDuplicate};
@@ -29,27 +37,30 @@ ghost use Rattle.facet_solver_reader.specs.Known.{Chooses, IsDistinct};
 ghost use Rattle.facet_solver_reader.specs.Parts.{of_shape, of_struct};
 ghost use Rattle.facet_solver_reader.specs.Readings.{ReadsValue};
 ghost use Rattle.facet_solver_reader.specs.Types.{parts_of, rules_of};
-ghost use Rattle.facet_solver_agreement.specs.Alike.{IsTakenAlike};
-ghost use Rattle.facet_solver_agreement.specs.Kept.{KeepsChoice, KeepsReading, ReadsAsRoot};
+ghost use Rattle.facet_solver_agreement.specs.Alike.{IsKeptAlike, IsTakenAlike};
+ghost use Rattle.facet_solver_agreement.specs.Kept.{KeepsChoice, KeepsReading, ReadsAsRoot, TellNames};
 ghost use Rattle.facet_solver_agreement.specs.Same.{IsChosenAs, IsWalkedAs};
 
-/// The choices of the root's parts are those of its schema, whatever the kind of document: for each
-/// choice of a reader there is one of the schema that asks the same names, in the same order and
-/// required alike, and the other way round.
+/// The choices of the root's parts are those of its schema, whatever the kind of document. The
+/// indices of a reader's choice (`indices_of`) are a choice of the schema; each choice of the schema
+/// is the indices of one of the reader. Two that belong together ask for the same names, in the same
+/// order and required alike, but for the content of adjacently tagged enums. So they stand in one
+/// order too: a schema has its resolutions in the order of their choices' indices.
 pub fn choices_are_those_of_the_schema()
     ensures of_the_reader { (shapes : Catalogue) (root : ℕ) (format : Format)
         → IsChecked shapes → IsTakenAlike shapes root
         → (c : Choice) (items : List Item) → Chooses (parts_of shapes) (of_struct root) c items
-        → IsWalkedAs (build_with shapes None format) root items }
+        → IsWalkedAs (build_with shapes None format) root c items }
     ensures of_the_schema { (shapes : Catalogue) (root : ℕ) (format : Format)
         → IsChecked shapes → IsTakenAlike shapes root
         → (choice : List ℕ) (es : List Emission)
-        → Emits (build_with shapes None format) root choice es → IsChosenAs shapes root es }
+        → Emits (build_with shapes None format) root choice es
+        → IsChosenAs shapes root choice es }
 {}
 
-/// If no choice of the root's parts has a key twice (two members of one name, or two catch-alls), the
-/// root has no duplicate keys. So no builder of a schema of it, by its own representations, refuses
-/// it as one that has.
+/// If no choice of the root's parts has a key twice (two members of one name, or two catch-alls),
+/// the root has no duplicate keys: no builder that goes by the enums' own representations refuses it
+/// for one.
 pub fn distinct_choices_are_built()
     ensures { (shapes : Catalogue) (root : ℕ) (format : Format)
         → IsChecked shapes → IsTakenAlike shapes root
@@ -59,20 +70,20 @@ pub fn distinct_choices_are_built()
 {}
 
 /// What is read is viable. If a reader reads an object by a choice of the root's parts, strict or
-/// not, then of a new solver over the schema that `Schema::build_auto` makes of the same shapes and
-/// root, told each of the object's names by `see_key`, the resolution of that choice is viable: the
-/// one that has the names of the choice's members, and requires those of its required members.
+/// not, then a new solver over the schema that `Schema::build_auto` makes of the same shapes and root,
+/// told each of the object's names by `see_key`, has the resolution of that choice viable. It is the
+/// resolution of the choice's indices, has the names of the choice's members, and requires those of
+/// its required members. The order in which the names are told does not matter, nor how often.
 ///
-/// `of_an_object` holds however values are read; `of_a_document` is of a whole document that is
-/// read as the root, which is then an object.
+/// `of_a_document` is of a whole document that is read as the root; it is an object then.
 pub fn read_is_viable()
     ensures of_an_object { (shapes : Catalogue) (root : ℕ) (strict : Bool) (schema : SchemaView)
-        → IsChecked shapes → IsTakenAlike shapes root
+        → IsChecked shapes → IsKeptAlike shapes root
         → IsBuilt (flat_build shapes None) root schema
-        → (ms : List Member) (c : Choice)
-        → ReadsAsRoot shapes root strict ms c → KeepsChoice schema ms c }
+        → (ms : List Member) (c : Choice) → ReadsAsRoot shapes root strict ms c
+        → (keys : List Key) → TellNames keys ms → KeepsChoice schema keys c }
     ensures of_a_document { (shapes : Catalogue) (root : ℕ) (strict : Bool) (schema : SchemaView)
-        → IsChecked shapes → IsTakenAlike shapes root
+        → IsChecked shapes → IsKeptAlike shapes root
         → IsBuilt (flat_build shapes None) root schema
         → (v : Tree) (r : Reading) → ReadsValue (rules_of shapes strict) (of_shape root) v r
         → KeepsReading schema v r }
