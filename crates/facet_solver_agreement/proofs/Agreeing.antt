@@ -1,5 +1,5 @@
--- Walks and ways to choose that agree: the indices of each choice are walked, and what is walked is a
--- choice's. They are put together part by part.
+-- Walks and ways to choose that agree: the indices of each choice are walked, and what is walked
+-- are those of a choice. They are put together part by part.
 use Rattle.std.proofs.Common.{◌≡◌, refl, sym, ap, ◌∙◌, subst, ℕ, zero, suc, ◌+◌, Bool, true, false}
 use Rattle.std.proofs.Common.{List, [], ◌∷◌, ◌++◌, Option, Some, None, slice_get, append_assoc}
 use Rattle.std.proofs.Common.{append-nil, arith}
@@ -415,7 +415,8 @@ module _ (left_out : Target → Bool) where
       where
         indices : (c : Choice) → indices_of_list lists id c ≡ indices_of_parts lists c ps
         indices c =
-            ap (λ (o : Option (List Part)). option_map_or (λ qs. indices_of_parts lists c qs) o []) e
+            ap
+            (λ (o : Option (List Part)). option_map_or (λ qs. indices_of_parts lists c qs) o []) e
 
     -- a selection of one branch, which is a struct's
     pub agree_one : (b : Bool) (struct : ℕ) (w : Walking) → AgreeList w (of_struct struct)

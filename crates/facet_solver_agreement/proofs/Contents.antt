@@ -60,7 +60,10 @@ module _ (shapes : Catalogue) where
   stands f = by_flag f.flattened
     where
       by_flag : (b : Bool)
-          → Stands (if b then role_of_target (target_of shapes f) (slice_get shapes (target_of shapes f).shape) else regular)
+          → Stands
+          (if b
+          then role_of_target (target_of shapes f) (slice_get shapes (target_of shapes f).shape)
+          else regular)
       by_flag true =
           stands_by_target (target_of shapes f) (slice_get shapes (target_of shapes f).shape) refl
       by_flag false = tt

@@ -34,7 +34,8 @@ from_emissions : (es : List Emission) (r : Resolved) (k : Key) (f : FieldView)
 unfolding with_key_paths
 from_emissions [] r k f e = inl e
 from_emissions (a_field g ∷ es) r k f e =
-    ⊎_elim here (λ later. inr (inr later.0, later.1)) (from_emissions es (with_emission r (a_field g)) k f e)
+    ⊎_elim here (λ later. inr (inr later.0, later.1))
+    (from_emissions es (with_emission r (a_field g)) k f e)
   where
     here : finite.get (with_emission r (a_field g)).fields k ≡ Some f
         → (finite.get r.fields k ≡ Some f) ⊎ (IsEmitted f (a_field g ∷ es) × (k ≡ key_of_field f))
@@ -44,7 +45,8 @@ from_emissions (a_field g ∷ es) r k f e =
       where
         go : (b : Bool) → eq_by_cmp key_cmp k (key_of_field g) ≡ b
             → cond b (Some g) (finite.get r.fields k) ≡ Some f
-            → (finite.get r.fields k ≡ Some f) ⊎ (IsEmitted f (a_field g ∷ es) × (k ≡ key_of_field f))
+            → (finite.get r.fields k ≡ Some f)
+            ⊎ (IsEmitted f (a_field g ∷ es) × (k ≡ key_of_field f))
         go true tie found =
             let same : g ≡ f = same_value g f found in
             inr (
@@ -53,9 +55,12 @@ from_emissions (a_field g ∷ es) r k f e =
                   ∙ ap (λ (x : FieldView). key_of_field x) same,
             )
         go false tie found = inl found
-from_emissions (some_key_paths p ∷ es) r k f e = from_emissions es (with_emission r (some_key_paths p)) k f e
-from_emissions (a_selection s ∷ es) r k f e = from_emissions es (with_emission r (a_selection s)) k f e
-from_emissions (a_catch_all g ∷ es) r k f e = from_emissions es (with_emission r (a_catch_all g)) k f e
+from_emissions (some_key_paths p ∷ es) r k f e =
+    from_emissions es (with_emission r (some_key_paths p)) k f e
+from_emissions (a_selection s ∷ es) r k f e =
+    from_emissions es (with_emission r (a_selection s)) k f e
+from_emissions (a_catch_all g ∷ es) r k f e =
+    from_emissions es (with_emission r (a_catch_all g)) k f e
 
 pub is_emitted : (es : List Emission) (k : Key) (f : FieldView)
     → finite.get (resolution_from es).fields k ≡ Some f → IsEmitted f es × (k ≡ key_of_field f)
@@ -88,8 +93,9 @@ put_in : (es : List Emission) (r : Resolved) (f : FieldView) → IsEmitted f es
 unfolding with_key_paths
 put_in [] r f h = absurd h
 put_in (a_field g ∷ es) r f (inl same) =
-    stays es (with_emission r (a_field g)) (key_of_field f)
-    (subst (λ (x : FieldView). IsSome (finite.get (with_emission r (a_field g)).fields (key_of_field x))) same own)
+    let now = with_emission r (a_field g) in
+    stays es now (key_of_field f)
+    (subst (λ (x : FieldView). IsSome (finite.get now.fields (key_of_field x))) same own)
   where
     own : IsSome (finite.get (with_emission r (a_field g)).fields (key_of_field g))
     own =
@@ -132,23 +138,31 @@ name_stays : (es : List Emission) (r : Resolved) (x : Name) → set.contains r.r
 unfolding with_key_paths
 name_stays [] r x h = h
 name_stays (a_field g ∷ es) r x h =
-    name_stays es (with_emission r (a_field g)) x (name_put r.required_names g.is_required x g.name h)
+    name_stays es (with_emission r (a_field g)) x
+    (name_put r.required_names g.is_required x g.name h)
 name_stays (some_key_paths p ∷ es) r x h = name_stays es (with_emission r (some_key_paths p)) x h
 name_stays (a_selection s ∷ es) r x h = name_stays es (with_emission r (a_selection s)) x h
 name_stays (a_catch_all g ∷ es) r x h = name_stays es (with_emission r (a_catch_all g)) x h
 
-name_in : (es : List Emission) (r : Resolved) (f : FieldView) → IsEmitted f es → f.is_required ≡ true
+name_in : (es : List Emission) (r : Resolved) (f : FieldView) → IsEmitted f es
+    → f.is_required ≡ true
     → set.contains (fold with_emission r es).required_names f.name ≡ true
 unfolding with_key_paths
 name_in [] r f h required = absurd h
 name_in (a_field g ∷ es) r f (inl same) required =
-    name_stays es (with_emission r (a_field g)) f.name
-    (subst (λ (x : FieldView). set.contains (with_emission r (a_field g)).required_names x.name ≡ true) same
-    (own_name r.required_names g.is_required g.name (ap (λ (x : FieldView). x.is_required) same ∙ required)))
-name_in (a_field g ∷ es) r f (inr h) required = name_in es (with_emission r (a_field g)) f h required
-name_in (some_key_paths p ∷ es) r f h required = name_in es (with_emission r (some_key_paths p)) f h required
-name_in (a_selection s ∷ es) r f h required = name_in es (with_emission r (a_selection s)) f h required
-name_in (a_catch_all g ∷ es) r f h required = name_in es (with_emission r (a_catch_all g)) f h required
+    let now = with_emission r (a_field g) in
+    let own : g.is_required ≡ true = ap (λ (x : FieldView). x.is_required) same ∙ required in
+    name_stays es now f.name
+    (subst (λ (x : FieldView). set.contains now.required_names x.name ≡ true) same
+    (own_name r.required_names g.is_required g.name own))
+name_in (a_field g ∷ es) r f (inr h) required =
+    name_in es (with_emission r (a_field g)) f h required
+name_in (some_key_paths p ∷ es) r f h required =
+    name_in es (with_emission r (some_key_paths p)) f h required
+name_in (a_selection s ∷ es) r f h required =
+    name_in es (with_emission r (a_selection s)) f h required
+name_in (a_catch_all g ∷ es) r f h required =
+    name_in es (with_emission r (a_catch_all g)) f h required
 
 pub is_required_name : (es : List Emission) (f : FieldView) → IsEmitted f es → f.is_required ≡ true
     → set.contains (resolution_from es).required_names f.name ≡ true

@@ -132,7 +132,8 @@ module _ (shapes : Catalogue) (root : ℕ) (schema : SchemaView) (checked : IsCh
         listed = own.enumerates.listed.complete choice (walked.emissions, emitted)
 
         at_index : slice_get own.enumerates.choices listed.0 ≡ Some choice
-        at_index = slice_get-get_or own.enumerates.choices listed.0 choice listed.1 ∙ ap Some listed.2
+        at_index =
+            slice_get-get_or own.enumerates.choices listed.0 choice listed.1 ∙ ap Some listed.2
 
         -- a told key that is known is one of the resolution's
         has_known : (key : Key) → Contains keys key → (other : List ℕ)
@@ -178,9 +179,11 @@ module _ (shapes : Catalogue) (root : ℕ) (schema : SchemaView) (checked : IsCh
               (λ cat n. IsResolution schema.build schema.root (indices_of cat n c) resolved) is;
           items = reading.items;
           chooses =
-              of_schema (λ cat n. Chooses (parts_of cat) (of_struct n) c reading.items) reading.chooses;
+              of_schema (λ cat n. Chooses (parts_of cat) (of_struct n) c reading.items)
+              reading.chooses;
           has_names =
-              has_names_of schema.build schema.root is_flat choice resolved is reading.items walked.same;
+              has_names_of schema.build schema.root is_flat choice resolved is reading.items
+              walked.same;
         }
 
     -- so is what is read, strict or not

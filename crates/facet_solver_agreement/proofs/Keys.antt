@@ -22,9 +22,13 @@ found_more : (m : Member) (ms : List Member) (x : Name) → HasNamed ms x → Ha
 found_more m ms x h = go (bytes_eq m.name x) refl
   where
     go : (b : Bool) → bytes_eq m.name x ≡ b → HasNamed (m ∷ ms) x
-    go true e = record { value = m.value; found = ap (λ c. if c then Some m.value else find ms x) e }
+    go true e =
+        record { value = m.value; found = ap (λ c. if c then Some m.value else find ms x) e }
     go false e =
-        record { value = h.value; found = ap (λ c. if c then Some m.value else find ms x) e ∙ h.found }
+        record {
+          value = h.value;
+          found = ap (λ c. if c then Some m.value else find ms x) e ∙ h.found;
+        }
 
 -- a key of an object's members is the name of one
 pub key_is_named : (ms : List Member) (key : Key) → Contains (keys_of ms) key

@@ -9,7 +9,7 @@ use Rattle.std.specs.FinSet as set
 use Rattle.std.specs.List.{AllByRecursion, list_all, list_any}
 use Rattle.std.proofs.lemmas.Bool.{and_from}
 use Rattle.std.proofs.lemmas.List.Elements.{All-from_recursion, recursion_from_All}
-use Rattle.facet_solver_shape.specs.declared.resolution.key.FieldCategory.TheVariants.{Flat as FlatCategory}
+use Rattle.facet_solver_shape.specs.declared.resolution.key.FieldCategory.TheVariants as category
 use Rattle.facet_solver_shape.specs.Fields.{FieldView, IsStored, has_name, key_of_field, matches}
 use Rattle.facet_solver_shape.specs.Fields.{means}
 use Rattle.facet_solver_shape.specs.Keys.{Key, flat_key, key_cmp}
@@ -77,7 +77,8 @@ asked_by_key (member_of m r ∷ items) x (inl e) =
     let same : m.name ≡ x = cc in
     (any_of_more (IsNameOf x) (asked_by_member m) (asked_by_items items)).1 (inl same)
 asked_by_key (member_of m r ∷ items) x (inr h) =
-    (any_of_more (IsNameOf x) (asked_by_member m) (asked_by_items items)).1 (inr (asked_by_key items x h))
+    (any_of_more (IsNameOf x) (asked_by_member m) (asked_by_items items)).1
+    (inr (asked_by_key items x h))
 asked_by_key (catch_all_of k t ∷ items) x (inl e) = let no : rest ≡ named x = e in absurd (cc)
 asked_by_key (catch_all_of k t ∷ items) x (inr h) = asked_by_key items x h
 asked_by_key (presence_of s ∷ items) x h = asked_by_key items x h
@@ -94,12 +95,13 @@ key_of_asked (presence_of s ∷ items) x h = key_of_asked items x h
 
 -- ---- the resolution of a choice of names
 abbrev IsFlat : FieldView → Type 0
-IsFlat f = f.category ≡ FlatCategory
+IsFlat f = f.category ≡ category.Flat
 
 module _ (build : Build) (root : ℕ) (is_flat : build.format ≡ Flat) (choice : List ℕ) (r : Resolved)
     (is : IsResolution build root choice r) where
   stored : All IsStored (finite.entries r.fields)
-  stored = All-from_recursion IsStored (finite.entries r.fields) (fields-stored build root choice r is)
+  stored =
+      All-from_recursion IsStored (finite.entries r.fields) (fields-stored build root choice r is)
 
   flat : All IsFlat (finite.values r.fields)
   flat = flat_fields build root choice r is_flat is
@@ -107,7 +109,8 @@ module _ (build : Build) (root : ℕ) (is_flat : build.format ≡ Flat) (choice 
   -- it has a name where a field stands under it
   by_name : (x : Name) → has_field_named x r ≡ is_some (finite.get r.fields (flat_key x))
   by_name x =
-      sym (is_some-found (has_name x) (finite.values r.fields)) ∙ ap is_some (flat_by_name r.fields stored flat x)
+      sym (is_some-found (has_name x) (finite.values r.fields))
+      ∙ ap is_some (flat_by_name r.fields stored flat x)
 
   pub key_is_name : (x : Name) → has_key (flat_key x) r ≡ has_field_named x r
   key_is_name x = ap is_some (flat_by_key r.fields stored flat (flat_key x)) ∙ sym (by_name x)
@@ -115,7 +118,8 @@ module _ (build : Build) (root : ℕ) (is_flat : build.format ≡ Flat) (choice 
   emitted_at : (k : Key) (f : FieldView) → finite.get r.fields k ≡ Some f
       → IsEmitted f is.emissions × (k ≡ key_of_field f)
   emitted_at k f e =
-      is_emitted is.emissions k f (sym (ap (λ (q : Resolved). finite.get q.fields k) is.put_together) ∙ e)
+      is_emitted is.emissions k f
+      (sym (ap (λ (q : Resolved). finite.get q.fields k) is.put_together) ∙ e)
 
   some_value : (o : Option FieldView) → is_some o ≡ true → (f : FieldView) × (o ≡ Some f)
   some_value None h = absurd (cc)
@@ -162,7 +166,8 @@ module _ (build : Build) (root : ℕ) (is_flat : build.format ≡ Flat) (choice 
   asked_required x h =
       let e = emitted_of_asked (IsRequiredOf x) is.emissions h in
       subst (λ (q : Resolved). set.contains q.required_names x ≡ true) (sym is.put_together)
-      (subst (λ (y : Name). set.contains (resolution_from is.emissions).required_names y ≡ true) e.2.same_name
+      (subst (λ (y : Name). set.contains (resolution_from is.emissions).required_names y ≡ true)
+      e.2.same_name
       (is_required_name is.emissions e.0 e.1 e.2.required))
 
   -- so it has the names of a choice that asks the same
@@ -182,7 +187,8 @@ module _ (build : Build) (root : ℕ) (is_flat : build.format ≡ Flat) (choice 
   -- ---- viable
   all_met : (keys : List Key) (es : List (Key × FieldView)) → T (finite.is_sorted key_cmp es)
       → AllByRecursion IsFlat (map (λ e. e.1) es)
-      → ((k : Key) (f : FieldView) → find_at key_cmp k es ≡ Some f → IsFlat f → is_met keys f ≡ true)
+      → ((k : Key) (f : FieldView) → find_at key_cmp k es ≡ Some f → IsFlat f
+      → is_met keys f ≡ true)
       → list_all (is_met keys) (map (λ e. e.1) es) ≡ true
   all_met keys [] rising all_flat each = refl
   all_met keys (e ∷ es) rising all_flat each =
@@ -199,12 +205,14 @@ module _ (build : Build) (root : ℕ) (is_flat : build.format ≡ Flat) (choice 
   viable_by_names keys there =
       all_met keys (finite.entries r.fields) (finite.entries_sorted r.fields)
       (recursion_from_All IsFlat (finite.values r.fields) flat)
-      (λ k f found is_flat. met f is_flat (emitted_at k f (finite.get-entries r.fields k ∙ found)).0)
+      (λ k f found is_flat.
+      met f is_flat (emitted_at k f (finite.get-entries r.fields k ∙ found)).0)
     where
       met : (f : FieldView) → IsFlat f → IsEmitted f is.emissions → is_met keys f ≡ true
       met f is_flat h = go f.is_required refl
         where
-          go : (b : Bool) → f.is_required ≡ b → (not b || list_any (λ key. matches key f) keys) ≡ true
+          go : (b : Bool) → f.is_required ≡ b
+              → (not b || list_any (λ key. matches key f) keys) ≡ true
           go false e = refl
           go true e =
               ap (λ c. list_any (λ (key : Key). means key.dom key.name c f.name) keys) is_flat

@@ -92,7 +92,8 @@ module _ (left_out : Target → Bool) where
   key_twice (member_of m r ∷ items) h = go (left_out m.target) h (λ later. key_twice items later)
     where
       go : (b : Bool)
-          → Twice (if b then asked_but left_out items else asked_by_member m ∷ asked_but left_out items)
+          → Twice
+          (if b then asked_but left_out items else asked_by_member m ∷ asked_but left_out items)
           → (Twice (asked_but left_out items) → HasTwice items) → HasTwice (member_of m r ∷ items)
       go true h later = inr (later h)
       go false (inl h) later = inl (key_of items m.name h)

@@ -6,7 +6,8 @@ use Rattle.std.specs.Option.{option_map_or}
 use Rattle.facet_solver_shape.specs.declared.shape.Field.{Field}
 use Rattle.facet_solver_shape.specs.declared.shape.Shape.{Shape}
 use Rattle.facet_solver_shape.specs.declared.shape.StructKind.TheVariants.{Struct as ByName}
-use Rattle.facet_solver_shape.specs.Catalogues.{Catalogue, IsChecked, NamesEarlier, kind_of}
+use Rattle.facet_solver_shape.specs.Catalogues.{Catalogue, FieldsBelow, IsChecked, NamesEarlier}
+use Rattle.facet_solver_shape.specs.Catalogues.{kind_of}
 use Rattle.facet_solver_shape.specs.Representation.{Repr, flattened, externally_tagged}
 use Rattle.facet_solver_shape.specs.Representation.{internally_tagged, adjacently_tagged}
 use Rattle.facet_solver_shape.specs.Representation.{repr_of_shape}
@@ -51,6 +52,15 @@ module _ (shapes : Catalogue) (root : ℕ) (format : Format) (checked : IsChecke
     abbrev ps : List Part
     ps = parts_of_fields shapes fs
 
+    walk_is : (ns : List ℕ) → walk_root build root ns ≡ walk_fields build fs at_root ns
+    walk_is ns =
+        root-fields build root ns alike.shape alike.is_there ByName alike.fields alike.is_struct
+
+    low : FieldsBelow (length shapes) fs
+    low =
+        struct-below shapes earlier root alike.shape alike.is_there ByName alike.fields
+        alike.is_struct
+
     -- the walk of the root agrees with the choices of its parts, whatever is left out
     by_left_out : (left_out : Target → Bool) → LeavesOut shapes left_out
         → ((gs : List Field) → AreMet shapes fs gs
@@ -61,10 +71,9 @@ module _ (shapes : Catalogue) (root : ℕ) (format : Format) (checked : IsChecke
         (ap (parts_of_struct shapes) (ap kind_of alike.is_there ∙ alike.is_struct))
         (agree_same left_out (λ ns. walk_fields build fs at_root ns) (λ ns. walk_root build root ns)
         (ChoosesAll (parts_of shapes) ps) (λ c. indices_of_parts (parts_of shapes) c ps)
-        (λ ns. sym (root-fields build root ns alike.shape alike.is_there ByName alike.fields alike.is_struct))
-        (walk_agrees left_out shapes leaves format earlier fs alike.named all_left_out (length shapes)
-        fs (struct-below shapes earlier root alike.shape alike.is_there ByName alike.fields alike.is_struct)
-        (0, refl) at_root))
+        (λ ns. sym (walk_is ns))
+        (walk_agrees left_out shapes leaves format earlier fs alike.named all_left_out
+        (length shapes) fs low (0, refl) at_root))
 
     -- ---- with the content of adjacently tagged enums left out
     adjacent_left_out : LeavesOut shapes (is_adjacent_content shapes)

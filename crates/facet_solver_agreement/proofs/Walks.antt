@@ -52,8 +52,8 @@ use Rattle.facet_solver_agreement.proofs.Agreeing.{agree_none, agree_one, agree_
 use Rattle.facet_solver_agreement.proofs.Agreeing.{agree_selection, asked_if}
 use Rattle.facet_solver_agreement.proofs.Contents.{AreParts, Stands, content_parts, stands}
 
--- what is left out of what choices ask: no shape's value and no tag, and of the contents of variants
--- those of adjacently tagged enums that a field of a role flattens
+-- what is left out of what choices ask: no shape's value and no tag, and no content but that of
+-- adjacently tagged enums
 pub record LeavesOut (shapes : Catalogue) (left_out : parts.Target → Bool) : Type 0 where
   pub no_shape : (id : ℕ) → left_out (of_shape id) ≡ false
   pub no_tag : (name : Name) → left_out (of_tag name) ≡ false
@@ -101,12 +101,14 @@ module _ (left_out : parts.Target → Bool) (shapes : Catalogue) (leaves : Leave
       where
         each : (k : ℕ) (f : Field) → slice_get fs k ≡ Some f → IsFine (role_of shapes f)
         each k f at = record {
-          named = all_at (λ g. FlattensNamed shapes (role_of shapes g)) fs k f (all_named fs met) at;
+          named =
+              all_at (λ g. FlattensNamed shapes (role_of shapes g)) fs k f (all_named fs met) at;
           apart =
-              all_at (λ g. FlattensLeftOut left_out (role_of shapes g)) fs k f (all_left_out fs met) at;
+              all_at (λ g. FlattensLeftOut left_out (role_of shapes g)) fs k f
+              (all_left_out fs met) at;
           deeper = λ gs brings.
-              let brings_in = any_at (λ g. BringsIn shapes gs (role_of shapes g)) fs k f at brings in
-              (suc met.0, (fs, met.1, brings_in));
+              let one = any_at (λ g. BringsIn shapes gs (role_of shapes g)) fs k f at brings in
+              (suc met.0, (fs, met.1, one));
         }
 
         go : (gs : List Field)
@@ -170,7 +172,8 @@ module _ (left_out : parts.Target → Bool) (shapes : Catalogue) (leaves : Leave
             agrees =
                 agree_behind left_out lists b.0 (walk_inside v place)
                 (agree_list left_out lists (of_struct b.0)
-                (parts_of_fields shapes (content_of shapes v).fields) (walk_inside v place) b.2 inside);
+                (parts_of_fields shapes (content_of shapes v).fields) (walk_inside v place) b.2
+                inside);
           }
 
       -- a chosen variant of a flattened enum
@@ -193,13 +196,15 @@ module _ (left_out : parts.Target → Bool) (shapes : Catalogue) (leaves : Leave
           -- the walk of it, by a representation
           walk_by : Repr → Walking
           walk_by repr ns =
-              put_before (announced repr) (if is_walked repr then walk_inside v behind ns else emit [] ns)
+              put_before (announced repr)
+              (if is_walked repr then walk_inside v behind ns else emit [] ns)
 
           -- its parts, by a representation
           abbrev parts_by : Repr → Option Variant → Option (List Part)
           parts_by repr o = option_and_then (parts_of_branch shapes target.shape k repr) o
 
-          branch_is : parts_of shapes (of_branch target.shape k) ≡ parts_by (repr_of_shape s) (Some v)
+          branch_is : parts_of shapes (of_branch target.shape k)
+              ≡ parts_by (repr_of_shape s) (Some v)
           branch_is =
               ap
               (λ (o : Option Shape).
@@ -224,8 +229,9 @@ module _ (left_out : parts.Target → Bool) (shapes : Catalogue) (leaves : Leave
               → asked_by_walk es ≡ record { name = tag; required = true } ∷ []
               → AgreeAt left_out lists (emit es) (tag_member tag v)
           tag_agrees tag es same =
-              member_agrees (record { name = tag; required = true; target = of_tag (string_bytes v.name) })
-              es (leaves.no_tag (string_bytes v.name)) same
+              let m : MemberPart =
+              record { name = tag; required = true; target = of_tag (string_bytes v.name) } in
+              member_agrees m es (leaves.no_tag (string_bytes v.name)) same
 
           by_repr : (repr : Repr) → repr_of_shape s ≡ repr → HaveNamedContent shapes repr vs
               → AreLeftOut (λ k. left_out (of_content target.shape k)) repr
@@ -250,9 +256,10 @@ module _ (left_out : parts.Target → Bool) (shapes : Catalogue) (leaves : Leave
               agree_list left_out lists (of_branch target.shape k)
               (content_member (string_bytes v.name) true target.shape k ∷ [])
               (walk_by externally_tagged) e
-              (agree_both left_out lists (content_member (string_bytes v.name) true target.shape k) []
-              (emit (announced externally_tagged)) (emit [])
-              (member_agrees m (announced externally_tagged) stays refl) (agree_none left_out lists))
+              (agree_both left_out lists (content_member (string_bytes v.name) true target.shape k)
+              [] (emit (announced externally_tagged)) (emit [])
+              (member_agrees m (announced externally_tagged) stays refl)
+              (agree_none left_out lists))
           by_repr (internally_tagged tag) is has_named out e =
               let named = all_at (HasNamedContent shapes) vs k v has_named at in
               let c = content (ap is_walked is) named in
@@ -266,16 +273,14 @@ module _ (left_out : parts.Target → Bool) (shapes : Catalogue) (leaves : Leave
               let has : Bool = has_fields v.fields.items in
               let m : MemberPart =
               record { name = name; required = has; target = of_content target.shape k } in
-              agree_list left_out lists (of_branch target.shape k)
-              (tag_member tag v ∷ content_member name (has_fields v.fields.items) target.shape k ∷ [])
+              let p : Part = content_member name has target.shape k in
+              agree_list left_out lists (of_branch target.shape k) (tag_member tag v ∷ p ∷ [])
               (walk_by (adjacently_tagged tag name)) e
-              (agree_both left_out lists (tag_member tag v)
-              (content_member name (has_fields v.fields.items) target.shape k ∷ [])
+              (agree_both left_out lists (tag_member tag v) (p ∷ [])
               (emit (announced (adjacently_tagged tag name))) (emit [])
               (tag_agrees tag (announced (adjacently_tagged tag name)) refl)
-              (agree_both left_out lists
-              (content_member name (has_fields v.fields.items) target.shape k) [] (emit []) (emit [])
-              (apart_agrees m (out k)) (agree_none left_out lists)))
+              (agree_both left_out lists p [] (emit []) (emit []) (apart_agrees m (out k))
+              (agree_none left_out lists)))
 
           variant_agrees : AgreeList left_out lists
               (λ ns. walk_variant_step (walk_fields build) build (choosing f target s v) place ns)
@@ -293,13 +298,15 @@ module _ (left_out : parts.Target → Bool) (shapes : Catalogue) (leaves : Leave
           }
 
       -- a field of a role
-      role_agrees : (f : Field) (place : Path) (r : Role) → Stands shapes r → RoleBelow n r → IsFine r
+      role_agrees : (f : Field) (place : Path) (r : Role) → Stands shapes r → RoleBelow n r
+          → IsFine r
           → AgreeAt left_out lists (λ ns. walk_role (walk_fields build) build f place r ns)
           (part_by_role shapes f r)
       unfolding AgreeBelow emit_plain emit_regular emit_catch_all emit_leaf regular_field leaf_field
           field_and_paths
       role_agrees f place regular h low is_fine =
-          member_agrees (member_of f) (emit_plain build f place regular) (leaves.no_shape f.shape) refl
+          member_agrees (member_of f) (emit_plain build f place regular)
+          (leaves.no_shape f.shape) refl
       role_agrees f place (block target fs) h low is_fine =
           let walk : Walking = λ ns. walk_fields build fs (field_path place f) ns in
           agree_selection left_out lists (of_struct target.shape ∷ []) walk target.optional

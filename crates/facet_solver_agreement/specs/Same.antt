@@ -20,7 +20,8 @@ pub record IsWalkedAs (build : Build) (root : ℕ) (c : Choice) (items : List It
 
 -- the choice of a schema is that of a choice of the root's parts. Its items ask the names that the
 -- walk asks, in the same order and required alike
-pub record IsChosenAs (shapes : Catalogue) (root : ℕ) (choice : List ℕ) (es : List Emission) : Type 0
+pub record IsChosenAs (shapes : Catalogue) (root : ℕ) (choice : List ℕ) (es : List Emission)
+    : Type 0
   where
     pub readers : Choice
     pub items : List Item

@@ -10,15 +10,15 @@
 //! - The root is a struct with named fields. It is no metadata container, and has no `inner` and no
 //!   `proxy`.
 //! - Of each enum that is flattened into it, at whatever level, and is untagged or has a tag alone,
-//!   each variant has no fields, fields with names, or a single field `0` that comes, by `inner` and
-//!   `proxy` alone, to a struct with named fields.
+//!   each variant has no fields, fields with names, or a single field `0` that comes, by `inner`
+//!   and `proxy` alone, to a struct with named fields.
 //!
 //! That what is read is viable is moreover of types that flatten no adjacently tagged enum
 //! (`IsKeptAlike`).
 //!
-//! Elsewhere the two differ. Of a field `0` that comes to an enum, for example, a schema has a field
-//! named `0`, where a reader has the branches of that enum. Of the content of an adjacently tagged
-//! enum a schema has no field.
+//! Elsewhere the two differ. Of a field `0` that comes to an enum, for example, a schema has a
+//! field named `0`, where a reader has the branches of that enum. Of the content of an adjacently
+//! tagged enum a schema has no field.
 #![tactic(auto)]
 
 ghost use Rattle.std.specs.Prelude.{ℕ, Bool, List, None};
@@ -38,14 +38,15 @@ ghost use Rattle.facet_solver_reader.specs.Parts.{of_shape, of_struct};
 ghost use Rattle.facet_solver_reader.specs.Readings.{ReadsValue};
 ghost use Rattle.facet_solver_reader.specs.Types.{parts_of, rules_of};
 ghost use Rattle.facet_solver_agreement.specs.Alike.{IsKeptAlike, IsTakenAlike};
-ghost use Rattle.facet_solver_agreement.specs.Kept.{KeepsChoice, KeepsReading, ReadsAsRoot, TellNames};
+ghost use Rattle.facet_solver_agreement.specs.Kept.{KeepsChoice, KeepsReading};
+ghost use Rattle.facet_solver_agreement.specs.Kept.{ReadsAsRoot, TellNames};
 ghost use Rattle.facet_solver_agreement.specs.Same.{IsChosenAs, IsWalkedAs};
 
 /// The choices of the root's parts are those of its schema, whatever the kind of document. The
-/// indices of a reader's choice (`indices_of`) are a choice of the schema; each choice of the schema
-/// is the indices of one of the reader. Two that belong together ask for the same names, in the same
-/// order and required alike, but for the content of adjacently tagged enums. So they stand in one
-/// order too: a schema has its resolutions in the order of their choices' indices.
+/// indices of a reader's choice (`indices_of`) are a choice of the schema, and each choice of the
+/// schema is the indices of one of the reader. The two ask for the same names, in the same order
+/// and required alike, but for the content of adjacently tagged enums. A schema has its resolutions
+/// in the order of these indices.
 pub fn choices_are_those_of_the_schema()
     ensures of_the_reader { (shapes : Catalogue) (root : ℕ) (format : Format)
         → IsChecked shapes → IsTakenAlike shapes root
@@ -59,8 +60,8 @@ pub fn choices_are_those_of_the_schema()
 {}
 
 /// If no choice of the root's parts has a key twice (two members of one name, or two catch-alls),
-/// the root has no duplicate keys: no builder that goes by the enums' own representations refuses it
-/// for one.
+/// the root has no duplicate keys: no builder that goes by the enums' own representations refuses
+/// it for one.
 pub fn distinct_choices_are_built()
     ensures { (shapes : Catalogue) (root : ℕ) (format : Format)
         → IsChecked shapes → IsTakenAlike shapes root
@@ -70,10 +71,11 @@ pub fn distinct_choices_are_built()
 {}
 
 /// What is read is viable. If a reader reads an object by a choice of the root's parts, strict or
-/// not, then a new solver over the schema that `Schema::build_auto` makes of the same shapes and root,
-/// told each of the object's names by `see_key`, has the resolution of that choice viable. It is the
-/// resolution of the choice's indices, has the names of the choice's members, and requires those of
-/// its required members. The order in which the names are told does not matter, nor how often.
+/// not, then a new solver over the schema that `Schema::build_auto` makes of the same shapes and
+/// root, told each of the object's names by `see_key`, has the resolution of that choice viable. It
+/// is the resolution of the choice's indices, has the names of the choice's members, and requires
+/// those of its required members. The order in which the names are told does not matter, nor how
+/// often.
 ///
 /// `of_a_document` is of a whole document that is read as the root; it is an object then.
 pub fn read_is_viable()
