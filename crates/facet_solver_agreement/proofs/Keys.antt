@@ -14,8 +14,8 @@ use Rattle.facet_solver_reader.specs.Objects.{Agrees, HasNamed, Object, Reads, R
 use Rattle.facet_solver_reader.specs.Parts.{MemberPart}
 use Rattle.facet_solver_reader.specs.Rules.{Rules}
 use Rattle.facet_solver_reader.proofs.Quantifiers.{any_of_more, any_of_none}
-use Rattle.facet_solver_agreement.specs.Asked.{asked_by_items, asked_by_member}
-use Rattle.facet_solver_agreement.specs.Kept.{IsRequiredOf, keys_of}
+use Rattle.facet_solver_agreement.specs.Asked.{IsRequiredOf, asked_by_items, asked_by_member}
+use Rattle.facet_solver_agreement.specs.Kept.{keys_of}
 
 -- a name is found where it stands first, or among the rest
 found_more : (m : Member) (ms : List Member) (x : Name) → HasNamed ms x → HasNamed (m ∷ ms) x

@@ -6,5 +6,7 @@ pub mod Root
 pub mod Emitted
 pub mod Named
 pub mod Keys
+pub mod Listed
+pub mod Fitting
 pub mod Kept
 pub mod Repeated

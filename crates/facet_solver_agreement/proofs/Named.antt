@@ -7,7 +7,9 @@ use Rattle.std.specs.FinMap as finite
 use Rattle.std.specs.FinMap.{find as find_at}
 use Rattle.std.specs.FinSet as set
 use Rattle.std.specs.List.{AllByRecursion, list_all, list_any}
-use Rattle.std.proofs.lemmas.Bool.{and_from}
+use Rattle.std.specs.Ordering.{eq_by_cmp}
+use Rattle.std.proofs.Common.{cond}
+use Rattle.std.proofs.lemmas.Bool.{and_from, and_parts}
 use Rattle.std.proofs.lemmas.List.Elements.{All-from_recursion, recursion_from_All}
 use Rattle.facet_solver_shape.specs.declared.resolution.key.FieldCategory.TheVariants as category
 use Rattle.facet_solver_shape.specs.Fields.{FieldView, IsStored, has_name, key_of_field, matches}
@@ -16,6 +18,7 @@ use Rattle.facet_solver_shape.specs.Keys.{Key, flat_key, key_cmp}
 use Rattle.facet_solver_shape.specs.Names.{Name, name_eq}
 use Rattle.facet_solver_shape.specs.Resolved.{AreRequiredNames, Resolved}
 use Rattle.facet_solver_shape.proofs.Fields.{flat_alone, flat_by_key, flat_by_name}
+use Rattle.facet_solver_shape.proofs.Finite.{none_is_some, same_value}
 use Rattle.facet_solver_shape.proofs.Resolved.{second_part}
 use Rattle.facet_solver.specs.declared.build.format.Format.TheVariants.{Flat}
 use Rattle.facet_solver.specs.build.Build.{Build}
@@ -32,10 +35,10 @@ use Rattle.facet_solver.proofs.Outcome.{required_names}
 use Rattle.facet_solver_reader.specs.Choices.{Item, member_of, catch_all_of, presence_of}
 use Rattle.facet_solver_reader.specs.Known.{HasKey, named, rest}
 use Rattle.facet_solver_reader.proofs.Quantifiers.{any_of_more, any_of_none}
-use Rattle.facet_solver_agreement.specs.Asked.{Asked, asked_by_field, asked_by_items}
+use Rattle.facet_solver_agreement.specs.Asked.{Asked, IsRequiredOf, asked_by_field, asked_by_items}
 use Rattle.facet_solver_agreement.specs.Asked.{asked_by_member}
 use Rattle.facet_solver_agreement.specs.Asked.{asked_by_walk}
-use Rattle.facet_solver_agreement.specs.Kept.{HasNamesOf, IsRequiredOf}
+use Rattle.facet_solver_agreement.specs.Kept.{HasNamesOf}
 use Rattle.facet_solver_agreement.proofs.Emitted.{IsEmitted, is_emitted, is_required_name}
 use Rattle.facet_solver_agreement.proofs.Emitted.{is_stored}
 
@@ -92,6 +95,31 @@ key_of_asked (member_of m r ∷ items) x h =
     ((any_of_more (IsNameOf x) (asked_by_member m) (asked_by_items items)).0 h)
 key_of_asked (catch_all_of k t ∷ items) x h = inr (key_of_asked items x h)
 key_of_asked (presence_of s ∷ items) x h = key_of_asked items x h
+
+-- ---- entries of a map of fields
+-- what each value has, the one that is found has
+found_has : (P : FieldView → Type 0) (es : List (Key × FieldView)) (k : Key) (f : FieldView)
+    → AllByRecursion P (map (λ e. e.1) es) → find_at key_cmp k es ≡ Some f → P f
+found_has P [] k f all found = none_is_some f found
+found_has P (e ∷ es) k f all found =
+    go (eq_by_cmp key_cmp k e.0) found (λ later. found_has P es k f all.1 later)
+  where
+    go : (b : Bool) → cond b (Some e.1) (find_at key_cmp k es) ≡ Some f
+        → (find_at key_cmp k es ≡ Some f → P f) → P f
+    go true found later = subst P (same_value e.1 f found) all.0
+    go false found later = later found
+
+-- a test that all pass
+all_true : (p : FieldView → Bool) (fs : List FieldView) → list_all p fs ≡ true
+    → AllByRecursion (λ f. p f ≡ true) fs
+all_true p [] h = tt
+all_true p (f ∷ fs) h =
+    let parts = and_parts (p f) (list_all p fs) h in (parts.0, all_true p fs parts.1)
+
+-- what has to be met and is met is met by a key
+required_met : (required met : Bool) → required ≡ true → (not required || met) ≡ true → met ≡ true
+required_met true met e h = h
+required_met false met e h = absurd (cc)
 
 -- ---- the resolution of a choice of names
 abbrev IsFlat : FieldView → Type 0
@@ -219,3 +247,23 @@ module _ (build : Build) (root : ℕ) (is_flat : build.format ≡ Flat) (choice 
               ∙ there f.name
               (asked_of_emitted (IsRequiredOf f.name) is.emissions f h
               (record { same_name = refl; required = e }))
+
+  -- ---- and where it is viable, each required name is that of a key
+  pub names_of_viable : (keys : List Key) → is_viable keys r ≡ true
+      → (x : Name) → Any (IsRequiredOf x) (asked_by_walk is.emissions)
+      → list_any (λ key. name_eq key.name x) keys ≡ true
+  names_of_viable keys viable x a =
+      let q = (are_required x).0 (asked_required x a) in
+      let found = sym (finite.get-entries r.fields q.key) ∙ q.present in
+      let es = finite.entries r.fields in
+      let met : is_met keys q.field ≡ true =
+      found_has (λ f. is_met keys f ≡ true) es q.key q.field
+      (all_true (is_met keys) (map (λ e. e.1) es) viable) found in
+      let flat_one : IsFlat q.field =
+      found_has IsFlat es q.key q.field
+      (recursion_from_All IsFlat (finite.values r.fields) flat) found in
+      let test : Bool = list_any (λ key. matches key q.field) keys in
+      ap (λ y. list_any (λ (key : Key). name_eq key.name y) keys) (sym q.same_name)
+      ∙ ap (λ c. list_any (λ (key : Key). means key.dom key.name c q.field.name) keys)
+      (sym flat_one)
+      ∙ required_met q.field.is_required test q.is_required met

@@ -1,6 +1,6 @@
 -- What a choice asks of an object: the names of its members, in order, and which of them have to be
 -- there.
-use Rattle.std.specs.Prelude.{Bool, true, false, List, [], ◌∷◌, if◌then◌else◌}
+use Rattle.std.specs.Prelude.{◌≡◌, Bool, true, false, List, [], ◌∷◌, if◌then◌else◌}
 use Rattle.facet_solver_shape.specs.Catalogues.{Catalogue}
 use Rattle.facet_solver_shape.specs.Fields.{FieldView}
 use Rattle.facet_solver_shape.specs.Names.{Name}
@@ -15,6 +15,11 @@ use Rattle.facet_solver_reader.specs.Types.{repr_at}
 pub record Asked : Type 0 where
   pub name : Name
   pub required : Bool
+
+-- a name is one that has to be there
+pub record IsRequiredOf (x : Name) (asked : Asked) : Type 0 where
+  pub same_name : asked.name ≡ x
+  pub required : asked.required ≡ true
 
 -- what a member asks
 abbrev pub asked_by_member : MemberPart → Asked

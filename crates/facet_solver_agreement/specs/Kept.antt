@@ -18,7 +18,7 @@ use Rattle.facet_solver_reader.specs.Parts.{of_struct}
 use Rattle.facet_solver_reader.specs.Objects.{ReadsObject}
 use Rattle.facet_solver_reader.specs.Readings.{ReadsValue}
 use Rattle.facet_solver_reader.specs.Types.{parts_of, rules_of}
-use Rattle.facet_solver_agreement.specs.Asked.{Asked, asked_by_items}
+use Rattle.facet_solver_agreement.specs.Asked.{IsRequiredOf, asked_by_items}
 use Rattle.facet_solver_agreement.specs.Indices.{indices_of}
 
 -- an object is read by a choice of the root's parts, strict or not
@@ -35,11 +35,6 @@ keys_of ms = map (λ m. flat_key m.name) ms
 abbrev pub TellNames : List Key → List Member → Type 0
 TellNames keys ms = HaveSameKeys keys (keys_of ms)
 
--- a name is one that has to be there
-pub record IsRequiredOf (x : Name) (asked : Asked) : Type 0 where
-  pub same_name : asked.name ≡ x
-  pub required : asked.required ≡ true
-
 -- a resolution has the names of the items of a choice: its fields' names are those of the members,
 -- and its required names those of the members that have to be there
 pub record HasNamesOf (items : List Item) (r : Resolved) : Type 0 where
@@ -47,17 +42,27 @@ pub record HasNamesOf (items : List Item) (r : Resolved) : Type 0 where
   pub required : (x : Name)
       → (set.contains r.required_names x ≡ true) ↔ Any (IsRequiredOf x) (asked_by_items items)
 
+-- the resolution at an index is that of a reader's choice: the one of its indices, with the names
+-- of its items
+pub record IsOfChoice (schema : SchemaView) (index : ℕ) (c : Choice) (items : List Item) : Type 0
+  where
+    pub chooses : Chooses (parts_of schema.build.catalogue) (of_struct schema.root) c items
+    pub resolution : Resolved
+    pub is_there : slice_get schema.resolutions index ≡ Some resolution
+    pub resolved : IsResolution schema.build schema.root
+        (indices_of schema.build.catalogue schema.root c) resolution
+    pub has_names : HasNamesOf items resolution
+
+-- of a new solver that was told some keys the resolution at an index is viable
+abbrev pub IsViableAfter : SchemaView → List Key → ℕ → Type 0
+IsViableAfter schema keys index = Contains (viable (see_keys keys (new_solver schema))) index
+
 -- of a new solver that was told some keys the resolution of a reader's choice is viable
 pub record KeepsChoice (schema : SchemaView) (keys : List Key) (c : Choice) : Type 0 where
-  pub index : ℕ
-  pub resolution : Resolved
-  pub is_there : slice_get schema.resolutions index ≡ Some resolution
-  pub is_viable : Contains (viable (see_keys keys (new_solver schema))) index
-  pub is_of_choice : IsResolution schema.build schema.root
-      (indices_of schema.build.catalogue schema.root c) resolution
   pub items : List Item
-  pub chooses : Chooses (parts_of schema.build.catalogue) (of_struct schema.root) c items
-  pub has_names : HasNamesOf items resolution
+  pub index : ℕ
+  pub is_of_choice : IsOfChoice schema index c items
+  pub is_viable : IsViableAfter schema keys index
 
 -- a document is an object that is read by a choice, and each solver that is told its names keeps
 -- that choice

@@ -4,3 +4,4 @@ pub mod Met
 pub mod Alike
 pub mod Same
 pub mod Kept
+pub mod Fits

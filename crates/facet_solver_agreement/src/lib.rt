@@ -38,7 +38,8 @@ ghost use Rattle.facet_solver_reader.specs.Parts.{of_shape, of_struct};
 ghost use Rattle.facet_solver_reader.specs.Readings.{ReadsValue};
 ghost use Rattle.facet_solver_reader.specs.Types.{parts_of, rules_of};
 ghost use Rattle.facet_solver_agreement.specs.Alike.{IsKeptAlike, IsTakenAlike};
-ghost use Rattle.facet_solver_agreement.specs.Kept.{KeepsChoice, KeepsReading};
+ghost use Rattle.facet_solver_agreement.specs.Fits.{FitsByNames, IsFitting, SomeFits};
+ghost use Rattle.facet_solver_agreement.specs.Kept.{IsViableAfter, KeepsChoice, KeepsReading};
 ghost use Rattle.facet_solver_agreement.specs.Kept.{ReadsAsRoot, TellNames};
 ghost use Rattle.facet_solver_agreement.specs.Same.{IsChosenAs, IsWalkedAs};
 
@@ -68,6 +69,26 @@ pub fn distinct_choices_are_built()
         → IsDistinct (Chooses (parts_of shapes) (of_struct root))
         → (name : Name) (first second : Path)
         → ¬ IsChoiceDuplicate (build_with shapes None format) root name first second }
+{}
+
+/// Names alone decide what a solver keeps. A choice fits an object by its names if it has each name
+/// of the object that some choice has, and each name that it requires is one of the object's. A new
+/// solver over the schema that `Schema::build_auto` makes, told each of the object's names by
+/// `see_key`, has the resolution of each such choice viable. Where there is one, each viable
+/// resolution is that of such a choice.
+pub fn names_decide()
+    ensures fitting { (shapes : Catalogue) (root : ℕ) (schema : SchemaView)
+        → IsChecked shapes → IsKeptAlike shapes root
+        → IsBuilt (flat_build shapes None) root schema
+        → (c : Choice) (items : List Item) → Chooses (parts_of shapes) (of_struct root) c items
+        → (ms : List Member) → FitsByNames shapes root ms items
+        → (keys : List Key) → TellNames keys ms → KeepsChoice schema keys c }
+    ensures no_other { (shapes : Catalogue) (root : ℕ) (schema : SchemaView)
+        → IsChecked shapes → IsKeptAlike shapes root
+        → IsBuilt (flat_build shapes None) root schema
+        → (ms : List Member) → SomeFits shapes root ms
+        → (keys : List Key) → TellNames keys ms
+        → (index : ℕ) → IsViableAfter schema keys index → IsFitting schema ms index }
 {}
 
 /// What is read is viable. If a reader reads an object by a choice of the root's parts, strict or
