@@ -2,7 +2,8 @@
 use Rattle.std.proofs.Common.{◌≡◌, ◌⊎◌, inl, inr, refl, sym, ap, ◌∙◌, ℕ, zero, suc, Bool, true}
 use Rattle.std.proofs.Common.{false, List, [], ◌∷◌, Option, Some, None, slice_get, length}
 use Rattle.std.proofs.Common.{string_bytes, Vec}
-use Rattle.std.specs.Prelude.{⊤, if◌then◌else◌, MatchOption, codes, option_and_then}
+use Rattle.std.specs.Prelude.{⊤, IsTrue, if◌then◌else◌, codes, option_and_then}
+use Rattle.std.proofs.lemmas.Bool.{false≢true}
 use Rattle.std.specs.Option.{option_map_or, option_or}
 use Rattle.std.specs.Str.{bytes_eq}
 use Rattle.std.specs.declared.alloc.Global.{Global}
@@ -30,7 +31,8 @@ use Rattle.facet_solver_reader.specs.Types.{one_of, parts_of, parts_of_content}
 use Rattle.facet_solver_reader.specs.Types.{parts_of_content_kind, parts_of_fields}
 use Rattle.facet_solver_reader.specs.Types.{parts_of_newtype, parts_of_kind, parts_of_struct}
 use Rattle.facet_solver_reader.specs.Types.{variants_at, variants_of_kind}
-use Rattle.facet_solver_agreement.specs.Alike.{AreNamed, HasNamedContent, IsNamedStruct}
+use Rattle.facet_solver_agreement.specs.Alike.{are_named, has_named_content, is_named_struct}
+use Rattle.facet_solver_agreement.specs.Alike.{stands_for_named_struct}
 
 module _ (shapes : Catalogue) where
   -- ---- roles
@@ -108,15 +110,15 @@ module _ (shapes : Catalogue) where
       ⊎ ((id : ℕ) × (parts ≡ Some (one_of (of_struct id ∷ []) ∷ []))
       × (parts_of shapes (of_struct id) ≡ Some (parts_of_fields shapes fs)))
 
-  named_parts : (kind : StructKind) (f : Field) (fs : List Field) → AreNamed kind (f ∷ fs)
+  named_parts : (kind : StructKind) (f : Field) (fs : List Field) → IsTrue (are_named kind (f ∷ fs))
       → parts_of_content_kind shapes kind (f ∷ fs) ≡ Some (parts_of_fields shapes (f ∷ fs))
   named_parts NoFields f fs h = refl
   named_parts ByName f fs h = refl
-  named_parts Tuple f fs h = absurd h
-  named_parts TupleStruct f fs h = absurd h
+  named_parts Tuple f fs h = absurd (false≢true h)
+  named_parts TupleStruct f fs h = absurd (false≢true h)
 
   -- the parts and the fields of named content
-  pub content_parts : (v : Variant) → HasNamedContent shapes v
+  pub content_parts : (v : Variant) → IsTrue (has_named_content shapes v)
       → AreParts (parts_of_content shapes v) (content_of shapes v).fields
   content_parts v h = go v.fields.items refl h
     where
@@ -125,21 +127,22 @@ module _ (shapes : Catalogue) where
       own fs same = ap (λ gs. Some (parts_of_fields shapes gs)) (sym same)
 
       by_kind : (id : ℕ) (k : ShapeKind) → kind_at shapes (effective shapes id) ≡ k
-          → IsNamedStruct k
+          → IsTrue (is_named_struct k)
           → AreParts (parts_of_newtype shapes id) (content_or v (struct_fields k)).fields
       by_kind id (Struct ByName fs) e h =
           let last = last_of shapes id in
           let same : last ≡ effective shapes id = last_effective ByName fs (length shapes) id e in
           let is : kind_at shapes last ≡ Struct ByName fs = ap (kind_at shapes) same ∙ e in
           inr (last, ap (parts_of_kind last) is, ap (parts_of_struct shapes) is)
-      by_kind id (Struct NoFields fs) e h = absurd h
-      by_kind id (Struct Tuple fs) e h = absurd h
-      by_kind id (Struct TupleStruct fs) e h = absurd h
-      by_kind id _ e h = absurd h
+      by_kind id (Struct NoFields fs) e h = absurd (false≢true h)
+      by_kind id (Struct Tuple fs) e h = absurd (false≢true h)
+      by_kind id (Struct TupleStruct fs) e h = absurd (false≢true h)
+      by_kind id _ e h = absurd (false≢true h)
 
       by_name : (f : Field) (b : Bool) → v.fields.items ≡ f ∷ []
-          → MatchOption (if b then Some f.shape else None) (AreNamed v.kind (f ∷ []))
-          (λ id. IsNamedStruct (kind_at shapes (effective shapes id)))
+          → IsTrue
+          (option_map_or (stands_for_named_struct shapes) (if b then Some f.shape else None)
+          (are_named v.kind (f ∷ [])))
           → AreParts
           (option_map_or (parts_of_newtype shapes) (if b then Some f.shape else None)
           (parts_of_content_kind shapes v.kind (f ∷ [])))
@@ -150,8 +153,9 @@ module _ (shapes : Catalogue) where
       by_name f false same h = inl (named_parts v.kind f [] h ∙ own (f ∷ []) same)
 
       go : (fs : List Field) → v.fields.items ≡ fs
-          → MatchOption (newtype_shape fs) (AreNamed v.kind fs)
-          (λ id. IsNamedStruct (kind_at shapes (effective shapes id)))
+          → IsTrue
+          (option_map_or (stands_for_named_struct shapes) (newtype_shape fs)
+          (are_named v.kind fs))
           → AreParts
           (option_map_or (parts_of_newtype shapes) (newtype_shape fs)
           (parts_of_content_kind shapes v.kind fs))

@@ -20,7 +20,7 @@ use Rattle.facet_solver_reader.specs.Rules as types
 use Rattle.facet_solver_reader.specs.Rules.{End, Rules}
 use Rattle.facet_solver_reader.specs.Types.{end_of, end_of_kind, end_of_shape, parts_of, rules_of}
 use Rattle.facet_solver_reader.specs.Values.{ReadsDown, ReadsEnd, ReadsPlainEnd, ReadsWithin}
-use Rattle.facet_solver_agreement.specs.Alike.{IsKeptAlike, IsTakenAlike}
+use Rattle.facet_solver_agreement.specs.Alike.{IsKeptAlike, IsPlainRoot}
 use Rattle.facet_solver_agreement.specs.Fits.{FitsByNames}
 use Rattle.facet_solver_agreement.specs.Kept.{KeepsChoice, KeepsReading, TellNames}
 use Rattle.facet_solver_agreement.proofs.Fitting.{keeps}
@@ -59,8 +59,8 @@ module _ (shapes : Catalogue) (root : ℕ) (schema : SchemaView) (checked : IsCh
         told
 
     -- ---- a document that is read as the root is an object
-    abbrev plain : IsTakenAlike shapes root
-    plain = alike.taken
+    abbrev plain : IsPlainRoot shapes root
+    plain = alike.taken.plain
 
     next_is : next_at shapes root ≡ None
     next_is =

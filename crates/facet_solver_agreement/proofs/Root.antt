@@ -27,9 +27,9 @@ use Rattle.facet_solver_reader.specs.Known.{Chooses, ChoosesAll}
 use Rattle.facet_solver_reader.specs.Parts.{Part, Target, of_content, of_struct}
 use Rattle.facet_solver_reader.specs.Types.{parts_of, parts_of_fields, parts_of_struct, repr_at}
 use Rattle.facet_solver_reader.proofs.Quantifiers.{all_at, all_from}
-use Rattle.facet_solver_agreement.specs.Alike.{FlattensNoAdjacent, IsNotAdjacent}
+use Rattle.facet_solver_agreement.specs.Alike.{flattens_adjacent, is_adjacent}
 use Rattle.facet_solver_agreement.specs.Alike.{IsTakenAlike}
-use Rattle.facet_solver_agreement.specs.Asked.{is_adjacent, is_adjacent_content}
+use Rattle.facet_solver_agreement.specs.Asked.{is_adjacent_content}
 use Rattle.facet_solver_agreement.specs.Indices.{indices_of, indices_of_parts}
 use Rattle.facet_solver_agreement.specs.Met.{AreMet}
 use Rattle.facet_solver_agreement.specs.Same.{IsChosenAs, IsWalkedAs}
@@ -47,19 +47,19 @@ module _ (shapes : Catalogue) (root : ℕ) (format : Format) (checked : IsChecke
     earlier = names_earlier shapes checked
 
     abbrev fs : List Field
-    fs = alike.fields.items
+    fs = alike.plain.fields.items
 
     abbrev ps : List Part
     ps = parts_of_fields shapes fs
 
     walk_is : (ns : List ℕ) → walk_root build root ns ≡ walk_fields build fs at_root ns
     walk_is ns =
-        root-fields build root ns alike.shape alike.is_there ByName alike.fields alike.is_struct
+        root-fields build root ns alike.plain.shape alike.plain.is_there ByName alike.plain.fields alike.plain.is_struct
 
     low : FieldsBelow (length shapes) fs
     low =
-        struct-below shapes earlier root alike.shape alike.is_there ByName alike.fields
-        alike.is_struct
+        struct-below shapes earlier root alike.plain.shape alike.plain.is_there ByName alike.plain.fields
+        alike.plain.is_struct
 
     -- the walk of the root agrees with the choices of its parts, whatever is left out
     by_left_out : (left_out : Target → Bool) → LeavesOut shapes left_out
@@ -68,7 +68,7 @@ module _ (shapes : Catalogue) (root : ℕ) (format : Format) (checked : IsChecke
         → AgreeList left_out (parts_of shapes) (λ ns. walk_root build root ns) (of_struct root)
     by_left_out left_out leaves all_left_out =
         agree_list left_out (parts_of shapes) (of_struct root) ps (λ ns. walk_root build root ns)
-        (ap (parts_of_struct shapes) (ap kind_of alike.is_there ∙ alike.is_struct))
+        (ap (parts_of_struct shapes) (ap kind_of alike.plain.is_there ∙ alike.plain.is_struct))
         (agree_same left_out (λ ns. walk_fields build fs at_root ns) (λ ns. walk_root build root ns)
         (ChoosesAll (parts_of shapes) ps) (λ c. indices_of_parts (parts_of shapes) c ps)
         (λ ns. sym (walk_is ns))
@@ -137,21 +137,21 @@ module _ (shapes : Catalogue) (root : ℕ) (format : Format) (checked : IsChecke
     nothing_left_out =
         record { no_shape = λ id. refl; no_tag = λ name. refl; no_other = λ id k e. refl }
 
-    flattens_none : (r : Role) → FlattensNoAdjacent r → FlattensLeftOut (λ target. false) r
+    flattens_none : (r : Role) → flattens_adjacent r ≡ false → FlattensLeftOut (λ target. false) r
     flattens_none regular h = tt
     flattens_none (block target gs) h = tt
     flattens_none (alternatives target t vs) h = go (repr_of_shape t) h
       where
-        go : (repr : Repr) → IsNotAdjacent repr → AreLeftOut (λ k. false) repr
+        go : (repr : Repr) → is_adjacent repr ≡ false → AreLeftOut (λ k. false) repr
         go flattened h = tt
         go externally_tagged h = tt
         go (internally_tagged tag) h = tt
-        go (adjacently_tagged tag content) h = absurd h
+        go (adjacently_tagged tag content) h = absurd (cc)
     flattens_none (catch_all target) h = tt
     flattens_none (leaf target) h = tt
 
     pub whole_root_agrees : ((gs : List Field) → AreMet shapes fs gs
-        → All (λ f. FlattensNoAdjacent (role_of shapes f)) gs)
+        → All (λ f. flattens_adjacent (role_of shapes f) ≡ false) gs)
         → AgreeList (λ target. false) (parts_of shapes) (λ ns. walk_root build root ns)
         (of_struct root)
     whole_root_agrees none_adjacent =
@@ -160,4 +160,5 @@ module _ (shapes : Catalogue) (root : ℕ) (format : Format) (checked : IsChecke
         all_from (λ f. FlattensLeftOut (λ target. false) (role_of shapes f)) gs
         (λ k f at.
         flattens_none (role_of shapes f)
-        (all_at (λ g. FlattensNoAdjacent (role_of shapes g)) gs k f (none_adjacent gs met) at)))
+        (all_at (λ g. flattens_adjacent (role_of shapes g) ≡ false) gs k f (none_adjacent gs met)
+        at)))

@@ -3,7 +3,9 @@ use Rattle.std.proofs.Common.{◌≡◌, inl, inr, refl, sym, ap, ◌∙◌, ℕ
 use Rattle.std.proofs.Common.{List, [], ◌∷◌, ◌++◌, Option, Some, None, slice_get, arith}
 use Rattle.std.proofs.Common.{string_bytes}
 use Rattle.std.specs.Prelude.{⊤, All, IsTrue, if◌then◌else◌, option_and_then, option_map}
+use Rattle.std.specs.List.{list_all}
 use Rattle.std.specs.Option.{option_map_or}
+use Rattle.std.proofs.lemmas.Bool.{and_parts}
 use Rattle.facet_solver_shape.specs.declared.role.Target.{Target}
 use Rattle.facet_solver_shape.specs.declared.shape.Field.{Field}
 use Rattle.facet_solver_shape.specs.declared.shape.Shape.{Shape}
@@ -41,8 +43,10 @@ use Rattle.facet_solver_reader.specs.Types.{has_fields, one_of, part_by_role, pa
 use Rattle.facet_solver_reader.specs.Types.{parts_of_branch, parts_of_content, parts_of_fields}
 use Rattle.facet_solver_reader.specs.Types.{repr_at, tag_member, variant_at, variants_at}
 use Rattle.facet_solver_reader.proofs.Quantifiers.{all_at, any_at}
-use Rattle.facet_solver_agreement.specs.Alike.{FlattensNamed, HasNamedContent, HaveNamedContent}
-use Rattle.facet_solver_agreement.specs.Asked.{asked_by_member, asked_by_walk, is_adjacent}
+use Rattle.facet_solver_agreement.specs.Alike.{flattens_named, has_named_content}
+use Rattle.facet_solver_agreement.specs.Alike.{have_named_content}
+use Rattle.facet_solver_agreement.specs.Alike.{is_adjacent}
+use Rattle.facet_solver_agreement.specs.Asked.{asked_by_member, asked_by_walk}
 use Rattle.facet_solver_agreement.specs.Indices.{indices_of_parts}
 use Rattle.facet_solver_agreement.specs.Met.{AreMet, AreOfContent, BringsIn}
 use Rattle.facet_solver_agreement.proofs.Agreeing.{AgreeAll, AgreeAt, AgreeList, agree_before}
@@ -51,6 +55,15 @@ use Rattle.facet_solver_agreement.proofs.Agreeing.{agree_catch_all, agree_list, 
 use Rattle.facet_solver_agreement.proofs.Agreeing.{agree_none, agree_one, agree_same}
 use Rattle.facet_solver_agreement.proofs.Agreeing.{agree_selection, asked_if}
 use Rattle.facet_solver_agreement.proofs.Contents.{AreParts, Stands, content_parts, stands}
+
+-- what passes a test that all pass
+all_pass : (test : Variant → Bool) (vs : List Variant) (k : ℕ) (v : Variant)
+    → list_all test vs ≡ true → slice_get vs k ≡ Some v → test v ≡ true
+all_pass test [] k v h at = absurd (cc)
+all_pass test (w ∷ vs) zero v h at =
+    let same : w ≡ v = cc in ap test (sym same) ∙ (and_parts (test w) (list_all test vs) h).0
+all_pass test (w ∷ vs) (suc k) v h at =
+    all_pass test vs k v (and_parts (test w) (list_all test vs) h).1 at
 
 -- what is left out of what choices ask: no shape's value and no tag, and no content but that of
 -- adjacently tagged enums
@@ -74,7 +87,7 @@ FlattensLeftOut left_out _ = ⊤
 module _ (left_out : parts.Target → Bool) (shapes : Catalogue) (leaves : LeavesOut shapes left_out)
     (format : Format) (checked : NamesEarlier shapes) (from : List Field)
     (all_named : (fs : List Field) → AreMet shapes from fs
-    → All (λ f. FlattensNamed shapes (role_of shapes f)) fs)
+    → All (λ f. IsTrue (flattens_named shapes (role_of shapes f))) fs)
     (all_left_out : (fs : List Field) → AreMet shapes from fs
     → All (λ f. FlattensLeftOut left_out (role_of shapes f)) fs)
   where
@@ -87,7 +100,7 @@ module _ (left_out : parts.Target → Bool) (shapes : Catalogue) (leaves : Leave
     -- ---- fields that the walk meets
     -- what is known of the role of a field that the walk meets
     record IsFine (r : Role) : Type 0 where
-      named : FlattensNamed shapes r
+      named : IsTrue (flattens_named shapes r)
       apart : FlattensLeftOut left_out r
       deeper : (gs : List Field) → BringsIn shapes gs r → AreMet shapes from gs
 
@@ -102,7 +115,8 @@ module _ (left_out : parts.Target → Bool) (shapes : Catalogue) (leaves : Leave
         each : (k : ℕ) (f : Field) → slice_get fs k ≡ Some f → IsFine (role_of shapes f)
         each k f at = record {
           named =
-              all_at (λ g. FlattensNamed shapes (role_of shapes g)) fs k f (all_named fs met) at;
+              all_at (λ g. IsTrue (flattens_named shapes (role_of shapes g))) fs k f (all_named fs met)
+              at;
           apart =
               all_at (λ g. FlattensLeftOut left_out (role_of shapes g)) fs k f
               (all_left_out fs met) at;
@@ -147,7 +161,7 @@ module _ (left_out : parts.Target → Bool) (shapes : Catalogue) (leaves : Leave
         parts_are : parts_of_content shapes v ≡ Some parts
         agrees : AgreeAll left_out lists (walk_inside v place) parts
 
-      content_agrees : (v : Variant) (place : Path) → HasNamedContent shapes v
+      content_agrees : (v : Variant) (place : Path) → IsTrue (has_named_content shapes v)
           → FieldsBelow n (content_of shapes v).fields
           → AreMet shapes from (content_of shapes v).fields
           → ContentAgrees v place
@@ -216,7 +230,7 @@ module _ (left_out : parts.Target → Bool) (shapes : Catalogue) (leaves : Leave
           repr_is : repr_at shapes target.shape ≡ repr_of_shape s
           repr_is = ap (λ (o : Option Shape). option_map_or repr_of_shape o flattened) at_shape
 
-          content : IsTrue (is_walked (repr_of_shape s)) → HasNamedContent shapes v
+          content : IsTrue (is_walked (repr_of_shape s)) → IsTrue (has_named_content shapes v)
               → ContentAgrees v behind
           content walked has_named =
               content_agrees v behind has_named
@@ -233,13 +247,13 @@ module _ (left_out : parts.Target → Bool) (shapes : Catalogue) (leaves : Leave
               record { name = tag; required = true; target = of_tag (string_bytes v.name) } in
               member_agrees m es (leaves.no_tag (string_bytes v.name)) same
 
-          by_repr : (repr : Repr) → repr_of_shape s ≡ repr → HaveNamedContent shapes repr vs
+          by_repr : (repr : Repr) → repr_of_shape s ≡ repr → IsTrue (have_named_content shapes repr vs)
               → AreLeftOut (λ k. left_out (of_content target.shape k)) repr
               → parts_of shapes (of_branch target.shape k) ≡ parts_by repr (Some v)
               → AgreeList left_out lists (walk_by repr) (of_branch target.shape k)
           unfolding walk_by emit_selector_by field_and_paths selector_field
           by_repr flattened is has_named out e =
-              let named = all_at (HasNamedContent shapes) vs k v has_named at in
+              let named = all_pass (has_named_content shapes) vs k v has_named at in
               let c = content (ap is_walked is) named in
               agree_list left_out lists (of_branch target.shape k) c.parts (walk_by flattened)
               (e ∙ c.parts_are)
@@ -261,7 +275,7 @@ module _ (left_out : parts.Target → Bool) (shapes : Catalogue) (leaves : Leave
               (member_agrees m (announced externally_tagged) stays refl)
               (agree_none left_out lists))
           by_repr (internally_tagged tag) is has_named out e =
-              let named = all_at (HasNamedContent shapes) vs k v has_named at in
+              let named = all_pass (has_named_content shapes) vs k v has_named at in
               let c = content (ap is_walked is) named in
               agree_list left_out lists (of_branch target.shape k) (tag_member tag v ∷ c.parts)
               (walk_by (internally_tagged tag))

@@ -4,12 +4,12 @@ use Rattle.std.specs.Prelude.{◌≡◌, Bool, true, false, List, [], ◌∷◌,
 use Rattle.facet_solver_shape.specs.Catalogues.{Catalogue}
 use Rattle.facet_solver_shape.specs.Fields.{FieldView}
 use Rattle.facet_solver_shape.specs.Names.{Name}
-use Rattle.facet_solver_shape.specs.Representation.{Repr, adjacently_tagged}
 use Rattle.facet_solver.specs.build.Emissions.{Emission, a_field, some_key_paths, a_selection}
 use Rattle.facet_solver.specs.build.Emissions.{a_catch_all}
 use Rattle.facet_solver_reader.specs.Choices.{Item, member_of, catch_all_of, presence_of}
 use Rattle.facet_solver_reader.specs.Parts.{MemberPart, Target, of_shape, of_content, of_tag}
 use Rattle.facet_solver_reader.specs.Types.{repr_at}
+use Rattle.facet_solver_agreement.specs.Alike.{is_adjacent}
 
 -- a name that is asked for, and whether it has to be there
 pub record Asked : Type 0 where
@@ -37,11 +37,6 @@ asked_but left_out (presence_of s ∷ items) = asked_but left_out items
 -- what all its members ask
 abbrev pub asked_by_items : List Item → List Asked
 asked_by_items items = asked_but (λ target. false) items
-
--- whether an enum of a representation is adjacently tagged
-abbrev pub is_adjacent : Repr → Bool
-is_adjacent (adjacently_tagged tag content) = true
-is_adjacent _ = false
 
 -- whether a target is the content of an adjacently tagged enum
 abbrev pub is_adjacent_content : Catalogue → Target → Bool
