@@ -10,3 +10,4 @@ pub mod Listed
 pub mod Fitting
 pub mod Kept
 pub mod Repeated
+pub mod AlikeFields

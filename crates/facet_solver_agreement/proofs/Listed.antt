@@ -2,7 +2,7 @@
 use Rattle.std.proofs.Common.{◌≡◌, refl, sym, ap, ◌∙◌, subst, ℕ, zero, suc, Bool, true, false}
 use Rattle.std.proofs.Common.{cond, List, [], ◌∷◌, Option, Some, None, Contains, filter, slice_get}
 use Rattle.std.proofs.Common.{arith}
-use Rattle.std.specs.List.{AllZip, list_any}
+use Rattle.std.specs.List.{AllZip, list_all, list_any}
 use Rattle.std.specs.Option.{option_map_or}
 use Rattle.std.proofs.lemmas.Bool.{and_parts}
 use Rattle.std.proofs.lemmas.List.Folds.{Any-from_list_any}
@@ -77,3 +77,12 @@ known_has rs (x ∷ keys) q h key (suc k, low, same) known =
         → has_keys (known_keys rs keys) q ≡ true
     go true all = (and_parts (has_key x q) (has_keys (known_keys rs keys) q) all).1
     go false all = all
+
+-- what passes a test that all pass
+pub all_pass : {A : Type 0} (test : A → Bool) (xs : List A) (k : ℕ) (x : A)
+    → list_all test xs ≡ true → slice_get xs k ≡ Some x → test x ≡ true
+all_pass test [] k x h at = absurd (none-some x at)
+all_pass test (y ∷ xs) zero x h at =
+    ap test (sym (same_Some y x at)) ∙ (and_parts (test y) (list_all test xs) h).0
+all_pass test (y ∷ xs) (suc k) x h at =
+    all_pass test xs k x (and_parts (test y) (list_all test xs) h).1 at

@@ -54,12 +54,14 @@ module _ (shapes : Catalogue) (root : ℕ) (format : Format) (checked : IsChecke
 
     walk_is : (ns : List ℕ) → walk_root build root ns ≡ walk_fields build fs at_root ns
     walk_is ns =
-        root-fields build root ns alike.plain.shape alike.plain.is_there ByName alike.plain.fields alike.plain.is_struct
+        let plain = alike.plain in
+        root-fields build root ns plain.shape plain.is_there ByName plain.fields plain.is_struct
 
     low : FieldsBelow (length shapes) fs
     low =
-        struct-below shapes earlier root alike.plain.shape alike.plain.is_there ByName alike.plain.fields
-        alike.plain.is_struct
+        let plain = alike.plain in
+        struct-below shapes earlier root plain.shape plain.is_there ByName plain.fields
+        plain.is_struct
 
     -- the walk of the root agrees with the choices of its parts, whatever is left out
     by_left_out : (left_out : Target → Bool) → LeavesOut shapes left_out

@@ -3,9 +3,7 @@ use Rattle.std.proofs.Common.{◌≡◌, inl, inr, refl, sym, ap, ◌∙◌, ℕ
 use Rattle.std.proofs.Common.{List, [], ◌∷◌, ◌++◌, Option, Some, None, slice_get, arith}
 use Rattle.std.proofs.Common.{string_bytes}
 use Rattle.std.specs.Prelude.{⊤, All, IsTrue, if◌then◌else◌, option_and_then, option_map}
-use Rattle.std.specs.List.{list_all}
 use Rattle.std.specs.Option.{option_map_or}
-use Rattle.std.proofs.lemmas.Bool.{and_parts}
 use Rattle.facet_solver_shape.specs.declared.role.Target.{Target}
 use Rattle.facet_solver_shape.specs.declared.shape.Field.{Field}
 use Rattle.facet_solver_shape.specs.declared.shape.Shape.{Shape}
@@ -55,15 +53,7 @@ use Rattle.facet_solver_agreement.proofs.Agreeing.{agree_catch_all, agree_list, 
 use Rattle.facet_solver_agreement.proofs.Agreeing.{agree_none, agree_one, agree_same}
 use Rattle.facet_solver_agreement.proofs.Agreeing.{agree_selection, asked_if}
 use Rattle.facet_solver_agreement.proofs.Contents.{AreParts, Stands, content_parts, stands}
-
--- what passes a test that all pass
-all_pass : (test : Variant → Bool) (vs : List Variant) (k : ℕ) (v : Variant)
-    → list_all test vs ≡ true → slice_get vs k ≡ Some v → test v ≡ true
-all_pass test [] k v h at = absurd (cc)
-all_pass test (w ∷ vs) zero v h at =
-    let same : w ≡ v = cc in ap test (sym same) ∙ (and_parts (test w) (list_all test vs) h).0
-all_pass test (w ∷ vs) (suc k) v h at =
-    all_pass test vs k v (and_parts (test w) (list_all test vs) h).1 at
+use Rattle.facet_solver_agreement.proofs.Listed.{all_pass}
 
 -- what is left out of what choices ask: no shape's value and no tag, and no content but that of
 -- adjacently tagged enums
@@ -115,8 +105,8 @@ module _ (left_out : parts.Target → Bool) (shapes : Catalogue) (leaves : Leave
         each : (k : ℕ) (f : Field) → slice_get fs k ≡ Some f → IsFine (role_of shapes f)
         each k f at = record {
           named =
-              all_at (λ g. IsTrue (flattens_named shapes (role_of shapes g))) fs k f (all_named fs met)
-              at;
+              all_at (λ g. IsTrue (flattens_named shapes (role_of shapes g))) fs k f
+              (all_named fs met) at;
           apart =
               all_at (λ g. FlattensLeftOut left_out (role_of shapes g)) fs k f
               (all_left_out fs met) at;
@@ -247,7 +237,8 @@ module _ (left_out : parts.Target → Bool) (shapes : Catalogue) (leaves : Leave
               record { name = tag; required = true; target = of_tag (string_bytes v.name) } in
               member_agrees m es (leaves.no_tag (string_bytes v.name)) same
 
-          by_repr : (repr : Repr) → repr_of_shape s ≡ repr → IsTrue (have_named_content shapes repr vs)
+          by_repr : (repr : Repr) → repr_of_shape s ≡ repr
+              → IsTrue (have_named_content shapes repr vs)
               → AreLeftOut (λ k. left_out (of_content target.shape k)) repr
               → parts_of shapes (of_branch target.shape k) ≡ parts_by repr (Some v)
               → AgreeList left_out lists (walk_by repr) (of_branch target.shape k)

@@ -37,9 +37,9 @@ are_named kind (f ∷ fs) = true
 abbrev pub stands_for_named_struct : Catalogue → ℕ → Bool
 stands_for_named_struct shapes id = is_named_struct (kind_at shapes (effective shapes id))
 
--- whether a variant has no fields, fields with names, or a single field `0` that stands for a struct
--- with named fields. So that field comes to no enum, map or dynamic value, to nothing that reads no
--- object, and to no struct behind a pointer
+-- whether a variant has no fields, fields with names, or a single field `0` that stands for a
+-- struct with named fields. So that field comes to no enum, map or dynamic value, to nothing that
+-- reads no object, and to no struct behind a pointer
 abbrev pub has_named_content : Catalogue → Variant → Bool
 has_named_content shapes v =
     option_map_or (stands_for_named_struct shapes) (newtype_shape v.fields.items)
@@ -77,8 +77,8 @@ pub record IsPlainRoot (shapes : Catalogue) (root : ℕ) : Type 0 where
   pub no_inner : shape.inner ≡ None
   pub no_proxy : shape.proxy ≡ None
 
--- a root that a reader and a schema take alike: of the enums that its walk meets, the variants whose
--- content stands among other members have named content
+-- a root that a reader and a schema take alike: of the enums that its walk meets, the variants
+-- whose content stands among other members have named content
 pub record IsTakenAlike (shapes : Catalogue) (root : ℕ) : Type 0 where
   pub plain : IsPlainRoot shapes root
   pub named : (fs : List Field) → AreMet shapes plain.fields.items fs

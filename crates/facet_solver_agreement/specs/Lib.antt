@@ -5,3 +5,4 @@ pub mod Indices
 pub mod Same
 pub mod Kept
 pub mod Fits
+pub mod Throughout

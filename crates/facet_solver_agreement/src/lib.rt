@@ -2,19 +2,19 @@
 //!
 //! A reader (`facet_solver_reader`) reads an object by choices of the parts of a type. A solver
 //! (`facet_solver`) holds the resolutions of the choices of a schema, and is told an object's keys.
-//! Each function here is a law that ties the one to the other: it does nothing, and its contract is
-//! the law. So neither library needs the other.
+//! The laws here tie the one to the other: each is the contract of a function that does nothing. So
+//! neither library needs the other.
 //!
 //! The laws are of the types that both take alike (`IsTakenAlike` in `specs/Alike.antt`):
 //!
 //! - The root is a struct with named fields. It is no metadata container, and has no `inner` and no
 //!   `proxy`.
 //! - Of each enum that is flattened into it, at whatever level, and is untagged or has a tag alone,
-//!   each variant has no fields, fields with names, or a single field `0` that comes, by `inner`
-//!   and `proxy` alone, to a struct with named fields.
+//!   each variant has named content: no fields, fields with names, or a single field `0` that comes,
+//!   by `inner` and `proxy` alone, to a struct with named fields.
 //!
-//! That what is read is viable is moreover of types that flatten no adjacently tagged enum
-//! (`IsKeptAlike`).
+//! What a solver keeps is told of types that, moreover, flatten no adjacently tagged enum
+//! (`IsKeptAlike`). [`is_alike_throughout`] finds whether a catalogue shows that of a root.
 //!
 //! Elsewhere the two differ. Of a field `0` that comes to an enum, for example, a schema has a
 //! field named `0`, where a reader has the branches of that enum. Of the content of an adjacently
@@ -42,6 +42,10 @@ ghost use Rattle.facet_solver_agreement.specs.Fits.{FitsByNames, IsFitting, Some
 ghost use Rattle.facet_solver_agreement.specs.Kept.{IsViableAfter, KeepsChoice, KeepsReading};
 ghost use Rattle.facet_solver_agreement.specs.Kept.{ReadsAsRoot, TellNames};
 ghost use Rattle.facet_solver_agreement.specs.Same.{IsChosenAs, IsWalkedAs};
+
+mod throughout;
+
+pub use throughout::is_alike_throughout;
 
 /// The choices of the root's parts are those of its schema, whatever the kind of document. The
 /// indices of a reader's choice (`indices_of`) are a choice of the schema, and each choice of the
