@@ -1,0 +1,13 @@
+pub mod Asking
+pub mod Agreeing
+pub mod Contents
+pub mod Walks
+pub mod Root
+pub mod Emitted
+pub mod Named
+pub mod Keys
+pub mod Listed
+pub mod Fitting
+pub mod Kept
+pub mod Repeated
+pub mod AlikeFields
