@@ -96,17 +96,26 @@ fn no_object(answer: &Answer<'static>) -> ObjectReading<'static, 'static> {
     }
 }
 
-/// An object with one field.
-fn object_of<'v>(
+/// Adds a field to an object.
+fn add_field(
+    object: &mut ObjectReading<'static, 'static>,
     segments: &[PathSegment<'static>],
+    name: &'static str,
+    answer: &mut Answer<'static>,
+) {
+    let path = path_of(segments, answer);
+    answer.push(&mut object.fields, FieldPlace { path, name });
+}
+
+/// An object with a field alone.
+fn object_of<'v>(
     name: &'static str,
     value: Made<'v>,
     answer: &mut Answer<'static>,
 ) -> ReadingKind<'static, 'v, 'static> {
     let mut object = no_object(answer);
-    let mut values = Vec::new(answer.alloc);
-    let path = path_of(segments, answer);
-    answer.push(&mut object.fields, FieldPlace { path, name });
+    add_field(&mut object, &[PathSegment::Field(name)], name, answer);
+    let mut values: Vec<Made<'v>> = Vec::new(answer.alloc);
     answer.push(&mut values, value);
     ReadingKind::Object {
         object,
@@ -115,47 +124,49 @@ fn object_of<'v>(
     }
 }
 
-fn fields_print_behind_their_paths(answer: &mut Answer<'static>) {
-    let tag = Document::Text("File");
+/// An object with a selected variant, four fields, and names that are taken and ignored.
+fn logging(answer: &mut Answer<'static>) -> ObjectReading<'static, 'static> {
     let mut object = no_object(answer);
-    let path = path_of(&[PathSegment::Field("log")], answer);
     let selection = VariantSelection {
-        path,
+        path: path_of(&[PathSegment::Field("log")], answer),
         enum_name: "Log",
         variant_name: "File",
     };
     answer.push(&mut object.selections, selection);
+    let file = PathSegment::Variant("log", "File");
+    let size = PathSegment::Field("size");
+    add_field(&mut object, &[file], "type", answer);
+    add_field(&mut object, &[file, size], "size", answer);
+    add_field(&mut object, &[PathSegment::Field("port")], "Port", answer);
+    add_field(
+        &mut object,
+        &[PathSegment::Field("server")],
+        "server",
+        answer,
+    );
     answer.push(&mut object.taken, "color");
     answer.push(&mut object.ignored, "depth");
-    let file = PathSegment::Variant("log", "File");
-    let paths: [(&[PathSegment<'static>], &'static str); 4] = [
-        (&[file], "type"),
-        (&[file, PathSegment::Field("size")], "size"),
-        (&[PathSegment::Field("port")], "Port"),
-        (&[PathSegment::Field("server")], "server"),
-    ];
-    for (segments, name) in paths {
-        let path = path_of(segments, answer);
-        answer.push(&mut object.fields, FieldPlace { path, name });
-    }
-    let text = plain(ReadingKind::Value(&tag), answer);
-    let host = object_of(&[PathSegment::Field("host")], "host", text, answer);
+    object
+}
+
+fn fields_print_behind_their_paths(answer: &mut Answer<'static>) {
+    let file = Document::Text("File");
     let mut values = Vec::new(answer.alloc);
-    let kinds = [
-        ReadingKind::Value(&tag),
-        ReadingKind::Absent,
-        ReadingKind::Value(&tag),
-        host,
-    ];
-    for kind in kinds {
-        let value = plain(kind, answer);
-        answer.push(&mut values, value);
-    }
+    let tag = plain(ReadingKind::Value(&file), answer);
+    answer.push(&mut values, tag);
+    let size = plain(ReadingKind::Absent, answer);
+    answer.push(&mut values, size);
+    let port = plain(ReadingKind::Value(&file), answer);
+    answer.push(&mut values, port);
+    let host = plain(ReadingKind::Value(&file), answer);
+    let server = object_of("host", host, answer);
+    let server = plain(server, answer);
+    answer.push(&mut values, server);
     let mut taken = Vec::new(answer.alloc);
-    let color = plain(ReadingKind::Value(&tag), answer);
+    let color = plain(ReadingKind::Value(&file), answer);
     answer.push(&mut taken, color);
     let kind = ReadingKind::Object {
-        object,
+        object: logging(answer),
         values,
         taken,
     };
@@ -169,7 +180,7 @@ fn fields_print_behind_their_paths(answer: &mut Answer<'static>) {
 fn content_prints_behind_its_variant(answer: &mut Answer<'static>) {
     let two = Document::Number(Number::new("2"));
     let radius = plain(ReadingKind::Value(&two), answer);
-    let kind = object_of(&[PathSegment::Field("radius")], "radius", radius, answer);
+    let kind = object_of("radius", radius, answer);
     let inner = read_as(FAST, kind, answer);
     match Box::new(answer.alloc, inner) {
         Ok(content) => {
