@@ -2,6 +2,7 @@
 ghost use Rattle.std.specs.Prelude.{◌≡◌, ◌++◌, ◌∷◌, [], IfOk, OnOk, length};
 ghost use Rattle.facet_solver_reader.specs.declared.count.Count.TheVariants.{One};
 ghost use Rattle.facet_solver_reader.specs.Known.{Chooses, HasChoice};
+ghost use Rattle.facet_solver_reader.specs.Nodes.{IsNumbering};
 ghost use Rattle.facet_solver_reader.specs.Planned.{IsPlan};
 ghost use Rattle.facet_solver_reader.specs.Reading.{AreListCounts, IsListCount, IsObject};
 ghost use Rattle.facet_solver_reader.specs.Steps.{place_below};
@@ -54,6 +55,7 @@ pub(super) fn steps_of<'r, 'c>(
     counts: &[Count],
 ) -> Result<Vec<Step<'r, 'c>>, AllocError>
     requires tables { AreTables tables.now }
+    requires numbering { IsNumbering nodes.now }
     requires object { IsObject tables.now nodes.now object.now }
     requires counts { AreListCounts tables.now nodes.now object.now counts.now }
     requires all { length counts.now ≡ length object.now.list.now.below.items }
@@ -91,6 +93,7 @@ impl<'r, 'c> Way<'r, 'c> {
         mut frame: Frame<'r, 'c>,
     ) -> Result<(), AllocError>
         requires tables { AreTables tables.now }
+        requires numbering { IsNumbering nodes.now }
         requires object { IsObject tables.now nodes.now object.now }
         requires counts { AreListCounts tables.now nodes.now object.now counts.now }
         requires all { length counts.now ≡ length object.now.list.now.below.items }

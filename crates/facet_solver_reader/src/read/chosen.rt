@@ -2,6 +2,7 @@
 ghost use Rattle.std.specs.Prelude.{All, length};
 ghost use Rattle.facet_solver_reader.specs.declared.count.Count.TheVariants.{One};
 ghost use Rattle.facet_solver_reader.specs.Chosen.{IsChosen};
+ghost use Rattle.facet_solver_reader.specs.Nodes.{IsNumbering};
 ghost use Rattle.facet_solver_reader.specs.Parts.{a_selection};
 ghost use Rattle.facet_solver_reader.specs.Reading.{AreListCounts, IsObject, IsPartCount};
 ghost use Rattle.facet_solver_reader.specs.Tables.{AreTables, ListIsServed, PartIsBefore};
@@ -24,6 +25,7 @@ pub(crate) fn chosen_branch(
     counts: &[Count],
 ) -> Option<usize>
     requires tables { AreTables tables.now }
+    requires numbering { IsNumbering nodes.now }
     requires object { IsObject tables.now nodes.now object.now }
     requires counts { AreListCounts tables.now nodes.now object.now counts.now }
     requires served { All (ListIsServed tables.now) (selection_view selection.now).branches }
