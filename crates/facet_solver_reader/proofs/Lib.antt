@@ -93,3 +93,5 @@ pub mod OneParts
 pub mod ToldObject
 pub mod FirstRest
 pub mod MoreSteps
+pub mod Lacking
+pub mod Blaming

@@ -49,3 +49,4 @@ pub mod ToldObjects
 pub mod Found
 pub mod UnderWay
 pub mod Tells
+pub mod Why

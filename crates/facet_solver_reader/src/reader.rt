@@ -2,19 +2,26 @@
 ghost use Rattle.std.specs.Prelude.{IfErr, IfOk, length};
 ghost use Rattle.facet_solver_reader.specs.Counted.{Counted};
 ghost use Rattle.facet_solver_reader.specs.Documents.{view};
+ghost use Rattle.facet_solver_reader.specs.Nodes.{IsNumbering, value_of};
 ghost use Rattle.facet_solver_reader.specs.Parts.{of_shape};
 ghost use Rattle.facet_solver_reader.specs.Readers.{HasNoCount, IsReaderOf, IsRefused};
 ghost use Rattle.facet_solver_reader.specs.Readings.{ReadsValue};
+ghost use Rattle.facet_solver_reader.specs.Told.{IsOnlyTold};
 ghost use Rattle.facet_solver_reader.specs.Types.{rules_of};
+ghost use Rattle.facet_solver_reader.specs.Why.{IsWhyNot};
 
 mod error;
 
 use crate::count::Count;
 use crate::document::Document;
 use crate::nodes::{DocumentError, Nodes};
+use crate::only::read_target;
 use crate::part::Target;
 use crate::read::{Memo, count_target};
+use crate::read_error::ReadError;
+use crate::reading::Reading;
 use crate::tables::Tables;
+use crate::why::{why_none, why_several};
 pub use error::TypeError;
 use error::type_error_of;
 use facet_solver_shape::{ShapeId, Shapes};
@@ -71,6 +78,66 @@ impl<'c> Reader<'c> {
         match Tables::new(alloc, shapes, root, unknown == Unknown::Refused) {
             Ok(tables) => Ok(Reader { tables, root }),
             Err(fault) => Err(type_error_of(&fault)),
+        }
+    }
+
+    /// The only reading of a document as the type.
+    ///
+    /// # Errors
+    ///
+    /// - `NameTwice`: a name stands twice in an object of the document. It is told before any
+    ///   reading.
+    /// - `NoReading`: it has none. The error has the first place that is not read, and why.
+    /// - `Several`: it has two or more. The error has the first place where two differ, and by what.
+    /// - `OutOfMemory`: memory was refused.
+    pub fn read<'v, 'd>(
+        &self,
+        alloc: Global,
+        document: &'v Document<'d>,
+    ) -> Result<Reading<'c, 'v, 'd>, ReadError<'c, 'd>>
+        ensures ok { IfOk result (IsOnlyTold (rules_of self.now.shapes self.now.strict)
+            self.now.shapes (of_shape self.now.root) (view document.now)) }
+        ensures error { IfErr result (IsWhyNot (rules_of self.now.shapes self.now.strict)
+            (of_shape self.now.root) (view document.now)) }
+    {
+        match Nodes::new(alloc, document) {
+            Ok(nodes) => self.read_nodes(alloc, &nodes),
+            Err(error) => Err(ReadError::from(error)),
+        }
+    }
+
+    /// The only reading of the root of numbered values.
+    fn read_nodes<'v, 'd>(
+        &self,
+        alloc: Global,
+        nodes: &Nodes<'v, 'd>,
+    ) -> Result<Reading<'c, 'v, 'd>, ReadError<'c, 'd>>
+        requires { IsNumbering nodes.now }
+        ensures ok { IfOk result (IsOnlyTold (rules_of self.now.shapes self.now.strict)
+            self.now.shapes (of_shape self.now.root) (value_of nodes.now 0)) }
+        ensures error { IfErr result (IsWhyNot (rules_of self.now.shapes self.now.strict)
+            (of_shape self.now.root) (value_of nodes.now 0)) }
+    {
+        let mut memo = match Memo::new(alloc, nodes.len()) {
+            Ok(memo) => memo,
+            Err(_) => return Err(ReadError::OutOfMemory),
+        };
+        let root = Target::Shape(self.root);
+        let steps = self.tables.steps;
+        match count_target(&self.tables, nodes, &mut memo, 0, &root, steps) {
+            Ok(Count::One) => match read_target(&self.tables, nodes, &mut memo, 0, &root, steps) {
+                Ok(reading) => Ok(reading),
+                Err(_) => Err(ReadError::OutOfMemory),
+            },
+            Ok(Count::None) => match why_none(&self.tables, nodes, &mut memo, self.root) {
+                Ok(none) => Err(ReadError::NoReading(none)),
+                Err(_) => Err(ReadError::OutOfMemory),
+            },
+            Ok(Count::Several) => match why_several(&self.tables, nodes, &mut memo, self.root) {
+                Ok(several) => Err(ReadError::Several(several)),
+                Err(_) => Err(ReadError::OutOfMemory),
+            },
+            Err(_) => Err(ReadError::OutOfMemory),
         }
     }
 

@@ -20,7 +20,7 @@ use crate::tables::{List, Tables};
 /// How often an object is read by a selection, by the counts of its branches: it is absent where it
 /// may be and the object has no member of it, else it is the sum over the branches that have all
 /// members which it has.
-pub(super) fn count_selection(
+pub(crate) fn count_selection(
     tables: &Tables<'_>,
     nodes: &Nodes<'_, '_>,
     object: &Object<'_, '_>,
@@ -48,7 +48,7 @@ pub(super) fn count_selection(
 }
 
 /// How often an object is read by a branch.
-pub(super) fn count_branch(
+pub(crate) fn count_branch(
     tables: &Tables<'_>,
     nodes: &Nodes<'_, '_>,
     object: &Object<'_, '_>,
@@ -89,7 +89,7 @@ pub(super) fn count_branch(
 }
 
 /// Whether an object has a member that a selection knows.
-pub(super) fn touches(
+pub(crate) fn touches(
     tables: &Tables<'_>,
     nodes: &Nodes<'_, '_>,
     object: &Object<'_, '_>,
@@ -111,7 +111,11 @@ pub(super) fn touches(
 }
 
 /// Whether an object has a member that the catch-alls of a selection take.
-fn touches_rest(tables: &Tables<'_>, object: &Object<'_, '_>, selection: &Selection) -> bool
+pub(crate) fn touches_rest(
+    tables: &Tables<'_>,
+    object: &Object<'_, '_>,
+    selection: &Selection,
+) -> bool
     requires tables { AreTables tables.now }
     requires served { All (ListIsServed tables.now) (selection_view selection.now).branches }
     ensures { IsTrue result
@@ -122,7 +126,7 @@ fn touches_rest(tables: &Tables<'_>, object: &Object<'_, '_>, selection: &Select
 }
 
 /// Whether a list has each member of an object that a selection knows.
-fn fits(
+pub(crate) fn fits(
     tables: &Tables<'_>,
     nodes: &Nodes<'_, '_>,
     object: &Object<'_, '_>,
