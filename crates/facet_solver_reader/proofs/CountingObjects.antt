@@ -140,7 +140,7 @@ other true f = absurd (f refl)
 other false f = refl
 
 -- what stands in a list with one more at its end stands before it, or is that
-split_last : {A : Type 0} (xs : List A) (y z : A) (i : ℕ)
+pub split_last : {A : Type 0} (xs : List A) (y z : A) (i : ℕ)
     → slice_get (xs ++ y ∷ []) i ≡ Some z
     → (slice_get xs i ≡ Some z) ⊎ ((i ≡ length xs) × (y ≡ z))
 split_last [] y z zero e = inr (refl, cc)

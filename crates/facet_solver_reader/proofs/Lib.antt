@@ -73,3 +73,5 @@ pub mod Ranked
 pub mod RankRounds
 pub mod AllTables
 pub mod MarkedBelow
+pub mod Lacking
+pub mod Blaming

@@ -39,3 +39,4 @@ pub mod WorkList
 pub mod InRange
 pub mod Ranked
 pub mod NoTables
+pub mod Why

@@ -18,14 +18,19 @@ mod part;
 mod parts;
 mod place;
 mod read;
+mod read_error;
 mod reader;
 mod tables;
 mod types;
 mod variants;
+mod why;
 
 pub use count::Count;
 pub use document::{Document, Number};
 pub use facet_solver_shape::Whole;
 pub use nodes::DocumentError;
 pub use place::{Place, PlaceSegment};
+pub use read_error::{
+    Branch, Misfit, NoReading, Obstacle, ReadError, Several, Stop, TypeName, Unread, Wanted,
+};
 pub use reader::{Reader, TypeError, Unknown};

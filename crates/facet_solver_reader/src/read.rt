@@ -15,5 +15,12 @@ mod target;
 mod untagged;
 mod variant;
 
+pub(crate) use list::{count_list, fails_at_once};
+pub(crate) use members::members_of;
 pub(crate) use memo::Memo;
+pub(crate) use object::{Object, has_unknown};
+pub(crate) use selection::{
+    count_branch, count_selection, fits, knows_name, touches, touches_rest,
+};
 pub(crate) use target::count_target;
+pub(crate) use untagged::{is_null, reads_content};

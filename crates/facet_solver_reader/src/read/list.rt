@@ -22,7 +22,7 @@ use std::alloc::AllocError;
 
 /// How often an object is read by the parts of a list, by the counts of the lists before it.
 #[cycle(count)]
-pub(super) fn count_list(
+pub(crate) fn count_list(
     tables: &Tables<'_>,
     nodes: &Nodes<'_, '_>,
     memo: &mut Memo,
@@ -63,7 +63,7 @@ fn some_fails_at_once(nodes: &Nodes<'_, '_>, node: usize, parts: &[Part<'_>]) ->
 }
 
 /// Whether a part is a required member that the object lacks, or a tag of another text.
-fn fails_at_once(nodes: &Nodes<'_, '_>, node: usize, part: &Part<'_>) -> bool
+pub(crate) fn fails_at_once(nodes: &Nodes<'_, '_>, node: usize, part: &Part<'_>) -> bool
     requires numbering { IsNumbering nodes.now }
     requires inside { node < count nodes.now }
     ensures { result

@@ -7,7 +7,7 @@ ghost use Rattle.facet_solver_reader.specs.Reading.{member_view};
 use crate::document::Document;
 
 /// The members of a value: none, if it is no object.
-pub(super) fn members_of<'v, 'd>(value: &'v Document<'d>) -> &'v [(&'d str, Document<'d>)]
+pub(crate) fn members_of<'v, 'd>(value: &'v Document<'d>) -> &'v [(&'d str, Document<'d>)]
     ensures { map member_view result.now ≡ members_in (view value.now) }
 {
     match value {

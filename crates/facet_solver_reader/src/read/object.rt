@@ -22,12 +22,12 @@ use std::alloc::AllocError;
 /// An object, the list of parts that it is read by, and whether catch-alls take the members of no
 /// known name.
 #[derive(Clone, Copy)]
-pub(super) struct Object<'r, 'c> {
-    pub(super) node: usize,
-    pub(super) list: &'r List<'c>,
-    pub(super) takes: bool,
+pub(crate) struct Object<'r, 'c> {
+    pub(crate) node: usize,
+    pub(crate) list: &'r List<'c>,
+    pub(crate) takes: bool,
     /// Whether it has a member of no known name.
-    pub(super) has_unknown: bool,
+    pub(crate) has_unknown: bool,
 }
 
 impl Object<'_, '_> {
@@ -107,7 +107,7 @@ fn count_all(
 }
 
 /// Whether an object has a member of a name that no choice of a list has.
-fn has_unknown(nodes: &Nodes<'_, '_>, node: usize, list: &List<'_>) -> bool
+pub(crate) fn has_unknown(nodes: &Nodes<'_, '_>, node: usize, list: &List<'_>) -> bool
     requires inside { node < count nodes.now }
     requires sorted { IsSorted name_ref_cmp list.now.names.items }
     ensures { result ≡ spec.has_unknown list.now (members_in (value_of nodes.now node)) }

@@ -18,7 +18,7 @@ use crate::tables::{List, Tables};
 /// How often an object is read by a selection, by the counts of its branches: it is absent where it
 /// may be and the object has no member of it, else it is the sum over the branches that have all
 /// members which it has.
-pub(super) fn count_selection(
+pub(crate) fn count_selection(
     tables: &Tables<'_>,
     nodes: &Nodes<'_, '_>,
     object: &Object<'_, '_>,
@@ -45,7 +45,7 @@ pub(super) fn count_selection(
 }
 
 /// How often an object is read by a branch.
-fn count_branch(
+pub(crate) fn count_branch(
     tables: &Tables<'_>,
     nodes: &Nodes<'_, '_>,
     object: &Object<'_, '_>,
@@ -79,7 +79,7 @@ fn count_branch(
 }
 
 /// Whether an object has a member that a selection knows.
-fn touches(
+pub(crate) fn touches(
     tables: &Tables<'_>,
     nodes: &Nodes<'_, '_>,
     object: &Object<'_, '_>,
@@ -100,7 +100,11 @@ fn touches(
 }
 
 /// Whether an object has a member that the catch-alls of a selection take.
-fn touches_rest(tables: &Tables<'_>, object: &Object<'_, '_>, selection: &Selection) -> bool
+pub(crate) fn touches_rest(
+    tables: &Tables<'_>,
+    object: &Object<'_, '_>,
+    selection: &Selection,
+) -> bool
     requires tables { AreTables tables.now }
     requires served { All (ListIsServed tables.now) (selection_view selection.now).branches }
     ensures { IsTrue result
@@ -111,7 +115,7 @@ fn touches_rest(tables: &Tables<'_>, object: &Object<'_, '_>, selection: &Select
 }
 
 /// Whether a list has each member of an object that a selection knows.
-fn fits(
+pub(crate) fn fits(
     tables: &Tables<'_>,
     nodes: &Nodes<'_, '_>,
     object: &Object<'_, '_>,
@@ -136,7 +140,7 @@ fn fits(
 }
 
 /// Whether a choice of a branch has a member of the name.
-fn knows_name(tables: &Tables<'_>, selection: &Selection, name: &str) -> bool
+pub(crate) fn knows_name(tables: &Tables<'_>, selection: &Selection, name: &str) -> bool
     requires tables { AreTables tables.now }
     requires served { All (ListIsServed tables.now) (selection_view selection.now).branches }
     ensures { IsTrue result ↔ IsKnownIn (rules_at tables.now).lists

@@ -119,7 +119,7 @@ fn count_alternative(
 }
 
 /// Whether a value is null.
-fn is_null(value: &Document<'_>) -> bool
+pub(crate) fn is_null(value: &Document<'_>) -> bool
     ensures { result ≡ is_null (view value.now) }
 {
     matches!(value, Document::Null)
@@ -127,7 +127,11 @@ fn is_null(value: &Document<'_>) -> bool
 
 /// Whether an alternative of a kind reads a value as its content, and is no fallback: one of floats
 /// reads no whole number that another reads by its range.
-fn reads_content(value: &Document<'_>, others: &[Alternative<'_>], kind: AlternativeKind) -> bool
+pub(crate) fn reads_content(
+    value: &Document<'_>,
+    others: &[Alternative<'_>],
+    kind: AlternativeKind,
+) -> bool
     ensures { result ≡ reads_content (kind_view kind) (list_any (is_whole_of (view value.now))
         (map alternative_view others.now)) }
 {

@@ -1,0 +1,137 @@
+-- Names that each choice of a list requires.
+use Rattle.std.proofs.Common.{◌≡◌, ◌⊎◌, inl, inr, sym, ap, ◌∙◌, subst, refl, ⊎_elim, ℕ, zero, suc}
+use Rattle.std.proofs.Common.{List, [], ◌∷◌, ◌++◌, Option, Some, None, Bool, true, false, slice_get}
+use Rattle.std.proofs.Common.{◌<◌, arith, if◌then◌else◌}
+use Rattle.std.proofs.Common.{◌≤◌, length, get_or}
+use Rattle.std.proofs.lemmas.Option.{IfSome_then, slice_get_within}
+use Rattle.std.specs.Borrow.{Bor}
+use Rattle.std.specs.Prelude.{IfSome}
+use Rattle.facet_solver_reader.specs.declared.tables.List.{List as ListEntry}
+use Rattle.facet_solver_reader.specs.declared.tables.Tables.{Tables}
+use Rattle.facet_solver_reader.specs.Reading.{IsListed}
+use Rattle.facet_solver_reader.specs.Tables.{AreTables, rules_at}
+use Rattle.facet_solver_reader.specs.Views.{list_view, parts_view}
+use Rattle.facet_solver_shape.specs.Names.{Name}
+use Rattle.facet_solver_reader.specs.Choices.{Choice, ChoiceAt, Item, member_of, catch_all_of}
+use Rattle.facet_solver_reader.specs.Choices.{presence_of, presence, done, next, lacking, having}
+use Rattle.facet_solver_reader.specs.Choices.{without, choosing, taking}
+use Rattle.facet_solver_reader.specs.Documents.{Member}
+use Rattle.facet_solver_reader.specs.Known.{Chooses, ChoosesAll, ChoosesAt}
+use Rattle.facet_solver_reader.specs.Objects.{find}
+use Rattle.facet_solver_reader.specs.Parts.{ListId, Lists, MemberPart, Part, Selection, a_member}
+use Rattle.facet_solver_reader.specs.Parts.{a_selection}
+use Rattle.facet_solver_reader.specs.Rules.{Rules}
+use Rattle.facet_solver_reader.specs.Why.{IsRequiredIn, Lacks, PartLacks}
+use Rattle.facet_solver_reader.proofs.Lists.{choices_of_list}
+use Rattle.facet_solver_reader.proofs.Selections.{choice_at}
+
+-- what the first items require, and what the others do, all do
+required_front : (is js : List Item) (x : Name) → IsRequiredIn is x → IsRequiredIn (is ++ js) x
+required_front [] js x h = absurd h
+required_front (member_of m r ∷ is) js x h =
+    ⊎_elim (λ (a : (m.required ≡ true) × (m.name ≡ x)). inl a)
+    (λ (b : IsRequiredIn is x). inr (required_front is js x b)) h
+required_front (catch_all_of k t ∷ is) js x h = required_front is js x h
+required_front (presence_of s ∷ is) js x h = required_front is js x h
+
+required_behind : (is js : List Item) (x : Name) → IsRequiredIn js x → IsRequiredIn (is ++ js) x
+required_behind [] js x h = h
+required_behind (member_of m r ∷ is) js x h = inr (required_behind is js x h)
+required_behind (catch_all_of k t ∷ is) js x h = required_behind is js x h
+required_behind (presence_of s ∷ is) js x h = required_behind is js x h
+
+-- what each choice at a part requires, each choice of the parts does
+required_by_part : (lists : Lists) (ps : List Part) (k : ℕ) (p : Part) (x : Name)
+    → slice_get ps k ≡ Some p
+    → ((a : ChoiceAt) (is : List Item) → ChoosesAt lists p a is → IsRequiredIn is x)
+    → (c : Choice) (items : List Item) → ChoosesAll lists ps c items → IsRequiredIn items x
+required_by_part lists [] k p x e f c items h =
+    let l : k < 0 = slice_get_within [] k p e in absurd (omega arith)
+required_by_part lists (q ∷ ps) k p x e f done items h = absurd h
+required_by_part lists (q ∷ ps) zero p x e f (next a c) items h =
+    let same : q ≡ p = cc in
+    subst (λ is. IsRequiredIn is x) (sym h.items_are)
+    (required_front h.first h.second x
+    (f a h.first (subst (λ r. ChoosesAt lists r a h.first) same h.chooses_first)))
+required_by_part lists (q ∷ ps) (suc k) p x e f (next a c) items h =
+    subst (λ is. IsRequiredIn is x) (sym h.items_are)
+    (required_behind h.first h.second x
+    (required_by_part lists ps k p x e f c h.second h.chooses_second))
+
+-- a name that an object lacks for a part of a list it lacks for the list
+pub lacks_by_part : (rules : Rules) (members : List Member) (id : ListId) (ps : List Part) (k : ℕ)
+    (p : Part) (x : Name) → rules.lists id ≡ Some ps → slice_get ps k ≡ Some p
+    → PartLacks rules members p x → Lacks rules members id x
+lacks_by_part rules members id ps k p x e at h =
+    record {
+      absent = h.absent;
+      required = λ c items chooses.
+          required_by_part rules.lists ps k p x at h.required c items
+          ((choices_of_list rules.lists id ps e c items).1 chooses);
+    }
+
+-- a required member that is not there
+pub member_lacks : (rules : Rules) (members : List Member) (m : MemberPart) → m.required ≡ true
+    → find members m.name ≡ None → PartLacks rules members (a_member m) m.name
+member_lacks rules members m is e = record { absent = e; required = required }
+  where
+    required : (c : ChoiceAt) (items : List Item) → ChoosesAt rules.lists (a_member m) c items
+        → IsRequiredIn items m.name
+    required lacking items h = subst (λ is. IsRequiredIn is m.name) (sym h) (inl (is, refl))
+    required (having r) items h = subst (λ is. IsRequiredIn is m.name) (sym h) (inl (is, refl))
+    required without items h = absurd h
+    required (choosing k c) items h = absurd h
+    required (taking t) items h = absurd h
+
+-- what the one branch of a selection lacks that is always present
+pub branch_lacks : (rules : Rules) (members : List Member) (s : Selection) (id : ListId) (x : Name)
+    → s.optional ≡ false → s.branches ≡ id ∷ [] → Lacks rules members id x
+    → PartLacks rules members (a_selection s) x
+branch_lacks rules members s id x present one lacks =
+    record { absent = lacks.absent; required = required }
+  where
+    only : (k : ℕ) (list : ListId) → slice_get (id ∷ []) k ≡ Some list → slice_get (id ∷ []) k ≡ Some id
+    only zero list e = refl
+    only (suc k) list e = let l : k < 0 = slice_get_within [] k list e in absurd (omega arith)
+
+    required : (c : ChoiceAt) (items : List Item) → ChoosesAt rules.lists (a_selection s) c items
+        → IsRequiredIn items x
+    required lacking items h = absurd h
+    required (having r) items h = absurd h
+    required (taking t) items h = absurd h
+    required without items h = let p : s.optional ≡ true = h.0 in absurd (cc)
+    required (choosing k c) items h =
+        let first = subst (λ bs. slice_get bs k ≡ Some h.chooses.list) one h.chooses.branch_is in
+        let at : slice_get s.branches k ≡ Some id =
+        subst (λ bs. slice_get bs k ≡ Some id) (sym one) (only k h.chooses.list first) in
+        subst (λ is. IsRequiredIn is x) (sym h.items_are)
+        (required_behind (presence s) h.of_branch x
+        (lacks.required c h.of_branch (choice_at rules.lists s k id c h.of_branch at h.chooses)))
+
+-- what is told of a part is so of its list
+pub list_lacks : (t : Tables) (members : List Member) (l : ListEntry) (k : ℕ) (p : Part)
+    (name : Option (Bor Name)) → AreTables t → IsListed t l
+    → slice_get (parts_view l.parts.items) k ≡ Some p
+    → IfSome name (λ x. PartLacks (rules_at t) members p x.now)
+    → IfSome name (λ x. Lacks (rules_at t) members (list_view l.id) x.now)
+list_lacks t members l k p name tables h at lacks =
+    IfSome_then name lacks
+    (λ (x : Bor Name) h2.
+    lacks_by_part (rules_at t) members (list_view l.id) (parts_view l.parts.items) k p x.now
+    (tables.lists h.index l h.listed).same at h2)
+
+-- what is told of the one branch of a selection that is always present is so of the selection
+pub selection_lacks : (rules : Rules) (members : List Member) (s : Selection) (id : ListId)
+    (name : Option (Bor Name)) → s.optional ≡ false → s.branches ≡ id ∷ []
+    → IfSome name (λ x. Lacks rules members id x.now)
+    → IfSome name (λ x. PartLacks rules members (a_selection s) x.now)
+selection_lacks rules members s id name present one lacks =
+    IfSome_then name lacks
+    (λ (x : Bor Name) h. branch_lacks rules members s id x.now present one h)
+
+-- a list of one element
+pub one_item : {A : Type 0} (xs : List A) (x : A) → 1 ≤ length xs → length xs < 2
+    → x ≡ get_or xs 0 x → xs ≡ x ∷ []
+one_item [] x some few is = absurd (omega arith)
+one_item (y ∷ []) x some few is = ap (λ z. z ∷ []) (sym is)
+one_item (y ∷ z ∷ ys) x some few is = absurd (omega arith)

@@ -1,0 +1,67 @@
+use Rattle.std.proofs.Common.{◌≡◌, Some, inl, length, refl, slice_get, subst, sym, false, true}
+use Rattle.std.specs.List.{All}
+use Rattle.facet_solver_reader.specs.Branches.{ReadsAt, ReadsPart}
+use Rattle.facet_solver_reader.specs.Nodes.{members_in, value_of}
+use Rattle.facet_solver_reader.specs.Parts.{a_selection}
+use Rattle.facet_solver_reader.specs.Reading.{AreListCounts, object_view}
+use Rattle.facet_solver_reader.specs.Readings.{ReadsValue}
+use Rattle.facet_solver_reader.specs.Tables.{BranchIsBefore, ListIsServed, rules_at}
+use Rattle.facet_solver_reader.specs.Views.{list_view, selection_view}
+use Rattle.facet_solver_reader.specs.Why.{IsReadBy, IsReadByBranch}
+use Rattle.facet_solver_reader.specs.declared.count.Count.{Count}
+use Rattle.facet_solver_reader.specs.declared.count.Count.TheVariants as counts
+use Rattle.facet_solver_reader.specs.declared.read_error.Branch.{Branch}
+use Rattle.facet_solver_reader.proofs.Blaming.{some_counted}
+use Rattle.facet_solver_reader.proofs.Quantifiers.{all_at, all_of_last}
+use Rattle.facet_solver_reader.proofs.why.several.add_branch.Goals as goal
+
+pub count_branch-count-requires-clause-branch : goal.count_branch-count-requires-clause-branch
+count_branch-count-requires-clause-branch c =
+    all_at (ListIsServed c.args.tables.now) (selection_view c.args.selection.now).branches
+    c.requires.branch.0 (list_view c.args.branch.now) c.requires.served c.requires.branch.1
+
+pub count_branch-count-requires-clause-before : goal.count_branch-count-requires-clause-before
+count_branch-count-requires-clause-before c =
+    let below = c.args.tallied.now.object.list.now.below.items in
+    subst (λ ns. BranchIsBefore c.args.tables.now below (length ns) (list_view c.args.branch.now))
+    (sym c.deref.ensures.value)
+    (all_at (BranchIsBefore c.args.tables.now below (length c.args.tallied.now.counts.items))
+    (selection_view c.args.selection.now).branches c.requires.branch.0
+    (list_view c.args.branch.now) c.requires.before c.requires.branch.1)
+
+pub count_branch-count-requires-clause-counts : goal.count_branch-count-requires-clause-counts
+count_branch-count-requires-clause-counts c =
+    subst (AreListCounts c.args.tables.now c.args.nodes.now c.args.tallied.now.object)
+    (sym c.deref.ensures.value) c.requires.tallied.counts
+
+pub returns-in-Ok : goal.returns-in-Ok
+returns-in-Ok c =
+    let rules = rules_at c.args.tables.now in
+    let nodes = c.args.nodes.now in
+    let o = c.args.tallied.now.object in
+    let v = value_of nodes o.node in
+    let s = selection_view c.args.selection.now in
+    let id = list_view c.args.branch.now in
+    let k = c.requires.branch.0 in
+    let n = c.count_branch-count.result in
+    let read = some_counted
+    (ReadsAt (ReadsPart rules (ReadsValue rules) (object_view nodes o) (a_selection s)) k) n
+    (λ (e : n ≡ counts.None).
+    let is : c.is_none.result ≡ true = c.is_none.ensures.1 e in
+    let isnt : c.is_none.result ≡ false = c.if-is_none.false in absurd (cc))
+    (c.count_branch-count.ensures k c.requires.branch.1) in
+    let branch = c.branch_of-branch.result in
+    let by : IsReadByBranch rules (members_in v) id =
+    record {
+      object = object_view nodes o;
+      same = refl;
+      selection = s;
+      index = k;
+      branch = c.requires.branch.1;
+      choice = read.0;
+      reads = read.1;
+    } in
+    let here : IsReadBy rules v branch =
+    inl (subst (IsReadByBranch rules (members_in v)) (sym c.branch_of-branch.ensures) by) in
+    subst (All (IsReadBy rules v)) (sym c.in-Ok.ensures.items)
+    (all_of_last (IsReadBy rules v) c.args.branches.now.items branch c.requires.branches here)

@@ -1,0 +1,35 @@
+use Rattle.std.proofs.Common.{ap, length, map, subst}
+use Rattle.facet_solver_reader.specs.Tables.{PartIsBefore, PartIsServed}
+use Rattle.facet_solver_reader.specs.Views.{part_view, parts_view}
+use Rattle.facet_solver_reader.proofs.Blaming.{listed_of_below, part_before, part_served}
+use Rattle.facet_solver_reader.proofs.CountingObjects.{seen_read}
+use Rattle.facet_solver_reader.proofs.why.several.split_in_list.Goals as goal
+
+pub branches_of-requires-clause-served : goal.branches_of-requires-clause-served
+branches_of-requires-clause-served c =
+    let t = c.args.tables.now in
+    let o = c.args.tallied.now.object in
+    let l = c.args.list.now in
+    let ps = parts_view l.parts.items in
+    let i = c.loop-part.part-index in
+    let at = seen_read part_view c.deref-part-items.result.now ps i c.part-item.result
+    (ap (map part_view) c.deref-part-items.ensures.value) c.loop-part-test.true c.part-item.is in
+    subst (PartIsServed t) (ap part_view c.in-Selection.is)
+    (part_served t c.requires.tables l (part_view c.part-item.result)
+    (listed_of_below t c.requires.tables o l c.requires.below) (i, at))
+
+pub branches_of-requires-clause-before : goal.branches_of-requires-clause-before
+branches_of-requires-clause-before c =
+    let t = c.args.tables.now in
+    let a = c.args.tallied.now in
+    let o = a.object in
+    let l = c.args.list.now in
+    let ps = parts_view l.parts.items in
+    let i = c.loop-part.part-index in
+    let at = seen_read part_view c.deref-part-items.result.now ps i c.part-item.result
+    (ap (map part_view) c.deref-part-items.ensures.value) c.loop-part-test.true c.part-item.is in
+    subst (PartIsBefore t o.list.now.below.items (length a.counts.items))
+    (ap part_view c.in-Selection.is)
+    (part_before t c.requires.tables c.args.nodes.now o c.requires.tallied.object l
+    (part_view c.part-item.result) (length a.counts.items) c.requires.below (i, at)
+    c.requires.tallied.each)

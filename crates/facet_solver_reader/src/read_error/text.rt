@@ -1,0 +1,167 @@
+//! The texts of errors.
+use super::{
+    Branch, Misfit, NoReading, Obstacle, ReadError, Several, Stop, TypeName, Unread, Wanted,
+};
+use std::error::Error;
+use std::fmt;
+
+/// As `Login`, or `Login::Token`.
+impl fmt::Display for TypeName<'_> {
+    fn fmt<W: fmt::Write>(&self, f: &mut fmt::Formatter<W>) -> fmt::Result {
+        let name = self.name;
+        match self.variant {
+            Some(variant) => write!(f, "{name}::{variant}"),
+            None => write!(f, "{name}"),
+        }
+    }
+}
+
+/// The name of the variant, as `Token`, or that of the struct.
+impl fmt::Display for Branch<'_> {
+    fn fmt<W: fmt::Write>(&self, f: &mut fmt::Formatter<W>) -> fmt::Result {
+        match self.name.variant {
+            Some(variant) => f.write_str(variant),
+            None => f.write_str(self.name.name),
+        }
+    }
+}
+
+/// As `a whole number in its range`.
+impl fmt::Display for Wanted<'_> {
+    fn fmt<W: fmt::Write>(&self, f: &mut fmt::Formatter<W>) -> fmt::Result {
+        match self {
+            Wanted::Null => f.write_str("null"),
+            Wanted::Truth => f.write_str("a truth value"),
+            Wanted::Whole => f.write_str("a whole number in its range"),
+            Wanted::Number => f.write_str("a number"),
+            Wanted::Text => f.write_str("a text"),
+            Wanted::Character => f.write_str("a text of one character"),
+            Wanted::List => f.write_str("a list"),
+            Wanted::Values(count) => write!(f, "a list of {count} values"),
+            Wanted::Object => f.write_str("an object"),
+            Wanted::Named => f.write_str("the name of a variant, or an object of one member"),
+            Wanted::Nothing => f.write_str("null or an object without members"),
+            Wanted::Exactly(text) => write!(f, "the text '{text}'"),
+            Wanted::Other => f.write_str("no such value"),
+        }
+    }
+}
+
+/// As `u8 reads a whole number in its range`.
+impl fmt::Display for Unread<'_> {
+    fn fmt<W: fmt::Write>(&self, f: &mut fmt::Formatter<W>) -> fmt::Result {
+        let name = self.name;
+        match self.reads {
+            Wanted::Exactly(text) => write!(f, "only the text '{text}' is read"),
+            reads => write!(f, "{name} reads {reads}"),
+        }
+    }
+}
+
+/// What stops a variant, as `Token lacks 'token', and 'user' is no key of it`.
+impl fmt::Display for Misfit<'_, '_> {
+    fn fmt<W: fmt::Write>(&self, f: &mut fmt::Formatter<W>) -> fmt::Result {
+        let branch = &self.branch;
+        match (&self.lacks, &self.no_key, &self.stop) {
+            (Some(lacks), Some(other), _) => {
+                write!(f, "{branch} lacks '{lacks}', and '{other}' is no key of it")
+            }
+            (Some(lacks), None, _) => write!(f, "{branch} lacks '{lacks}'"),
+            (None, Some(other), _) => write!(f, "'{other}' is no key of {branch}"),
+            (None, None, Stop::Member(name, unread)) => {
+                write!(f, "'{name}' of {branch}: {unread}")
+            }
+            (None, None, Stop::OneOf(name)) => { write!(f, "{branch}: no variant of {name} fits") }
+            (None, None, Stop::Itself(unread)) => {
+                let reads = &unread.reads;
+                write!(f, "{branch} reads {reads}")
+            }
+            (None, None, Stop::Nothing) => write!(f, "{branch} does not fit"),
+        }
+    }
+}
+
+/// What stops a reading, without its place.
+impl fmt::Display for Obstacle<'_, '_> {
+    fn fmt<W: fmt::Write>(&self, f: &mut fmt::Formatter<W>) -> fmt::Result {
+        match self {
+            Obstacle::Unread(unread) => write!(f, "{unread}"),
+            Obstacle::Lacks(branch, name) => {
+                let of = branch.name;
+                write!(f, "{of} lacks '{name}'")
+            }
+            Obstacle::NoVariant(name, misfits) => {
+                write!(f, "no variant of {name} fits")?;
+                for misfit in misfits {
+                    write!(f, "; {misfit}")?;
+                }
+                Ok(())
+            }
+            Obstacle::NoName(of, text, names) => {
+                write!(f, "{of} has no variant '{text}' here")?;
+                if !names.is_empty() {
+                    write!(f, ", but")?;
+                }
+                write_names(f, names)
+            }
+            Obstacle::NoKey(of, name) => write!(f, "the key '{name}' is no {of}"),
+            Obstacle::Unknown(names) => {
+                write!(f, "nothing takes")?;
+                write_names(f, names)
+            }
+        }
+    }
+}
+
+/// Names with commas between them, each in quotes and the first behind a blank.
+fn write_names<W: fmt::Write>(f: &mut fmt::Formatter<W>, names: &[&str]) -> fmt::Result {
+    match names.split_first() {
+        None => Ok(()),
+        Some((first, rest)) => {
+            write!(f, " '{first}'")?;
+            for name in rest {
+                write!(f, ", '{name}'")?;
+            }
+            Ok(())
+        }
+    }
+}
+
+/// As `login: no variant of Login fits; Token lacks 'token'; Password lacks 'password'`.
+impl fmt::Display for NoReading<'_, '_> {
+    fn fmt<W: fmt::Write>(&self, f: &mut fmt::Formatter<W>) -> fmt::Result {
+        let place = &self.place;
+        let why = &self.why;
+        write!(f, "{place}: {why}")
+    }
+}
+
+/// As `login: several variants fit: Token, Password`.
+impl fmt::Display for Several<'_, '_> {
+    fn fmt<W: fmt::Write>(&self, f: &mut fmt::Formatter<W>) -> fmt::Result {
+        let place = &self.place;
+        write!(f, "{place}: several variants fit:")?;
+        let mut is_first = true;
+        for variant in &self.variants {
+            if !is_first {
+                f.write_str(",")?;
+            }
+            is_first = false;
+            write!(f, " {variant}")?;
+        }
+        Ok(())
+    }
+}
+
+impl fmt::Display for ReadError<'_, '_> {
+    fn fmt<W: fmt::Write>(&self, f: &mut fmt::Formatter<W>) -> fmt::Result {
+        match self {
+            ReadError::NoReading(none) => write!(f, "{none}"),
+            ReadError::Several(several) => write!(f, "{several}"),
+            ReadError::NameTwice(place) => write!(f, "{place}: the name stands twice"),
+            ReadError::OutOfMemory => f.write_str("out of memory"),
+        }
+    }
+}
+
+impl Error for ReadError<'_, '_> {}

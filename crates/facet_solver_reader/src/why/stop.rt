@@ -1,0 +1,156 @@
+//! What of a branch has no reading.
+ghost use Rattle.std.specs.Prelude.{All, IfOk, IfSome, length};
+ghost use Rattle.facet_solver_reader.specs.Nodes.{value_of};
+ghost use Rattle.facet_solver_reader.specs.Parts.{a_selection};
+ghost use Rattle.facet_solver_reader.specs.Reading.{AreSound};
+ghost use Rattle.facet_solver_reader.specs.Tables.{AreTables, IsServed, ListIsServed, PartIsBefore, PartIsServed, rules_at};
+ghost use Rattle.facet_solver_reader.specs.Views.{member_view, part_view, selection_view};
+ghost use Rattle.facet_solver_reader.specs.Why.{IsAsked, IsBelow, IsInner, IsStop};
+
+use super::asked::{Asked, list_at, position_of};
+use super::name::{selection_name, unread};
+use super::walk::count_of;
+use crate::nodes::Nodes;
+use crate::part::{MemberPart, Part, Selection};
+use crate::read::{Memo, count_selection};
+use crate::read_error::Stop;
+use crate::tables::{List, Tables};
+use std::alloc::AllocError;
+
+/// What of a part of a branch has no reading.
+#[derive(Clone, Copy, Debug)]
+pub(super) enum Inner<'c> {
+    /// This.
+    Stop(Stop<'c>),
+    /// Something of a list that each choice goes through, by its position.
+    List(usize),
+}
+
+/// The first part of a list, or of one that each choice of it goes through, that has no reading.
+pub(super) fn stop_of<'c>(
+    tables: &Tables<'c>,
+    nodes: &Nodes<'_, '_>,
+    memo: &mut Memo,
+    asked: &Asked<'_, 'c>,
+    position: usize,
+) -> Result<Stop<'c>, AllocError>
+    requires sound { AreSound tables.now nodes.now memo.old.entries.items }
+    requires asked { IsAsked tables.now nodes.now asked.now }
+    ensures sound { AreSound tables.now nodes.now memo.new.entries.items }
+    ensures stop { IfOk result (IsStop (rules_at tables.now)
+        (value_of nodes.now asked.now.object.node)) }
+{
+    let mut position = position;
+    for _ in &asked.object.list.below {
+        let Some(list) = list_at(tables, &asked.object, position) else {
+            return Ok(Stop::Nothing);
+        };
+        match stop_in_list(tables, nodes, memo, asked, list) {
+            Ok(Some(Inner::Stop(stop))) => return Ok(stop),
+            Ok(Some(Inner::List(inner))) => position = inner,
+            Ok(None) => return Ok(Stop::Nothing),
+            Err(error) => return Err(error),
+        }
+    }
+    Ok(Stop::Nothing)
+}
+
+/// The first part of a list that has no reading.
+fn stop_in_list<'c>(
+    tables: &Tables<'c>,
+    nodes: &Nodes<'_, '_>,
+    memo: &mut Memo,
+    asked: &Asked<'_, 'c>,
+    list: &List<'c>,
+) -> Result<Option<Inner<'c>>, AllocError>
+    requires sound { AreSound tables.now nodes.now memo.old.entries.items }
+    requires asked { IsAsked tables.now nodes.now asked.now }
+    requires below { IsBelow tables.now asked.now.object list.now }
+    ensures sound { AreSound tables.now nodes.now memo.new.entries.items }
+    ensures inner { IfOk result (λ inner. IfSome inner (IsInner (rules_at tables.now)
+        (value_of nodes.now asked.now.object.node))) }
+{
+    for part in &list.parts {
+        match stop_in_part(tables, nodes, memo, asked, part) {
+            Ok(None) => {}
+            found => return found,
+        }
+    }
+    Ok(None)
+}
+
+/// What of a part of a list has no reading.
+fn stop_in_part<'c>(
+    tables: &Tables<'c>,
+    nodes: &Nodes<'_, '_>,
+    memo: &mut Memo,
+    asked: &Asked<'_, 'c>,
+    part: &Part<'c>,
+) -> Result<Option<Inner<'c>>, AllocError>
+    requires sound { AreSound tables.now nodes.now memo.old.entries.items }
+    requires asked { IsAsked tables.now nodes.now asked.now }
+    requires served { PartIsServed tables.now (part_view part.now) }
+    requires before { PartIsBefore tables.now asked.now.object.list.now.below.items
+        (length asked.now.counts.items) (part_view part.now) }
+    ensures sound { AreSound tables.now nodes.now memo.new.entries.items }
+    ensures inner { IfOk result (λ inner. IfSome inner (IsInner (rules_at tables.now)
+        (value_of nodes.now asked.now.object.node))) }
+{
+    match part {
+        Part::Member(member) => stop_at_member(tables, nodes, memo, asked, member),
+        Part::Selection(selection) => Ok(stop_at_selection(tables, nodes, asked, selection)),
+        Part::CatchAll(_) => Ok(None),
+    }
+}
+
+/// A member that the object has, and whose value is not read.
+fn stop_at_member<'c>(
+    tables: &Tables<'c>,
+    nodes: &Nodes<'_, '_>,
+    memo: &mut Memo,
+    asked: &Asked<'_, 'c>,
+    member: &MemberPart<'c>,
+) -> Result<Option<Inner<'c>>, AllocError>
+    requires sound { AreSound tables.now nodes.now memo.old.entries.items }
+    requires asked { IsAsked tables.now nodes.now asked.now }
+    requires served { IsServed tables.now (member_view member.now).target }
+    ensures sound { AreSound tables.now nodes.now memo.new.entries.items }
+    ensures inner { IfOk result (λ inner. IfSome inner (IsInner (rules_at tables.now)
+        (value_of nodes.now asked.now.object.node))) }
+{
+    let Some(value) = nodes.member(asked.object.node, member.name) else {
+        return Ok(None);
+    };
+    let count = count_of(tables, nodes, memo, value, &member.target)?;
+    if !count.is_none() {
+        return Ok(None);
+    }
+    match unread(tables, nodes.value(value), &member.target) {
+        Ok(unread) => Ok(Some(Inner::Stop(Stop::Member(member.name, unread)))),
+        Err(error) => Err(error),
+    }
+}
+
+/// A selection by which the object is not read.
+fn stop_at_selection<'c>(
+    tables: &Tables<'c>,
+    nodes: &Nodes<'_, '_>,
+    asked: &Asked<'_, 'c>,
+    selection: &Selection,
+) -> Option<Inner<'c>>
+    requires tables { AreTables tables.now }
+    requires asked { IsAsked tables.now nodes.now asked.now }
+    requires served { All (ListIsServed tables.now) (selection_view selection.now).branches }
+    requires before { PartIsBefore tables.now asked.now.object.list.now.below.items
+        (length asked.now.counts.items) (a_selection (selection_view selection.now)) }
+    ensures { IfSome result (IsInner (rules_at tables.now)
+        (value_of nodes.now asked.now.object.node)) }
+{
+    if !count_selection(tables, nodes, &asked.object, selection, &asked.counts).is_none() {
+        return None;
+    }
+    match selection.branches.as_slice() {
+        [branch] => Some(Inner::List(position_of(tables, &asked.object, *branch)?)),
+        _ => Some(Inner::Stop(Stop::OneOf(selection_name(tables.shapes, selection)))),
+    }
+}
