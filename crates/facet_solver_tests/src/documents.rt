@@ -4,7 +4,9 @@ use crate::answer::Answer;
 use crate::catalogue::Catalogue;
 use facet_solver::ShapeId;
 use facet_solver_json::{JsonError, Scratch, parse};
-use facet_solver_reader::{Count, Document, DocumentError, Number, Reader, TypeError, Unknown};
+use facet_solver_reader::{
+    Count, Document, DocumentError, Number, ReadError, Reader, TypeError, Unknown,
+};
 
 /// What stands for a line feed in the text of a call.
 const LINE_FEED: char = '¶';
@@ -102,10 +104,22 @@ fn add_count(
 
 fn count_by(reader: &Reader<'_>, document: &Document<'_>, answer: &mut Answer<'_>) {
     match reader.count(answer.alloc, document) {
-        Ok(Count::None) => answer.add("none"),
+        Ok(Count::None) => explain(reader, document, "none", answer),
         Ok(Count::One) => answer.add("one"),
-        Ok(Count::Several) => answer.add("several"),
+        Ok(Count::Several) => explain(reader, document, "several", answer),
         Err(DocumentError::OutOfMemory) => answer.refused(),
         Err(error) => answer.add_value(&error),
+    }
+}
+
+/// Tells how many readings a document has, which is not one, and keeps the text of the error.
+fn explain(reader: &Reader<'_>, document: &Document<'_>, count: &str, answer: &mut Answer<'_>) {
+    match reader.explain(answer.alloc, document) {
+        Ok(()) => {}
+        Err(ReadError::OutOfMemory) => answer.refused(),
+        Err(error) => {
+            answer.keep_error(&error);
+            answer.add(count);
+        }
     }
 }
