@@ -1,6 +1,6 @@
 //! A reader: what a type says of documents, found once for all of them.
 ghost use Rattle.std.specs.Prelude.{IfErr, IfOk, length};
-ghost use Rattle.facet_solver_reader.specs.Counted.{Counted, IsOnly};
+ghost use Rattle.facet_solver_reader.specs.Counted.{Counted};
 ghost use Rattle.facet_solver_reader.specs.Documents.{view};
 ghost use Rattle.facet_solver_reader.specs.Nodes.{IsNumbering, value_of};
 ghost use Rattle.facet_solver_reader.specs.Parts.{of_shape};
@@ -162,63 +162,5 @@ impl<'c> Reader<'c> {
         let root = Target::Shape(self.root);
         let steps = self.tables.steps;
         Ok(count_target(&self.tables, &nodes, &mut memo, 0, &root, steps)?)
-    }
-
-    /// Whether a document has exactly one reading as the type, and else why not.
-    ///
-    /// # Errors
-    ///
-    /// - `NameTwice`: a name stands twice in an object of the document. It is told before any
-    ///   reading.
-    /// - `NoReading`, `Several`: it has none, or several.
-    /// - `OutOfMemory`: memory was refused.
-    pub fn explain<'d>(
-        &self,
-        alloc: Global,
-        document: &Document<'d>,
-    ) -> Result<(), ReadError<'c, 'd>>
-        ensures one { IfOk result (λ _. IsOnly (ReadsValue
-            (rules_of self.now.shapes self.now.strict) (of_shape self.now.root)
-            (view document.now))) }
-        ensures error { IfErr result (IsWhyNot (rules_of self.now.shapes self.now.strict)
-            (of_shape self.now.root) (view document.now)) }
-    {
-        match Nodes::new(alloc, document) {
-            Ok(nodes) => self.explain_nodes(alloc, &nodes),
-            Err(error) => Err(ReadError::from(error)),
-        }
-    }
-
-    /// The same of the values of a document.
-    fn explain_nodes<'d>(
-        &self,
-        alloc: Global,
-        nodes: &Nodes<'_, 'd>,
-    ) -> Result<(), ReadError<'c, 'd>>
-        requires { IsNumbering nodes.now }
-        ensures one { IfOk result (λ _. IsOnly (ReadsValue
-            (rules_of self.now.shapes self.now.strict) (of_shape self.now.root)
-            (value_of nodes.now 0))) }
-        ensures error { IfErr result (IsWhyNot (rules_of self.now.shapes self.now.strict)
-            (of_shape self.now.root) (value_of nodes.now 0)) }
-    {
-        let mut memo = match Memo::new(alloc, nodes.len()) {
-            Ok(memo) => memo,
-            Err(_) => return Err(ReadError::OutOfMemory),
-        };
-        let root = Target::Shape(self.root);
-        let steps = self.tables.steps;
-        match count_target(&self.tables, nodes, &mut memo, 0, &root, steps) {
-            Ok(Count::One) => Ok(()),
-            Ok(Count::None) => match why_none(&self.tables, nodes, &mut memo, self.root) {
-                Ok(none) => Err(ReadError::NoReading(none)),
-                Err(_) => Err(ReadError::OutOfMemory),
-            },
-            Ok(Count::Several) => match why_several(&self.tables, nodes, &mut memo, self.root) {
-                Ok(several) => Err(ReadError::Several(several)),
-                Err(_) => Err(ReadError::OutOfMemory),
-            },
-            Err(_) => Err(ReadError::OutOfMemory),
-        }
     }
 }

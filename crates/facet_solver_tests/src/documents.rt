@@ -102,24 +102,46 @@ fn add_count(
     }
 }
 
+/// Tells how many readings a document has, and keeps the text of the only one, or of the error.
 fn count_by(reader: &Reader<'_>, document: &Document<'_>, answer: &mut Answer<'_>) {
     match reader.count(answer.alloc, document) {
-        Ok(Count::None) => explain(reader, document, "none", answer),
-        Ok(Count::One) => answer.add("one"),
-        Ok(Count::Several) => explain(reader, document, "several", answer),
+        Ok(count) => read_by(reader, document, word_of(count), answer),
         Err(DocumentError::OutOfMemory) => answer.refused(),
         Err(error) => answer.add_value(&error),
     }
 }
 
-/// Tells how many readings a document has, which is not one, and keeps the text of the error.
-fn explain(reader: &Reader<'_>, document: &Document<'_>, count: &str, answer: &mut Answer<'_>) {
-    match reader.explain(answer.alloc, document) {
-        Ok(()) => {}
-        Err(ReadError::OutOfMemory) => answer.refused(),
+fn word_of(count: Count) -> &'static str {
+    match count {
+        Count::None => "none",
+        Count::One => "one",
+        Count::Several => "several",
+    }
+}
+
+/// Tells what comes of a read, which has to be as was counted.
+fn read_by(reader: &Reader<'_>, document: &Document<'_>, count: &str, answer: &mut Answer<'_>) {
+    let word = match reader.read(answer.alloc, document) {
+        Ok(reading) => {
+            answer.keep_error(&reading);
+            "one"
+        }
+        Err(ReadError::OutOfMemory) => {
+            answer.refused();
+            return;
+        }
         Err(error) => {
             answer.keep_error(&error);
-            answer.add(count);
+            match error {
+                ReadError::NoReading(_) => "none",
+                ReadError::Several(_) => "several",
+                ReadError::NameTwice(_) | ReadError::OutOfMemory => "no count",
+            }
         }
+    };
+    answer.add(word);
+    if word != count {
+        answer.add("but counted");
+        answer.add(count);
     }
 }
