@@ -1,9 +1,11 @@
-//! How many readings a document has as a type: none, one or several.
+//! The reading of a document as a type: the one that it has, or why there is none or several.
 //!
 //! 1. A [`Document`] is a tree of values over borrowed texts, in whatever format it was written.
 //!    Each format has a crate of its own that makes documents of its text, as `facet_solver_json`.
 //! 2. [`Reader::new`] finds once what a type says of documents, or what is wrong with the type.
-//! 3. [`Reader::count`] counts the readings of a document, part by part: no product is ever listed.
+//! 3. [`Reader::read`] gives the only reading, with each variant told and each value in its place,
+//!    or names the place where none is left or where several are.
+//! 4. [`Reader::count`] counts the readings of a document, part by part: no product is ever listed.
 #![tactic(auto)]
 
 mod content;
