@@ -1,5 +1,5 @@
 -- What is known of the lists that the choices of an object's list go through.
-use Rattle.std.proofs.Common.{◌≡◌, ◌⊎◌, ◌<◌, ◌≤◌, sym, ap, ◌∙◌, subst, refl, ℕ, List, Option, Some, None}
+use Rattle.std.proofs.Common.{◌≡◌, ◌⊎◌, ◌<◌, ◌≤◌, sym, ◌∙◌, subst, refl, ℕ, List, Option, Some, None}
 use Rattle.std.proofs.Common.{slice_get, length, arith, [], ◌∷◌, ◌++◌, ⊎_elim}
 use Rattle.std.proofs.lemmas.Option.{slice_get_within}
 use Rattle.std.specs.Prelude.{IfSome, MatchOption, ⊤}
@@ -11,7 +11,7 @@ use Rattle.facet_solver_reader.specs.declared.nodes.Nodes.{Nodes}
 use Rattle.facet_solver_reader.specs.declared.read.object.Object as code
 use Rattle.facet_solver_reader.specs.declared.tables.List.{List as ListEntry}
 use Rattle.facet_solver_reader.specs.declared.tables.Tables.{Tables}
-use Rattle.facet_solver_reader.specs.Parts.{ListId, Part, Selection, a_member, a_selection}
+use Rattle.facet_solver_reader.specs.Parts.{ListId, Part, a_member, a_selection}
 use Rattle.facet_solver_reader.specs.Parts.{a_catch_all}
 use Rattle.facet_solver_reader.specs.Reading.{IsListed, IsObject}
 use Rattle.facet_solver_reader.specs.Slots.{index_of}

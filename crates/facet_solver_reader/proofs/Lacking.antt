@@ -1,7 +1,7 @@
 -- Names that each choice of a list requires.
-use Rattle.std.proofs.Common.{◌≡◌, ◌⊎◌, inl, inr, sym, ap, ◌∙◌, subst, refl, ⊎_elim, ℕ, zero, suc}
-use Rattle.std.proofs.Common.{List, [], ◌∷◌, ◌++◌, Option, Some, None, Bool, true, false, slice_get}
-use Rattle.std.proofs.Common.{◌<◌, arith, if◌then◌else◌}
+use Rattle.std.proofs.Common.{◌≡◌, inl, inr, sym, ap, subst, refl, ⊎_elim, ℕ, zero, suc}
+use Rattle.std.proofs.Common.{List, [], ◌∷◌, ◌++◌, Option, Some, None, true, false, slice_get}
+use Rattle.std.proofs.Common.{◌<◌, arith}
 use Rattle.std.proofs.Common.{◌≤◌, length, get_or}
 use Rattle.std.proofs.lemmas.Option.{IfSome_then, slice_get_within}
 use Rattle.std.specs.Borrow.{Bor}
@@ -16,7 +16,7 @@ use Rattle.facet_solver_reader.specs.Choices.{Choice, ChoiceAt, Item, member_of,
 use Rattle.facet_solver_reader.specs.Choices.{presence_of, presence, done, next, lacking, having}
 use Rattle.facet_solver_reader.specs.Choices.{without, choosing, taking}
 use Rattle.facet_solver_reader.specs.Documents.{Member}
-use Rattle.facet_solver_reader.specs.Known.{Chooses, ChoosesAll, ChoosesAt}
+use Rattle.facet_solver_reader.specs.Known.{ChoosesAll, ChoosesAt}
 use Rattle.facet_solver_reader.specs.Objects.{find}
 use Rattle.facet_solver_reader.specs.Parts.{ListId, Lists, MemberPart, Part, Selection, a_member}
 use Rattle.facet_solver_reader.specs.Parts.{a_selection}

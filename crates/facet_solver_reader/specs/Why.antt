@@ -123,7 +123,8 @@ pub record IsReadByBranch (rules : Rules) (members : List Member) (id : ListId) 
   pub index : ℕ
   pub branch : slice_get selection.branches index ≡ Some id
   pub choice : ChoiceAt
-  pub reads : ReadsAt (ReadsPart rules (ReadsValue rules) object (a_selection selection)) index choice
+  pub reads :
+      ReadsAt (ReadsPart rules (ReadsValue rules) object (a_selection selection)) index choice
 
 -- what a variant reads by itself
 abbrev pub content_of : ListId → Target

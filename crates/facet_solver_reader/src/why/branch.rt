@@ -230,7 +230,8 @@ fn no_key<'d>(
 fn first_unknown<'d>(nodes: &Nodes<'_, 'd>, node: usize, list: &List<'_>) -> Option<&'d str>
     requires inside { node < count nodes.now }
     requires sorted { IsSorted name_ref_cmp list.now.names.items }
-    ensures { IfSome result (λ name. IsAmong list.now (members_in (value_of nodes.now node)) name.now) }
+    ensures { IfSome result (λ name.
+        IsAmong list.now (members_in (value_of nodes.now node)) name.now) }
 {
     for member in members_of(nodes.value(node)) {
         if !list.has_name(member.0) {

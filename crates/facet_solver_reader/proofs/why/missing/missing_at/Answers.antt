@@ -1,4 +1,4 @@
-use Rattle.std.proofs.Common.{◌≡◌, [], ◌∷◌, Some, ap, map, sym, ◌∙◌, subst, refl, slice_get, length}
+use Rattle.std.proofs.Common.{◌≡◌, [], ◌∷◌, ap, map, sym, ◌∙◌, subst, refl, slice_get, length}
 use Rattle.std.proofs.lemmas.Option.{slice_get_read}
 use Rattle.std.specs.Prelude.{IfSome}
 use Rattle.facet_solver_reader.specs.Nodes.{members_in, value_of}

@@ -1,4 +1,4 @@
-use Rattle.std.proofs.Common.{◌≡◌, Some, refl, slice_get, length}
+use Rattle.std.proofs.Common.{refl, length}
 use Rattle.std.proofs.lemmas.Option.{slice_get_read}
 use Rattle.facet_solver_reader.specs.Rules.{NamedVariant}
 use Rattle.facet_solver_reader.specs.Tables.{IsServed}

@@ -1,4 +1,4 @@
-use Rattle.std.proofs.Common.{◌≡◌, ap, length, subst}
+use Rattle.std.proofs.Common.{ap, length, subst}
 use Rattle.facet_solver_reader.specs.Tables.{PartIsBefore, PartIsServed}
 use Rattle.facet_solver_reader.specs.Views.{part_view}
 use Rattle.facet_solver_reader.proofs.Blaming.{listed_of_below, part_before, part_served}

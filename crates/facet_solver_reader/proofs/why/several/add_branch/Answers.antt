@@ -1,4 +1,4 @@
-use Rattle.std.proofs.Common.{◌≡◌, Some, inl, length, refl, slice_get, subst, sym, false, true}
+use Rattle.std.proofs.Common.{◌≡◌, inl, length, refl, subst, sym, false, true}
 use Rattle.std.specs.List.{All}
 use Rattle.facet_solver_reader.specs.Branches.{ReadsAt, ReadsPart}
 use Rattle.facet_solver_reader.specs.Nodes.{members_in, value_of}
@@ -8,9 +8,7 @@ use Rattle.facet_solver_reader.specs.Readings.{ReadsValue}
 use Rattle.facet_solver_reader.specs.Tables.{BranchIsBefore, ListIsServed, rules_at}
 use Rattle.facet_solver_reader.specs.Views.{list_view, selection_view}
 use Rattle.facet_solver_reader.specs.Why.{IsReadBy, IsReadByBranch}
-use Rattle.facet_solver_reader.specs.declared.count.Count.{Count}
 use Rattle.facet_solver_reader.specs.declared.count.Count.TheVariants as counts
-use Rattle.facet_solver_reader.specs.declared.read_error.Branch.{Branch}
 use Rattle.facet_solver_reader.proofs.Blaming.{some_counted}
 use Rattle.facet_solver_reader.proofs.Quantifiers.{all_at, all_of_last}
 use Rattle.facet_solver_reader.proofs.why.several.add_branch.Goals as goal

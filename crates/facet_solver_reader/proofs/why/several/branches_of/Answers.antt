@@ -1,4 +1,4 @@
-use Rattle.std.proofs.Common.{◌≡◌, ap, inl, inr, map, subst, sym}
+use Rattle.std.proofs.Common.{ap, inl, inr, map, subst, sym}
 use Rattle.std.specs.List.{All}
 use Rattle.facet_solver_reader.specs.Nodes.{value_of}
 use Rattle.facet_solver_reader.specs.Tables.{rules_at}

@@ -1,4 +1,4 @@
-use Rattle.std.proofs.Common.{ap, map, subst, ◌∙◌}
+use Rattle.std.proofs.Common.{ap, map, subst}
 use Rattle.facet_solver_reader.specs.Tables.{PartIsServed}
 use Rattle.facet_solver_reader.specs.Views.{part_view, parts_view}
 use Rattle.facet_solver_reader.proofs.Blaming.{listed_of_below, own_below, part_served}

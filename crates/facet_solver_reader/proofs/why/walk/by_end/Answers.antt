@@ -1,8 +1,8 @@
-use Rattle.std.proofs.Common.{◌≡◌, ap, map, subst, sym, ◌∙◌}
+use Rattle.std.proofs.Common.{◌≡◌, ap, subst, sym, ◌∙◌}
 use Rattle.facet_solver_reader.specs.Nodes.{value_of}
-use Rattle.facet_solver_reader.specs.Rules.{a_named_variant, a_tuple, an_untagged_variant}
+use Rattle.facet_solver_reader.specs.Rules.{a_tuple}
 use Rattle.facet_solver_reader.specs.Tables.{EndIsServed}
-use Rattle.facet_solver_reader.specs.Views.{alternative_view, end_view, list_view, named_view}
+use Rattle.facet_solver_reader.specs.Views.{end_view}
 use Rattle.facet_solver_reader.proofs.why.walk.by_end.Goals as goal
 
 pub returns-in-Option-clause-next : goal.returns-in-Option-clause-next

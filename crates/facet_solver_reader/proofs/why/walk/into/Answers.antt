@@ -1,9 +1,7 @@
-use Rattle.std.proofs.Common.{◌≡◌, sym, ◌∙◌, subst, rules}
-use Rattle.facet_solver_reader.specs.Parts.{Target}
+use Rattle.std.proofs.Common.{◌≡◌, sym, subst, rules}
 use Rattle.facet_solver_reader.specs.Reading.{IsCount}
 use Rattle.facet_solver_reader.specs.Tables.{IsServed}
 use Rattle.facet_solver_reader.specs.Views.{target_view}
-use Rattle.facet_solver_reader.specs.declared.count.Count.{Count}
 use Rattle.facet_solver_reader.proofs.why.walk.into.Goals as goal
 
 pub returns-then-eq-clause-next : goal.returns-then-eq-clause-next
