@@ -15,9 +15,9 @@ use Rattle.facet_solver_reader.specs.declared.tables.fault.Fault.{Fault}
 use Rattle.facet_solver_reader.specs.declared.tables.fault.Fault.TheVariants.{NoShape, ReadsItself, ContainsItself, NameTwice, TwoCatchAlls, OutOfMemory}
 use Rattle.facet_solver_reader.specs.EveryList.{IsChosen}
 use Rattle.facet_solver_reader.specs.Known.{Chooses, ChoosesAll, ChoosesAt, HasChoice, IsDistinct, IsKnown, Key, named, rest}
-use Rattle.facet_solver_reader.specs.OrderedLists.{IsPlacedAt, IsTwiceIn, IsWhyUnordered}
+use Rattle.facet_solver_reader.specs.OrderedLists.{IsPlacedAt, IsTwiceAt, IsTwiceIn, IsWhyUnordered}
 use Rattle.facet_solver_reader.specs.Parts.{ListId, Part, a_member, a_selection, a_catch_all}
-use Rattle.facet_solver_reader.specs.Placing.{ArePartNames, IsPlacing, IsRestOf, IsShared, IsUnplaced, IsWhyShared, PartIsPlaced, goes_by, is_rest, list_knows, part_knows}
+use Rattle.facet_solver_reader.specs.Placing.{ArePartNames, AreSharing, IsPlacing, IsRestOf, IsShared, IsUnplaced, IsWhyShared, PartIsPlaced, goes_by, is_rest, list_knows, part_knows}
 use Rattle.facet_solver_reader.specs.Slots.{index_of}
 use Rattle.facet_solver_reader.specs.Tables.{knows}
 use Rattle.facet_solver_reader.specs.Types.{parts_of}
@@ -177,15 +177,36 @@ module _ (shapes : Catalogue) (o : Ordered) (h : IsPlacing shapes o) where
           twice = r.twice;
         }
 
+    -- and so by the two parts
+    twice_sharing : (x : Key) (first second : ℕ) → AreSharing o ps x first second
+        → IsTwiceAt shapes id x first second
+    twice_sharing x first second w =
+        let s = w.0 in
+        record {
+          twice = twice_shared x s;
+          parts = ps;
+          one = s.one;
+          other = s.other;
+          parts_are = e;
+          apart = let less = s.apart in let i = w.1 in let j = w.2 in omega (arith, less, i, j);
+          at_first = ap (slice_get ps) (sym w.1) ∙ s.at_first;
+          at_second = ap (slice_get ps) (sym w.2) ∙ s.at_second;
+          first_has = (known_of_part x s.one (ready_at s.first s.one s.at_first)).0 s.first_knows;
+          second_has =
+              (known_of_part x s.other (ready_at s.second s.other s.at_second)).0 s.second_knows;
+        }
+
     -- so that is why lists cannot be ordered
     pub unordered_shared : (fault : Fault) → IsWhyShared o id ps fault → IsWhyUnordered shapes fault
     unordered_shared (NoShape shape) w = w
     unordered_shared (ReadsItself shape) w = w
     unordered_shared (ContainsItself list) w = absurd w
     unordered_shared (NameTwice list name first second) w =
-        subst (λ q. IsTwiceIn shapes q (named name.now)) (sym w.0) (twice_shared (named name.now) w.1)
+        subst (λ q. IsTwiceAt shapes q (named name.now) first second) (sym w.0)
+        (twice_sharing (named name.now) first second w.1)
     unordered_shared (TwoCatchAlls list first second) w =
-        subst (λ q. IsTwiceIn shapes q rest) (sym w.0) (twice_shared rest w.1)
+        subst (λ q. IsTwiceAt shapes q rest first second) (sym w.0)
+        (twice_sharing rest first second w.1)
     unordered_shared OutOfMemory w = w
 
     -- what the names of the parts and whether one takes the rest say of a list with them

@@ -7,7 +7,7 @@ use Rattle.facet_solver_shape.specs.declared.shape.ShapeKind.{ShapeKind}
 use Rattle.facet_solver_shape.specs.declared.shape.ShapeKind.TheVariants.{Struct}
 use Rattle.facet_solver_shape.specs.Catalogues.{Catalogue, kind_at}
 use Rattle.facet_solver_shape.specs.Names.{Name}
-use Rattle.facet_solver_shape.specs.Paths.{Segment, by_field}
+use Rattle.facet_solver_shape.specs.Paths.{Segment, by_field, by_variant}
 use Rattle.facet_solver_shape.specs.Representation.{Repr, flattened, externally_tagged}
 use Rattle.facet_solver_shape.specs.Representation.{internally_tagged, adjacently_tagged}
 use Rattle.facet_solver_reader.specs.Parts.{ListId, of_struct, of_enum, of_joined, of_branch}
@@ -57,6 +57,16 @@ path_at shapes place id i =
 -- the name of the k-th variant of the enum at an index; empty if it has none
 abbrev pub variant_name : Catalogue → ℕ → ℕ → Name
 variant_name shapes id k = option_map_or (λ v. string_bytes v.name) (variant_at shapes id k) []
+
+-- where the parts of a list stand in the type that it is of: those of a variant behind the variant
+abbrev pub place_of : Catalogue → ListId → Path
+place_of shapes (of_branch id k) = by_variant [] (variant_name shapes id k) ∷ []
+place_of shapes (of_fields id k) = by_variant [] (variant_name shapes id k) ∷ []
+place_of shapes _ = []
+
+-- the path of the i-th part of a list, from the type that the list is of
+abbrev pub path_of_part : Catalogue → ListId → ℕ → Path
+path_of_part shapes id i = path_at shapes (place_of shapes id) id i
 
 -- the name of the shape at an index; empty if there is none
 abbrev pub shape_name : Catalogue → ℕ → Name

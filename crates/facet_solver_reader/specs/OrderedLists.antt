@@ -10,7 +10,7 @@ use Rattle.facet_solver_reader.specs.declared.tables.order.Ordered.{Ordered}
 use Rattle.facet_solver_reader.specs.declared.tables.fault.Fault.{Fault}
 use Rattle.facet_solver_reader.specs.declared.tables.fault.Fault.TheVariants.{NoShape, ReadsItself, ContainsItself, NameTwice, TwoCatchAlls, OutOfMemory}
 use Rattle.facet_solver_reader.specs.EveryList.{IsChosen}
-use Rattle.facet_solver_reader.specs.Known.{Chooses, IsDistinct, IsKnown, Key, named, rest}
+use Rattle.facet_solver_reader.specs.Known.{Chooses, ChoosesAt, IsDistinct, IsKnown, Key, named, rest}
 use Rattle.facet_solver_reader.specs.Parts.{ListId, Part, a_selection}
 use Rattle.facet_solver_reader.specs.Repeated.{Repeats}
 use Rattle.facet_solver_reader.specs.Slots.{index_of}
@@ -94,6 +94,21 @@ pub record AreMarksClosed (shapes : Catalogue) (every : EveryList) (marks : List
 abbrev pub IsTwiceIn : Catalogue → ListId → Key → Type 0
 IsTwiceIn shapes id x = Repeats (Chooses (parts_of shapes) id) x
 
+-- a choice of the list has the key twice: some choice of the part of the one index has it, and
+-- some of the part of the other, which comes later
+pub record IsTwiceAt (shapes : Catalogue) (id : ListId) (x : Key) (first second : ℕ) : Type 0
+  where
+    pub twice : IsTwiceIn shapes id x
+    pub parts : List Part
+    pub one : Part
+    pub other : Part
+    pub parts_are : parts_of shapes id ≡ Some parts
+    pub apart : first < second
+    pub at_first : slice_get parts first ≡ Some one
+    pub at_second : slice_get parts second ≡ Some other
+    pub first_has : IsKnown (ChoosesAt (parts_of shapes) one) x
+    pub second_has : IsKnown (ChoosesAt (parts_of shapes) other) x
+
 -- the branches of a selection among parts have the list
 abbrev pub IsBranchOf : ListId → Part → Type 0
 IsBranchOf id (a_selection s) = Any (λ b. b ≡ id) s.branches
@@ -117,12 +132,13 @@ abbrev pub GoesOn : Catalogue → ListId → Type 0
 GoesOn shapes id = (n : ℕ) → (last : ListId) × ComesIn n shapes id last
 
 -- why lists cannot be ordered: of one the way from branch to branch has no end, or a choice of one
--- has a key twice
+-- has a key twice, by parts of these indices
 abbrev pub IsWhyUnordered : Catalogue → Fault → Type 0
 IsWhyUnordered shapes (NoShape shape) = ⊥
 IsWhyUnordered shapes (ReadsItself shape) = ⊥
 IsWhyUnordered shapes (ContainsItself id) = GoesOn shapes (list_view id)
 IsWhyUnordered shapes (NameTwice id name first second) =
-    IsTwiceIn shapes (list_view id) (named name.now)
-IsWhyUnordered shapes (TwoCatchAlls id first second) = IsTwiceIn shapes (list_view id) rest
+    IsTwiceAt shapes (list_view id) (named name.now) first second
+IsWhyUnordered shapes (TwoCatchAlls id first second) =
+    IsTwiceAt shapes (list_view id) rest first second
 IsWhyUnordered shapes OutOfMemory = ⊤

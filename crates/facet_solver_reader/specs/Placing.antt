@@ -73,6 +73,11 @@ pub record IsShared (o : Ordered) (ps : List Part) (x : Key) : Type 0 where
   pub first_knows : IsTrue (part_knows o x one)
   pub second_knows : IsTrue (part_knows o x other)
 
+-- the parts of two indices know the key, the first before the second
+abbrev pub AreSharing : Ordered → List Part → Key → ℕ → ℕ → Type 0
+AreSharing o ps x first second =
+    (s : IsShared o ps x) × (s.first ≡ first) × (s.second ≡ second)
+
 -- the names that some of the parts know, as often as parts know them
 pub record AreNamesOf (o : Ordered) (ps : List Part) (names : List Name) : Type 0 where
   pub has : (x : Name) → Contains names x ↔ Any (λ p. IsTrue (part_knows o (named x) p)) ps
@@ -96,8 +101,9 @@ IsWhyShared o id ps (NoShape shape) = ⊥
 IsWhyShared o id ps (ReadsItself shape) = ⊥
 IsWhyShared o id ps (ContainsItself list) = ⊥
 IsWhyShared o id ps (NameTwice list name first second) =
-    (list_view list ≡ id) × IsShared o ps (named name.now)
-IsWhyShared o id ps (TwoCatchAlls list first second) = (list_view list ≡ id) × IsShared o ps rest
+    (list_view list ≡ id) × AreSharing o ps (named name.now) first second
+IsWhyShared o id ps (TwoCatchAlls list first second) =
+    (list_view list ≡ id) × AreSharing o ps rest first second
 IsWhyShared o id ps OutOfMemory = ⊤
 
 -- a branch is placed before an index, or has no choice

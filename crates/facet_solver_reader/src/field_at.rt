@@ -100,6 +100,37 @@ pub(crate) fn path_at<'c>(
     }
 }
 
+/// Where the parts of a list stand in the type that it is of: those of a variant behind the variant.
+fn place_of<'c>(
+    alloc: Global,
+    shapes: &'c Shapes,
+    list: ListId,
+) -> Result<FieldPath<'c>, AllocError>
+    ensures { IfOk result (λ place. place ≡ spec.place_of shapes.now (list_view list)) }
+{
+    let root = FieldPath::empty(alloc);
+    match list {
+        ListId::Branch(id, k) | ListId::Fields(id, k) => {
+            root.push_variant(alloc, "", variant_name(shapes, id, k))
+        }
+        ListId::Struct(_) | ListId::Enum(_) | ListId::Joined(_) => Ok(root),
+    }
+}
+
+/// The path of a part of a list, from the type that the list is of.
+pub(crate) fn path_of_part<'c>(
+    alloc: Global,
+    shapes: &'c Shapes,
+    list: &ListId,
+    index: usize,
+) -> Result<FieldPath<'c>, AllocError>
+    ensures { IfOk result
+        (λ path. path ≡ spec.path_of_part shapes.now (list_view list.now) index) }
+{
+    let place = place_of(alloc, shapes, *list)?;
+    path_at(alloc, shapes, &place, *list, index)
+}
+
 /// Where the parts of a branch stand that is chosen at the path of a field: those of a variant
 /// behind it.
 pub(crate) fn place_below<'c>(

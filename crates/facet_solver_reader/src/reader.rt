@@ -64,7 +64,8 @@ impl<'c> Reader<'c> {
     /// - `NoShape`: the catalogue lacks the index.
     /// - `ReadsItself`: to read a value as a shape asks to read it as that shape again.
     /// - `ContainsItself`: the parts of a shape stand among themselves.
-    /// - `DuplicateName`, `TwoCatchAlls`: a choice has two members of one name, or two catch-alls.
+    /// - `DuplicateName`, `TwoCatchAlls`: a choice has two members of one name, or two catch-alls. It
+    ///   is told of which parts: some choice of either has the name, or a catch-all.
     /// - `OutOfMemory`: memory was refused.
     pub fn new(
         alloc: Global,
@@ -77,7 +78,10 @@ impl<'c> Reader<'c> {
     {
         match Tables::new(alloc, shapes, root, unknown == Unknown::Refused) {
             Ok(tables) => Ok(Reader { tables, root }),
-            Err(fault) => Err(type_error_of(&fault)),
+            Err(fault) => match type_error_of(alloc, shapes, &fault) {
+                Ok(error) => Err(error),
+                Err(_) => Err(TypeError::OutOfMemory),
+            },
         }
     }
 

@@ -1,5 +1,6 @@
 //! The names that the choices of a list have.
-ghost use Rattle.std.specs.Prelude.{◌≡◌, Contains, IfErr, IfOk, IsSorted, IsTrue, MatchOption, OnOk};
+ghost use Rattle.std.specs.Prelude.{◌≡◌, Contains, IfErr, IfOk, IsSorted, IsTrue, MatchOption, OnOk, map};
+ghost use Rattle.std.specs.List.{list_any};
 ghost use Rattle.facet_solver_shape.specs.Catalogues.{RepeatsName};
 ghost use Rattle.facet_solver_shape.specs.Names.{name_ref_cmp, names_of};
 ghost use Rattle.facet_solver_reader.specs.Known.{named, rest};
@@ -129,10 +130,10 @@ fn name_twice<'c>(
     requires { IsShared ordered.now (parts_view parts.now) (named name.now) }
     ensures { IsWhyShared ordered.now (list_view list) (parts_view parts.now) result }
 {
-    let mut first = parts.len();
+    let mut earlier = None;
     for (index, part) in parts.iter().enumerate() {
         if has_name(ordered, part, name) {
-            if first < parts.len() {
+            if let Some(first) = earlier {
                 return Fault::NameTwice {
                     list,
                     name,
@@ -140,33 +141,39 @@ fn name_twice<'c>(
                     second: index,
                 };
             }
-            first = index;
+            earlier = Some(index);
         }
     }
-    Fault::NameTwice {
-        list,
-        name,
-        first,
-        second: first,
-    }
+    unreachable!()
 }
 
 /// Whether a choice of a part has a member of the name.
-fn has_name(ordered: &Ordered<'_>, part: &Part<'_>, name: &str) -> bool {
+fn has_name(ordered: &Ordered<'_>, part: &Part<'_>, name: &str) -> bool
+    ensures { result ≡ part_knows ordered.now (named name.now) (part_view part.now) }
+{
     match part {
         Part::Member(member) => member.name == name,
         Part::CatchAll(_) => false,
-        Part::Selection(selection) => {
-            selection
-                .branches
-                .iter()
-                .any(|branch| list_has_name(ordered, *branch, name))
-        }
+        Part::Selection(selection) => some_has_name(ordered, &selection.branches, name),
     }
 }
 
+/// Whether a choice of one of the lists has a member of the name.
+fn some_has_name(ordered: &Ordered<'_>, lists: &[ListId], name: &str) -> bool
+    ensures { result ≡ list_any (list_knows ordered.now (named name.now)) (map list_view lists.now) }
+{
+    for list in lists {
+        if list_has_name(ordered, *list, name) {
+            return true;
+        }
+    }
+    false
+}
+
 /// Whether a choice of a list that is placed has a member of the name.
-fn list_has_name(ordered: &Ordered<'_>, list: ListId, name: &str) -> bool {
+fn list_has_name(ordered: &Ordered<'_>, list: ListId, name: &str) -> bool
+    ensures { result ≡ list_knows ordered.now (named name.now) (list_view list) }
+{
     match ordered.entry(list) {
         Some(list) => list.names.iter().any(|known| *known == name),
         None => false,
