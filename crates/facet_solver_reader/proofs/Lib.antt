@@ -56,6 +56,8 @@ pub mod PartNames
 pub mod RestNames
 pub mod Slotted
 pub mod Marks
+pub mod AllMet
+pub mod StayMet
 pub mod Leads
 pub mod TableRanks
 pub mod Levels
