@@ -135,7 +135,7 @@ module _ (shapes : Catalogue) (strict : Bool) (root : ℕ) where
   root_met = (0, refl)
 
   met_next : (u t : Target) → Met u → MeetsNext (rules_of shapes strict) u t → Met t
-  met_next u t m next = (suc m.0, u, m.1, next)
+  met_next u t m leads = (suc m.0, (u, m.1, leads))
 
   -- what is asked, what is within, and what is a variant's
   met_asked : (u t : Target) (k : ℕ) → Met u → slice_get (asked (rules_of shapes strict) u) k ≡ Some t → Met t
