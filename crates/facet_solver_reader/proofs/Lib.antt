@@ -58,6 +58,7 @@ pub mod Slotted
 pub mod Marks
 pub mod AllMet
 pub mod StayMet
+pub mod AboutFaults
 pub mod Leads
 pub mod TableRanks
 pub mod Levels

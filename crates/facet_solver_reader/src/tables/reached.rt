@@ -6,7 +6,7 @@ ghost use Rattle.facet_solver_reader.specs.EveryList.{AreEveryList};
 ghost use Rattle.facet_solver_reader.specs.Marks.{AreAdded, PartIsMarked};
 ghost use Rattle.facet_solver_reader.specs.Met.{NumberIsMet, StayMet};
 ghost use Rattle.facet_solver_reader.specs.Views.{parts_view};
-ghost use Rattle.facet_solver_reader.specs.WorkList.{AreReached, IsGoneThrough};
+ghost use Rattle.facet_solver_reader.specs.WorkList.{AreReached, HasEnd, IsGoneThrough};
 ghost use Rattle.facet_solver_reader.specs.declared.tables.every.Listed.{Listed};
 
 use super::every::EveryList;
@@ -104,7 +104,8 @@ fn no_ends<'c>(alloc: Global, shapes: usize) -> Result<Vec<Option<End<'c>>>, All
 
 /// The first shape with an end whose way to it leads in circles.
 pub(super) fn first_in_circles<'c>(shapes: &Shapes, ends: &Vec<Option<End<'c>>>) -> Option<ShapeId>
-    ensures { IfSome result (LeadsInCircles shapes.now) }
+    ensures circles { IfSome result (LeadsInCircles shapes.now) }
+    ensures reached { IfSome result (HasEnd ends.now.items) }
 {
     for index in 0..ends.len() {
         let id = ShapeId::new(index);
