@@ -1,6 +1,6 @@
 -- What a document comes to is met.
-use Rattle.std.proofs.Common.{◌≡◌, ◌⊎◌, ⊎_elim, inl, inr, refl, sym, ap, subst, ◌∙◌, ℕ, zero, suc, ◌<◌, ◌+◌, arith}
-use Rattle.std.proofs.Common.{Bool, List, [], ◌∷◌, ◌++◌, map, Option, Some, None, slice_get, get_or, length}
+use Rattle.std.proofs.Common.{◌≡◌, ⊎_elim, inl, inr, refl, sym, ap, subst, ◌∙◌, ℕ, zero, suc}
+use Rattle.std.proofs.Common.{Bool, List, [], ◌∷◌, ◌++◌, Some, None, slice_get, get_or}
 use Rattle.std.specs.List.{All, Any}
 use Rattle.std.specs.Option.{option_map}
 use Rattle.std.proofs.lemmas.Option.{slice_get-get_or, slice_get-map}
@@ -10,8 +10,8 @@ use Rattle.facet_solver_reader.specs.EveryList.{IsChosen}
 use Rattle.facet_solver_reader.specs.Known.{Chooses, ChoosesAll, ChoosesAt, HasChoice}
 use Rattle.facet_solver_reader.specs.Met.{ContentIsMet, EndIsMet, IfChosen, IsMet, ListIsMet, MeetsNext, PartIsMet, ShapeIsMet, TargetIsMet, variants_of, variants_of_end}
 use Rattle.facet_solver_reader.specs.OrderedLists.{ComesIn, HasBranch, IsBranchOf}
-use Rattle.facet_solver_reader.specs.Parts.{of_map, of_anything, CatchAll, ListId, Lists, Part, a_member, a_selection, a_catch_all, Selection, Target, of_shape, of_content, of_tag}
-use Rattle.facet_solver_reader.specs.Reached.{IsReadByChoice, IsReadByParts, LeadsTo, asked, asked_by_content, asked_by_end, list_of, list_of_content, list_of_end, read_by_item, shapes_of, within, within_content, within_end}
+use Rattle.facet_solver_reader.specs.Parts.{of_map, of_anything, ListId, Lists, Part, a_member, a_selection, a_catch_all, Selection, Target, of_shape, of_content, of_tag}
+use Rattle.facet_solver_reader.specs.Reached.{asked, asked_by_content, asked_by_end, list_of, list_of_content, list_of_end, read_by_item, within, within_content, within_end}
 use Rattle.facet_solver_reader.specs.Rules.{Alternative, Content, End, NamedVariant, Rules, no_content, as_shape, as_tuple, as_object, an_option, a_list, a_tuple, a_map, an_object, a_named_variant, an_untagged_variant}
 use Rattle.facet_solver_reader.specs.Types.{content_at, end_of, parts_of, rules_of}
 use Rattle.facet_solver_reader.proofs.Knowledge.{choice_of_more}

@@ -1,5 +1,5 @@
 -- What is marked stays met.
-use Rattle.std.proofs.Common.{◌≡◌, ⊎_elim, sym, ap, subst, ◌∙◌, ℕ, ◌<◌, Bool, true, List, map, Option, Some, slice_get, get_or, length}
+use Rattle.std.proofs.Common.{◌≡◌, ⊎_elim, sym, ap, subst, ◌∙◌, ℕ, ◌<◌, Bool, true, List, map, Some, get_or, length}
 use Rattle.std.proofs.Common.{MatchOption}
 use Rattle.std.proofs.Math.ListN.{set}
 use Rattle.std.specs.List.{All}
@@ -11,7 +11,7 @@ use Rattle.facet_solver_reader.specs.declared.tables.every.Listed.{Listed}
 use Rattle.facet_solver_reader.specs.declared.tables.marks.Marks.{Marks}
 use Rattle.facet_solver_reader.specs.EveryList.{AreEveryList, IsChosen, IsNumbered}
 use Rattle.facet_solver_reader.specs.Marks.{HasChoiceAt}
-use Rattle.facet_solver_reader.specs.Met.{AreMet, IfChosen, ListIsMet, NumberIsMet, ShapeIsMet, StayMet}
+use Rattle.facet_solver_reader.specs.Met.{IfChosen, ListIsMet, NumberIsMet, ShapeIsMet, StayMet}
 use Rattle.facet_solver_reader.specs.OrderedLists.{IsMarked}
 use Rattle.facet_solver_reader.specs.Parts.{ListId}
 use Rattle.facet_solver_reader.specs.Slots.{index_of}

@@ -1,6 +1,6 @@
 -- Which shapes and lists of parts a document that is read as a root can come to, so that what is
 -- wrong with one is wrong with the root.
-use Rattle.std.specs.Prelude.{◌≡◌, ◌⊎◌, ℕ, zero, suc, Bool, List, [], map, All, Any, Some, slice_get}
+use Rattle.std.specs.Prelude.{◌≡◌, ◌⊎◌, ℕ, zero, suc, Bool, List, [], map, Any, Some, slice_get}
 use Rattle.facet_solver_shape.specs.Catalogues.{Catalogue}
 use Rattle.facet_solver_reader.specs.declared.tables.every.EveryList.{EveryList}
 use Rattle.facet_solver_reader.specs.declared.tables.every.Listed.{Listed}

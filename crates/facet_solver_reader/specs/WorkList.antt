@@ -82,4 +82,5 @@ pub record IsGoneThrough (shapes : Catalogue) (every : EveryList) (id : ℕ) (ol
   pub ends : new.ends.items ≡ slice_set old.ends.items id (Some end)
   pub same : end_view end ≡ end_of shapes id
   pub marked : EndIsMarked shapes every new.marks (end_view end)
-  pub met : StayMet shapes every old.marks new.marks (λ strict root. ShapeIsMet shapes strict root id)
+  pub met : StayMet shapes every old.marks new.marks
+      (λ strict root. ShapeIsMet shapes strict root id)

@@ -14,8 +14,7 @@ pub returns-in-Some-clause-refused : goal.returns-in-Some-clause-refused
 returns-in-Some-clause-refused c =
     let every = c.in_ok-every.every in
     let reached = c.in_ok-reached.reached in
-    let id = c.in-Some.id in
-    (
+    let id = c.in-Some.id in (
       inl c.in-Some.ensures.circles,
       shape_met c.args.shapes.now every c.args.root reached (subst (λ (s : Catalogue). AreReached s every c.args.root reached) c.in_ok-types.ensures c.in_ok-reached.ensures) id c.in-Some.ensures.reached,
     )
@@ -26,8 +25,7 @@ returns-in-Some-first_unranked-clause-refused c =
     let reached = c.in_ok-reached.reached in
     let id = c.in-Some-first_unranked.id in
     let found = c.in-Some-first_unranked.ensures in
-    let endless = c.in_ok-ranks.ensures.unranked id found.0 found.1 in
-    (
+    let endless = c.in_ok-ranks.ensures.unranked id found.0 found.1 in (
       inr (subst (λ (s : Catalogue). AsksWithoutEnd s id) c.in_ok-types.ensures endless),
       shape_met c.args.shapes.now every c.args.root reached (subst (λ (s : Catalogue). AreReached s every c.args.root reached) c.in_ok-types.ensures c.in_ok-reached.ensures) id found.0,
     )

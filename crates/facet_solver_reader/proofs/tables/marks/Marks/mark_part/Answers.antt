@@ -1,4 +1,4 @@
-use Rattle.std.proofs.Common.{sym, subst, ap, ◌∙◌, List, All, map}
+use Rattle.std.proofs.Common.{sym, subst, List, All, map}
 use Rattle.facet_solver_shape.specs.Catalogues.{Catalogue}
 use Rattle.facet_solver_reader.specs.declared.part.ListId.{ListId}
 use Rattle.facet_solver_reader.specs.declared.part.CatchAll.{CatchAll}
