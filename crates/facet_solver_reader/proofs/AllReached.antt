@@ -89,4 +89,6 @@ module _ (shapes : Catalogue) (every : EveryList) (root p : ℕ) (r : Reached) (
       chosen = u.chosen;
       branches = λ k l is m i d less. branches_marked _ (parts_reached k l is m i d less);
     };
+    sound = u.sound;
+    met = u.met;
   }

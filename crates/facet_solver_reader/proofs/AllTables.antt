@@ -17,7 +17,9 @@ use Rattle.facet_solver_reader.specs.EveryList.{AreEveryList, IsChosen, IsNumber
 use Rattle.facet_solver_reader.specs.Known.{Chooses, HasChoice}
 use Rattle.facet_solver_reader.specs.Leads.{ContentHas, EndHas, PartHas, TargetHas}
 use Rattle.facet_solver_reader.specs.OrderedLists.{AreOrdered, BranchIsMarked, IsMarked, IsPlacedAt}
-use Rattle.facet_solver_reader.specs.OrderedLists.{IsWhyUnordered}
+use Rattle.facet_solver_reader.specs.OrderedLists.{IsAbout, IsMarkedList, IsWhyUnordered}
+use Rattle.facet_solver_reader.specs.Met.{ListIsMet, ShapeIsMet}
+use Rattle.facet_solver_reader.proofs.AboutFaults.{about_more}
 use Rattle.facet_solver_reader.specs.NoTables.{IsWhyNoTables}
 use Rattle.facet_solver_reader.specs.declared.tables.fault.Fault.{Fault}
 use Rattle.facet_solver_reader.specs.declared.tables.fault.Fault.TheVariants.{NoShape, ReadsItself, ContainsItself, NameTwice, TwoCatchAlls, OutOfMemory}
@@ -198,13 +200,33 @@ module _ (t : Tables) (every : EveryList) (root : ℕ) (marks : Marks) (is_ranke
 
 -- why lists cannot be ordered is why there are no tables
 pub unordered_refused : (shapes : Catalogue) (root : ℕ) (fault : Fault)
-    → IsWhyUnordered shapes fault → IsWhyNoTables shapes root fault
-unordered_refused shapes root (NoShape id) w = absurd w
-unordered_refused shapes root (ReadsItself id) w = absurd w
-unordered_refused shapes root (ContainsItself id) w = w
-unordered_refused shapes root (NameTwice id name first second) w = w
-unordered_refused shapes root (TwoCatchAlls id first second) w = w
-unordered_refused shapes root OutOfMemory w = w
+    → IsWhyUnordered shapes fault
+    → IsAbout (λ q. (strict : Bool) → ListIsMet shapes strict root q) fault
+    → IsWhyNoTables shapes root fault
+unordered_refused shapes root (NoShape id) w a = absurd w
+unordered_refused shapes root (ReadsItself id) w a = absurd w
+unordered_refused shapes root (ContainsItself id) w a = (w, a)
+unordered_refused shapes root (NameTwice id name first second) w a = (w, a)
+unordered_refused shapes root (TwoCatchAlls id first second) w a = (w, a)
+unordered_refused shapes root OutOfMemory w a = (w, a)
+
+-- a shape that has its end is one that a document comes to
+pub shape_met : (shapes : Catalogue) (every : EveryList) (root : ℕ) (r : Reached)
+    → AreReached shapes every root r → (id : ℕ) → HasEnd r.ends.items id
+    → (strict : Bool) → ShapeIsMet shapes strict root id
+shape_met shapes every root r reached id has strict =
+    (reached.met strict).of_shapes id (reached.sound id has)
+
+-- and so is a fault of a marked list
+pub fault_met : (shapes : Catalogue) (every : EveryList) (root : ℕ) (r : Reached)
+    → AreReached shapes every root r → (fault : Fault)
+    → IsAbout (IsMarkedList every r.marks.lists.items) fault
+    → IsAbout (λ q. (strict : Bool) → ListIsMet shapes strict root q) fault
+fault_met shapes every root r reached fault a =
+    about_more (IsMarkedList every r.marks.lists.items) (λ q. (strict : Bool) → ListIsMet shapes strict root q)
+    (λ q m strict.
+    subst (ListIsMet shapes strict root) m.same ((reached.met strict).of_lists m.number m.marked m.list m.is_there))
+    fault a
 
 -- what is said where nothing is found
 pub none_found : {X : Type 0} (o : Option X) (P : Type 0) (Q : X → Type 0)

@@ -56,6 +56,9 @@ pub mod PartNames
 pub mod RestNames
 pub mod Slotted
 pub mod Marks
+pub mod AllMet
+pub mod StayMet
+pub mod AboutFaults
 pub mod Leads
 pub mod TableRanks
 pub mod Levels

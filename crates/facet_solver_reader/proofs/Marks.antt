@@ -35,7 +35,7 @@ marked_still (x ∷ xs) (suc i) zero h = h
 marked_still (x ∷ xs) (suc i) (suc k) h = marked_still xs i k h
 
 -- what is marked now is the one, or was marked
-marked_before : (xs : List Bool) (i k : ℕ) → IsMarked (set xs i true) k
+pub marked_before : (xs : List Bool) (i k : ℕ) → IsMarked (set xs i true) k
     → (k ≡ i) ⊎ IsMarked xs k
 marked_before [] i k h = inr h
 marked_before (x ∷ xs) zero zero h = inl refl

@@ -218,6 +218,13 @@ pub next_by_none : (shapes : Catalogue) (marks : List Bool) (i : ℕ) (o : Optio
     → o ≡ None → false ≡ marked_next shapes marks i o
 next_by_none shapes marks i o is = sym (ap (marked_next shapes marks i) is)
 
+-- a shape with an end
+pub end_here : (ends : Ends) (i id : ℕ) (o : Option code.End) → i < length ends
+    → o ≡ get_or ends i o → is_some o ≡ true → id ≡ i → HasEnd ends id
+end_here ends i id None within read some same = absurd (cc)
+end_here ends i id (Some y) within read some same =
+    (y, ap (slice_get ends) same ∙ slice_get-get_or ends i (Some y) within ∙ ap Some (sym read))
+
 -- a shape with an end that is not ranked, or each one before it is
 module _ (ends : Ends) (marks : List Bool) (long : length marks ≡ length ends) (i : ℕ) (o : Option code.End) (within : i < length ends) (read : o ≡ get_or ends i o) where
   pub unranked_here : (b : Bool) (id : ℕ) → is_some o ≡ true → b ≡ get_or marks i b → b ≡ false

@@ -1,5 +1,5 @@
 -- What is reached from a root is gone through.
-use Rattle.std.proofs.Common.{◌≡◌, ◌⊎◌, ℕ, zero, suc, ◌+◌, ◌<◌, true, false}
+use Rattle.std.proofs.Common.{◌≡◌, ◌⊎◌, ℕ, zero, suc, ◌+◌, ◌<◌, Bool, true, false}
 use Rattle.std.proofs.Common.{List, [], ◌∷◌, All, Option, Some, None, slice_get, length, refl, sym}
 use Rattle.std.proofs.Common.{ap, ◌∙◌, subst, inl, inr, arith, ⊎_elim, get_or, replicate}
 use Rattle.std.proofs.Math.ListN.{set, length-set, length-replicate}
@@ -14,12 +14,15 @@ use Rattle.facet_solver_reader.specs.declared.tables.marks.Marked.TheVariants.{S
 use Rattle.facet_solver_reader.specs.declared.tables.marks.Marked.TheVariants.{List as AList}
 use Rattle.facet_solver_reader.specs.declared.tables.marks.Marks.{Marks}
 use Rattle.facet_solver_reader.specs.declared.tables.reached.Reached.{Reached}
+use Rattle.facet_solver_reader.specs.EveryList.{AreEveryList}
+use Rattle.facet_solver_reader.specs.Met.{AreMet, NumberIsMet, ShapeIsMet, StayMet}
 use Rattle.facet_solver_reader.specs.Marks.{AreAdded, AreKept, AreMarks, AreNoMarks, EndIsMarked}
 use Rattle.facet_solver_reader.specs.Marks.{PartIsMarked, ShapeIsMarked, marked_of}
 use Rattle.facet_solver_reader.specs.OrderedLists.{IsMarked}
 use Rattle.facet_solver_reader.specs.Types.{end_of}
 use Rattle.facet_solver_reader.specs.Views.{end_view, parts_view}
 use Rattle.facet_solver_reader.specs.WorkList.{HasEnd, IsDone, IsGoneThrough, IsUnderWay}
+use Rattle.facet_solver_reader.proofs.AllMet.{root_met}
 use Rattle.facet_solver_reader.proofs.Marks.{end_still, order_within, part_still, shape_still}
 
 -- nothing is marked at first
@@ -54,13 +57,22 @@ no_marks n m marks none = record {
       omega (arith, c, d, e);
 }
 
+-- and nothing but what is met
+none_met : (shapes : Catalogue) (every : EveryList) (n m : ℕ) (marks : Marks) → AreNoMarks n m marks
+    → (strict : Bool) (root : ℕ) → AreMet shapes every strict root marks
+none_met shapes every n m marks none strict root = record {
+  of_shapes = λ k h. absurd (none_marked n k (subst (λ xs. IsMarked xs k) none.of_shapes h));
+  of_lists = λ k h. absurd (none_marked m k (subst (λ xs. IsMarked xs k) none.of_lists h));
+}
+
 -- the start
 pub first_under_way : (shapes : Catalogue) (every : EveryList) (root e n m : ℕ) (before : Marks)
     (r : Reached) → e ≡ length shapes → n ≡ length shapes → m ≡ length every.lists.items
     → r.ends.items ≡ replicate e None → AreNoMarks n m before → AreKept before r.marks
-    → r.marks.lists ≡ before.lists → ShapeIsMarked r.marks root
+    → r.marks.lists ≡ before.lists → ShapeIsMarked r.marks root → AreEveryList shapes every
+    → StayMet shapes every before r.marks (λ strict first. ShapeIsMet shapes strict first root)
     → IsUnderWay shapes every root 0 r
-first_under_way shapes every root e n m before r of_e of_n of_m ends none kept same marked = record {
+first_under_way shapes every root e n m before r of_e of_n of_m ends none kept same marked are met = record {
   of_ends = ap length ends ∙ length-replicate e None ∙ of_e;
   of_shapes = kept.shapes ∙ ap length none.of_shapes ∙ length-replicate n false ∙ of_n;
   of_lists = kept.lists ∙ ap length none.of_lists ∙ length-replicate m false ∙ of_m;
@@ -73,6 +85,9 @@ first_under_way shapes every root e n m before r of_e of_n of_m ends none kept s
   ends = λ id x is.
       absurd (none_there e id x (subst (λ xs. slice_get xs id ≡ Some (Some x)) ends is));
   done = λ q x l is. absurd (omega arith);
+  sound = λ id has.
+      absurd (none_there e id has.0 (subst (λ xs. slice_get xs id ≡ Some (Some has.0)) ends has.1));
+  met = λ strict. met strict root are (root_met shapes strict root) (none_met shapes every n m before none strict root);
 }
 
 -- an end that is set
@@ -159,8 +174,9 @@ module _ (shapes : Catalogue) (every : EveryList) (root p : ℕ) (old new : Reac
 
   -- a shape is gone through
   pub shape_done : (id : ℕ) → slice_get old.marks.order.items p ≡ Some (Shape id)
-      → IsGoneThrough shapes every id old new → IsUnderWay shapes every root (p + 1) new
-  shape_done id at g = record {
+      → IsGoneThrough shapes every id old new → AreEveryList shapes every
+      → IsUnderWay shapes every root (p + 1) new
+  shape_done id at g are = record {
     of_ends = ap length g.ends ∙ length-set old.ends.items id (Some g.end) ∙ u.of_ends;
     of_shapes = kept.shapes ∙ u.of_shapes;
     of_lists = kept.lists ∙ u.of_lists;
@@ -180,6 +196,14 @@ module _ (shapes : Catalogue) (every : EveryList) (root p : ℕ) (old new : Reac
         (set_there old.ends.items id k g.end e
         (subst (λ xs. slice_get xs k ≡ Some (Some e)) g.ends is));
     done = one_more (Shape id) at kept has here;
+    sound = λ k h.
+        ⊎_elim
+        (λ (b : (k ≡ id) × (g.end ≡ h.0)).
+        subst (IsMarked new.marks.shapes.items) (sym b.0) (kept.of_shapes id (u.marks.of_order p (Shape id) at)))
+        (λ (b : slice_get old.ends.items k ≡ Some (Some h.0)). kept.of_shapes k (u.sound k (h.0, b)))
+        (set_there old.ends.items id k g.end h.0 (subst (λ xs. slice_get xs k ≡ Some (Some h.0)) g.ends h.1));
+    met = λ strict.
+        g.met strict root are ((u.met strict).of_shapes id (u.marks.of_order p (Shape id) at)) (u.met strict);
   }
     where
       kept : AreKept old.marks new.marks
@@ -201,8 +225,10 @@ module _ (shapes : Catalogue) (every : EveryList) (root p : ℕ) (old new : Reac
       → AreAdded every old.marks new.marks → new.ends ≡ old.ends
       → ((l : Listed) → slice_get every.lists.items k ≡ Some l
       → All (PartIsMarked shapes every new.marks) (parts_view l.parts.items))
+      → AreEveryList shapes every
+      → StayMet shapes every old.marks new.marks (λ strict first. NumberIsMet shapes every strict first k)
       → IsUnderWay shapes every root (p + 1) new
-  list_done k at added same here = record {
+  list_done k at added same here are met = record {
     of_ends = ap (λ v. length v.items) same ∙ u.of_ends;
     of_shapes = added.kept.shapes ∙ u.of_shapes;
     of_lists = added.kept.lists ∙ u.of_lists;
@@ -214,6 +240,9 @@ module _ (shapes : Catalogue) (every : EveryList) (root p : ℕ) (old new : Reac
         (was.0, end_still shapes every old.marks new.marks added.kept (end_view e) was.1);
     done =
         one_more (AList k) at added.kept (λ id h. subst (λ v. HasEnd v.items id) (sym same) h) here;
+    sound = λ id h. added.kept.of_shapes id (u.sound id (subst (λ v. HasEnd v.items id) same h));
+    met = λ strict.
+        met strict root are ((u.met strict).of_lists k (u.marks.of_order p (AList k) at)) (u.met strict);
   }
 
   -- fewer are left

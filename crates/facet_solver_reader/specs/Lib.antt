@@ -35,6 +35,7 @@ pub mod Readers
 pub mod Placing
 pub mod Leads
 pub mod Marks
+pub mod Met
 pub mod WorkList
 pub mod InRange
 pub mod Ranked

@@ -142,3 +142,18 @@ IsWhyUnordered shapes (NameTwice id name first second) =
 IsWhyUnordered shapes (TwoCatchAlls id first second) =
     IsTwiceAt shapes (list_view id) rest first second
 IsWhyUnordered shapes OutOfMemory = ⊤
+
+-- the list that a fault is of, if it is of one, has a property
+abbrev pub IsAbout : (ListId → Type 0) → Fault → Type 0
+IsAbout L (ContainsItself id) = L (list_view id)
+IsAbout L (NameTwice id name first second) = L (list_view id)
+IsAbout L (TwoCatchAlls id first second) = L (list_view id)
+IsAbout L _ = ⊤
+
+-- a list is one of those that are marked
+pub record IsMarkedList (every : EveryList) (marks : List Bool) (id : ListId) : Type 0 where
+  pub number : ℕ
+  pub list : Listed
+  pub is_there : slice_get every.lists.items number ≡ Some list
+  pub same : list_view list.id ≡ id
+  pub marked : IsMarked marks number

@@ -64,12 +64,12 @@ IsSaidOf shapes (faults.ReadsItself s) (types.ReadsItself shape type_name) =
     (shape ≡ s) × (type_name.now ≡ shape_name shapes s)
 IsSaidOf shapes (faults.ContainsItself id) (types.ContainsItself shape type_name) =
     IsNamed shapes (list_view id) shape type_name.now
-IsSaidOf shapes (faults.NameTwice id n i j) (types.DuplicateName shape type_name name first second) =
+IsSaidOf shapes (faults.NameTwice id n i j) (types.DuplicateName shape type_name name one two) =
     IsNamed shapes (list_view id) shape type_name.now × (name.now ≡ n.now)
-    × AreAt shapes (list_view id) (i ∷ j ∷ []) (first ∷ second ∷ [])
-IsSaidOf shapes (faults.TwoCatchAlls id i j) (types.TwoCatchAlls shape type_name first second) =
+    × AreAt shapes (list_view id) (i ∷ j ∷ []) (one ∷ two ∷ [])
+IsSaidOf shapes (faults.TwoCatchAlls id i j) (types.TwoCatchAlls shape type_name one two) =
     IsNamed shapes (list_view id) shape type_name.now
-    × AreAt shapes (list_view id) (i ∷ j ∷ []) (first ∷ second ∷ [])
+    × AreAt shapes (list_view id) (i ∷ j ∷ []) (one ∷ two ∷ [])
 IsSaidOf shapes faults.OutOfMemory types.OutOfMemory = ⊤
 IsSaidOf shapes _ _ = ⊥
 

@@ -1,5 +1,5 @@
 -- What is reached from a root, as far as it is found.
-use Rattle.std.specs.Prelude.{◌≡◌, ℕ, ◌<◌, List, All, Option, Some, length, slice_get, slice_set}
+use Rattle.std.specs.Prelude.{◌≡◌, ℕ, ◌<◌, Bool, List, All, Option, Some, length, slice_get, slice_set}
 use Rattle.facet_solver_shape.specs.Catalogues.{Catalogue}
 use Rattle.facet_solver_reader.specs.declared.end.End as code
 use Rattle.facet_solver_reader.specs.declared.tables.every.EveryList.{EveryList}
@@ -9,6 +9,7 @@ use Rattle.facet_solver_reader.specs.declared.tables.marks.Marked.TheVariants.{S
 use Rattle.facet_solver_reader.specs.declared.tables.reached.Reached.{Reached}
 use Rattle.facet_solver_reader.specs.Leads.{EndHas, PartHas}
 use Rattle.facet_solver_reader.specs.Marks.{AreAdded, AreChosen, AreMarks, EndIsMarked, PartIsMarked, ShapeIsMarked}
+use Rattle.facet_solver_reader.specs.Met.{AreMet, ShapeIsMet, StayMet}
 use Rattle.facet_solver_reader.specs.OrderedLists.{AreMarksClosed, BranchIsMarked, IsMarked}
 use Rattle.facet_solver_reader.specs.Rules.{End}
 use Rattle.facet_solver_reader.specs.Parts.{Part}
@@ -36,7 +37,7 @@ PartIsReached shapes every r p =
     (content_at shapes) p
 
 -- the root is there, each end that is there is as its type says, and what it and the marked lists
--- lead to is there
+-- lead to is there, and nothing that a document does not come to
 pub record AreReached (shapes : Catalogue) (every : EveryList) (root : ℕ) (r : Reached) : Type 0
   where
     pub same_length : length r.ends.items ≡ length shapes
@@ -47,6 +48,8 @@ pub record AreReached (shapes : Catalogue) (every : EveryList) (root : ℕ) (r :
         → IsMarked r.marks.lists.items k
         → All (PartIsReached shapes every r) (parts_view l.parts.items)
     pub closed : AreMarksClosed shapes every r.marks.lists.items
+    pub sound : (id : ℕ) → HasEnd r.ends.items id → IsMarked r.marks.shapes.items id
+    pub met : (strict : Bool) → AreMet shapes every strict root r.marks
 
 -- what a shape or a list leads to is marked, and the shape has its end
 abbrev pub IsDone : Catalogue → EveryList → Reached → Marked → Type 0
@@ -68,6 +71,8 @@ pub record IsUnderWay (shapes : Catalogue) (every : EveryList) (root position : 
       → (end_view e ≡ end_of shapes id) × EndIsMarked shapes every r.marks (end_view e)
   pub done : (q : ℕ) (x : Marked) → q < position → slice_get r.marks.order.items q ≡ Some x
       → IsDone shapes every r x
+  pub sound : (id : ℕ) → HasEnd r.ends.items id → IsMarked r.marks.shapes.items id
+  pub met : (strict : Bool) → AreMet shapes every strict root r.marks
 
 -- a shape has its end, and what that leads to is marked
 pub record IsGoneThrough (shapes : Catalogue) (every : EveryList) (id : ℕ) (old new : Reached)
@@ -77,3 +82,5 @@ pub record IsGoneThrough (shapes : Catalogue) (every : EveryList) (id : ℕ) (ol
   pub ends : new.ends.items ≡ slice_set old.ends.items id (Some end)
   pub same : end_view end ≡ end_of shapes id
   pub marked : EndIsMarked shapes every new.marks (end_view end)
+  pub met : StayMet shapes every old.marks new.marks
+      (λ strict root. ShapeIsMet shapes strict root id)

@@ -100,7 +100,8 @@ pub(crate) fn path_at<'c>(
     }
 }
 
-/// Where the parts of a list stand in the type that it is of: those of a variant behind the variant.
+/// Where the parts of a list stand in the type that it is of: those of a variant stand behind the
+/// variant.
 fn place_of<'c>(
     alloc: Global,
     shapes: &'c Shapes,

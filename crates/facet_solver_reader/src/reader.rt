@@ -59,13 +59,15 @@ impl<'c> Reader<'c> {
     ///
     /// # Errors
     ///
-    /// For what a document that is read as the shape can come to, and nothing else in the catalogue:
+    /// For what a document that is read as the shape can come to, and nothing else in the
+    /// catalogue. The content of each variant of an untagged enum counts, also of one that is read
+    /// by its parts.
     ///
     /// - `NoShape`: the catalogue lacks the index.
     /// - `ReadsItself`: to read a value as a shape asks to read it as that shape again.
     /// - `ContainsItself`: the parts of a shape stand among themselves.
-    /// - `DuplicateName`, `TwoCatchAlls`: a choice has two members of one name, or two catch-alls. It
-    ///   is told of which parts: some choice of either has the name, or a catch-all.
+    /// - `DuplicateName`, `TwoCatchAlls`: a choice has two members of one name, or two catch-alls.
+    ///   It is told of which parts: some choice of either has the name, or a catch-all.
     /// - `OutOfMemory`: memory was refused.
     pub fn new(
         alloc: Global,

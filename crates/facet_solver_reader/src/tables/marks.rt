@@ -2,7 +2,10 @@
 ghost use Rattle.std.specs.Prelude.{◌≡◌, ℕ, length, All, IfOk, OnOk, MatchOption, map};
 ghost use Rattle.facet_solver_reader.specs.Marks.{AreNoMarks, ContentIsMarked, EndIsMarked, PartIsMarked, TargetIsMarked};
 ghost use Rattle.facet_solver_reader.specs.Marks.{AreKept, AreAdded, HasChoiceAt, ListIsMarked, NumberIsMarked, ShapeIsMarked};
+ghost use Rattle.facet_solver_reader.specs.Met.{ContentIsMet, EndIsMet, IfChosen, NumberIsMet, PartIsMet, ShapeIsMet, StayMet, TargetIsMet};
 ghost use Rattle.facet_solver_reader.specs.Slots.{index_of};
+ghost use Rattle.facet_solver_reader.specs.declared.tables.every.EveryList.{EveryList as Every};
+ghost use Rattle.facet_solver_shape.specs.Catalogues.{Catalogue};
 ghost use Rattle.facet_solver_reader.specs.Views.{alternative_view, content_view, end_view, list_view, named_view, part_view, parts_view, target_view};
 
 use super::every::EveryList;
@@ -49,6 +52,8 @@ impl Marks {
         ensures kept { OnOk result (AreKept self.old self.new) }
         ensures lists { OnOk result (self.new.lists ≡ self.old.lists) }
         ensures marked { OnOk result (ShapeIsMarked self.new id) }
+        ensures met { OnOk result ((shapes : Catalogue) (every : Every) → StayMet shapes every
+            self.old self.new (λ strict root. ShapeIsMet shapes strict root id)) }
     {
         let index = id.index();
         if index < self.shapes.len() && !self.shapes[index] {
@@ -63,6 +68,8 @@ impl Marks {
         requires { HasChoiceAt every.now number }
         ensures added { OnOk result (AreAdded every.now self.old self.new) }
         ensures marked { OnOk result (NumberIsMarked self.new number) }
+        ensures met { OnOk result ((shapes : Catalogue) → StayMet shapes every.now self.old self.new
+            (λ strict root. NumberIsMet shapes every.now strict root number)) }
     {
         if number < self.lists.len() && !self.lists[number] {
             self.lists[number] = true;
@@ -75,6 +82,8 @@ impl Marks {
     fn mark_list(&mut self, every: &EveryList<'_>, id: &ListId) -> Result<(), AllocError>
         ensures added { OnOk result (AreAdded every.now self.old self.new) }
         ensures marked { OnOk result (ListIsMarked every.now self.new (list_view id.now)) }
+        ensures met { OnOk result ((shapes : Catalogue) → StayMet shapes every.now self.old self.new
+            (λ strict root. IfChosen shapes strict root (list_view id.now))) }
     {
         match chosen_number(every, id) {
             Some(number) => self.mark_number(every, number),
@@ -87,6 +96,8 @@ impl Marks {
         ensures kept { OnOk result (AreKept self.old self.new) }
         ensures lists { OnOk result (self.new.lists ≡ self.old.lists) }
         ensures marked { OnOk result (All (ShapeIsMarked self.new) shapes.now) }
+        ensures met { OnOk result ((all : Catalogue) (every : Every) → StayMet all every
+            self.old self.new (λ strict root. All (ShapeIsMet all strict root) shapes.now)) }
     {
         for id in shapes {
             self.mark_shape(*id)?;
@@ -99,6 +110,8 @@ impl Marks {
         ensures added { OnOk result (AreAdded every.now self.old self.new) }
         ensures marked { OnOk result
             (All (ListIsMarked every.now self.new) (map list_view lists.now)) }
+        ensures met { OnOk result ((shapes : Catalogue) → StayMet shapes every.now self.old self.new
+            (λ strict root. All (IfChosen shapes strict root) (map list_view lists.now))) }
     {
         for list in lists {
             self.mark_list(every, list)?;
@@ -111,6 +124,8 @@ impl Marks {
         ensures added { OnOk result (AreAdded every.now self.old self.new) }
         ensures marked { OnOk result
             (ContentIsMarked every.now self.new (content_view content.now)) }
+        ensures met { OnOk result ((shapes : Catalogue) → StayMet shapes every.now self.old self.new
+            (λ strict root. ContentIsMet shapes strict root (content_view content.now))) }
     {
         match content {
             Content::None => Ok(()),
@@ -131,6 +146,8 @@ impl Marks {
         ensures added { OnOk result (AreAdded every.now self.old self.new) }
         ensures marked { OnOk result
             (TargetIsMarked types.now every.now self.new (target_view target.now)) }
+        ensures met { OnOk result (StayMet types.now every.now self.old self.new
+            (λ strict root. TargetIsMet types.now strict root (target_view target.now))) }
     {
         match target {
             Target::Shape(id) => self.mark_shape(*id),
@@ -154,6 +171,9 @@ impl Marks {
         ensures marked { OnOk result
             (All (λ v. TargetIsMarked types.now every.now self.new v.content)
             (map named_view variants.now)) }
+        ensures met { OnOk result (StayMet types.now every.now self.old self.new
+            (λ strict root. All (λ v. TargetIsMet types.now strict root v.content)
+            (map named_view variants.now))) }
     {
         for variant in variants {
             self.mark_target(alloc, types, every, &variant.content)?;
@@ -173,6 +193,9 @@ impl Marks {
         ensures marked { OnOk result
             (All (λ a. TargetIsMarked types.now every.now self.new a.content)
             (map alternative_view alone.now)) }
+        ensures met { OnOk result (StayMet types.now every.now self.old self.new
+            (λ strict root. All (λ a. TargetIsMet types.now strict root a.content)
+            (map alternative_view alone.now))) }
     {
         for alternative in alone {
             self.mark_target(alloc, types, every, &alternative.content)?;
@@ -191,6 +214,8 @@ impl Marks {
         ensures added { OnOk result (AreAdded every.now self.old self.new) }
         ensures marked { OnOk result
             (EndIsMarked types.now every.now self.new (end_view end.now)) }
+        ensures met { OnOk result (StayMet types.now every.now self.old self.new
+            (λ strict root. EndIsMet types.now strict root (end_view end.now))) }
     {
         match end {
             End::Option(id) | End::List(id) | End::Map(_, id) => self.mark_shape(*id),
@@ -222,12 +247,16 @@ impl Marks {
         ensures added { OnOk result (AreAdded every.now self.old self.new) }
         ensures marked { OnOk result
             (PartIsMarked types.now every.now self.new (part_view part.now)) }
+        ensures met { OnOk result (StayMet types.now every.now self.old self.new
+            (λ strict root. PartIsMet types.now strict root (part_view part.now))) }
     {
         match part {
             Part::Member(member) => self.mark_target(alloc, types, every, &member.target),
             Part::Selection(selection) => self.mark_lists(every, &selection.branches),
-            Part::CatchAll(CatchAll::Map(_, value)) => self.mark_shape(*value),
-            Part::CatchAll(CatchAll::Anything) => Ok(()),
+            Part::CatchAll(catch_all) => match catch_all {
+                CatchAll::Map(_, value) => self.mark_shape(*value),
+                CatchAll::Anything => Ok(()),
+            },
         }
     }
 
@@ -242,6 +271,8 @@ impl Marks {
         ensures added { OnOk result (AreAdded every.now self.old self.new) }
         ensures marked { OnOk result
             (All (PartIsMarked types.now every.now self.new) (parts_view parts.now)) }
+        ensures met { OnOk result (StayMet types.now every.now self.old self.new
+            (λ strict root. All (PartIsMet types.now strict root) (parts_view parts.now))) }
     {
         for part in parts {
             self.mark_part(alloc, types, every, part)?;

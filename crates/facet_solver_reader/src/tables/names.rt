@@ -160,7 +160,8 @@ fn has_name(ordered: &Ordered<'_>, part: &Part<'_>, name: &str) -> bool
 
 /// Whether a choice of one of the lists has a member of the name.
 fn some_has_name(ordered: &Ordered<'_>, lists: &[ListId], name: &str) -> bool
-    ensures { result ≡ list_any (list_knows ordered.now (named name.now)) (map list_view lists.now) }
+    ensures { let x = named name.now in
+        result ≡ list_any (list_knows ordered.now x) (map list_view lists.now) }
 {
     for list in lists {
         if list_has_name(ordered, *list, name) {

@@ -3,7 +3,7 @@ ghost use Rattle.std.specs.Prelude.{◌≡◌, ◌<◌, ℕ, All, Any, false, If
 ghost use Rattle.std.specs.Option.{option_map};
 ghost use Rattle.facet_solver_shape.specs.Catalogues.{Catalogue};
 ghost use Rattle.facet_solver_reader.specs.EveryList.{AreEveryList, IsChosen};
-ghost use Rattle.facet_solver_reader.specs.OrderedLists.{AreMarksClosed, AreOrdered, IsWhyUnordered};
+ghost use Rattle.facet_solver_reader.specs.OrderedLists.{AreMarksClosed, AreOrdered, IsAbout, IsMarkedList, IsWhyUnordered};
 ghost use Rattle.facet_solver_reader.specs.declared.tables.every.EveryList as all;
 ghost use Rattle.facet_solver_reader.specs.Placing.{Marks, IsLeft, IsNext, IsNextList, IsOneMore, IsPlacing, IsStuck, IsUnderWay, IsUnplaced, PartIsPlaced, PartIsStuck, entry_of, unplaced};
 ghost use Rattle.facet_solver_reader.specs.Slots.{HasSlot};
@@ -37,6 +37,7 @@ pub(super) fn in_order<'c>(
     requires closed { AreMarksClosed types.now every.now marks.now }
     ensures ok { IfOk result (AreOrdered types.now every.now marks.now) }
     ensures err { IfErr result (IsWhyUnordered types.now) }
+    ensures about { IfErr result (IsAbout (IsMarkedList every.now marks.now)) }
 {
     let mut ordered = Ordered::new(alloc, types)?;
     // In place of `?`, for which no proof is generated at an error of this type.
@@ -109,6 +110,7 @@ impl<'c> Ordered<'c> {
         ensures stuck { OnOk result
             ((number : ℕ) → IsStuck types.now every.now marks.now self.new number) }
         ensures err { IfErr result (IsWhyUnordered types.now) }
+        ensures about { IfErr result (IsAbout (IsMarkedList every.now marks.now)) }
     {
         'rounds: loop {
             match self.place_more(alloc, types, every, marks) {
@@ -136,6 +138,7 @@ impl<'c> Ordered<'c> {
         ensures stuck { IfOk result (λ more. more ≡ false
             → (number : ℕ) → IsStuck types.now every.now marks.now self.new number) }
         ensures err { IfErr result (IsWhyUnordered types.now) }
+        ensures about { IfErr result (IsAbout (IsMarkedList every.now marks.now)) }
     {
         let mut has_more = false;
         for number in 0..every.lists.len() {
@@ -202,6 +205,7 @@ impl<'c> Ordered<'c> {
         ensures placing { OnOk result (IsPlacing types.now self.new) }
         ensures more { OnOk result (IsOneMore self.old self.new (list_view id.now)) }
         ensures err { IfErr result (IsWhyUnordered types.now) }
+        ensures about { IfErr result (IsAbout (λ q. q ≡ list_view id.now)) }
     {
         match self.list_of(alloc, types, id) {
             Ok(list) => {
@@ -223,6 +227,7 @@ impl<'c> Ordered<'c> {
         requires next { IsNext types.now self.now (list_view id.now) }
         ensures ok { IfOk result (IsNextList types.now self.now (list_view id.now)) }
         ensures err { IfErr result (IsWhyUnordered types.now) }
+        ensures about { IfErr result (IsAbout (λ q. q ≡ list_view id.now)) }
     {
         // A list that some choice has has parts.
         let parts = match parts_of(alloc, types, *id)? {

@@ -4,8 +4,9 @@ ghost use Rattle.std.specs.Option.{IfSome};
 ghost use Rattle.facet_solver_reader.specs.Ends.{LeadsInCircles};
 ghost use Rattle.facet_solver_reader.specs.EveryList.{AreEveryList};
 ghost use Rattle.facet_solver_reader.specs.Marks.{AreAdded, PartIsMarked};
+ghost use Rattle.facet_solver_reader.specs.Met.{NumberIsMet, StayMet};
 ghost use Rattle.facet_solver_reader.specs.Views.{parts_view};
-ghost use Rattle.facet_solver_reader.specs.WorkList.{AreReached, IsGoneThrough};
+ghost use Rattle.facet_solver_reader.specs.WorkList.{AreReached, HasEnd, IsGoneThrough};
 ghost use Rattle.facet_solver_reader.specs.declared.tables.every.Listed.{Listed};
 
 use super::every::EveryList;
@@ -80,6 +81,8 @@ impl<'c> Reached<'c> {
         requires { number < length every.now.lists.items }
         ensures added { OnOk result (AreAdded every.now self.old.marks self.new.marks) }
         ensures ends { OnOk result (self.new.ends ≡ self.old.ends) }
+        ensures met { OnOk result (StayMet types.now every.now self.old.marks self.new.marks
+            (λ strict root. NumberIsMet types.now every.now strict root number)) }
         ensures marked { OnOk result ((l : Listed) → slice_get every.now.lists.items number ≡ Some l
             → All (PartIsMarked types.now every.now self.new.marks) (parts_view l.parts.items)) }
     {
@@ -101,7 +104,8 @@ fn no_ends<'c>(alloc: Global, shapes: usize) -> Result<Vec<Option<End<'c>>>, All
 
 /// The first shape with an end whose way to it leads in circles.
 pub(super) fn first_in_circles<'c>(shapes: &Shapes, ends: &Vec<Option<End<'c>>>) -> Option<ShapeId>
-    ensures { IfSome result (LeadsInCircles shapes.now) }
+    ensures circles { IfSome result (LeadsInCircles shapes.now) }
+    ensures reached { IfSome result (HasEnd ends.now.items) }
 {
     for index in 0..ends.len() {
         let id = ShapeId::new(index);

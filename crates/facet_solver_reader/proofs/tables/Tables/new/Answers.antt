@@ -1,20 +1,34 @@
-use Rattle.std.proofs.Common.{◌≡◌, ℕ, List, Bool, subst, inr, ◌<◌, length, Some, slice_get, false}
+use Rattle.std.proofs.Common.{◌≡◌, ℕ, List, Bool, subst, inl, inr, ◌<◌, length, Some, slice_get, false}
 use Rattle.facet_solver_shape.specs.Catalogues.{Catalogue}
 use Rattle.facet_solver_reader.specs.EveryList.{AreEveryList}
-use Rattle.facet_solver_reader.specs.OrderedLists.{AreOrdered, IsMarked, IsWhyUnordered}
+use Rattle.facet_solver_reader.specs.OrderedLists.{AreOrdered, IsAbout, IsMarked, IsMarkedList, IsWhyUnordered}
 use Rattle.facet_solver_reader.specs.Ranked.{AreRanked, AsksWithoutEnd}
 use Rattle.facet_solver_reader.specs.WorkList.{AreReached, HasEnd}
-use Rattle.facet_solver_reader.proofs.AllTables.{none_found, reached_sound, root_made, tables_made, unordered_refused}
+use Rattle.facet_solver_reader.proofs.AllTables.{fault_met, none_found, reached_sound, root_made, shape_met, tables_made, unordered_refused}
 use Rattle.facet_solver_reader.proofs.tables.Tables.new.Goals as goal
 
 pub new-requires-4 : goal.new-requires-4
 new-requires-4 c = reached_sound c.in_ok-types.types c.in_ok-every.every c.args.root c.in_ok-reached.reached c.in_ok-reached.ensures
 
+pub returns-in-Some-clause-refused : goal.returns-in-Some-clause-refused
+returns-in-Some-clause-refused c =
+    let every = c.in_ok-every.every in
+    let reached = c.in_ok-reached.reached in
+    let id = c.in-Some.id in (
+      inl c.in-Some.ensures.circles,
+      shape_met c.args.shapes.now every c.args.root reached (subst (λ (s : Catalogue). AreReached s every c.args.root reached) c.in_ok-types.ensures c.in_ok-reached.ensures) id c.in-Some.ensures.reached,
+    )
+
 pub returns-in-Some-first_unranked-clause-refused : goal.returns-in-Some-first_unranked-clause-refused
 returns-in-Some-first_unranked-clause-refused c =
+    let every = c.in_ok-every.every in
+    let reached = c.in_ok-reached.reached in
+    let id = c.in-Some-first_unranked.id in
     let found = c.in-Some-first_unranked.ensures in
-    let endless = c.in_ok-ranks.ensures.unranked c.in-Some-first_unranked.id found.0 found.1 in
-    inr (subst (λ (s : Catalogue). AsksWithoutEnd s c.in-Some-first_unranked.id) c.in_ok-types.ensures endless)
+    let endless = c.in_ok-ranks.ensures.unranked id found.0 found.1 in (
+      inr (subst (λ (s : Catalogue). AsksWithoutEnd s id) c.in_ok-types.ensures endless),
+      shape_met c.args.shapes.now every c.args.root reached (subst (λ (s : Catalogue). AreReached s every c.args.root reached) c.in_ok-types.ensures c.in_ok-reached.ensures) id found.0,
+    )
 
 pub returns-in-Ok-clause-made : goal.returns-in-Ok-clause-made
 returns-in-Ok-clause-made c =
@@ -47,5 +61,11 @@ returns-in-Ok-clause-root c =
 
 pub returns-clause-refused : goal.returns-clause-refused
 returns-clause-refused c =
-    unordered_refused c.args.shapes.now c.args.root c.in-Err.fault
-    (subst (λ (s : Catalogue). IsWhyUnordered s c.in-Err.fault) c.in_ok-types.ensures c.in-Err.ensures.err)
+    let every = c.in_ok-every.every in
+    let reached = c.in_ok-reached.reached in
+    let fault = c.in-Err.fault in
+    unordered_refused c.args.shapes.now c.args.root fault
+    (subst (λ (s : Catalogue). IsWhyUnordered s fault) c.in_ok-types.ensures c.in-Err.ensures.err)
+    (fault_met c.args.shapes.now every c.args.root reached
+    (subst (λ (s : Catalogue). AreReached s every c.args.root reached) c.in_ok-types.ensures c.in_ok-reached.ensures) fault
+    (subst (λ (ms : List Bool). IsAbout (IsMarkedList every ms) fault) c.deref.ensures.value c.in-Err.ensures.about))

@@ -1,11 +1,11 @@
-use Rattle.std.proofs.Common.{◌≡◌, sym, ap, ◌∙◌, rules, tests, Bor, Option, false, bytes_eq}
+use Rattle.std.proofs.Common.{◌≡◌, ap, ◌∙◌, rules, tests, Bor, Option, false, bytes_eq}
 use Rattle.std.specs.List.{list_any}
 use Rattle.std.specs.Option.{option_map_or}
 use Rattle.std.proofs.lemmas.Iterator.{YieldsList-from_slice}
 use Rattle.std.proofs.lemmas.Iterator.Search.{any_from_yields_List}
 use Rattle.facet_solver_shape.specs.Names.{Name}
 use Rattle.facet_solver_reader.specs.declared.tables.List.{List as ListEntry}
-use Rattle.facet_solver_reader.specs.Known.{Key, named}
+use Rattle.facet_solver_reader.specs.Known.{named}
 use Rattle.facet_solver_reader.specs.Tables.{knows}
 use Rattle.facet_solver_reader.proofs.tables.names.list_has_name.Goals as goal
 

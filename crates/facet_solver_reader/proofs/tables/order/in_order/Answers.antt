@@ -29,3 +29,11 @@ returns-in-Some-clause-err c = λ n.
 pub returns-clause-ok : goal.returns-clause-ok
 returns-clause-ok c =
     ordered_all c.args.types.now c.args.every.now c.args.marks.now c.place_all.new.self c.requires.listed c.in_default.ensures.under_way c.in_default-first_left.ensures
+
+pub returns-in-Some-clause-about : goal.returns-in-Some-clause-about
+returns-in-Some-clause-about c =
+    let every = c.args.every.now in
+    let left = c.in-Some.ensures in
+    let within = slice_get_within every.lists.items c.in-Some.number left.list left.is_there in
+    let there : slice_get every.lists.items c.in-Some.number ≡ Some c.index.result.now = slice_get_read every.lists.items _ c.in-Some.number c.index.result.now refl within c.index.ensures in
+    record { number = c.in-Some.number; list = c.index.result.now; is_there = there; same = refl; marked = left.marked }

@@ -1,7 +1,9 @@
-use Rattle.std.proofs.Common.{arith, map, ◌≤◌, length}
+use Rattle.std.proofs.Common.{All, arith, map, ◌≤◌, length}
 use Rattle.std.proofs.lemmas.List.{length-map}
 use Rattle.facet_solver_reader.specs.Marks.{ListIsMarked}
 use Rattle.facet_solver_reader.specs.Views.{list_view}
+use Rattle.facet_solver_reader.specs.Met.{IfChosen}
+use Rattle.facet_solver_reader.proofs.StayMet.{one_of_all, stays_on}
 use Rattle.facet_solver_reader.proofs.Marks.{added_on, each_all, each_more, list_still}
 use Rattle.facet_solver_reader.proofs.tables.marks.Marks.mark_lists.Goals as goal
 
@@ -15,6 +17,10 @@ loop-list-preserved c =
           each_more (ListIsMarked c.args.every.now c.loop-list.self)
           (ListIsMarked c.args.every.now new) list_view c.args.lists.now c.loop-list.list-index c.list-item.result
           (list_still c.args.every.now c.loop-list.self new done.added.kept) c.loop-list.invariant.marked (omega arith) c.list-item.is done.marked;
+      met = λ shapes.
+          stays_on shapes c.args.every.now _ _ _ (λ strict root. All (IfChosen shapes strict root) (map list_view c.args.lists.now)) (λ strict root. IfChosen shapes strict root (list_view c.list-item.result))
+          (λ strict root p. one_of_all (IfChosen shapes strict root) list_view c.args.lists.now c.loop-list.list-index c.list-item.result (omega arith) c.list-item.is p)
+          (c.loop-list.invariant.met shapes) (done.met shapes);
     }
 
 pub returns-clause-marked : goal.returns-clause-marked

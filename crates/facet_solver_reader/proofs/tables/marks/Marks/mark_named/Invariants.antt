@@ -1,4 +1,5 @@
-use Rattle.std.proofs.Common.{map}
+use Rattle.std.proofs.Common.{All, map}
+use Rattle.facet_solver_reader.specs.Met.{StayMet, TargetIsMet}
 use Rattle.facet_solver_reader.specs.Marks.{AreAdded, TargetIsMarked}
 use Rattle.facet_solver_reader.specs.Views.{named_view}
 use Rattle.facet_solver_reader.proofs.Marks.{EachBefore}
@@ -9,4 +10,6 @@ abbrev pub invariant-loop-variant : goal.invariant-loop-variant
 invariant-loop-variant l = record {
   added : AreAdded l.every l.initial.self l.self;
   marked : EachBefore (λ v. TargetIsMarked l.types l.every l.self v.content) (map named_view l.variants) l.variant-index;
+  met : StayMet l.types l.every l.initial.self l.self
+      (λ strict root. All (λ v. TargetIsMet l.types strict root v.content) (map named_view l.variants));
 }

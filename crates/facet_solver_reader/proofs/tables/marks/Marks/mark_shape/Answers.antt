@@ -3,6 +3,7 @@ use Rattle.std.proofs.Math.ListN.{set}
 use Rattle.facet_solver_reader.specs.OrderedLists.{IsMarked}
 use Rattle.facet_solver_reader.proofs.Marks.{mark_read, marked_now, shape_marked}
 use Rattle.facet_solver_reader.proofs.tables.marks.Marks.mark_shape.Goals as goal
+use Rattle.facet_solver_reader.proofs.StayMet.{shape_stays}
 use Rattle.facet_solver_reader.proofs.tables.marks.Marks.mark_shape.Goals.{else-index-len-via-then-index-len+else-not-index, else-index-len-via-else-index-len}
 
 pub returns-in_ok-push-clause-kept : goal.returns-in_ok-push-clause-kept
@@ -25,3 +26,8 @@ returns-else-index-len-clause-marked c =
           mark_read c.args.self.now.shapes.items c.index-index.result c.args.id w.index.result.now true w.index.ensures w.if-not-index.false c.index-index.ensures within
       | else-index-len-via-else-index-len w ↦ λ h. absurd (omega arith)
     ]
+
+pub returns-in_ok-push-clause-met : goal.returns-in_ok-push-clause-met
+returns-in_ok-push-clause-met c =
+    λ shapes every.
+    shape_stays shapes every _ _ c.index-index.result c.args.id refl c.index-index.ensures refl

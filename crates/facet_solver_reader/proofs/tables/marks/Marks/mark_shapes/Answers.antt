@@ -1,6 +1,8 @@
-use Rattle.std.proofs.Common.{◌∙◌, arith, ℕ, List, map, ◌≤◌, length, subst, All}
+use Rattle.std.proofs.Common.{◌∙◌, arith, ℕ, List, map, ◌≤◌, length, subst, sym, All}
 use Rattle.std.proofs.lemmas.List.{length-map, map-id}
 use Rattle.facet_solver_reader.specs.Marks.{ShapeIsMarked}
+use Rattle.facet_solver_reader.specs.Met.{ShapeIsMet}
+use Rattle.facet_solver_reader.proofs.StayMet.{stays_on}
 use Rattle.facet_solver_reader.proofs.Marks.{each_all, each_more, kept_on, shape_still}
 use Rattle.facet_solver_reader.proofs.tables.marks.Marks.mark_shapes.Goals as goal
 
@@ -14,6 +16,10 @@ loop-id-preserved c =
       marked =
           each_more (ShapeIsMarked c.loop-id.self) (ShapeIsMarked new) (λ (x : ℕ). x) c.args.shapes.now c.loop-id.id-index c.id-item.result
           (shape_still c.loop-id.self new done.kept) c.loop-id.invariant.marked (omega arith) c.id-item.is done.marked;
+      met = λ all every.
+          stays_on all every _ _ _ (λ strict root. All (ShapeIsMet all strict root) c.args.shapes.now) (λ strict root. ShapeIsMet all strict root c.id-item.result)
+          (λ strict root p. subst (ShapeIsMet all strict root) (sym c.id-item.is) (p c.loop-id.id-index c.id-item.result (omega arith)))
+          (c.loop-id.invariant.met all every) (done.met all every);
     }
 
 pub returns-clause-marked : goal.returns-clause-marked

@@ -6,6 +6,7 @@ use Rattle.facet_solver_reader.specs.Placing.{AreBelow, ArePartNames, IsRestOf, 
 use Rattle.facet_solver_reader.specs.Types.{parts_of}
 use Rattle.facet_solver_reader.specs.Views.{list_view, parts_view}
 use Rattle.facet_solver_reader.proofs.Lists.{no_choice_of_no_list}
+use Rattle.facet_solver_reader.proofs.AboutFaults.{about_shared}
 use Rattle.facet_solver_reader.proofs.PlacedKeys.{distinct_of_entry, known_of_entry_keys, unordered_shared}
 use Rattle.facet_solver_reader.proofs.tables.order.Ordered.list_of.Goals as goal
 use Rattle.facet_solver_reader.proofs.tables.order.Ordered.list_of.Goals.{in-Some, in-None}
@@ -55,3 +56,11 @@ returns-clause-ok c =
       sorted = names.sorted;
       below = subst (λ (qs : List Part). AreBelow o (parts_view qs) c.in_ok-below.below.items) c.deref-3.ensures.value c.in_ok-below.ensures;
     }
+
+pub returns-in-Err-clause-about : goal.returns-in-Err-clause-about
+returns-in-Err-clause-about c =
+    about_shared c.args.self.now (list_view c.args.id.now) (parts_view c.deref.result.now) c.in-Err.fault c.in-Err.ensures.err
+
+pub returns-in-Err-takes_rest-clause-about : goal.returns-in-Err-takes_rest-clause-about
+returns-in-Err-takes_rest-clause-about c =
+    about_shared c.args.self.now (list_view c.args.id.now) (parts_view c.deref-2.result.now) c.in-Err-takes_rest.fault c.in-Err-takes_rest.ensures.err

@@ -4,7 +4,9 @@ use Rattle.std.proofs.lemmas.Option.{slice_get_read}
 use Rattle.facet_solver_reader.specs.declared.part.Part.{Part}
 use Rattle.facet_solver_reader.specs.declared.tables.every.Listed.{Listed}
 use Rattle.facet_solver_reader.specs.Placing.{IsLeft, PartIsPlaced, PartIsStuck}
-use Rattle.facet_solver_reader.specs.Views.{parts_view}
+use Rattle.facet_solver_reader.specs.Views.{list_view, parts_view}
+use Rattle.facet_solver_reader.specs.OrderedLists.{IsMarkedList}
+use Rattle.facet_solver_reader.proofs.AboutFaults.{about_more}
 use Rattle.facet_solver_reader.proofs.LeftLists.{next_at, slot_at, stuck_all, stuck_at, unplaced_at, upto_as, upto_none, upto_placed, upto_stuck}
 use Rattle.facet_solver_reader.proofs.tables.order.Ordered.place_more.Goals as goal
 use Rattle.facet_solver_reader.proofs.tables.order.Ordered.place_more.Goals.{then-is_left+then-has_branches+in-Ok, else-is_left, else-is_left-via-then-is_left+else-has_branches, else-is_left-via-else-is_left}
@@ -86,3 +88,16 @@ pub returns-clause-stuck : goal.returns-clause-stuck
 returns-clause-stuck c =
     stuck_all c.args.types.now c.args.every.now c.args.marks.now c.args.self.now c.loop-number.self c.loop-number.has_more c.loop-number.number
     (omega (arith, c.loop-number-test.false, c.len-number-end.ensures, c.args.every.now.lists.ok.0)) c.loop-number.invariant
+
+pub returns-in-Err-clause-about : goal.returns-in-Err-clause-about
+returns-in-Err-clause-about c =
+    let every = c.args.every.now in
+    let marks = c.args.marks.now in
+    let n = c.loop-number.number in
+    let within : n < length every.lists.items = omega (arith, c.loop-number-test.true, c.len-number-end.ensures, every.lists.ok.0) in
+    let y = c.index-then-has_branches.result.now in
+    let here : slice_get every.lists.items n ≡ Some y = slice_get_read every.lists.items _ n y refl within c.index-then-has_branches.ensures in
+    let left = c.if-is_left.ensures.left refl in
+    about_more (λ q. q ≡ list_view y.id) (IsMarkedList every marks)
+    (λ q same. record { number = n; list = y; is_there = here; same = sym same; marked = left.marked })
+    c.in-Err.fault c.in-Err.ensures.about

@@ -12,7 +12,7 @@ loop-position-init c =
     let marked = c.in_ok-mark_shape.ensures in
     first_under_way c.args.types.now c.args.every.now c.args.root c.len.result c.len-2.result c.len-3.result c.in_ok-new.field-0 _
     (c.len.ensures.value ∙ ap length c.shapes.ensures) (c.len-2.ensures.value ∙ ap length c.shapes-2.ensures) (c.len-3.ensures ∙ c.args.every.now.lists.ok.0)
-    c.in_ok-no_ends.ensures c.in_ok-new.ensures marked.kept marked.lists marked.marked
+    c.in_ok-no_ends.ensures c.in_ok-new.ensures marked.kept marked.lists marked.marked c.requires (marked.met c.args.types.now c.args.every.now)
 
 pub go_through_shape-requires : goal.go_through_shape-requires
 go_through_shape-requires c =
@@ -35,13 +35,13 @@ loop-position-preserved c =
           subst (IsUnderWay types every c.args.root (p + 1)) (sym w.reached-is)
           (shape_done types every c.args.root p old w.go_through_shape.new.self c.loop-position.invariant w.in-Shape.id
           (read_order old.marks.order.items p c.index.result.now (Shape w.in-Shape.id) (omega (arith, c.loop-position.reached.marks.order.ok.0)) c.index.ensures w.in-Shape.is)
-          w.in_ok-go_through_shape-in-Shape.ensures)
+          w.in_ok-go_through_shape-in-Shape.ensures c.requires)
       | in-List+in_ok-go_through_list-in-List w ↦
           let done = w.in_ok-go_through_list-in-List.ensures in
           subst (IsUnderWay types every c.args.root (p + 1)) (sym w.reached-is)
           (list_done types every c.args.root p old w.go_through_list.new.self c.loop-position.invariant w.in-List.number
           (read_order old.marks.order.items p c.index.result.now (AList w.in-List.number) (omega (arith, c.loop-position.reached.marks.order.ok.0)) c.index.ensures w.in-List.is)
-          done.added done.ends done.marked)
+          done.added done.ends done.marked c.requires done.met)
     ]
 
 pub returns : goal.returns
