@@ -29,9 +29,10 @@ returns-in-Ok-read_target-clause-ok c =
     c.in-Ok-read_target.reading)
     c.self.view_is
     (record {
-    told = told;
-    only = λ (r : Reading) (h : reads r).
-    one.only r h ∙ sym (one.only told.reading told.reads)})
+      told = told;
+      only = λ (r : Reading) (h : reads r).
+          one.only r h ∙ sym (one.only told.reading told.reads);
+    })
 
 pub returns-in-Ok-why_none-clause-error : goal.returns-in-Ok-why_none-clause-error
 returns-in-Ok-why_none-clause-error c =
