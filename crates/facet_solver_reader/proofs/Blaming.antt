@@ -26,9 +26,11 @@ use Rattle.facet_solver_reader.specs.Documents.{Tree}
 use Rattle.facet_solver_reader.specs.Parts.{Target}
 use Rattle.facet_solver_reader.specs.Places.{Step, at}
 use Rattle.facet_solver_reader.specs.Rules.{Rules}
-use Rattle.facet_solver_reader.specs.Why.{IsObstacle, IsUnread, IsUnreadAt, IsWhyNone}
+use Rattle.facet_solver_reader.specs.Blaming.{IsUnreadAt}
+use Rattle.facet_solver_reader.specs.Why.{IsObstacle, IsUnread, IsWhyNone}
 use Rattle.std.proofs.Common.{Err, IfOk, Ok, Result}
-use Rattle.facet_solver_reader.specs.Why.{AreMissing, IsBelow, IsPartOf, IsPosition, Lacks}
+use Rattle.facet_solver_reader.specs.Blaming.{AreMissing, IsBelow, IsPartOf, IsPosition}
+use Rattle.facet_solver_reader.specs.Why.{Lacks}
 use Rattle.facet_solver_reader.proofs.CountingLists.{before_parts}
 use Rattle.facet_solver_reader.proofs.CountingObjects.{list_at, split_last}
 use Rattle.facet_solver_reader.proofs.Quantifiers.{all_at, all_from}

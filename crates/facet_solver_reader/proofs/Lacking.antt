@@ -21,7 +21,8 @@ use Rattle.facet_solver_reader.specs.Objects.{find}
 use Rattle.facet_solver_reader.specs.Parts.{ListId, Lists, MemberPart, Part, Selection, a_member}
 use Rattle.facet_solver_reader.specs.Parts.{a_selection}
 use Rattle.facet_solver_reader.specs.Rules.{Rules}
-use Rattle.facet_solver_reader.specs.Why.{IsRequiredIn, Lacks, PartLacks}
+use Rattle.facet_solver_reader.specs.Blaming.{PartLacks}
+use Rattle.facet_solver_reader.specs.Why.{IsRequiredIn, Lacks}
 use Rattle.facet_solver_reader.proofs.Lists.{choices_of_list}
 use Rattle.facet_solver_reader.proofs.Selections.{choice_at}
 

@@ -51,3 +51,4 @@ pub mod Found
 pub mod UnderWay
 pub mod Tells
 pub mod Why
+pub mod Blaming

@@ -8,7 +8,8 @@ ghost use Rattle.facet_solver_reader.specs.Parts.{of_shape};
 ghost use Rattle.facet_solver_reader.specs.Reading.{AreSound, IsCount};
 ghost use Rattle.facet_solver_reader.specs.Tables.{ShapeIsServed, rules_at};
 ghost use Rattle.facet_solver_reader.specs.Views.{target_view};
-ghost use Rattle.facet_solver_reader.specs.Why.{IsUnreadAt, IsWhyNone, IsWhySeveral};
+ghost use Rattle.facet_solver_reader.specs.Blaming.{IsUnreadAt};
+ghost use Rattle.facet_solver_reader.specs.Why.{IsWhyNone, IsWhySeveral};
 ghost use Rattle.facet_solver_reader.specs.declared.count.Count.TheVariants.{None as NoCount, Several as TwoCount};
 
 mod asked;

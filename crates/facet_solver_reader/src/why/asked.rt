@@ -2,7 +2,7 @@
 ghost use Rattle.std.specs.Prelude.{◌≡◌, IfOk, IfSome, length};
 ghost use Rattle.facet_solver_reader.specs.Reading.{AreListCounts, AreSound, IsNextList, IsObject};
 ghost use Rattle.facet_solver_reader.specs.Views.{list_view};
-ghost use Rattle.facet_solver_reader.specs.Why.{IsAsked, IsPosition};
+ghost use Rattle.facet_solver_reader.specs.Blaming.{IsAsked, IsPosition};
 
 use super::left::left_by_names;
 use super::missing::missing_names;

@@ -7,7 +7,8 @@ ghost use Rattle.facet_solver_reader.specs.Parts.{a_selection};
 ghost use Rattle.facet_solver_reader.specs.Reading.{AreSound, IsObject};
 ghost use Rattle.facet_solver_reader.specs.Tables.{AreTables, ListIsServed, PartIsBefore, rules_at};
 ghost use Rattle.facet_solver_reader.specs.Views.{list_view, selection_view};
-ghost use Rattle.facet_solver_reader.specs.Why.{IsAsked, IsAmong, IsBranchOf, IsFound, IsMisfit, IsNoKey, Lacks};
+ghost use Rattle.facet_solver_reader.specs.Blaming.{IsAsked, IsAmong, IsBranchOf, IsFound};
+ghost use Rattle.facet_solver_reader.specs.Why.{IsMisfit, IsNoKey, Lacks};
 
 use super::asked::{Asked, position_of};
 use super::knows::knows_name;

@@ -4,7 +4,7 @@ ghost use Rattle.facet_solver_reader.specs.Documents.{Tree};
 ghost use Rattle.facet_solver_reader.specs.Nodes.{count, members_in, value_of};
 ghost use Rattle.facet_solver_reader.specs.Reading.{AreSound};
 ghost use Rattle.facet_solver_reader.specs.Tables.{AreTables, ShapeIsServed};
-ghost use Rattle.facet_solver_reader.specs.Why.{IsBesides, IsNext};
+ghost use Rattle.facet_solver_reader.specs.Blaming.{IsBesides, IsNext};
 
 use super::name::shape_name;
 use super::walk::{Here, Next, into};

@@ -4,7 +4,8 @@ ghost use Rattle.facet_solver_reader.specs.Nodes.{IsNumbering, members_in, value
 ghost use Rattle.facet_solver_reader.specs.Reading.{IsListed, IsObject};
 ghost use Rattle.facet_solver_reader.specs.Tables.{AreTables, PartIsServed, rules_at};
 ghost use Rattle.facet_solver_reader.specs.Views.{list_view, part_view};
-ghost use Rattle.facet_solver_reader.specs.Why.{AreMissing, Lacks, PartLacks};
+ghost use Rattle.facet_solver_reader.specs.Blaming.{AreMissing, PartLacks};
+ghost use Rattle.facet_solver_reader.specs.Why.{Lacks};
 
 use super::asked::position_of;
 use crate::nodes::Nodes;

@@ -5,7 +5,7 @@ ghost use Rattle.facet_solver_reader.specs.Nodes.{count, value_of};
 ghost use Rattle.facet_solver_reader.specs.Reading.{AreSound, IsOnlyMember};
 ghost use Rattle.facet_solver_reader.specs.Tables.{IsServed};
 ghost use Rattle.facet_solver_reader.specs.Views.{named_view, target_view};
-ghost use Rattle.facet_solver_reader.specs.Why.{IsNext};
+ghost use Rattle.facet_solver_reader.specs.Blaming.{IsNext};
 ghost use Rattle.facet_solver_reader.specs.declared.count.Count.TheVariants.{None as NoCount, Several as TwoCount};
 
 use super::name::shape_name;

@@ -5,7 +5,7 @@ ghost use Rattle.facet_solver_reader.specs.Parts.{a_catch_all, a_member};
 ghost use Rattle.facet_solver_reader.specs.Reading.{AreSound, IsObject};
 ghost use Rattle.facet_solver_reader.specs.Tables.{AreTables, ListIsServed, PartIsServed};
 ghost use Rattle.facet_solver_reader.specs.Views.{catch_all_view, list_view, member_view, part_view};
-ghost use Rattle.facet_solver_reader.specs.Why.{IsAsked, IsBelow, IsFound, IsNext, IsPartOf};
+ghost use Rattle.facet_solver_reader.specs.Blaming.{IsAsked, IsBelow, IsFound, IsNext, IsPartOf};
 ghost use Rattle.facet_solver_reader.specs.declared.count.Count.TheVariants.{None as NoCount};
 
 use super::asked::{Asked, ask, list_at};

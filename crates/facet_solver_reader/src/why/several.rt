@@ -7,7 +7,8 @@ ghost use Rattle.facet_solver_reader.specs.Parts.{a_selection};
 ghost use Rattle.facet_solver_reader.specs.Reading.{AreSound, IsObject, object_view};
 ghost use Rattle.facet_solver_reader.specs.Tables.{AreTables, ListIsServed, PartIsBefore, PartIsServed, rules_at};
 ghost use Rattle.facet_solver_reader.specs.Views.{list_view, part_view, selection_view};
-ghost use Rattle.facet_solver_reader.specs.Why.{IsBelow, IsBranchOf, IsNext, IsReadBy, IsTallied};
+ghost use Rattle.facet_solver_reader.specs.Blaming.{IsBelow, IsBranchOf, IsNext, IsTallied};
+ghost use Rattle.facet_solver_reader.specs.Why.{IsReadBy};
 ghost use Rattle.facet_solver_reader.specs.declared.count.Count.TheVariants.{Several as TwoCount};
 
 use super::asked::{counts_of, list_at, position_of};

@@ -5,7 +5,8 @@ ghost use Rattle.facet_solver_reader.specs.Parts.{a_selection};
 ghost use Rattle.facet_solver_reader.specs.Reading.{AreSound};
 ghost use Rattle.facet_solver_reader.specs.Tables.{AreTables, IsServed, ListIsServed, PartIsBefore, PartIsServed, rules_at};
 ghost use Rattle.facet_solver_reader.specs.Views.{member_view, part_view, selection_view};
-ghost use Rattle.facet_solver_reader.specs.Why.{IsAsked, IsBelow, IsInner, IsStop};
+ghost use Rattle.facet_solver_reader.specs.Blaming.{IsAsked, IsBelow, IsInner};
+ghost use Rattle.facet_solver_reader.specs.Why.{IsStop};
 
 use super::asked::{Asked, list_at, position_of};
 use super::name::{selection_name, unread};

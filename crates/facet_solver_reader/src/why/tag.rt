@@ -3,7 +3,7 @@ ghost use Rattle.std.specs.Prelude.{◌<◌, IfOk, IfSome};
 ghost use Rattle.facet_solver_reader.specs.Documents.{Tree};
 ghost use Rattle.facet_solver_reader.specs.Nodes.{IsNumbering, count};
 ghost use Rattle.facet_solver_reader.specs.Rules.{Rules};
-ghost use Rattle.facet_solver_reader.specs.Why.{IsHere};
+ghost use Rattle.facet_solver_reader.specs.Blaming.{IsHere};
 
 use super::name::selection_name;
 use super::walk::Here;

@@ -4,7 +4,8 @@ ghost use Rattle.facet_solver_reader.specs.Nodes.{count, value_of};
 ghost use Rattle.facet_solver_reader.specs.Reading.{AreSound};
 ghost use Rattle.facet_solver_reader.specs.Tables.{IsServed, ListIsServed, rules_at};
 ghost use Rattle.facet_solver_reader.specs.Views.{alternative_view, list_view, target_view};
-ghost use Rattle.facet_solver_reader.specs.Why.{IsAsked, IsMisfit, IsNext, IsReadBy, IsWithin};
+ghost use Rattle.facet_solver_reader.specs.Blaming.{IsAsked, IsNext, IsWithin};
+ghost use Rattle.facet_solver_reader.specs.Why.{IsMisfit, IsReadBy};
 ghost use Rattle.facet_solver_reader.specs.declared.count.Count.TheVariants.{None as NoCount, Several as TwoCount};
 
 use super::asked::{Asked, ask};

@@ -6,7 +6,7 @@ ghost use Rattle.facet_solver_reader.specs.Parts.{of_content, of_shape};
 ghost use Rattle.facet_solver_reader.specs.Reading.{AreSound, IsCount};
 ghost use Rattle.facet_solver_reader.specs.Tables.{IsEnd, IsServed, ListIsServed, ShapeIsServed};
 ghost use Rattle.facet_solver_reader.specs.Views.{alternative_view, list_view, named_view, target_view};
-ghost use Rattle.facet_solver_reader.specs.Why.{IsBlamed, IsNext};
+ghost use Rattle.facet_solver_reader.specs.Blaming.{IsBlamed, IsNext};
 
 use super::entries::{Entries, in_entries};
 use super::name::same_target;

@@ -3,7 +3,8 @@ use Rattle.facet_solver_reader.specs.Nodes.{value_of}
 use Rattle.facet_solver_reader.specs.Parts.{Target}
 use Rattle.facet_solver_reader.specs.Tables.{rules_at}
 use Rattle.facet_solver_reader.specs.Views.{target_view}
-use Rattle.facet_solver_reader.specs.Why.{IsUnread, IsUnreadAt, IsWhyNone}
+use Rattle.facet_solver_reader.specs.Blaming.{IsUnreadAt}
+use Rattle.facet_solver_reader.specs.Why.{IsUnread, IsWhyNone}
 use Rattle.facet_solver_reader.proofs.Blaming.{ok_then, why_unread}
 use Rattle.facet_solver_reader.proofs.why.why_none.Goals as goal
 

@@ -8,7 +8,7 @@ use Rattle.facet_solver_reader.specs.Nodes.{members_in, value_of}
 use Rattle.facet_solver_reader.specs.Objects.{HasNamed}
 use Rattle.facet_solver_reader.specs.Reading.{IsListed, member_view, object_view}
 use Rattle.facet_solver_reader.specs.Views.{list_view, selection_view}
-use Rattle.facet_solver_reader.specs.Why.{IsAmong}
+use Rattle.facet_solver_reader.specs.Blaming.{IsAmong}
 use Rattle.facet_solver_reader.proofs.CountingObjects.{itself, known_by_list, rest_by_object}
 use Rattle.facet_solver_reader.proofs.CountingObjects.{seen_read}
 use Rattle.facet_solver_reader.proofs.Named.{Has-at}

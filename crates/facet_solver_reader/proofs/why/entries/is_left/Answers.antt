@@ -1,5 +1,5 @@
 use Rattle.std.proofs.Common.{subst}
-use Rattle.facet_solver_reader.specs.Why.{IsBesides}
+use Rattle.facet_solver_reader.specs.Blaming.{IsBesides}
 use Rattle.facet_solver_reader.proofs.why.entries.is_left.Goals as goal
 
 pub has_name-requires : goal.has_name-requires

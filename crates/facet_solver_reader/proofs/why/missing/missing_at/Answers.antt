@@ -5,7 +5,7 @@ use Rattle.facet_solver_reader.specs.Nodes.{members_in, value_of}
 use Rattle.facet_solver_reader.specs.Parts.{Part, a_selection}
 use Rattle.facet_solver_reader.specs.Tables.{ListIsServed, PartIsServed, rules_at}
 use Rattle.facet_solver_reader.specs.Views.{list_view, part_view, selection_view}
-use Rattle.facet_solver_reader.specs.Why.{PartLacks}
+use Rattle.facet_solver_reader.specs.Blaming.{PartLacks}
 use Rattle.facet_solver_reader.proofs.Blaming.{lacks_found}
 use Rattle.facet_solver_reader.proofs.Lacking.{one_item, selection_lacks}
 use Rattle.facet_solver_reader.proofs.Quantifiers.{all_at}

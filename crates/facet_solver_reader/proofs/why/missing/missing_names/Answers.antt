@@ -2,7 +2,7 @@ use Rattle.std.proofs.Common.{◌≡◌, sym, ap, subst, refl, ◌∷◌, [], So
 use Rattle.std.proofs.Common.{arith}
 use Rattle.std.proofs.lemmas.List.{length-append}
 use Rattle.std.proofs.lemmas.Option.{slice_get_read, slice_get_within}
-use Rattle.facet_solver_reader.specs.Why.{AreMissing}
+use Rattle.facet_solver_reader.specs.Blaming.{AreMissing}
 use Rattle.facet_solver_reader.proofs.Blaming.{missing_more}
 use Rattle.facet_solver_reader.proofs.CountingObjects.{listed_below}
 use Rattle.facet_solver_reader.proofs.why.missing.missing_names.Goals as goal

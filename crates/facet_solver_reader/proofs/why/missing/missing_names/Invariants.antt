@@ -1,5 +1,5 @@
 use Rattle.std.proofs.Common.{◌≡◌, length}
-use Rattle.facet_solver_reader.specs.Why.{AreMissing}
+use Rattle.facet_solver_reader.specs.Blaming.{AreMissing}
 use Rattle.facet_solver_reader.proofs.why.missing.missing_names.Given as goal
 
 -- the names so far are missing

@@ -3,7 +3,8 @@ use Rattle.std.specs.List.{All}
 use Rattle.std.specs.Prelude.{IfOk, IfSome}
 use Rattle.facet_solver_reader.specs.Nodes.{value_of}
 use Rattle.facet_solver_reader.specs.Tables.{rules_at}
-use Rattle.facet_solver_reader.specs.Why.{IsReadBy, IsTallied}
+use Rattle.facet_solver_reader.specs.Blaming.{IsTallied}
+use Rattle.facet_solver_reader.specs.Why.{IsReadBy}
 use Rattle.facet_solver_reader.proofs.why.several.branches_by.Goals as goal
 
 pub returns-clause-branches : goal.returns-clause-branches

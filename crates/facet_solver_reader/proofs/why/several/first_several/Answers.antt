@@ -1,4 +1,4 @@
-use Rattle.facet_solver_reader.specs.Why.{IsNext}
+use Rattle.facet_solver_reader.specs.Blaming.{IsNext}
 use Rattle.facet_solver_reader.specs.declared.count.Count.TheVariants.{Several as TwoCount}
 use Rattle.facet_solver_reader.proofs.Blaming.{either_found}
 use Rattle.facet_solver_reader.proofs.why.several.first_several.Goals as goal

@@ -1,6 +1,6 @@
 use Rattle.std.proofs.Common.{ap, map}
 use Rattle.facet_solver_reader.specs.Views.{part_view, parts_view}
-use Rattle.facet_solver_reader.specs.Why.{IsNext}
+use Rattle.facet_solver_reader.specs.Blaming.{IsNext}
 use Rattle.facet_solver_reader.specs.declared.count.Count.TheVariants.{Several as TwoCount}
 use Rattle.facet_solver_reader.proofs.Blaming.{either_found, listed_of_below, part_served}
 use Rattle.facet_solver_reader.proofs.CountingObjects.{seen_read}

@@ -1,7 +1,7 @@
 use Rattle.std.specs.Prelude.{IfSome}
 use Rattle.facet_solver_reader.specs.Documents.{Tree}
 use Rattle.facet_solver_reader.specs.Reading.{AreSound}
-use Rattle.facet_solver_reader.specs.Why.{IsNext}
+use Rattle.facet_solver_reader.specs.Blaming.{IsNext}
 use Rattle.facet_solver_reader.specs.declared.count.Count.TheVariants.{Several as TwoCount}
 use Rattle.facet_solver_reader.proofs.why.several.several_in_list.Given as goal
 

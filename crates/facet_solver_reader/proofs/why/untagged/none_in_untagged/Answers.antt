@@ -4,7 +4,7 @@ use Rattle.facet_solver_reader.specs.Nodes.{value_of}
 use Rattle.facet_solver_reader.specs.Rules.{Alternative}
 use Rattle.facet_solver_reader.specs.Tables.{IsServed}
 use Rattle.facet_solver_reader.specs.Views.{alternative_view, target_view}
-use Rattle.facet_solver_reader.specs.Why.{IsWithin}
+use Rattle.facet_solver_reader.specs.Blaming.{IsWithin}
 use Rattle.facet_solver_reader.specs.declared.end.Alternative as code
 use Rattle.facet_solver_reader.proofs.InMemory.{at_seen}
 use Rattle.facet_solver_reader.proofs.why.untagged.none_in_untagged.Goals as goal

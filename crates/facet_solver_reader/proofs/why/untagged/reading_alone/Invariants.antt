@@ -1,5 +1,5 @@
 use Rattle.std.proofs.Common.{length}
-use Rattle.facet_solver_reader.specs.Why.{IsWithin}
+use Rattle.facet_solver_reader.specs.Blaming.{IsWithin}
 use Rattle.facet_solver_reader.proofs.why.untagged.reading_alone.Given as goal
 
 -- the one index that is told is one of them

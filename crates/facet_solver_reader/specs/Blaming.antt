@@ -1,0 +1,138 @@
+-- What is known on the way to a place that has no reading, or several.
+use Rattle.std.specs.Prelude.{◌≡◌, ◌<◌, ⊤, ℕ, false, All, IfSome, List, Option, Some, None}
+use Rattle.std.specs.Prelude.{length, slice_get}
+use Rattle.std.specs.Borrow.{Bor}
+use Rattle.facet_solver_shape.specs.Names.{Name}
+use Rattle.facet_solver_reader.specs.declared.count.Count.{Count}
+use Rattle.facet_solver_reader.specs.declared.count.Count.TheVariants.{None as NoCount}
+use Rattle.facet_solver_reader.specs.declared.nodes.Nodes.{Nodes}
+use Rattle.facet_solver_reader.specs.declared.read.object.Object as code
+use Rattle.facet_solver_reader.specs.declared.read_error.NoReading.{NoReading}
+use Rattle.facet_solver_reader.specs.declared.read_error.Obstacle.TheVariants as obstacle
+use Rattle.facet_solver_reader.specs.declared.read_error.Unread.{Unread}
+use Rattle.facet_solver_reader.specs.declared.tables.List.{List as ListEntry}
+use Rattle.facet_solver_reader.specs.declared.tables.Tables.{Tables}
+use Rattle.facet_solver_reader.specs.declared.why.asked.Asked.{Asked}
+use Rattle.facet_solver_reader.specs.declared.why.object.Found.{Found}
+use Rattle.facet_solver_reader.specs.declared.why.object.Found.TheVariants as found
+use Rattle.facet_solver_reader.specs.declared.why.several.Tallied.{Tallied}
+use Rattle.facet_solver_reader.specs.declared.why.stop.Inner.{Inner}
+use Rattle.facet_solver_reader.specs.declared.why.stop.Inner.TheVariants as inner
+use Rattle.facet_solver_reader.specs.declared.why.untagged.Readers.{Readers}
+use Rattle.facet_solver_reader.specs.declared.why.untagged.Readers.TheVariants as readers
+use Rattle.facet_solver_reader.specs.declared.why.walk.Blamed.{Blamed}
+use Rattle.facet_solver_reader.specs.declared.why.walk.Here.{Here}
+use Rattle.facet_solver_reader.specs.declared.why.walk.Here.TheVariants.{Stops, Splits}
+use Rattle.facet_solver_reader.specs.declared.why.walk.Next.{Next}
+use Rattle.facet_solver_reader.specs.declared.why.walk.Next.TheVariants as next
+use Rattle.facet_solver_reader.specs.Choices.{ChoiceAt, Item}
+use Rattle.facet_solver_reader.specs.Documents.{Tree, Member}
+use Rattle.facet_solver_reader.specs.Known.{ChoosesAt, named}
+use Rattle.facet_solver_reader.specs.Nodes.{IsNumbering, count, members_in, value_of}
+use Rattle.facet_solver_reader.specs.Objects.{find, HasNamed}
+use Rattle.facet_solver_reader.specs.Parts.{ListId, Part, Selection, Target}
+use Rattle.facet_solver_reader.specs.Places.{Step, at}
+use Rattle.facet_solver_reader.specs.Reading.{AreListCounts, IsCount, IsListed, IsNextList}
+use Rattle.facet_solver_reader.specs.Reading.{IsObject}
+use Rattle.facet_solver_reader.specs.Rules.{Rules}
+use Rattle.facet_solver_reader.specs.Slots.{index_of}
+use Rattle.facet_solver_reader.specs.Tables.{IsServed, knows, rules_at}
+use Rattle.facet_solver_reader.specs.Views.{list_view, parts_view, target_view}
+use Rattle.facet_solver_reader.specs.Why.{IsRequiredIn, Lacks, IsStop, IsObstacle, IsReadBy}
+
+-- each choice at a part requires the name, and it is no name of the members
+pub record PartLacks (rules : Rules) (members : List Member) (p : Part) (x : Name) : Type 0 where
+  pub absent : find members x ≡ None
+  pub required : (c : ChoiceAt) (items : List Item) → ChoosesAt rules.lists p c items
+      → IsRequiredIn items x
+
+-- what is told of a value is so
+abbrev pub IsHere : Rules → Tree → Here → Type 0
+IsHere rules v (Stops o) = IsObstacle rules v o
+IsHere rules v (Splits branches) = All (IsReadBy rules v) branches.items
+
+-- what is to blame for a value is so: another value has the count as a target, or what is told
+abbrev pub IsNext : Tables → Nodes → Count → Tree → Next → Type 0
+IsNext t nodes blame v (next.Into n target) =
+    (n < count nodes) × IsServed t (target_view target)
+    × IsCount t nodes n (target_view target) blame
+IsNext t nodes blame v (next.Here here) = IsHere (rules_at t) v here
+
+-- what is found of a part that has no reading is so
+abbrev pub IsFound : Tables → Nodes → Tree → Found → Type 0
+IsFound t nodes v (found.Next n) = IsNext t nodes NoCount v n
+IsFound t nodes v (found.Branch position) = ⊤
+
+-- what is found of a part of a branch is so
+abbrev pub IsInner : Rules → Tree → Inner → Type 0
+IsInner rules v (inner.Stop stop) = IsStop rules v stop
+IsInner rules v (inner.List position) = ⊤
+
+-- a value is to blame: it has the count as the target, and what is told of it is so
+pub record IsBlamed (t : Tables) (nodes : Nodes) (blame : Count) (b : Blamed) : Type 0 where
+  pub inside : b.node < count nodes
+  pub counted : IsCount t nodes b.node (target_view b.target) blame
+  pub here : IfSome b.here (IsHere (rules_at t) (value_of nodes b.node))
+
+-- what is told is a place, and that its value is not what a target reads
+pub record IsUnreadAt (t : Target) (place : List Step) (n : NoReading) : Type 0 where
+  pub same : n.place ≡ place
+  pub unread : (u : Unread) × (n.why ≡ obstacle.Unread u) × (target_view u.target ≡ t)
+
+-- the list whose names are left to others is one of the tables
+abbrev pub IsBesides : Tables → Option (Bor ListEntry) → Type 0
+IsBesides t besides = IfSome besides (λ l. IsListed t l.now)
+
+-- a list stands at a position among those that the choices of an object's list go through
+pub record IsPosition (t : Tables) (o : code.Object) (id : ListId) (position : ℕ) : Type 0 where
+  pub index : ℕ
+  pub has_index : index_of t.slots id ≡ Some index
+  pub stands : slice_get o.list.now.below.items position ≡ Some index
+
+-- a list is one of those that the choices of an object's list go through
+abbrev pub IsBelow : Tables → code.Object → ListEntry → Type 0
+IsBelow t o l = (position : ℕ) × IsNextList t o position l
+
+-- a list is a branch of a selection
+abbrev pub IsBranchOf : Selection → ListId → Type 0
+IsBranchOf s id = (k : ℕ) × (slice_get s.branches k ≡ Some id)
+
+-- a name is that of a member, and a list has none of it
+pub record IsAmong (l : ListEntry) (members : List Member) (x : Name) : Type 0 where
+  pub has : HasNamed members x
+  pub unknown : knows l (named x) ≡ false
+
+-- a part is one of a list
+abbrev pub IsPartOf : ListEntry → Part → Type 0
+IsPartOf l p = (k : ℕ) × (slice_get (parts_view l.parts.items) k ≡ Some p)
+
+-- names are told of lists by their positions: each choice of the list requires it, and the object
+-- lacks it
+pub record AreMissing (t : Tables) (nodes : Nodes) (o : code.Object) (names : List (Option (Bor Name)))
+    : Type 0 where
+  pub are : (position index : ℕ) (name : Bor Name) (l : ListEntry)
+      → slice_get names position ≡ Some (Some name)
+      → slice_get o.list.now.below.items position ≡ Some index
+      → slice_get t.lists.items index ≡ Some l
+      → Lacks (rules_at t) (members_in (value_of nodes o.node)) (list_view l.id) name.now
+
+-- what is known of an object and its lists is so
+pub record IsAsked (t : Tables) (nodes : Nodes) (a : Asked) : Type 0 where
+  pub numbering : IsNumbering nodes
+  pub object : IsObject t nodes a.object
+  pub counts : AreListCounts t nodes a.object a.counts.items
+  pub each : length a.counts.items ≡ length a.object.list.now.below.items
+  pub missing : AreMissing t nodes a.object a.missing.items
+
+-- an object of a value, and the counts of the lists that the choices of its own go through
+pub record IsTallied (t : Tables) (nodes : Nodes) (node : ℕ) (o : Tallied) : Type 0 where
+  pub numbering : IsNumbering nodes
+  pub object : IsObject t nodes o.object
+  pub same : o.object.node ≡ node
+  pub counts : AreListCounts t nodes o.object o.counts.items
+  pub each : length o.counts.items ≡ length o.object.list.now.below.items
+
+-- the one index that is told is below a number
+abbrev pub IsWithin : ℕ → Readers → Type 0
+IsWithin n (readers.One index) = index < n
+IsWithin n _ = ⊤
