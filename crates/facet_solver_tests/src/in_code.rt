@@ -1,7 +1,6 @@
 //! What only code can show: names, derives, and errors that no transcript meets.
 
 mod errors;
-mod texts;
 
 use crate::answer::{Answer, Line};
 use crate::public_names::public_types_have_their_derives;
@@ -15,7 +14,6 @@ use facet_solver::{
     Solver, specificity_score,
 };
 use std::alloc::AllocError;
-use texts::a_reading_prints_what_is_read;
 
 /// One check.
 #[derive(Clone, Copy)]
@@ -30,11 +28,10 @@ pub enum Check {
     SecondField,
     PathSegments,
     Readme,
-    Texts,
 }
 
 /// The checks, by name.
-pub const CHECKS: [(&str, Check); 11] = [
+pub const CHECKS: [(&str, Check); 10] = [
     ("public_types_have_their_derives", Check::PublicTypes),
     ("keys_have_names_and_an_order", Check::Keys),
     ("a_catalogue_gives_its_shapes", Check::Catalogue),
@@ -48,7 +45,6 @@ pub const CHECKS: [(&str, Check); 11] = [
     ("a_second_field_is_an_error_of_a_schema", Check::SecondField),
     ("a_path_gives_its_segments", Check::PathSegments),
     ("the_sample_of_the_readme_holds", Check::Readme),
-    ("a_reading_prints_what_is_read", Check::Texts),
 ];
 
 impl Check {
@@ -65,7 +61,6 @@ impl Check {
             Check::SecondField => a_second_field_is_an_error_of_a_schema(answer),
             Check::PathSegments => a_path_gives_its_segments(answer),
             Check::Readme => keys_tell_the_payload(answer),
-            Check::Texts => a_reading_prints_what_is_read(answer),
         }
     }
 }
