@@ -105,7 +105,7 @@ fn add_count(
 /// Tells how many readings a document has, and keeps the text of the only one, or of the error.
 fn count_by(reader: &Reader<'_>, document: &Document<'_>, answer: &mut Answer<'_>) {
     match reader.count(answer.alloc, document) {
-        Ok(count) => read_by(reader, document, word_of(count), answer),
+        Ok(count) => read_by(reader, document, count, answer),
         Err(DocumentError::OutOfMemory) => answer.refused(),
         Err(error) => answer.add_value(&error),
     }
@@ -120,11 +120,11 @@ fn word_of(count: Count) -> &'static str {
 }
 
 /// Tells what comes of a read, which has to be as was counted.
-fn read_by(reader: &Reader<'_>, document: &Document<'_>, count: &str, answer: &mut Answer<'_>) {
-    let word = match reader.read(answer.alloc, document) {
+fn read_by(reader: &Reader<'_>, document: &Document<'_>, count: Count, answer: &mut Answer<'_>) {
+    let read = match reader.read(answer.alloc, document) {
         Ok(reading) => {
             answer.keep_error(&reading);
-            "one"
+            Count::One
         }
         Err(ReadError::OutOfMemory) => {
             answer.refused();
@@ -132,16 +132,20 @@ fn read_by(reader: &Reader<'_>, document: &Document<'_>, count: &str, answer: &m
         }
         Err(error) => {
             answer.keep_error(&error);
-            match error {
-                ReadError::NoReading(_) => "none",
-                ReadError::Several(_) => "several",
-                ReadError::NameTwice(_) | ReadError::OutOfMemory => "no count",
-            }
+            count_of(&error)
         }
     };
-    answer.add(word);
-    if word != count {
+    answer.add(word_of(read));
+    if read != count {
         answer.add("but counted");
-        answer.add(count);
+        answer.add(word_of(count));
+    }
+}
+
+/// How many readings a document has that is not read.
+fn count_of(error: &ReadError<'_, '_>) -> Count {
+    match error {
+        ReadError::Several(_) => Count::Several,
+        _ => Count::None,
     }
 }
