@@ -108,8 +108,8 @@ IsPartOf l p = (k : ℕ) × (slice_get (parts_view l.parts.items) k ≡ Some p)
 
 -- names are told of lists by their positions: each choice of the list requires it, and the object
 -- lacks it
-pub record AreMissing (t : Tables) (nodes : Nodes) (o : code.Object) (names : List (Option (Bor Name)))
-    : Type 0 where
+pub record AreMissing (t : Tables) (nodes : Nodes) (o : code.Object)
+    (names : List (Option (Bor Name))) : Type 0 where
   pub are : (position index : ℕ) (name : Bor Name) (l : ListEntry)
       → slice_get names position ≡ Some (Some name)
       → slice_get o.list.now.below.items position ≡ Some index

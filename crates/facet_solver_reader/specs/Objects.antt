@@ -97,7 +97,8 @@ Agrees rules reads object (presence_of s ∷ items) =
 
 -- a reading of an object by choices: each member of it whose name is known is one of the choice,
 -- and each item of the choice is as the object has it
-pub record IsReading {X : Type 0} (rules : Rules) (reads : Reads) (object : Object) (S : Choosing X) (x : X) : Type 0 where
+pub record IsReading {X : Type 0} (rules : Rules) (reads : Reads) (object : Object)
+    (S : Choosing X) (x : X) : Type 0 where
   pub items : List Item
   pub chooses : S x items
   pub known : (key : Key) → Has rules object key → IsKnown S key → HasKey items key
@@ -112,13 +113,15 @@ abbrev pub ignoring : List Member → ListId → Object
 ignoring members list = record { members = members; list = list; takes = false }
 
 -- a reading that ignores no member of an object
-pub record ReadsAll (rules : Rules) (reads : Reads) (members : List Member) (list : ListId) (c : Choice) : Type 0 where
+pub record ReadsAll (rules : Rules) (reads : Reads) (members : List Member) (list : ListId)
+    (c : Choice) : Type 0 where
   pub reading : IsReading rules reads (taking members list) (Chooses rules.lists list) c
   pub all : HasUnknown rules (taking members list) → HasKey reading.items rest
 
 -- where the reader is not strict, and no reading ignores no member: a reading without a catch-all
 -- that ignores those of no known name
-pub record ReadsIgnoring (rules : Rules) (reads : Reads) (members : List Member) (list : ListId) (c : Choice) : Type 0 where
+pub record ReadsIgnoring (rules : Rules) (reads : Reads) (members : List Member) (list : ListId)
+    (c : Choice) : Type 0 where
   pub lenient : rules.strict ≡ false
   pub none_reads_all : (d : Choice) → ReadsAll rules reads members list d → ⊥
   pub reading : IsReading rules reads (ignoring members list) (Chooses rules.lists list) c

@@ -68,7 +68,8 @@ fn read_steps<'c, 'v, 'd>(
     requires sound { AreSound tables.now nodes.now memo.old.entries.items }
     requires object { IsObject tables.now nodes.now object.now }
     requires plan { IsPlan tables.now nodes.now object.now steps.now }
-    requires reads { (c : Choice) → ReadsList (rules_at tables.now) (ReadsValue (rules_at tables.now))
+    requires reads { (c : Choice)
+        → ReadsList (rules_at tables.now) (ReadsValue (rules_at tables.now))
         (object_view nodes.now object.now) (list_view object.now.list.now.id) c
         → ReadsObject (rules_at tables.now) (ReadsValue (rules_at tables.now))
         (list_view object.now.list.now.id) (members_in (value_of nodes.now object.now.node)) c }
