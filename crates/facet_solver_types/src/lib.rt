@@ -1,0 +1,6 @@
+//! Rust declarations as a checked catalogue of shapes.
+#![tactic(auto)]
+
+mod problem;
+mod token;
+mod tokens;

@@ -1,0 +1,4 @@
+//! From text to tokens.
+
+mod characters;
+mod closings;
