@@ -1,6 +1,6 @@
 -- A word, a byte at a time.
 use Rattle.std.proofs.Common.{◌≡◌, ℕ, suc, ◌+◌, ◌<◌, true, false, List, [], ◌∷◌, length, get_or, drop, cond, refl, ap, ◌∙◌, arith, add-one, drop-cons}
-use Rattle.facet_solver_types.specs.Characters.{continues_name, word_len}
+use Rattle.facet_solver_types.specs.Characters.{blank_len, continues_name, word_len}
 
 word_len_goes : (bytes : List ℕ) (b : ℕ) → continues_name (b ∷ bytes) ≡ true → word_len (b ∷ bytes) ≡ suc (word_len bytes)
 word_len_goes bytes b goes = ap (λ t. cond t (suc (word_len bytes)) 0) goes
@@ -17,3 +17,15 @@ word_len_more text at within goes =
 pub word_len_none : (text : List ℕ) → continues_name text ≡ false → word_len text ≡ 0
 word_len_none [] ends = refl
 word_len_none (b ∷ bytes) ends = ap (λ t. cond t (suc (word_len bytes)) 0) ends
+
+-- a word that begins has some bytes
+pub word_len_some : (text : List ℕ) → continues_name text ≡ true → 0 < word_len text
+unfolding continues_name blank_len
+word_len_some [] begins = absurd (cc)
+word_len_some (b ∷ bytes) begins = omega (arith, word_len_goes bytes b begins)
+
+-- where a name goes on, there is a byte
+pub some_byte : (text : List ℕ) → continues_name text ≡ true → 0 < length text
+unfolding continues_name blank_len
+some_byte [] begins = absurd (cc)
+some_byte (b ∷ bytes) begins = omega arith

@@ -1,2 +1,4 @@
 pub mod Characters
 pub mod Closings
+pub mod Spellings
+pub mod Words

@@ -2,3 +2,5 @@
 
 mod characters;
 mod closings;
+mod spelling;
+mod words;

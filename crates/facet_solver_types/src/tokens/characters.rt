@@ -1,5 +1,5 @@
 //! Blanks and the characters of names, as bytes of UTF-8.
-ghost use Rattle.std.specs.Prelude.{◌≡◌, ◌≢◌, ◌<◌, ◌≤◌, length, slice_index};
+ghost use Rattle.std.specs.Prelude.{◌≡◌, ◌≢◌, ◌<◌, ◌≤◌, IsTrue, length, slice_index};
 ghost use Rattle.facet_solver_types.specs.Characters.{begins_name, blank_len, continues_name, is_late_blank, word_len};
 
 /// The byte at an index, or 0 past the end.
@@ -53,9 +53,10 @@ pub(super) fn begins_name(text: &[u8]) -> bool
 }
 
 /// How many bytes the letters, digits and `_` take that stand first.
-#[tactic(auto, using(crate::proofs::Words::word_len_none))]
+#[tactic(auto, using(crate::proofs::Words::word_len_none, crate::proofs::Words::word_len_some))]
 pub(super) fn word_len(text: &[u8]) -> usize
     ensures value { result ≡ word_len text.now }
+    ensures some { IsTrue (continues_name text.now) → 0 < result }
     ensures within { result ≤ length text.now }
 {
     for (at, _) in text.iter().enumerate() {
