@@ -2,5 +2,7 @@
 
 mod characters;
 mod closings;
+mod marks;
 mod spelling;
+mod texts;
 mod words;
