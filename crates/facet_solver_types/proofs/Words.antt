@@ -1,4 +1,7 @@
 -- A word, a byte at a time.
+use Rattle.std.specs.Prelude.{slice_index}
+use Rattle.std.specs.Char.{is_ascii_digit}
+use Rattle.std.proofs.lemmas.Bool.Decides.{nat_tests}
 use Rattle.std.proofs.Common.{◌≡◌, ℕ, suc, ◌+◌, ◌<◌, true, false, List, [], ◌∷◌, length, get_or, drop, cond, refl, ap, ◌∙◌, arith, add-one, drop-cons}
 use Rattle.facet_solver_types.specs.Characters.{blank_len, continues_name, word_len}
 
@@ -29,3 +32,8 @@ pub some_byte : (text : List ℕ) → continues_name text ≡ true → 0 < lengt
 unfolding continues_name blank_len
 some_byte [] begins = absurd (cc)
 some_byte (b ∷ bytes) begins = omega arith
+
+-- a digit continues a name
+pub digit_continues : (text : List ℕ) → is_ascii_digit (slice_index text 0) ≡ true → continues_name text ≡ true
+unfolding continues_name
+digit_continues text digit = grind (arith, nat_tests)

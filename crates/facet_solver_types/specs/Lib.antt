@@ -4,3 +4,4 @@ pub mod Spellings
 pub mod Words
 pub mod Texts
 pub mod MarkTokens
+pub mod FirstParts

@@ -3,6 +3,7 @@
 mod characters;
 mod closings;
 mod marks;
+mod part;
 mod spelling;
 mod texts;
 mod words;
