@@ -1,1 +1,4 @@
 pub mod Words
+pub mod Boundaries
+pub mod Ends
+pub mod Cuts
