@@ -1,5 +1,5 @@
 -- A text may be cut round what stands first in it.
-use Rattle.std.proofs.Common.{◌≡◌, ℕ, zero, suc, ◌+◌, ◌<◌, ◌≤◌, Bool, true, false, ◌&&◌, ◌||◌, ◌==◌, cond, List, [], ◌∷◌, ◌++◌, length, get_or, drop, take, Option, Some, None, Result, Ok, Err, IfOk, IsTrue, refl, ap, sym, ◌∙◌, subst, arith, add-zero, length-drop, get_or-drop}
+use Rattle.std.proofs.Common.{◌≡◌, ℕ, zero, suc, ◌+◌, ◌<◌, ◌≤◌, Bool, true, false, ◌&&◌, ◌||◌, ◌==◌, cond, List, [], ◌∷◌, ◌++◌, length, get_or, drop, Option, Some, None, Result, Ok, Err, IfOk, refl, ap, sym, ◌∙◌, subst, arith, get_or-drop}
 use Rattle.std.specs.Prelude.{not, nat_le, slice_index, encode_utf8}
 use Rattle.std.specs.Char.{len_utf8}
 use Rattle.std.specs.Char.{is_ascii_digit}
@@ -25,7 +25,7 @@ use Rattle.facet_solver_types.specs.FirstParts.{first_part, first_token, gap_len
 use Rattle.facet_solver_types.specs.MarkTokens.{if_token, mark, single}
 use Rattle.facet_solver_types.specs.Spellings.{whole}
 use Rattle.facet_solver_types.specs.Texts.{begins_character, begins_text, character, character_len, character_until, opening_of, text_token, text_until}
-use Rattle.facet_solver_types.specs.Words.{begins_lifetime, begins_raw_name, lifetime, number, raw_name, word}
+use Rattle.facet_solver_types.specs.Words.{begins_lifetime, begins_raw_name, lifetime, raw_name}
 use Rattle.facet_solver_types.proofs.Boundaries.{word_cut}
 use Rattle.facet_solver_types.proofs.Ends.{closing_stands, comment_ended, last_hash, line_ended, raw_closing_stands, stands_in}
 
@@ -139,9 +139,9 @@ module _ (text : List ℕ) (utf8 : IsUtf8 text) where
       let inside = some_at text at 39 (omega arith) quote in
       either (IsCut text) (first == 92) _ _ (λ escaped. quoted_cut (at + 1) _ (omega arith) refl)
       (λ other.
-          let closes : get_or text (at + 1 + character_len first) 0 ≡ 39 = grind (arith, nat_tests, begins, other) in
-          let same : at + 1 + character_len first + 1 ≡ at + 2 + character_len first = omega arith in
-          cut_whole _ (at + 2 + character_len first) (subst (IsCharBoundary text) same (after (at + 1 + character_len first) 39 (omega arith) (omega arith) closes)))
+      let closes : get_or text (at + 1 + character_len first) 0 ≡ 39 = grind (arith, nat_tests, begins, other) in
+      let same : at + 1 + character_len first + 1 ≡ at + 2 + character_len first = omega arith in
+      cut_whole _ (at + 2 + character_len first) (subst (IsCharBoundary text) same (after (at + 1 + character_len first) 39 (omega arith) (omega arith) closes)))
 
   -- ---- words
 

@@ -1,10 +1,10 @@
 -- What stands where a text, a character or a comment ends.
-use Rattle.std.proofs.Common.{◌≡◌, ℕ, zero, suc, ◌+◌, ◌-◌, ◌*◌, ◌<◌, ◌≤◌, Bool, true, false, ◌&&◌, ◌==◌, cond, List, [], ◌∷◌, length, get_or, drop, Option, Some, None, refl, ap, sym, ◌∙◌, subst, arith, add-zero, length-drop, get_or-drop}
-use Rattle.std.specs.Prelude.{not, nat_le, slice_index, if◌then◌else◌}
+use Rattle.std.proofs.Common.{◌≡◌, ℕ, zero, suc, ◌+◌, ◌-◌, ◌<◌, ◌≤◌, Bool, true, false, ◌&&◌, ◌==◌, cond, List, [], ◌∷◌, length, get_or, drop, Some, refl, ap, sym, ◌∙◌, arith, length-drop, get_or-drop}
+use Rattle.std.specs.Prelude.{not, nat_le, slice_index}
 use Rattle.std.specs.List.{prefix_len}
 use Rattle.std.proofs.lemmas.Bool.Decides.{nat_tests}
 use Rattle.std.proofs.lemmas.List.Sums.{prefix_len-le-length, prefix_len_passes, prefix_len_stops}
-use Rattle.facet_solver_types.specs.Closings.{closing, comment_end, hashes, line_end, raw_closing}
+use Rattle.facet_solver_types.specs.Closings.{closing, comment_end, hashes, raw_closing}
 
 -- a byte stands in some bytes, which begin at an offset
 abbrev pub Stands : ℕ → ℕ → List ℕ → ℕ → Type 0
@@ -77,7 +77,7 @@ last_hash text (suc n) from at within (k, at_is, inside, is, many) =
     let hash : (get_or after n 0 == 35) ≡ true = prefix_len_passes (λ b. b == 35) after n 0 (omega arith) in
     let place : from + (k + 1 + n) ≡ at + suc n = omega arith in
     let same : get_or after n 0 ≡ get_or text (at + suc n) 0 =
-        get_or-drop (k + 1) (drop from text) n 0 ∙ get_or-drop from text (k + 1 + n) 0 ∙ ap (λ i. get_or text i 0) place in
+    get_or-drop (k + 1) (drop from text) n 0 ∙ get_or-drop from text (k + 1 + n) 0 ∙ ap (λ i. get_or text i 0) place in
     let is_hash : get_or after n 0 ≡ 35 = grind (arith, nat_tests, hash) in
     (omega (arith, fits, len, len2), omega (arith, same, is_hash), found.1)
 

@@ -5,3 +5,5 @@ pub mod Words
 pub mod Texts
 pub mod MarkTokens
 pub mod FirstParts
+pub mod Outcomes
+pub mod Brackets

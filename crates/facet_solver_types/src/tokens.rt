@@ -1,5 +1,6 @@
 //! From text to tokens.
 
+mod brackets;
 mod characters;
 mod closings;
 mod marks;

@@ -1,4 +1,3 @@
-use Rattle.std.proofs.Common.{sym, ◌∙◌}
 use Rattle.facet_solver_types.proofs.Words.{digit_continues}
 use Rattle.facet_solver_types.proofs.tokens.part.first_token.Goals as goal
 

@@ -1,0 +1,29 @@
+//! Why a text was not read, by an offset in it.
+ghost use Rattle.std.specs.Prelude.{◌≡◌};
+
+use crate::problem::Problem;
+use std::alloc::AllocFailed;
+
+/// Why a text was not read.
+#[derive(Clone, Copy, Debug, PartialEq, Eq)]
+pub(crate) enum Fault {
+    /// Something is wrong with the text.
+    At {
+        /// Where, in bytes.
+        offset: usize,
+        /// What.
+        problem: Problem,
+    },
+    /// Out of memory.
+    OutOfMemory,
+}
+
+impl<T: Drop> From<AllocFailed<T>> for Fault {
+    ghost use Rattle.facet_solver_types.specs.declared.fault.Fault.TheVariants.{OutOfMemory};
+
+    ghost from_gives = { λ _ e. e ≡ OutOfMemory };
+
+    fn from(_refused: AllocFailed<T>) -> Fault {
+        Fault::OutOfMemory
+    }
+}

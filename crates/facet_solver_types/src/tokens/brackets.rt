@@ -1,0 +1,53 @@
+//! The brackets of a text, which must match.
+ghost use Rattle.std.specs.Prelude.{◌≡◌, ◌≢◌, IfErr, OnOk, Some, None, reverse};
+ghost use Rattle.facet_solver_types.specs.Brackets.{open_after, same_bracket};
+ghost use Rattle.facet_solver_types.specs.declared.fault.Fault.TheVariants.{OutOfMemory};
+
+use crate::fault::Fault;
+use crate::problem::Problem;
+use crate::token::{Bracket, TokenKind};
+
+/// A bracket that is open.
+#[derive(Clone, Copy, Debug, PartialEq, Eq)]
+pub(super) struct Opened {
+    pub(super) bracket: Bracket,
+    /// Where it stands, in bytes.
+    pub(super) offset: usize,
+}
+
+/// Whether two brackets are of one kind.
+#[tactic(auto, unfolding(crate::specs::Brackets::same_bracket))]
+fn same_bracket(one: Bracket, other: Bracket) -> bool
+    ensures { result ≡ same_bracket one other }
+{
+    match (one, other) {
+        (Bracket::Round, Bracket::Round) => true,
+        (Bracket::Square, Bracket::Square) => true,
+        (Bracket::Curly, Bracket::Curly) => true,
+        _ => false,
+    }
+}
+
+/// Opens or closes a bracket, if a token is one.
+pub(super) fn follow(open: &mut Vec<Opened>, kind: TokenKind, offset: usize) -> Result<(), Fault>
+    ensures ok { OnOk result
+        (open_after kind offset (reverse open.old.items) ≡ Some (reverse open.new.items)) }
+    ensures fault { IfErr result (λ fault. fault ≢ OutOfMemory →
+        (fault ≡ Fault.At offset Problem.ClosesNothing)
+        × (open_after kind offset (reverse open.old.items) ≡ None)) }
+{
+    match kind {
+        TokenKind::Open(bracket) => {
+            open.push(Opened { bracket, offset })?;
+            Ok(())
+        }
+        TokenKind::Close(bracket) => match open.pop() {
+            Some(innermost) if same_bracket(innermost.bracket, bracket) => Ok(()),
+            _ => Err(Fault::At {
+                offset,
+                problem: Problem::ClosesNothing,
+            }),
+        },
+        _ => Ok(()),
+    }
+}
