@@ -15,30 +15,17 @@ use Rattle.std.proofs.lemmas.Str.{IsCharBoundary-start, IsCharBoundary-before_as
 use Rattle.facet_solver_types.specs.declared.problem.Problem.{Problem}
 use Rattle.facet_solver_types.specs.declared.problem.Problem.TheVariants.{OpenComment}
 use Rattle.facet_solver_types.specs.declared.token.TokenKind.{TokenKind}
-use Rattle.facet_solver_types.specs.declared.tokens.part.Part.{Part}
-use Rattle.facet_solver_types.specs.declared.tokens.part.Part.TheVariants.{Gap, Spelled}
 use Rattle.facet_solver_types.specs.declared.tokens.spelling.Spelling.{Spelling}
 use Rattle.facet_solver_types.specs.declared.tokens.texts.Opening.{Opening}
 use Rattle.facet_solver_types.specs.Characters.{begins_name, blank_len, is_late_blank, word_len}
 use Rattle.facet_solver_types.specs.Closings.{closing, comment_end, hashes, line_end, raw_closing}
-use Rattle.facet_solver_types.specs.FirstParts.{first_part, first_token, gap_len, part_after, spelled}
+use Rattle.facet_solver_types.specs.FirstParts.{MayCut, first_part, first_token, gap_len, part_after, spelled}
 use Rattle.facet_solver_types.specs.MarkTokens.{if_token, mark, single}
-use Rattle.facet_solver_types.specs.Spellings.{whole}
+use Rattle.facet_solver_types.specs.Spellings.{IsCut, whole}
 use Rattle.facet_solver_types.specs.Texts.{begins_character, begins_text, character, character_len, character_until, opening_of, text_token, text_until}
 use Rattle.facet_solver_types.specs.Words.{begins_lifetime, begins_raw_name, lifetime, raw_name}
 use Rattle.facet_solver_types.proofs.Boundaries.{word_cut}
 use Rattle.facet_solver_types.proofs.Ends.{closing_stands, comment_ended, last_hash, line_ended, raw_closing_stands, stands_in}
-
--- a text may be cut round a token, and round the token's own text
-pub record IsCut (text : List ℕ) (token : Spelling) : Type 0 where
-  pub start : IsCharBoundary text token.start
-  pub end : IsCharBoundary text token.end
-  pub len : IsCharBoundary text token.len
-
--- a text may be cut round a part
-abbrev pub MayCut : List ℕ → Part → Type 0
-MayCut text (Gap len) = IsCharBoundary text len
-MayCut text (Spelled token) = IsCut text token
 
 -- a fact of both outcomes of a test
 either : {A E : Type 0} (P : A → Type 0) (t : Bool) (a b : Result A E) → (t ≡ true → IfOk a P) → (t ≡ false → IfOk b P) → IfOk (cond t a b) P
@@ -189,7 +176,7 @@ module _ (text : List ℕ) (utf8 : IsUtf8 text) where
 
   -- ---- tokens
 
-  token_cut : 0 < length text → IfOk (first_token text) (IsCut text)
+  pub token_cut : 0 < length text → IfOk (first_token text) (IsCut text)
   unfolding first_token
   token_cut some =
       let first = slice_index text 0 in
@@ -250,7 +237,7 @@ module _ (text : List ℕ) (utf8 : IsUtf8 text) where
       let n = prefix_len (λ byte. not (byte == 10)) rest in
       IsCharBoundary-from_rest text 2 n inside (prefix_len-le-length (λ byte. not (byte == 10)) rest, λ within high. absurd (omega (arith, line_ended rest within)))
 
-  gap_cut : IfOk (gap_len text) (IsCharBoundary text)
+  pub gap_cut : IfOk (gap_len text) (IsCharBoundary text)
   unfolding gap_len
   gap_cut =
       let first = slice_index text 0 in

@@ -2,3 +2,4 @@ pub mod Words
 pub mod Boundaries
 pub mod Ends
 pub mod Cuts
+pub mod Parts

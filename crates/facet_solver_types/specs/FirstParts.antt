@@ -2,6 +2,7 @@
 use Rattle.std.specs.Prelude.{ℕ, ◌≤◌, ◌<◌, false, ◌&&◌, ◌==◌, if◌then◌else◌, List, length, drop, slice_index, Result, Ok, Err}
 use Rattle.std.specs.Char.{is_ascii_digit}
 use Rattle.std.specs.Option.{ok_or}
+use Rattle.std.specs.Str.{IsCharBoundary}
 use Rattle.facet_solver_types.specs.declared.problem.Problem.{Problem}
 use Rattle.facet_solver_types.specs.declared.problem.Problem.TheVariants.{OpenComment}
 use Rattle.facet_solver_types.specs.declared.tokens.part.Part.{Part}
@@ -10,7 +11,7 @@ use Rattle.facet_solver_types.specs.declared.tokens.spelling.Spelling.{Spelling}
 use Rattle.facet_solver_types.specs.Characters.{begins_name, blank_len}
 use Rattle.facet_solver_types.specs.Closings.{comment_end, line_end}
 use Rattle.facet_solver_types.specs.MarkTokens.{mark}
-use Rattle.facet_solver_types.specs.Spellings.{IsIn}
+use Rattle.facet_solver_types.specs.Spellings.{IsCut, IsIn}
 use Rattle.facet_solver_types.specs.Texts.{begins_character, begins_text, character, text_token}
 use Rattle.facet_solver_types.specs.Words.{begins_lifetime, begins_raw_name, lifetime, number, raw_name, word}
 
@@ -55,3 +56,8 @@ first_part text = part_after text (gap_len text)
 abbrev pub IsPartOf : List ℕ → Part → Type 0
 IsPartOf text (Gap len) = (0 < len) × (len ≤ length text)
 IsPartOf text (Spelled token) = IsIn text token
+
+-- a text may be cut round a part
+abbrev pub MayCut : List ℕ → Part → Type 0
+MayCut text (Gap len) = IsCharBoundary text len
+MayCut text (Spelled token) = IsCut text token

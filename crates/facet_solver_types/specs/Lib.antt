@@ -7,3 +7,4 @@ pub mod MarkTokens
 pub mod FirstParts
 pub mod Outcomes
 pub mod Brackets
+pub mod Tokens

@@ -1,6 +1,7 @@
 //! What stands first in a text.
 ghost use Rattle.std.specs.Prelude.{◌≡◌, ◌<◌, ◌≤◌, IfOk, length};
-ghost use Rattle.facet_solver_types.specs.FirstParts.{IsPartOf, first_part, first_token, gap_len};
+ghost use Rattle.std.specs.Str.{IsUtf8};
+ghost use Rattle.facet_solver_types.specs.FirstParts.{IsPartOf, MayCut, first_part, first_token, gap_len};
 ghost use Rattle.facet_solver_types.specs.Spellings.{IsIn};
 
 use super::characters::{begins_name, blank_len, byte_at};
@@ -66,6 +67,7 @@ pub(super) fn first_part(text: &[u8]) -> Result<Part, Problem>
     requires { 0 < length text.now }
     ensures value { result ≡ first_part text.now }
     ensures within { IfOk result (IsPartOf text.now) }
+    ensures cut { IsUtf8 text.now → IfOk result (MayCut text.now) }
 {
     let gap = gap_len(text)?;
     if gap == 0 {
