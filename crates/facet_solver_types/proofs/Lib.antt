@@ -3,3 +3,4 @@ pub mod Boundaries
 pub mod Ends
 pub mod Cuts
 pub mod Parts
+pub mod Turns

@@ -8,3 +8,4 @@ pub mod FirstParts
 pub mod Outcomes
 pub mod Brackets
 pub mod Tokens
+pub mod Runs

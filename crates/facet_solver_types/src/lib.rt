@@ -2,6 +2,7 @@
 #![tactic(auto)]
 
 mod fault;
+mod grammar;
 mod problem;
 mod token;
 mod tokens;

@@ -1,0 +1,3 @@
+//! From tokens to items.
+
+mod run;
