@@ -4,3 +4,5 @@ pub mod Ends
 pub mod Cuts
 pub mod Parts
 pub mod Turns
+pub mod Views
+pub mod Attributes

@@ -1,17 +1,10 @@
 -- The brackets of a text, which must match.
-use Rattle.std.specs.Prelude.{ℕ, Bool, true, false, if◌then◌else◌, List, [], ◌∷◌, Option, Some, None}
+use Rattle.std.specs.Prelude.{ℕ, if◌then◌else◌, List, [], ◌∷◌, Option, Some, None}
 use Rattle.facet_solver_types.specs.declared.token.Bracket.{Bracket}
-use Rattle.facet_solver_types.specs.declared.token.Bracket.TheVariants.{Round, Square, Curly}
 use Rattle.facet_solver_types.specs.declared.token.TokenKind.{TokenKind}
 use Rattle.facet_solver_types.specs.declared.token.TokenKind.TheVariants.{Open, Close}
 use Rattle.facet_solver_types.specs.declared.tokens.brackets.Opened.{Opened}
-
--- whether two brackets are of one kind
-unfoldable pub same_bracket : Bracket → Bracket → Bool
-same_bracket Round Round = true
-same_bracket Square Square = true
-same_bracket Curly Curly = true
-same_bracket one other = false
+use Rattle.facet_solver_types.specs.SameBracket.{same_bracket}
 
 -- the brackets outside, where one closes the innermost of those that are open
 abbrev pub closed_by : Bracket → List Opened → Option (List Opened)

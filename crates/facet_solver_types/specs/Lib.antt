@@ -6,6 +6,9 @@ pub mod Texts
 pub mod MarkTokens
 pub mod FirstParts
 pub mod Outcomes
+pub mod SameBracket
 pub mod Brackets
 pub mod Tokens
 pub mod Runs
+pub mod FirstTokens
+pub mod Prefixes

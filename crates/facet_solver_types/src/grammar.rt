@@ -1,3 +1,5 @@
 //! From tokens to items.
 
+mod first;
+mod prefixes;
 mod run;

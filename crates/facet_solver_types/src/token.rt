@@ -1,4 +1,6 @@
 //! The tokens of Rust.
+ghost use Rattle.std.specs.Prelude.{◌≡◌};
+ghost use Rattle.facet_solver_types.specs.SameBracket.{same_bracket};
 
 /// A kind of brackets.
 #[derive(Clone, Copy, Debug, PartialEq, Eq)]
@@ -9,6 +11,19 @@ pub(crate) enum Bracket {
     Square,
     /// `{` and `}`.
     Curly,
+}
+
+/// Whether two brackets are of one kind.
+#[tactic(auto, unfolding(crate::specs::SameBracket::same_bracket))]
+pub(crate) fn same_bracket(one: Bracket, other: Bracket) -> bool
+    ensures { result ≡ same_bracket one other }
+{
+    match (one, other) {
+        (Bracket::Round, Bracket::Round) => true,
+        (Bracket::Square, Bracket::Square) => true,
+        (Bracket::Curly, Bracket::Curly) => true,
+        _ => false,
+    }
 }
 
 /// What a token is.

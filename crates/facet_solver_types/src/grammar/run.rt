@@ -49,7 +49,7 @@ pub(super) fn is_mark(byte: u8, kind: TokenKind) -> bool
 }
 
 /// Whether a token closes a bracket.
-fn is_close(kind: TokenKind) -> bool
+pub(super) fn is_close(kind: TokenKind) -> bool
     ensures { result ≡ is_close kind }
 {
     match kind {

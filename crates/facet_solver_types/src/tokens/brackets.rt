@@ -1,11 +1,11 @@
 //! The brackets of a text, which must match.
 ghost use Rattle.std.specs.Prelude.{◌≡◌, ◌≢◌, IfErr, OnOk, Some, None, reverse};
-ghost use Rattle.facet_solver_types.specs.Brackets.{open_after, same_bracket};
+ghost use Rattle.facet_solver_types.specs.Brackets.{open_after};
 ghost use Rattle.facet_solver_types.specs.declared.fault.Fault.TheVariants.{OutOfMemory};
 
 use crate::fault::Fault;
 use crate::problem::Problem;
-use crate::token::{Bracket, TokenKind};
+use crate::token::{Bracket, TokenKind, same_bracket};
 
 /// A bracket that is open.
 #[derive(Clone, Copy, Debug, PartialEq, Eq)]
@@ -13,19 +13,6 @@ pub(super) struct Opened {
     pub(super) bracket: Bracket,
     /// Where it stands, in bytes.
     pub(super) offset: usize,
-}
-
-/// Whether two brackets are of one kind.
-#[tactic(auto, unfolding(crate::specs::Brackets::same_bracket))]
-fn same_bracket(one: Bracket, other: Bracket) -> bool
-    ensures { result ≡ same_bracket one other }
-{
-    match (one, other) {
-        (Bracket::Round, Bracket::Round) => true,
-        (Bracket::Square, Bracket::Square) => true,
-        (Bracket::Curly, Bracket::Curly) => true,
-        _ => false,
-    }
 }
 
 /// Opens or closes a bracket, if a token is one.
