@@ -6,3 +6,6 @@ pub mod Parts
 pub mod Turns
 pub mod Views
 pub mod Attributes
+pub mod Ascii
+pub mod Pieces
+pub mod Digits

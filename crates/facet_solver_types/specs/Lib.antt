@@ -12,3 +12,6 @@ pub mod Tokens
 pub mod Runs
 pub mod FirstTokens
 pub mod Prefixes
+pub mod Cases
+pub mod Literals
+pub mod Meanings

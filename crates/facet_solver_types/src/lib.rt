@@ -1,8 +1,14 @@
 //! Rust declarations as a checked catalogue of shapes.
 #![tactic(auto)]
 
+mod attribute;
+mod case;
 mod fault;
 mod grammar;
+mod literal;
 mod problem;
 mod token;
 mod tokens;
+
+pub use case::Case;
+pub use literal::{quoted_value, raw_value};

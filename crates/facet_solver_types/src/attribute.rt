@@ -1,0 +1,3 @@
+//! The attributes of serde and facet.
+
+mod meaning;
