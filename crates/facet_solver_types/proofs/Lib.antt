@@ -4,5 +4,6 @@ pub mod Ends
 pub mod Cuts
 pub mod Parts
 pub mod Turns
+pub mod ListedLifetimes
 pub mod Views
 pub mod Attributes

@@ -12,3 +12,5 @@ pub mod Tokens
 pub mod Runs
 pub mod FirstTokens
 pub mod Prefixes
+pub mod Passages
+pub mod Lifetimes

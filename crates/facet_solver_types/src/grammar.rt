@@ -1,5 +1,7 @@
 //! From tokens to items.
 
 mod first;
+mod lifetimes;
+mod passage;
 mod prefixes;
 mod run;
