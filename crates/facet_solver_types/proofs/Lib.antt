@@ -4,8 +4,10 @@ pub mod Ends
 pub mod Cuts
 pub mod Parts
 pub mod Turns
+pub mod ListedLifetimes
 pub mod Views
 pub mod Attributes
 pub mod Ascii
 pub mod Pieces
 pub mod Digits
+pub mod Entered

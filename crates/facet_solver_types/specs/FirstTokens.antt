@@ -3,7 +3,7 @@ use Rattle.std.specs.Prelude.{ℕ, Bool, true, false, List, [], ◌∷◌}
 use Rattle.std.specs.Str.{bytes_eq}
 use Rattle.facet_solver_types.specs.declared.token.Bracket.{Bracket}
 use Rattle.facet_solver_types.specs.declared.token.TokenKind.{TokenKind}
-use Rattle.facet_solver_types.specs.declared.token.TokenKind.TheVariants.{Name, RawName, Keyword, Lifetime, Open}
+use Rattle.facet_solver_types.specs.declared.token.TokenKind.TheVariants.{Name, RawName, Keyword, Lifetime, PathMark, Open}
 use Rattle.facet_solver_types.specs.Runs.{is_close, is_mark}
 use Rattle.facet_solver_types.specs.SameBracket.{same_bracket}
 use Rattle.facet_solver_types.specs.Tokens.{Token}
@@ -53,3 +53,13 @@ sees_name (token ∷ tokens) = is_name token.kind
 abbrev pub is_lifetime : TokenKind → Bool
 is_lifetime Lifetime = true
 is_lifetime kind = false
+
+-- whether a token is `::`
+abbrev pub is_path : TokenKind → Bool
+is_path PathMark = true
+is_path kind = false
+
+-- whether the first token is `::`
+abbrev pub sees_path : List Token → Bool
+sees_path [] = false
+sees_path (token ∷ tokens) = is_path token.kind

@@ -12,6 +12,9 @@ pub mod Tokens
 pub mod Runs
 pub mod FirstTokens
 pub mod Prefixes
+pub mod Passages
+pub mod Lifetimes
 pub mod Cases
 pub mod Literals
 pub mod Meanings
+pub mod Entries

@@ -1,5 +1,8 @@
 //! From tokens to items.
 
+mod entry;
 mod first;
+mod lifetimes;
+mod passage;
 mod prefixes;
 mod run;

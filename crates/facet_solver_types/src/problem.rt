@@ -15,4 +15,41 @@ pub enum Problem {
     OpenBracket,
     /// A bracket closes nothing, or one of another kind.
     ClosesNothing,
+    /// Something else stands where this is expected.
+    Expected(Expected),
+    /// A type or const parameter, or `where`.
+    Generic,
+}
+
+/// What is expected where something else stands.
+#[derive(Clone, Copy, Debug, PartialEq, Eq)]
+pub enum Expected {
+    /// A name.
+    Name,
+    /// A type.
+    Type,
+    /// An item.
+    Item,
+    /// A lifetime.
+    Lifetime,
+    /// `,` or `>` after a lifetime.
+    LifetimeEnd,
+    /// `{`, `(` or `;` of a struct.
+    Body,
+    /// `{` of an enum.
+    Braces,
+    /// `:` after the name of a field.
+    Colon,
+    /// `;` after an item.
+    Semicolon,
+    /// `;` or `{` after the head of an item.
+    HeadEnd,
+    /// A bracket of a macro's call.
+    Bracket,
+    /// `,` or `}` after a variant.
+    VariantEnd,
+    /// The name of an attribute.
+    Attribute,
+    /// `=`, `(`, `,` or `)` after the name of an attribute.
+    AttributeEnd,
 }

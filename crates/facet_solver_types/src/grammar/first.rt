@@ -1,6 +1,6 @@
 //! What the first of some tokens is.
 ghost use Rattle.std.specs.Prelude.{◌≡◌, ◌<◌, IsTrue, length};
-ghost use Rattle.facet_solver_types.specs.FirstTokens.{is_name, is_open, is_word, sees_close, sees_mark, sees_name, sees_open, sees_word};
+ghost use Rattle.facet_solver_types.specs.FirstTokens.{is_lifetime, is_name, is_open, is_path, is_word, sees_close, sees_mark, sees_name, sees_open, sees_path, sees_word};
 ghost use Rattle.facet_solver_types.specs.Tokens.{tokens_view};
 
 use super::run::{is_close, is_mark};
@@ -49,7 +49,7 @@ pub(super) fn sees_close(tokens: &[Token<'_>]) -> bool
 }
 
 /// Whether a token of this kind and text is a keyword.
-fn is_word(word: &str, kind: TokenKind, text: &str) -> bool
+pub(super) fn is_word(word: &str, kind: TokenKind, text: &str) -> bool
     ensures { result ≡ is_word word.now kind text.now }
 {
     match kind {
@@ -87,5 +87,36 @@ pub(super) fn sees_name(tokens: &[Token<'_>]) -> bool
     match tokens.first() {
         Some(token) => is_name(token.kind),
         None => false,
+    }
+}
+
+/// Whether a token is a lifetime.
+pub(super) fn is_lifetime(kind: TokenKind) -> bool
+    ensures { result ≡ is_lifetime kind }
+{
+    match kind {
+        TokenKind::Lifetime => true,
+        _ => false,
+    }
+}
+
+/// Whether the first token is `::`.
+pub(super) fn sees_path(tokens: &[Token<'_>]) -> bool
+    ensures value { result ≡ sees_path (tokens_view tokens.now) }
+    ensures some { IsTrue result → 0 < length tokens.now }
+{
+    match tokens.first() {
+        Some(token) => is_path(token.kind),
+        None => false,
+    }
+}
+
+/// Whether a token is `::`.
+fn is_path(kind: TokenKind) -> bool
+    ensures { result ≡ is_path kind }
+{
+    match kind {
+        TokenKind::PathMark => true,
+        _ => false,
     }
 }
