@@ -11,3 +11,5 @@ pub mod Ascii
 pub mod Pieces
 pub mod Digits
 pub mod Entered
+pub mod EnteredAttributes
+pub mod Results

@@ -18,3 +18,4 @@ pub mod Cases
 pub mod Literals
 pub mod Meanings
 pub mod Entries
+pub mod AttributeEntries

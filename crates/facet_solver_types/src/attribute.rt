@@ -1,3 +1,5 @@
 //! The attributes of serde and facet.
 
 mod meaning;
+
+pub use meaning::Misuse;

@@ -2,7 +2,7 @@
 ghost use Rattle.std.specs.Prelude.{◌≡◌};
 
 use crate::problem::Problem;
-use std::alloc::AllocFailed;
+use std::alloc::{AllocError, AllocFailed};
 
 /// Why a text was not read.
 #[derive(Clone, Copy, Debug, PartialEq, Eq)]
@@ -24,6 +24,16 @@ impl<T: Drop> From<AllocFailed<T>> for Fault {
     ghost from_gives = { λ _ e. e ≡ OutOfMemory };
 
     fn from(_refused: AllocFailed<T>) -> Fault {
+        Fault::OutOfMemory
+    }
+}
+
+impl From<AllocError> for Fault {
+    ghost use Rattle.facet_solver_types.specs.declared.fault.Fault.TheVariants.{OutOfMemory};
+
+    ghost from_gives = { λ _ e. e ≡ OutOfMemory };
+
+    fn from(_refused: AllocError) -> Fault {
         Fault::OutOfMemory
     }
 }

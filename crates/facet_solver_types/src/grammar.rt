@@ -1,5 +1,6 @@
 //! From tokens to items.
 
+mod attributes;
 mod entry;
 mod first;
 mod lifetimes;

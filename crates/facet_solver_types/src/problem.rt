@@ -1,5 +1,7 @@
 //! What is wrong with a text.
 
+use crate::attribute::Misuse;
+
 /// What is wrong at a place of a text.
 #[derive(Clone, Copy, Debug, PartialEq, Eq)]
 pub enum Problem {
@@ -19,6 +21,8 @@ pub enum Problem {
     Expected(Expected),
     /// A type or const parameter, or `where`.
     Generic,
+    /// An attribute that means nothing there.
+    Misused(Misuse),
 }
 
 /// What is expected where something else stands.
@@ -50,6 +54,8 @@ pub enum Expected {
     VariantEnd,
     /// The name of an attribute.
     Attribute,
+    /// `(` after serde or facet.
+    AttributeList,
     /// `=`, `(`, `,` or `)` after the name of an attribute.
     AttributeEnd,
 }

@@ -72,7 +72,7 @@ fn held<'s, 't>(passage: Passage<'s, 't>) -> Result<EntryValue<'s, 't>, Fault>
 }
 
 /// What stands after the name of an entry.
-fn value_at<'s, 't>(passage: Passage<'s, 't>) -> Result<EntryValue<'s, 't>, Fault>
+pub(super) fn value_at<'s, 't>(passage: Passage<'s, 't>) -> Result<EntryValue<'s, 't>, Fault>
     ensures ok { IfOk result (λ value. value_at (passage_view passage.entry) ≡ Ok (value_view value)) }
     ensures fault { IfErr result (λ fault. value_at (passage_view passage.entry) ≡ Err fault) }
 {

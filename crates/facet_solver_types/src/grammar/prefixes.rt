@@ -16,7 +16,7 @@ fn attribute_marks(inner: bool) -> usize
 
 /// Whether an attribute stands first.
 #[tactic(auto, unfolding(crate::specs::Prefixes::begins_attribute))]
-fn begins_attribute(inner: bool, tokens: &[Token<'_>]) -> bool
+pub(super) fn begins_attribute(inner: bool, tokens: &[Token<'_>]) -> bool
     ensures value { result ≡ begins_attribute inner (tokens_view tokens.now) }
     ensures some { IsTrue result → attribute_marks inner < length tokens.now }
 {
@@ -30,7 +30,7 @@ fn begins_attribute(inner: bool, tokens: &[Token<'_>]) -> bool
 }
 
 /// How many tokens an attribute has.
-fn attribute_len(inner: bool, tokens: &[Token<'_>]) -> usize
+pub(super) fn attribute_len(inner: bool, tokens: &[Token<'_>]) -> usize
     requires { attribute_marks inner < length tokens.now }
     ensures value { result ≡ attribute_len inner (tokens_view tokens.now) }
     ensures within { (0 < result) × (result ≤ length tokens.now) }

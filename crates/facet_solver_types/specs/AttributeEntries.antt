@@ -1,0 +1,85 @@
+-- The entries of the attributes of serde and facet that stand before something.
+use Rattle.std.specs.Prelude.{ℕ, zero, suc, ◌-◌, Bool, true, false, ◌&&◌, ◌||◌, if◌then◌else◌, List, [], ◌∷◌, ◌++◌, codes, Result, Ok, Err}
+use Rattle.std.specs.Str.{bytes_eq}
+use Rattle.facet_solver_types.specs.declared.attribute.meaning.Misuse.TheVariants.{Unsupported}
+use Rattle.facet_solver_types.specs.declared.fault.Fault.{Fault}
+use Rattle.facet_solver_types.specs.declared.fault.Fault.TheVariants.{At}
+use Rattle.facet_solver_types.specs.declared.problem.Expected.TheVariants.{AttributeList}
+use Rattle.facet_solver_types.specs.declared.problem.Problem.TheVariants.{Misused}
+use Rattle.facet_solver_types.specs.declared.token.Bracket.TheVariants.{Round}
+use Rattle.facet_solver_types.specs.Entries.{Entry, EntryValue, and_then, entries, holds, is_over, value_at}
+use Rattle.facet_solver_types.specs.FirstTokens.{is_name, sees_open}
+use Rattle.facet_solver_types.specs.Passages.{Passage, after, inside, unexpected}
+use Rattle.facet_solver_types.specs.Prefixes.{attribute_len, begins_attribute}
+use Rattle.facet_solver_types.specs.Tokens.{Token}
+
+-- entries, or the first fault
+abbrev pub Entries : Type 0
+Entries = Result (List Entry) Fault
+
+-- whether a token is a name of this text
+abbrev pub is_named : List ℕ → Token → Bool
+is_named text token = is_name token.kind && bytes_eq token.text text
+
+-- whether a token is the name of serde or of facet
+abbrev pub is_ours : Token → Bool
+is_ours token = is_named (codes "serde") token || is_named (codes "facet") token
+
+-- whether a list of serde or of facet stands somewhere among tokens
+abbrev pub has_list : List Token → Bool
+has_list [] = false
+has_list (token ∷ tokens) = (is_ours token && sees_open Round tokens) || has_list tokens
+
+-- whether an attribute of another name asks what only serde's or facet's own can say, by its name and what stands behind it
+abbrev pub is_refused : Token → List Token → Bool
+is_refused name behind =
+    if is_named (codes "cfg_attr") name then has_list behind
+    else (if is_named (codes "serde_as") name then sees_open Round behind
+    else (is_over behind && (is_named (codes "flatten") name || is_named (codes "untagged") name)))
+
+-- the entries of a list in brackets; another value is none
+abbrev pub in_list : Passage → EntryValue → Entries
+in_list behind (holds list) = entries list
+in_list behind value = Err (unexpected AttributeList behind)
+
+-- the entries of serde's or facet's attribute, by what stands behind its name
+abbrev pub own_entries : Passage → Entries
+own_entries behind = and_then (value_at behind) (in_list behind)
+
+-- the entries of an attribute of that name, by what stands behind it and by what stands in its brackets
+abbrev pub named_entries : Token → List Token → Passage → Entries
+named_entries name behind inner =
+    if is_ours name then own_entries (after 1 inner)
+    else (if is_refused name behind then Err (At name.offset (Misused Unsupported)) else Ok [])
+
+-- the entries of an attribute whose brackets hold these tokens
+abbrev pub entries_of : List Token → Passage → Entries
+entries_of [] inner = Ok []
+entries_of (name ∷ behind) inner = named_entries name behind inner
+
+-- the entries of an attribute, by what stands in its brackets: none where it is neither serde's nor facet's
+abbrev pub entries_in : Passage → Entries
+entries_in inner = entries_of inner.tokens inner
+
+-- entries, and then others
+abbrev pub joined : Entries → Entries → Entries
+joined first later = and_then first (λ es. and_then later (λ others. Ok (es ++ others)))
+
+-- the entries of the attribute that stands first in some tokens
+abbrev pub first_entries : ℕ → List Token → Entries
+first_entries end tokens = entries_in (inside (after 1 (record { tokens = tokens; end = end })))
+
+-- The entries of attributes. The first `passed` tokens belong to the one before.
+unfoldable pub attributes_entries_from : ℕ → ℕ → List Token → Entries
+attributes_entries_from passed end [] = Ok []
+attributes_entries_from (suc passed) end (token ∷ tokens) =
+    attributes_entries_from passed end tokens
+attributes_entries_from zero end (token ∷ tokens) =
+    if begins_attribute false (token ∷ tokens)
+    then joined (first_entries end (token ∷ tokens))
+    (attributes_entries_from (attribute_len false (token ∷ tokens) - 1) end tokens)
+    else Ok []
+
+-- the entries of all attributes of serde and facet that stand first
+abbrev pub attribute_entries : Passage → Entries
+attribute_entries passage = attributes_entries_from 0 passage.end passage.tokens

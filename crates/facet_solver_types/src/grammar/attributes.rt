@@ -1,0 +1,115 @@
+//! The entries of the attributes of serde and facet that stand before something.
+ghost use Rattle.std.specs.Prelude.{◌≡◌, ◌≢◌, Err, IfErr, IfOk, Ok, map};
+ghost use Rattle.facet_solver_types.specs.AttributeEntries.{attribute_entries, entries_in, has_list, is_named, is_ours, is_refused, own_entries};
+ghost use Rattle.facet_solver_types.specs.Entries.{entry_view};
+ghost use Rattle.facet_solver_types.specs.Passages.{passage_view};
+ghost use Rattle.facet_solver_types.specs.Tokens.{token_view, tokens_view};
+ghost use Rattle.facet_solver_types.specs.declared.fault.Fault.TheVariants.{OutOfMemory};
+
+use super::entry::{Entry, EntryValue, entries, value_at};
+use super::first::{is_name, sees_open};
+use super::passage::Passage;
+use super::prefixes::{attribute_len, begins_attribute};
+use crate::attribute::Misuse;
+use crate::fault::Fault;
+use crate::problem::{Expected, Problem};
+use crate::token::{Bracket, Token};
+use std::alloc::Global;
+
+/// Whether a token is a name of this text.
+fn is_named(text: &str, token: &Token<'_>) -> bool
+    ensures { result ≡ is_named text.now (token_view token.now) }
+{
+    is_name(token.kind) && token.text == text
+}
+
+/// Whether a token is the name of serde or of facet.
+fn is_ours(token: &Token<'_>) -> bool
+    ensures { result ≡ is_ours (token_view token.now) }
+{
+    is_named("serde", token) || is_named("facet", token)
+}
+
+/// Whether a list of serde or of facet stands somewhere among tokens.
+fn has_list(tokens: &[Token<'_>]) -> bool
+    ensures { result ≡ has_list (tokens_view tokens.now) }
+{
+    for at in 0..tokens.len() {
+        if is_ours(&tokens[at]) && sees_open(Bracket::Round, &tokens[at + 1..]) {
+            return true;
+        }
+    }
+    false
+}
+
+/// Whether an attribute of another name asks what only serde's or facet's own can say, by its name
+/// and what stands behind it.
+fn is_refused(name: &Token<'_>, behind: &[Token<'_>]) -> bool
+    ensures { result ≡ is_refused (token_view name.now) (tokens_view behind.now) }
+{
+    if is_named("cfg_attr", name) {
+        return has_list(behind);
+    }
+    if is_named("serde_as", name) {
+        return sees_open(Bracket::Round, behind);
+    }
+    behind.is_empty() && (is_named("flatten", name) || is_named("untagged", name))
+}
+
+/// The entries of serde's or facet's attribute, by what stands behind its name.
+fn own_entries<'s, 't>(alloc: Global, behind: Passage<'s, 't>) -> Result<Vec<Entry<'s, 't>>, Fault>
+    ensures ok { IfOk result (λ found. own_entries (passage_view behind.entry)
+        ≡ Ok (map entry_view found.items)) }
+    ensures fault { IfErr result (λ fault. fault ≢ OutOfMemory
+        → own_entries (passage_view behind.entry) ≡ Err fault) }
+{
+    match value_at(behind)? {
+        EntryValue::Holds(list) => entries(alloc, list),
+        _ => Err(behind.unexpected(Expected::AttributeList)),
+    }
+}
+
+/// The entries of an attribute, by what stands in its brackets: none where it is neither serde's
+/// nor facet's.
+fn entries_in<'s, 't>(alloc: Global, inner: Passage<'s, 't>) -> Result<Vec<Entry<'s, 't>>, Fault>
+    ensures ok { IfOk result (λ found. entries_in (passage_view inner.entry)
+        ≡ Ok (map entry_view found.items)) }
+    ensures fault { IfErr result (λ fault. fault ≢ OutOfMemory
+        → entries_in (passage_view inner.entry) ≡ Err fault) }
+{
+    let Some((name, behind)) = inner.tokens.split_first() else {
+        return Ok(Vec::new(alloc));
+    };
+    if is_ours(name) {
+        return own_entries(alloc, inner.after(1));
+    }
+    if is_refused(name, behind) {
+        return Err(Fault::At {
+            offset: name.offset,
+            problem: Problem::Misused(Misuse::Unsupported),
+        });
+    }
+    Ok(Vec::new(alloc))
+}
+
+/// The entries of all attributes of serde and facet that stand first.
+pub(crate) fn attribute_entries<'s, 't>(
+    alloc: Global,
+    passage: Passage<'s, 't>,
+) -> Result<Vec<Entry<'s, 't>>, Fault>
+    ensures ok { IfOk result (λ found. attribute_entries (passage_view passage.entry)
+        ≡ Ok (map entry_view found.items)) }
+    ensures fault { IfErr result (λ fault. fault ≢ OutOfMemory
+        → attribute_entries (passage_view passage.entry) ≡ Err fault) }
+{
+    let mut found = Vec::new(alloc);
+    let mut rest = passage;
+    while begins_attribute(false, rest.tokens) {
+        match entries_in(alloc, rest.after(1).inside()) {
+            Ok(more) => found.extend_from_slice(&more)?,
+            Err(fault) => return Err(fault),
+        }
+        rest = rest.after(attribute_len(false, rest.tokens));
+    }
+    Ok(found)
+}
