@@ -14,3 +14,6 @@ pub mod FirstTokens
 pub mod Prefixes
 pub mod Passages
 pub mod Lifetimes
+pub mod Declarations
+pub mod Pieces
+pub mod Fields

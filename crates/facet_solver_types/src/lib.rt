@@ -3,6 +3,7 @@
 
 mod fault;
 mod grammar;
+mod item;
 mod problem;
 mod token;
 mod tokens;
