@@ -17,3 +17,4 @@ pub mod Lifetimes
 pub mod Declarations
 pub mod Pieces
 pub mod Fields
+pub mod Bodies

@@ -1,5 +1,6 @@
 //! From tokens to items.
 
+mod bodies;
 mod fields;
 mod first;
 mod lifetimes;
