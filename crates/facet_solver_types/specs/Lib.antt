@@ -18,3 +18,4 @@ pub mod Declarations
 pub mod Pieces
 pub mod Fields
 pub mod Bodies
+pub mod Starts

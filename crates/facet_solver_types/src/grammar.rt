@@ -7,3 +7,4 @@ mod lifetimes;
 mod passage;
 mod prefixes;
 mod run;
+mod starts;
