@@ -19,3 +19,4 @@ pub mod Pieces
 pub mod Fields
 pub mod Bodies
 pub mod Starts
+pub mod Items

@@ -120,6 +120,13 @@ start_of tokens =
     else (if is_some (call_len tokens) then Call
     else Unknown)))))
 
+-- whether an item declares a type that begins so
+abbrev pub is_declaration : Start → Bool
+is_declaration Struct = true
+is_declaration Enum = true
+is_declaration Alias = true
+is_declaration start = false
+
 -- up to what an item goes that begins so: `;`, or `;` or braces
 abbrev pub run_of : Start → Run
 run_of Alias = run.Statement

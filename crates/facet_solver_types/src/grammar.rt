@@ -3,6 +3,7 @@
 mod bodies;
 mod fields;
 mod first;
+mod items;
 mod lifetimes;
 mod passage;
 mod prefixes;

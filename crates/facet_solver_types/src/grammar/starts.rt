@@ -1,8 +1,8 @@
 //! How an item begins, and how many tokens it has.
-ghost use Rattle.std.specs.Prelude.{◌≡◌, ◌+◌, ◌<◌, ◌≤◌, IfSome, IsTrue, length};
+ghost use Rattle.std.specs.Prelude.{◌≡◌, ◌+◌, ◌<◌, ◌≤◌, IfSome, IsTrue, length, true};
 ghost use Rattle.std.specs.List.{list_any};
 ghost use Rattle.facet_solver_types.specs.FirstTokens.{sees_word};
-ghost use Rattle.facet_solver_types.specs.Starts.{bare_len, begins_constant, begins_head, begins_statement, call_len, end_len, is_broken, is_called, is_path_mark, is_plain, is_segment, item_len, path_len, path_step, run_of, sees_path_mark, sees_plain, start_of};
+ghost use Rattle.facet_solver_types.specs.Starts.{bare_len, begins_constant, begins_head, begins_statement, call_len, end_len, is_broken, is_called, is_declaration, is_path_mark, is_plain, is_segment, item_len, path_len, path_step, run_of, sees_path_mark, sees_plain, start_of};
 ghost use Rattle.facet_solver_types.specs.Tokens.{tokens_view};
 
 use super::first::{is_name, is_word, sees_mark, sees_name, sees_open, sees_word};
@@ -211,7 +211,8 @@ pub(super) fn call_len(tokens: &[Token<'_>]) -> Option<usize>
 /// How an item begins, after attributes and `pub`.
 #[tactic(auto, unfolding(crate::specs::Starts::start_of))]
 pub(super) fn start_of(tokens: &[Token<'_>]) -> Start
-    ensures { result ≡ start_of (tokens_view tokens.now) }
+    ensures value { result ≡ start_of (tokens_view tokens.now) }
+    ensures some { is_declaration result ≡ true → 0 < length tokens.now }
 {
     if sees_word("struct", tokens) {
         Start::Struct
