@@ -4,6 +4,9 @@ pub mod Ends
 pub mod Cuts
 pub mod Parts
 pub mod Turns
+pub mod ListedItems
+pub mod Paths
+pub mod Listed
 pub mod ListedLifetimes
 pub mod Views
 pub mod Attributes

@@ -14,6 +14,12 @@ pub mod FirstTokens
 pub mod Prefixes
 pub mod Passages
 pub mod Lifetimes
+pub mod Declarations
+pub mod Pieces
+pub mod Fields
+pub mod Bodies
+pub mod Starts
+pub mod Items
 pub mod Cases
 pub mod Literals
 pub mod Meanings

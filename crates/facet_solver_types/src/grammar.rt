@@ -1,9 +1,13 @@
 //! From tokens to items.
 
 mod attributes;
+mod bodies;
 mod entry;
+mod fields;
 mod first;
+mod items;
 mod lifetimes;
 mod passage;
 mod prefixes;
 mod run;
+mod starts;

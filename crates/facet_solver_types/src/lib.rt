@@ -5,6 +5,7 @@ mod attribute;
 mod case;
 mod fault;
 mod grammar;
+mod item;
 mod literal;
 mod problem;
 mod token;

@@ -30,8 +30,8 @@ pub enum Problem {
 pub enum Expected {
     /// A name.
     Name,
-    /// A type.
-    Type,
+    /// The type of a field.
+    FieldType,
     /// An item.
     Item,
     /// A lifetime.

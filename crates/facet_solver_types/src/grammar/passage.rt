@@ -1,5 +1,5 @@
 //! Some tokens of a text, and where the token after them stands.
-ghost use Rattle.std.specs.Prelude.{◌≡◌, ◌-◌, ◌<◌, ◌≤◌, Err, IfErr, IfOk, Ok, OnOk, length};
+ghost use Rattle.std.specs.Prelude.{◌≡◌, ◌+◌, ◌-◌, ◌<◌, ◌≤◌, Err, IfErr, IfOk, Ok, OnOk, length};
 ghost use Rattle.facet_solver_types.specs.Tokens.{token_view};
 
 use super::first::is_name;
@@ -49,6 +49,20 @@ impl<'s, 't> Passage<'s, 't> {
         Passage {
             tokens: &self.tokens[..len],
             end: self.after(len).place(),
+        }
+    }
+
+    /// What stands after the first tokens and a comma.
+    pub(super) fn after_comma(self, len: usize) -> Passage<'s, 't>
+        requires some { 0 < length self.tokens.now }
+        requires within { len ≤ length self.tokens.now }
+        ensures value { passage_view result ≡ after (len + 1) (passage_view self.entry) }
+        ensures shorter { length result.tokens.now < length self.entry.tokens.now }
+    {
+        if len < self.tokens.len() {
+            self.after(len + 1)
+        } else {
+            self.after(len)
         }
     }
 

@@ -1,0 +1,91 @@
+-- Declarations, as their tokens.
+use Rattle.std.specs.Prelude.{List, Option, option_map, map}
+use Rattle.facet_solver_types.specs.declared.item.AliasDeclaration.{AliasDeclaration}
+use Rattle.facet_solver_types.specs.declared.item.Body as body
+use Rattle.facet_solver_types.specs.declared.item.Body.TheVariants.{Unit, Tuple, Named}
+use Rattle.facet_solver_types.specs.declared.item.FieldDeclaration.{FieldDeclaration}
+use Rattle.facet_solver_types.specs.declared.item.EnumDeclaration.{EnumDeclaration}
+use Rattle.facet_solver_types.specs.declared.item.Item as declared
+use Rattle.facet_solver_types.specs.declared.item.Item.TheVariants as item
+use Rattle.facet_solver_types.specs.declared.item.StructDeclaration.{StructDeclaration}
+use Rattle.facet_solver_types.specs.declared.item.VariantDeclaration.{VariantDeclaration}
+use Rattle.facet_solver_types.specs.Tokens.{Token, token_view, tokens_view}
+
+-- a field: its attributes, its name if it has one, and its type
+pub record Field : Type 0 where
+  pub attributes : List Token
+  pub name : Option Token
+  pub written : List Token
+
+-- what is seen of a field
+abbrev pub field_view : FieldDeclaration → Field
+field_view field = record {
+  attributes = tokens_view field.attributes.now;
+  name = option_map token_view field.name;
+  written = tokens_view field.written.now;
+}
+
+-- what is seen of fields
+abbrev pub fields_view : List FieldDeclaration → List Field
+fields_view fields = map field_view fields
+
+-- the fields of a struct or a variant: none, in `( )` or in `{ }`
+pub data Body : Type 0 where
+  unit : Body
+  tuple : List Field → Body
+  named : List Field → Body
+
+-- what is seen of a body
+abbrev pub body_view : body.Body → Body
+body_view Unit = unit
+body_view (Tuple fields) = tuple (fields_view fields.items)
+body_view (Named fields) = named (fields_view fields.items)
+
+-- a variant: its attributes, its name and its fields
+pub record Variant : Type 0 where
+  pub attributes : List Token
+  pub name : Token
+  pub body : Body
+
+-- what is seen of a variant
+abbrev pub variant_view : VariantDeclaration → Variant
+variant_view variant = record {
+  attributes = tokens_view variant.attributes.now;
+  name = token_view variant.name;
+  body = body_view variant.body;
+}
+
+-- what is seen of variants
+abbrev pub variants_view : List VariantDeclaration → List Variant
+variants_view variants = map variant_view variants
+
+-- an item: a struct or an enum with its attributes and its name, an alias with its name and what follows it to `;`, or another
+pub data Item : Type 0 where
+  struct : List Token → Token → Body → Item
+  enum : List Token → Token → List Variant → Item
+  alias : Token → List Token → Item
+  other : Item
+
+-- what is seen of a struct
+abbrev pub struct_view : StructDeclaration → Item
+struct_view s = struct (tokens_view s.attributes.now) (token_view s.name) (body_view s.body)
+
+-- what is seen of an enum
+abbrev pub enum_view : EnumDeclaration → Item
+enum_view e =
+    enum (tokens_view e.attributes.now) (token_view e.name) (variants_view e.variants.items)
+
+-- what is seen of an alias
+abbrev pub alias_view : AliasDeclaration → Item
+alias_view a = alias (token_view a.name) (tokens_view a.written.now)
+
+-- what is seen of an item
+abbrev pub item_view : declared.Item → Item
+item_view (item.Struct s) = struct_view s
+item_view (item.Enum e) = enum_view e
+item_view (item.Alias a) = alias_view a
+item_view item.Other = other
+
+-- what is seen of items
+abbrev pub items_view : List declared.Item → List Item
+items_view items = map item_view items

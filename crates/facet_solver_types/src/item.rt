@@ -1,0 +1,70 @@
+//! Declarations, as their tokens. What types and attributes mean is not looked at.
+
+use crate::token::Token;
+
+/// A field of a struct or a variant.
+#[derive(Clone, Copy, Debug)]
+pub(crate) struct FieldDeclaration<'s, 't> {
+    /// The tokens of its attributes.
+    pub(crate) attributes: &'s [Token<'t>],
+    /// Its name, if it has one.
+    pub(crate) name: Option<Token<'t>>,
+    /// The tokens of its type, of which there are some.
+    pub(crate) written: &'s [Token<'t>],
+}
+
+/// The fields of a struct or a variant.
+#[derive(Drop)]
+pub(crate) enum Body<'s, 't> {
+    /// None, and no brackets.
+    Unit,
+    /// In `( )`, without names.
+    Tuple(Vec<FieldDeclaration<'s, 't>>),
+    /// In `{ }`, with names.
+    Named(Vec<FieldDeclaration<'s, 't>>),
+}
+
+/// A variant of an enum.
+#[derive(Drop)]
+pub(crate) struct VariantDeclaration<'s, 't> {
+    /// The tokens of its attributes.
+    pub(crate) attributes: &'s [Token<'t>],
+    pub(crate) name: Token<'t>,
+    pub(crate) body: Body<'s, 't>,
+}
+
+/// A struct.
+#[derive(Drop)]
+pub(crate) struct StructDeclaration<'s, 't> {
+    /// The tokens of its attributes.
+    pub(crate) attributes: &'s [Token<'t>],
+    pub(crate) name: Token<'t>,
+    pub(crate) body: Body<'s, 't>,
+}
+
+/// An enum.
+#[derive(Drop)]
+pub(crate) struct EnumDeclaration<'s, 't> {
+    /// The tokens of its attributes.
+    pub(crate) attributes: &'s [Token<'t>],
+    pub(crate) name: Token<'t>,
+    pub(crate) variants: Vec<VariantDeclaration<'s, 't>>,
+}
+
+/// An alias of a type.
+#[derive(Clone, Copy, Debug)]
+pub(crate) struct AliasDeclaration<'s, 't> {
+    pub(crate) name: Token<'t>,
+    /// The tokens between its name and `;`.
+    pub(crate) written: &'s [Token<'t>],
+}
+
+/// An item of a text.
+#[derive(Drop)]
+pub(crate) enum Item<'s, 't> {
+    Struct(StructDeclaration<'s, 't>),
+    Enum(EnumDeclaration<'s, 't>),
+    Alias(AliasDeclaration<'s, 't>),
+    /// One that declares no type: it is passed over.
+    Other,
+}
