@@ -13,6 +13,4 @@ pub mod Attributes
 pub mod Ascii
 pub mod Pieces
 pub mod Digits
-pub mod Entered
 pub mod EnteredAttributes
-pub mod Results

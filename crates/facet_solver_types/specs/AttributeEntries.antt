@@ -7,9 +7,10 @@ use Rattle.facet_solver_types.specs.declared.fault.Fault.TheVariants.{At}
 use Rattle.facet_solver_types.specs.declared.problem.Expected.TheVariants.{AttributeList}
 use Rattle.facet_solver_types.specs.declared.problem.Problem.TheVariants.{Misused}
 use Rattle.facet_solver_types.specs.declared.token.Bracket.TheVariants.{Round}
-use Rattle.facet_solver_types.specs.Entries.{Entry, EntryValue, and_then, entries, holds, is_over, value_at}
+use Rattle.facet_solver_types.specs.Entries.{Entry, EntryValue, entries, holds, is_over, value_at}
 use Rattle.facet_solver_types.specs.FirstTokens.{is_name, sees_open}
 use Rattle.facet_solver_types.specs.Passages.{Passage, after, inside, unexpected}
+use Rattle.facet_solver_types.specs.Pieces.{and_then}
 use Rattle.facet_solver_types.specs.Prefixes.{attribute_len, begins_attribute}
 use Rattle.facet_solver_types.specs.Tokens.{Token}
 
@@ -65,21 +66,20 @@ entries_in inner = entries_of inner.tokens inner
 abbrev pub joined : Entries → Entries → Entries
 joined first later = and_then first (λ es. and_then later (λ others. Ok (es ++ others)))
 
--- the entries of the attribute that stands first in some tokens
-abbrev pub first_entries : ℕ → List Token → Entries
-first_entries end tokens = entries_in (inside (after 1 (record { tokens = tokens; end = end })))
+-- the entries of the attribute that stands first
+abbrev pub first_entries : List Token → Entries
+first_entries tokens = entries_in (inside (after 1 (record { tokens = tokens; end = 0 })))
 
 -- The entries of attributes. The first `passed` tokens belong to the one before.
-unfoldable pub attributes_entries_from : ℕ → ℕ → List Token → Entries
-attributes_entries_from passed end [] = Ok []
-attributes_entries_from (suc passed) end (token ∷ tokens) =
-    attributes_entries_from passed end tokens
-attributes_entries_from zero end (token ∷ tokens) =
+unfoldable pub entries_from : ℕ → List Token → Entries
+entries_from passed [] = Ok []
+entries_from (suc passed) (token ∷ tokens) = entries_from passed tokens
+entries_from zero (token ∷ tokens) =
     if begins_attribute false (token ∷ tokens)
-    then joined (first_entries end (token ∷ tokens))
-    (attributes_entries_from (attribute_len false (token ∷ tokens) - 1) end tokens)
+    then joined (first_entries (token ∷ tokens))
+    (entries_from (attribute_len false (token ∷ tokens) - 1) tokens)
     else Ok []
 
--- the entries of all attributes of serde and facet that stand first
-abbrev pub attribute_entries : Passage → Entries
-attribute_entries passage = attributes_entries_from 0 passage.end passage.tokens
+-- The entries of serde's and facet's attributes. Each is closed, so that nothing is told of what stands after them.
+abbrev pub attribute_entries : List Token → Entries
+attribute_entries attributes = entries_from 0 attributes

@@ -1,5 +1,5 @@
 -- What stands in an attribute of serde or facet: entries, with `,` between.
-use Rattle.std.specs.Prelude.{ℕ, zero, suc, Bool, true, false, if◌then◌else◌, List, [], ◌∷◌, drop, Option, Some, None, option_map, Result, Ok, Err}
+use Rattle.std.specs.Prelude.{ℕ, Bool, true, false, if◌then◌else◌, List, [], ◌∷◌, drop, map, Option, Some, None, option_map, Result, Ok, Err}
 use Rattle.facet_solver_types.specs.declared.fault.Fault.{Fault}
 use Rattle.facet_solver_types.specs.declared.fault.Fault.TheVariants.{At}
 use Rattle.facet_solver_types.specs.declared.grammar.entry.Entry as code_entry
@@ -11,8 +11,9 @@ use Rattle.facet_solver_types.specs.declared.token.Bracket.TheVariants.{Round}
 use Rattle.facet_solver_types.specs.declared.token.TokenKind.{TokenKind}
 use Rattle.facet_solver_types.specs.declared.token.TokenKind.TheVariants.{Keyword}
 use Rattle.facet_solver_types.specs.FirstTokens.{is_name, sees_mark, sees_open, sees_path}
-use Rattle.facet_solver_types.specs.Passages.{Passage, after, inside, passage_view, unexpected, up_to}
-use Rattle.facet_solver_types.specs.Runs.{group_len, run_len}
+use Rattle.facet_solver_types.specs.Passages.{Passage, after, inside, passage_view, unexpected}
+use Rattle.facet_solver_types.specs.Pieces.{and_then, each, pieces}
+use Rattle.facet_solver_types.specs.Runs.{group_len}
 use Rattle.facet_solver_types.specs.Tokens.{Token, token_view}
 
 -- what stands after the name in an entry: nothing, some tokens after `=`, or some in brackets
@@ -42,10 +43,9 @@ entry_view entry =
       value = value_view entry.value;
     }
 
--- what comes of a result, unless it is a fault
-abbrev pub and_then : {A B : Type 0} → Result A Fault → (A → Result B Fault) → Result B Fault
-and_then (Ok value) next = next value
-and_then (Err fault) next = Err fault
+-- what is seen of entries
+abbrev pub entries_view : List code_entry.Entry → List Entry
+entries_view found = map entry_view found
 
 -- whether a token may name an entry: a name or a keyword
 abbrev pub is_entry_word : TokenKind → Bool
@@ -99,23 +99,6 @@ entry_after first rest =
 abbrev pub entry_at : Passage → Result Entry Fault
 entry_at passage = and_then (entry_word passage) (λ first. entry_after first (after 1 passage))
 
--- the entries that come, unless there is a fault
-abbrev pub with_entry : Result Entry Fault → Result (List Entry) Fault → Result (List Entry) Fault
-with_entry entry later = and_then entry (λ e. and_then later (λ es. Ok (e ∷ es)))
-
--- the entry up to the first comma of some tokens
-abbrev pub first_entry : ℕ → List Token → Result Entry Fault
-first_entry end tokens =
-    entry_at (up_to (run_len Value tokens) (record { tokens = tokens; end = end }))
-
--- The entries of some tokens. The first `passed` tokens belong to what stands before them.
-unfoldable pub entries_from : ℕ → ℕ → List Token → Result (List Entry) Fault
-entries_from passed end [] = Ok []
-entries_from (suc passed) end (token ∷ tokens) = entries_from passed end tokens
-entries_from zero end (token ∷ tokens) =
-    with_entry (first_entry end (token ∷ tokens))
-    (entries_from (run_len Value (token ∷ tokens)) end tokens)
-
--- the entries of a passage
+-- the entries of a passage: one up to each comma outside brackets
 abbrev pub entries : Passage → Result (List Entry) Fault
-entries passage = entries_from 0 passage.end passage.tokens
+entries passage = each entry_at (pieces Value passage)

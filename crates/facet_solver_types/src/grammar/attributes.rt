@@ -1,10 +1,10 @@
 //! The entries of the attributes of serde and facet that stand before something.
-ghost use Rattle.std.specs.Prelude.{◌≡◌, ◌≢◌, Err, IfErr, IfOk, Ok, map};
+ghost use Rattle.std.specs.Prelude.{◌≡◌};
 ghost use Rattle.facet_solver_types.specs.AttributeEntries.{attribute_entries, entries_in, has_list, is_named, is_ours, is_refused, own_entries};
-ghost use Rattle.facet_solver_types.specs.Entries.{entry_view};
+ghost use Rattle.facet_solver_types.specs.Entries.{entries_view};
+ghost use Rattle.facet_solver_types.specs.Outcomes.{Gives};
 ghost use Rattle.facet_solver_types.specs.Passages.{passage_view};
 ghost use Rattle.facet_solver_types.specs.Tokens.{token_view, tokens_view};
-ghost use Rattle.facet_solver_types.specs.declared.fault.Fault.TheVariants.{OutOfMemory};
 
 use super::entry::{Entry, EntryValue, entries, value_at};
 use super::first::{is_name, sees_open};
@@ -58,10 +58,8 @@ fn is_refused(name: &Token<'_>, behind: &[Token<'_>]) -> bool
 
 /// The entries of serde's or facet's attribute, by what stands behind its name.
 fn own_entries<'s, 't>(alloc: Global, behind: Passage<'s, 't>) -> Result<Vec<Entry<'s, 't>>, Fault>
-    ensures ok { IfOk result (λ found. own_entries (passage_view behind.entry)
-        ≡ Ok (map entry_view found.items)) }
-    ensures fault { IfErr result (λ fault. fault ≢ OutOfMemory
-        → own_entries (passage_view behind.entry) ≡ Err fault) }
+    ensures { Gives (λ found. entries_view found.items) (own_entries (passage_view behind.entry))
+        result }
 {
     match value_at(behind)? {
         EntryValue::Holds(list) => entries(alloc, list),
@@ -72,10 +70,8 @@ fn own_entries<'s, 't>(alloc: Global, behind: Passage<'s, 't>) -> Result<Vec<Ent
 /// The entries of an attribute, by what stands in its brackets: none where it is neither serde's
 /// nor facet's.
 fn entries_in<'s, 't>(alloc: Global, inner: Passage<'s, 't>) -> Result<Vec<Entry<'s, 't>>, Fault>
-    ensures ok { IfOk result (λ found. entries_in (passage_view inner.entry)
-        ≡ Ok (map entry_view found.items)) }
-    ensures fault { IfErr result (λ fault. fault ≢ OutOfMemory
-        → entries_in (passage_view inner.entry) ≡ Err fault) }
+    ensures { Gives (λ found. entries_view found.items) (entries_in (passage_view inner.entry))
+        result }
 {
     let Some((name, behind)) = inner.tokens.split_first() else {
         return Ok(Vec::new(alloc));
@@ -92,24 +88,24 @@ fn entries_in<'s, 't>(alloc: Global, inner: Passage<'s, 't>) -> Result<Vec<Entry
     Ok(Vec::new(alloc))
 }
 
-/// The entries of all attributes of serde and facet that stand first.
+/// The entries of serde's and facet's attributes. Each attribute is closed, so that nothing is told
+/// of what stands after them.
 pub(crate) fn attribute_entries<'s, 't>(
     alloc: Global,
-    passage: Passage<'s, 't>,
+    attributes: &'s [Token<'t>],
 ) -> Result<Vec<Entry<'s, 't>>, Fault>
-    ensures ok { IfOk result (λ found. attribute_entries (passage_view passage.entry)
-        ≡ Ok (map entry_view found.items)) }
-    ensures fault { IfErr result (λ fault. fault ≢ OutOfMemory
-        → attribute_entries (passage_view passage.entry) ≡ Err fault) }
+    ensures { Gives (λ found. entries_view found.items)
+        (attribute_entries (tokens_view attributes.now)) result }
 {
     let mut found = Vec::new(alloc);
-    let mut rest = passage;
-    while begins_attribute(false, rest.tokens) {
-        match entries_in(alloc, rest.after(1).inside()) {
-            Ok(more) => found.extend_from_slice(&more)?,
-            Err(fault) => return Err(fault),
-        }
-        rest = rest.after(attribute_len(false, rest.tokens));
+    let mut left = Passage {
+        tokens: attributes,
+        end: 0,
+    };
+    while begins_attribute(false, left.tokens) {
+        let entries = entries_in(alloc, left.after(1).inside())?;
+        found.extend_from_slice(&entries)?;
+        left = left.after(attribute_len(false, left.tokens));
     }
     Ok(found)
 }

@@ -1,8 +1,8 @@
 //! What stands in an attribute of serde or facet.
-ghost use Rattle.std.specs.Prelude.{◌≡◌, ◌≢◌, ◌<◌, ◌-◌, Err, IfErr, IfOk, Ok, OnOk, length, map, option_map};
-ghost use Rattle.facet_solver_types.specs.declared.fault.Fault.TheVariants.{OutOfMemory};
-ghost use Rattle.facet_solver_types.specs.Entries.{entries, entry_after, entry_at, entry_view, entry_word, held, is_entry_word, named_entry, value_at, value_view};
-ghost use Rattle.facet_solver_types.specs.Passages.{after, passage_view};
+ghost use Rattle.std.specs.Prelude.{◌≡◌, ◌<◌, OnOk, length, option_map};
+ghost use Rattle.facet_solver_types.specs.Entries.{entries, entries_view, entry_at, entry_view, entry_word, held, is_entry_word, named_entry, value_at, value_view};
+ghost use Rattle.facet_solver_types.specs.Outcomes.{Gives};
+ghost use Rattle.facet_solver_types.specs.Passages.{passage_view};
 ghost use Rattle.facet_solver_types.specs.Tokens.{token_view};
 
 use super::first::{is_name, sees_mark, sees_open, sees_path};
@@ -47,9 +47,8 @@ fn is_entry_word(kind: TokenKind) -> bool
 
 /// The name or keyword that stands first.
 fn entry_word<'t>(passage: Passage<'_, 't>) -> Result<Token<'t>, Fault>
-    ensures ok { IfOk result (λ word. entry_word (passage_view passage.entry) ≡ Ok (token_view word)) }
+    ensures word { Gives token_view (entry_word (passage_view passage.entry)) result }
     ensures some { OnOk result (0 < length passage.entry.tokens.now) }
-    ensures fault { IfErr result (λ fault. entry_word (passage_view passage.entry) ≡ Err fault) }
 {
     match passage.tokens.first() {
         Some(token) if is_entry_word(token.kind) => Ok(*token),
@@ -60,8 +59,7 @@ fn entry_word<'t>(passage: Passage<'_, 't>) -> Result<Token<'t>, Fault>
 /// What stands in the brackets that stand first, where nothing stands after these.
 fn held<'s, 't>(passage: Passage<'s, 't>) -> Result<EntryValue<'s, 't>, Fault>
     requires { 0 < length passage.tokens.now }
-    ensures ok { IfOk result (λ value. held (passage_view passage.entry) ≡ Ok (value_view value)) }
-    ensures fault { IfErr result (λ fault. held (passage_view passage.entry) ≡ Err fault) }
+    ensures { Gives value_view (held (passage_view passage.entry)) result }
 {
     let rest = passage.after(group_len(passage.tokens));
     if rest.tokens.is_empty() {
@@ -73,8 +71,7 @@ fn held<'s, 't>(passage: Passage<'s, 't>) -> Result<EntryValue<'s, 't>, Fault>
 
 /// What stands after the name of an entry.
 pub(super) fn value_at<'s, 't>(passage: Passage<'s, 't>) -> Result<EntryValue<'s, 't>, Fault>
-    ensures ok { IfOk result (λ value. value_at (passage_view passage.entry) ≡ Ok (value_view value)) }
-    ensures fault { IfErr result (λ fault. value_at (passage_view passage.entry) ≡ Err fault) }
+    ensures { Gives value_view (value_at (passage_view passage.entry)) result }
 {
     if passage.tokens.is_empty() {
         return Ok(EntryValue::None);
@@ -94,10 +91,8 @@ fn named_entry<'s, 't>(
     name: Token<'t>,
     rest: Passage<'s, 't>,
 ) -> Result<Entry<'s, 't>, Fault>
-    ensures ok { IfOk result (λ entry. named_entry (option_map token_view qualifier.entry)
-        (token_view name.entry) (passage_view rest.entry) ≡ Ok (entry_view entry)) }
-    ensures fault { IfErr result (λ fault. named_entry (option_map token_view qualifier.entry)
-        (token_view name.entry) (passage_view rest.entry) ≡ Err fault) }
+    ensures { Gives entry_view (named_entry (option_map token_view qualifier.entry)
+        (token_view name.entry) (passage_view rest.entry)) result }
 {
     let value = value_at(rest)?;
     Ok(Entry {
@@ -109,8 +104,7 @@ fn named_entry<'s, 't>(
 
 /// The entry that a passage is.
 fn entry_at<'s, 't>(passage: Passage<'s, 't>) -> Result<Entry<'s, 't>, Fault>
-    ensures ok { IfOk result (λ entry. entry_at (passage_view passage.entry) ≡ Ok (entry_view entry)) }
-    ensures fault { IfErr result (λ fault. entry_at (passage_view passage.entry) ≡ Err fault) }
+    ensures { Gives entry_view (entry_at (passage_view passage.entry)) result }
 {
     let first = entry_word(passage)?;
     let rest = passage.after(1);
@@ -121,37 +115,20 @@ fn entry_at<'s, 't>(passage: Passage<'s, 't>) -> Result<Entry<'s, 't>, Fault>
     named_entry(Some(first), name, rest.after(2))
 }
 
-/// What stands behind the comma that stands first, if anything stands there.
-fn behind_comma<'s, 't>(passage: Passage<'s, 't>) -> Passage<'s, 't>
-    ensures value { passage_view result ≡ after 1 (passage_view passage.entry) }
-    ensures shorter { length result.tokens.now ≡ length passage.entry.tokens.now - 1 }
-{
-    if passage.tokens.is_empty() {
-        passage
-    } else {
-        passage.after(1)
-    }
-}
-
 /// The entries of a passage.
-pub(crate) fn entries<'s, 't>(
+pub(super) fn entries<'s, 't>(
     alloc: Global,
     passage: Passage<'s, 't>,
 ) -> Result<Vec<Entry<'s, 't>>, Fault>
-    ensures ok { IfOk result (λ found. entries (passage_view passage.entry)
-        ≡ Ok (map entry_view found.items)) }
-    ensures fault { IfErr result (λ fault. fault ≢ OutOfMemory
-        → entries (passage_view passage.entry) ≡ Err fault) }
+    ensures { Gives (λ found. entries_view found.items) (entries (passage_view passage.entry))
+        result }
 {
     let mut found = Vec::new(alloc);
-    let mut rest = passage;
-    while !rest.tokens.is_empty() {
-        let len = run_len(Run::Value, rest.tokens);
-        match entry_at(rest.up_to(len)) {
-            Ok(entry) => found.push(entry)?,
-            Err(fault) => return Err(fault),
-        }
-        rest = behind_comma(rest.after(len));
+    let mut left = passage;
+    while !left.tokens.is_empty() {
+        let len = run_len(Run::Value, left.tokens);
+        found.push(entry_at(left.up_to(len))?)?;
+        left = left.after_comma(len);
     }
     Ok(found)
 }

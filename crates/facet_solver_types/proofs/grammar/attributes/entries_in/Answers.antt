@@ -1,17 +1,17 @@
-use Rattle.std.proofs.Common.{◌≡◌, ◌≢◌, ◌∙◌, ap, sym, cond, true, Err, Ok, []}
+use Rattle.std.proofs.Common.{◌≡◌, ◌∙◌, ap, sym, subst, cond, true, Err, Ok, []}
 use Rattle.facet_solver_types.specs.declared.attribute.meaning.Misuse.TheVariants.{Unsupported}
-use Rattle.facet_solver_types.specs.declared.fault.Fault.{Fault}
-use Rattle.facet_solver_types.specs.declared.fault.Fault.TheVariants.{At, OutOfMemory}
+use Rattle.facet_solver_types.specs.declared.fault.Fault.TheVariants.{At}
 use Rattle.facet_solver_types.specs.declared.problem.Problem.TheVariants.{Misused}
 use Rattle.facet_solver_types.specs.AttributeEntries.{entries_in, entries_of, is_ours, is_refused}
 use Rattle.facet_solver_types.specs.AttributeEntries.{own_entries}
+use Rattle.facet_solver_types.specs.Entries.{entries_view}
+use Rattle.facet_solver_types.specs.Outcomes.{Gives}
 use Rattle.facet_solver_types.specs.Passages.{after, passage_view}
 use Rattle.facet_solver_types.specs.Tokens.{token_view, tokens_view}
-use Rattle.facet_solver_types.proofs.Results.{if_err}
 use Rattle.facet_solver_types.proofs.grammar.attributes.entries_in.Goals as goal
 
-pub returns-then-is_ours-clause-fault : goal.returns-then-is_ours-clause-fault
-returns-then-is_ours-clause-fault c =
+pub returns-then-is_ours : goal.returns-then-is_ours
+returns-then-is_ours c =
     let inner = passage_view c.args.inner in
     let name = token_view c.in-Some.name.now in
     let ours : is_ours name ≡ true = sym c.is_ours.ensures ∙ c.if-is_ours.true in
@@ -21,7 +21,5 @@ returns-then-is_ours-clause-fault c =
     ap (λ ts. entries_of (tokens_view ts) inner) c.in-Some.ensures.cases.0
     ∙ ap (λ b. cond b (own_entries (after 1 inner)) other) ours
     ∙ ap own_entries (sym c.after.ensures.value) in
-    if_err (λ (fault : Fault). fault ≢ OutOfMemory
-    → own_entries (passage_view c.after.result) ≡ Err fault)
-    (λ (fault : Fault). fault ≢ OutOfMemory → entries_in inner ≡ Err fault)
-    c.own_entries.result (λ fault h some. own ∙ h some) c.own_entries.ensures.fault
+    subst (λ o. Gives (λ found. entries_view found.items) o c.own_entries.result) (sym own)
+    c.own_entries.ensures

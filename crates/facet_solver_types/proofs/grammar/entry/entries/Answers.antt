@@ -1,74 +1,46 @@
-use Rattle.std.proofs.Common.{◌≡◌, ◌∙◌, ◌∷◌, [], ◌++◌, ◌<◌, ap, sym, map, length, drop, Ok, Err, arith}
-use Rattle.std.proofs.lemmas.List.{map-append}
-use Rattle.facet_solver_types.specs.Entries.{entries_from, entry_at, entry_view, first_entry}
-use Rattle.facet_solver_types.specs.Entries.{with_entry}
-use Rattle.facet_solver_types.specs.Passages.{Passage, after, passage_view}
+use Rattle.std.proofs.Common.{◌≡◌, ◌≢◌, ◌<◌, Err, length, sym, ap, ◌∙◌, arith, rules}
+use Rattle.std.proofs.lemmas.Bool.Decides.{nat_tests}
+use Rattle.facet_solver_types.specs.declared.fault.Fault.TheVariants.{OutOfMemory}
 use Rattle.facet_solver_types.specs.declared.grammar.run.Run.TheVariants.{Value}
-use Rattle.facet_solver_types.specs.Runs.{run_len}
-use Rattle.facet_solver_types.specs.Tokens.{tokens_view}
-use Rattle.facet_solver_types.proofs.Entered.{before, before_none, before_one, entry_more}
-use Rattle.facet_solver_types.proofs.Entered.{entry_none, first_is, some_left}
+use Rattle.facet_solver_types.specs.Entries.{entries, entries_view, entry_at, entry_view}
+use Rattle.facet_solver_types.specs.Passages.{passage_view}
+use Rattle.facet_solver_types.specs.Pieces.{each, pieces}
+use Rattle.facet_solver_types.proofs.Listed.{all_read, before, turn_fault, turn_ok, view_more}
 use Rattle.facet_solver_types.proofs.Views.{view_len}
 use Rattle.facet_solver_types.proofs.grammar.entry.entries.Goals as goal
 
-pub returns-in-Err-clause-fault : goal.returns-in-Err-clause-fault
-returns-in-Err-clause-fault c some =
-    let l = c.loop-rest in
-    let ts = tokens_view l.rest.tokens.now in
-    let end = c.args.passage.end in
-    let es = map entry_view l.found.items in
-    let seen = view_len l.rest.tokens.now in
-    let left = some_left (length l.rest.tokens.now) c.is_empty.result c.loop-rest-test.true
-    c.is_empty.ensures in
-    let rest = entries_from 0 end (drop 1 (drop (run_len Value ts) ts)) in
-    let first : first_entry end ts ≡ Err c.in-Err.fault =
-    first_is end ts c.run_len-len.result l.rest.end (passage_view c.up_to.result)
-    c.run_len-len.ensures.value l.invariant.end c.up_to.ensures
-    ∙ c.in-Err.ensures.fault in
-    l.invariant.all
-    ∙ ap (before es) (entry_more end ts (omega (arith, seen, left)))
-    ∙ ap (λ e. before es (with_entry e rest)) first
+pub returns-in_err-entry_at : goal.returns-in_err-entry_at
+returns-in_err-entry_at c =
+    let l = c.loop-left in
+    let rule = entry_at in
+    let left = passage_view l.left in
+    let fault = c.in_err-entry_at.field-0.0 in
+    let seen = view_len l.left.tokens.now in
+    let filled : 0 < length l.left.tokens.now = grind (arith, nat_tests) in
+    let some : 0 < length left.tokens = omega (arith, seen, filled) in
+    let told : fault ≢ OutOfMemory → entries (passage_view c.args.passage) ≡ Err fault =
+    λ real. l.invariant
+    ∙ turn_fault Value rule (entries_view l.found.items) left c.run_len-len.result (passage_view c.up_to.result) some c.run_len-len.ensures.value c.up_to.ensures fault (c.in_err-entry_at.ensures real)
+    in
+    search (rules, told)
 
-pub loop-rest-preserved : goal.loop-rest-preserved
-loop-rest-preserved c =
-    let l = c.loop-rest in
-    let ts = tokens_view l.rest.tokens.now in
-    let end = c.args.passage.end in
-    let es = map entry_view l.found.items in
-    let e = entry_view c.in-Ok.entry in
-    let seen = view_len l.rest.tokens.now in
-    let left : 0 < length l.rest.tokens.now = grind arith in
-    let rest = entries_from 0 end (drop 1 (drop (run_len Value ts) ts)) in
-    let first : first_entry end ts ≡ Ok e =
-    first_is end ts c.run_len-len.result l.rest.end (passage_view c.up_to.result)
-    c.run_len-len.ensures.value l.invariant.end c.up_to.ensures
-    ∙ c.in-Ok.ensures.ok in
-    let left_is : passage_view c.behind_comma-rest.result
-    ≡ after 1 (after c.run_len-len.result (passage_view l.rest)) =
-    c.behind_comma-rest.ensures.value ∙ ap (after 1) c.after.ensures.value in
-    let tokens_left : drop 1 (drop (run_len Value ts) ts)
-    ≡ tokens_view c.behind_comma-rest.result.tokens.now =
-    ap (λ n. drop 1 (drop n ts)) (sym c.run_len-len.ensures.value)
-    ∙ ap (λ (p : Passage). p.tokens) (sym left_is) in
-    record {
-      all = l.invariant.all
-          ∙ ap (before es) (entry_more end ts (omega (arith, seen, left)))
-          ∙ ap (λ x. before es (with_entry x rest)) first
-          ∙ before_one es e rest
-          ∙ ap (λ xs. before xs rest)
-          (sym (ap (map entry_view) c.in_ok-push-in-Ok.ensures.items
-          ∙ map-append entry_view l.found.items (c.in-Ok.entry ∷ [])))
-          ∙ ap (λ xs. before (map entry_view c.push.new.self.items) (entries_from 0 end xs))
-          tokens_left;
-      end = ap (λ (p : Passage). p.end) left_is ∙ l.invariant.end;
-    }
+pub loop-left-preserved : goal.loop-left-preserved
+loop-left-preserved c =
+    let l = c.loop-left in
+    let rule = entry_at in
+    let left = passage_view l.left in
+    let rest = passage_view c.after_comma-left.result in
+    let seen = view_len l.left.tokens.now in
+    let filled : 0 < length l.left.tokens.now = grind (arith, nat_tests) in
+    let some : 0 < length left.tokens = omega (arith, seen, filled) in
+    let x = c.in_ok-entry_at.field-0 in
+    l.invariant
+    ∙ turn_ok Value rule (entries_view l.found.items) left c.run_len-len.result (passage_view c.up_to.result) some c.run_len-len.ensures.value c.up_to.ensures rest (entry_view x) c.after_comma-left.ensures.value c.in_ok-entry_at.ensures
+    ∙ ap (λ found. before found (each rule (pieces Value rest))) (sym (view_more entry_view l.found.items x) ∙ ap entries_view (sym c.in_ok-push.ensures.items))
 
-pub returns-clause-ok : goal.returns-clause-ok
-returns-clause-ok c =
-    let l = c.loop-rest in
-    let seen = view_len l.rest.tokens.now in
-    let over : length l.rest.tokens.now ≡ 0 = grind arith in
-    l.invariant.all
-    ∙ ap (before (map entry_view l.found.items))
-    (entry_none c.args.passage.end (tokens_view l.rest.tokens.now) (omega (arith, seen, over)))
-    ∙ before_none (map entry_view l.found.items)
+pub returns : goal.returns
+returns c =
+    let l = c.loop-left in
+    let seen = view_len l.left.tokens.now in
+    let none : length l.left.tokens.now ≡ 0 = grind (arith, nat_tests) in
+    l.invariant ∙ all_read Value entry_at (entries_view l.found.items) (passage_view l.left) (seen ∙ none)
