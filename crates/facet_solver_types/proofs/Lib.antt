@@ -14,3 +14,4 @@ pub mod Ascii
 pub mod Pieces
 pub mod Digits
 pub mod EnteredAttributes
+pub mod ReadNames

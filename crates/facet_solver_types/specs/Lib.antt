@@ -25,3 +25,4 @@ pub mod Literals
 pub mod Meanings
 pub mod Entries
 pub mod AttributeEntries
+pub mod Values

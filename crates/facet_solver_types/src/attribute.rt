@@ -1,5 +1,6 @@
 //! The attributes of serde and facet.
 
 mod meaning;
+mod value;
 
 pub use meaning::Misuse;

@@ -11,3 +11,6 @@ mod passage;
 mod prefixes;
 mod run;
 mod starts;
+
+pub(crate) use entry::{Entry, EntryValue, entries};
+pub(crate) use passage::Passage;

@@ -116,7 +116,7 @@ fn entry_at<'s, 't>(passage: Passage<'s, 't>) -> Result<Entry<'s, 't>, Fault>
 }
 
 /// The entries of a passage.
-pub(super) fn entries<'s, 't>(
+pub(crate) fn entries<'s, 't>(
     alloc: Global,
     passage: Passage<'s, 't>,
 ) -> Result<Vec<Entry<'s, 't>>, Fault>
