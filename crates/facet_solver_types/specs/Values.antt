@@ -77,3 +77,34 @@ name_after found (entry ∷ entries) =
 -- the name for reading, if there is one, among those of both directions
 abbrev pub read_name : List Entry → Option (Option Token)
 read_name entries = name_after None entries
+
+-- the value of what takes neither a text nor everything
+abbrev pub simple_value : Form → EntryValue → Option Value
+simple_value form.Nothing nothing = Some none
+simple_value form.Default nothing = Some none
+simple_value form.Default (is passage) = Some none
+simple_value form.Value (is passage) = Some none
+simple_value form.Type (is passage) = Some (of_type passage)
+simple_value other value = None
+
+-- the value of an attribute that takes this, where a list of names is not looked into
+abbrev pub plain_value : Form → EntryValue → Option Value
+plain_value form.Text value = option_map text (text_after value)
+plain_value form.Names value = option_map text (text_after value)
+plain_value form.Anything value = Some none
+plain_value other value = simple_value other value
+
+-- a name, if there is one
+abbrev pub name_value : Option Token → Value
+name_value None = none
+name_value (Some token) = text token
+
+-- the name for reading that entries say, or their fault
+abbrev pub listed_name : Result (List Entry) Fault → Result (Option Value) Fault
+listed_name (Ok found) = Ok (option_map name_value (read_name found))
+listed_name (Err fault) = Err fault
+
+-- the value of an attribute that takes this, if it is so
+abbrev pub value_of : Form → EntryValue → Result (Option Value) Fault
+value_of form.Names (holds list) = listed_name (entries list)
+value_of other value = Ok (plain_value other value)

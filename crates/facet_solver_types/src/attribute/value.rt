@@ -118,3 +118,59 @@ fn read_name<'t>(entries: &[Entry<'_, 't>]) -> Option<Option<Token<'t>>>
     }
     Some(found)
 }
+
+/// The value of an attribute that takes this; `None` where it takes something else. A list of names
+/// is not looked into.
+fn plain_value<'s, 't>(form: Form, value: EntryValue<'s, 't>) -> Option<Value<'s, 't>>
+    ensures { option_map values.value_view result
+        ≡ values.plain_value form (value_view value.entry) }
+{
+    match form {
+        Form::Text | Form::Names => Some(Value::Text(text_after(value)?)),
+        Form::Anything => Some(Value::None),
+        _ => simple_value(form, value),
+    }
+}
+
+/// The same of what takes neither a text nor everything.
+fn simple_value<'s, 't>(form: Form, value: EntryValue<'s, 't>) -> Option<Value<'s, 't>>
+    ensures { option_map values.value_view result
+        ≡ values.simple_value form (value_view value.entry) }
+{
+    match (form, value) {
+        (Form::Nothing | Form::Default, EntryValue::None) => Some(Value::None),
+        (Form::Default | Form::Value, EntryValue::Is(_)) => Some(Value::None),
+        (Form::Type, EntryValue::Is(passage)) => Some(Value::Type(passage)),
+        _ => None,
+    }
+}
+
+/// A name, if there is one.
+fn name_value<'s, 't>(name: Option<Token<'t>>) -> Value<'s, 't>
+    ensures { values.value_view result ≡ values.name_value (option_map token_view name.entry) }
+{
+    match name {
+        Some(token) => Value::Text(token),
+        None => Value::None,
+    }
+}
+
+/// The value of an attribute that takes this; `None` where it takes something else.
+///
+/// Errors: what else stands where the list of names has an entry; out of memory.
+pub(crate) fn value_of<'s, 't>(
+    alloc: Global,
+    form: Form,
+    value: EntryValue<'s, 't>,
+) -> Result<Option<Value<'s, 't>>, Fault>
+    ensures { Gives (option_map values.value_view)
+        (values.value_of form (value_view value.entry)) result }
+{
+    match (form, value) {
+        (Form::Names, EntryValue::Holds(list)) => {
+            let names = entries(alloc, list)?;
+            Ok(read_name(&names).map(|name| name_value(name)))
+        }
+        _ => Ok(plain_value(form, value)),
+    }
+}
