@@ -1,13 +1,10 @@
 -- The entries of the attributes of serde and facet that stand before something.
-use Rattle.std.specs.Prelude.{ℕ, zero, suc, ◌-◌, Bool, true, false, ◌&&◌, ◌||◌, if◌then◌else◌, List, [], ◌∷◌, ◌++◌, codes, Result, Ok, Err}
+use Rattle.std.specs.Prelude.{ℕ, zero, suc, ◌-◌, Bool, true, false, ◌&&◌, ◌||◌, if◌then◌else◌, List, [], ◌∷◌, ◌++◌, codes, None, Result, Ok, Err}
 use Rattle.std.specs.Str.{bytes_eq}
-use Rattle.facet_solver_types.specs.declared.attribute.meaning.Misuse.TheVariants.{Unsupported}
 use Rattle.facet_solver_types.specs.declared.fault.Fault.{Fault}
-use Rattle.facet_solver_types.specs.declared.fault.Fault.TheVariants.{At}
 use Rattle.facet_solver_types.specs.declared.problem.Expected.TheVariants.{AttributeList}
-use Rattle.facet_solver_types.specs.declared.problem.Problem.TheVariants.{Misused}
 use Rattle.facet_solver_types.specs.declared.token.Bracket.TheVariants.{Round}
-use Rattle.facet_solver_types.specs.Entries.{Entry, EntryValue, entries, holds, is_over, value_at}
+use Rattle.facet_solver_types.specs.Entries.{Entry, EntryValue, entries, holds, is_over, outside, value_at}
 use Rattle.facet_solver_types.specs.FirstTokens.{is_name, sees_open}
 use Rattle.facet_solver_types.specs.Passages.{Passage, after, inside, unexpected}
 use Rattle.facet_solver_types.specs.Pieces.{and_then}
@@ -47,18 +44,22 @@ in_list behind value = Err (unexpected AttributeList behind)
 abbrev pub own_entries : Passage → Entries
 own_entries behind = and_then (value_at behind) (in_list behind)
 
+-- an attribute of another name, as an entry
+abbrev pub outside_entry : Token → Entry
+outside_entry name = record { qualifier = None; name = name; value = outside }
+
 -- the entries of an attribute of that name, by what stands behind it and by what stands in its brackets
 abbrev pub named_entries : Token → List Token → Passage → Entries
 named_entries name behind inner =
     if is_ours name then own_entries (after 1 inner)
-    else (if is_refused name behind then Err (At name.offset (Misused Unsupported)) else Ok [])
+    else (if is_refused name behind then Ok (outside_entry name ∷ []) else Ok [])
 
 -- the entries of an attribute whose brackets hold these tokens
 abbrev pub entries_of : List Token → Passage → Entries
 entries_of [] inner = Ok []
 entries_of (name ∷ behind) inner = named_entries name behind inner
 
--- the entries of an attribute, by what stands in its brackets: none where it is neither serde's nor facet's
+-- the entries of an attribute, by what stands in its brackets: none where it is neither serde's nor facet's, unless it asks what only these can say
 abbrev pub entries_in : Passage → Entries
 entries_in inner = entries_of inner.tokens inner
 

@@ -16,11 +16,12 @@ use Rattle.facet_solver_types.specs.Pieces.{and_then, each, pieces}
 use Rattle.facet_solver_types.specs.Runs.{group_len}
 use Rattle.facet_solver_types.specs.Tokens.{Token, token_view}
 
--- what stands after the name in an entry: nothing, some tokens after `=`, or some in brackets
+-- what stands after the name in an entry: nothing, some tokens after `=`, or some in brackets; or what asks for something that only serde's or facet's own attributes can say
 pub data EntryValue : Type 0 where
   nothing : EntryValue
   is : Passage → EntryValue
   holds : Passage → EntryValue
+  outside : EntryValue
 
 -- an entry: what stands before `::` if anything, its name, and what stands after it
 pub record Entry : Type 0 where
@@ -33,6 +34,7 @@ abbrev pub value_view : code.EntryValue → EntryValue
 value_view code.TheVariants.None = nothing
 value_view (code.TheVariants.Is passage) = is (passage_view passage)
 value_view (code.TheVariants.Holds passage) = holds (passage_view passage)
+value_view code.TheVariants.Outside = outside
 
 -- what is seen of an entry
 abbrev pub entry_view : code_entry.Entry → Entry

@@ -26,3 +26,4 @@ pub mod Meanings
 pub mod Entries
 pub mod AttributeEntries
 pub mod Values
+pub mod Attributes

@@ -1,6 +1,6 @@
 //! What is wrong with a text.
 
-use crate::attribute::Misuse;
+use crate::attribute::{Form, Misuse};
 
 /// What is wrong at a place of a text.
 #[derive(Clone, Copy, Debug, PartialEq, Eq)]
@@ -23,6 +23,12 @@ pub enum Problem {
     Generic,
     /// An attribute that means nothing there.
     Misused(Misuse),
+    /// An attribute that takes this has something else.
+    Takes(Form),
+    /// A text that Rust reads as none.
+    NoText,
+    /// A text that names no case.
+    NoCase,
 }
 
 /// What is expected where something else stands.

@@ -1,7 +1,7 @@
 //! The entries of the attributes of serde and facet that stand before something.
 ghost use Rattle.std.specs.Prelude.{◌≡◌};
-ghost use Rattle.facet_solver_types.specs.AttributeEntries.{attribute_entries, entries_in, has_list, is_named, is_ours, is_refused, own_entries};
-ghost use Rattle.facet_solver_types.specs.Entries.{entries_view};
+ghost use Rattle.facet_solver_types.specs.AttributeEntries.{attribute_entries, entries_in, has_list, is_named, is_ours, is_refused, outside_entry, own_entries};
+ghost use Rattle.facet_solver_types.specs.Entries.{entries_view, entry_view};
 ghost use Rattle.facet_solver_types.specs.Outcomes.{Gives};
 ghost use Rattle.facet_solver_types.specs.Passages.{passage_view};
 ghost use Rattle.facet_solver_types.specs.Tokens.{token_view, tokens_view};
@@ -10,9 +10,8 @@ use super::entry::{Entry, EntryValue, entries, value_at};
 use super::first::{is_name, sees_open};
 use super::passage::Passage;
 use super::prefixes::{attribute_len, begins_attribute};
-use crate::attribute::Misuse;
 use crate::fault::Fault;
-use crate::problem::{Expected, Problem};
+use crate::problem::Expected;
 use crate::token::{Bracket, Token};
 use std::alloc::Global;
 
@@ -56,6 +55,17 @@ fn is_refused(name: &Token<'_>, behind: &[Token<'_>]) -> bool
     behind.is_empty() && (is_named("flatten", name) || is_named("untagged", name))
 }
 
+/// An attribute of another name, as an entry.
+fn outside<'s, 't>(name: Token<'t>) -> Entry<'s, 't>
+    ensures { entry_view result ≡ outside_entry (token_view name.entry) }
+{
+    Entry {
+        qualifier: None,
+        name,
+        value: EntryValue::Outside,
+    }
+}
+
 /// The entries of serde's or facet's attribute, by what stands behind its name.
 fn own_entries<'s, 't>(alloc: Global, behind: Passage<'s, 't>) -> Result<Vec<Entry<'s, 't>>, Fault>
     ensures { Gives (λ found. entries_view found.items) (own_entries (passage_view behind.entry))
@@ -67,8 +77,8 @@ fn own_entries<'s, 't>(alloc: Global, behind: Passage<'s, 't>) -> Result<Vec<Ent
     }
 }
 
-/// The entries of an attribute, by what stands in its brackets: none where it is neither serde's
-/// nor facet's.
+/// The entries of an attribute, by what stands in its brackets. One that is neither serde's nor
+/// facet's has none, unless it asks what only these can say: then it is one itself.
 fn entries_in<'s, 't>(alloc: Global, inner: Passage<'s, 't>) -> Result<Vec<Entry<'s, 't>>, Fault>
     ensures { Gives (λ found. entries_view found.items) (entries_in (passage_view inner.entry))
         result }
@@ -80,10 +90,7 @@ fn entries_in<'s, 't>(alloc: Global, inner: Passage<'s, 't>) -> Result<Vec<Entry
         return own_entries(alloc, inner.after(1));
     }
     if is_refused(name, behind) {
-        return Err(Fault::At {
-            offset: name.offset,
-            problem: Problem::Misused(Misuse::Unsupported),
-        });
+        return Ok(vec![in alloc; outside(*name)]?);
     }
     Ok(Vec::new(alloc))
 }

@@ -22,6 +22,8 @@ pub(crate) enum EntryValue<'s, 't> {
     Is(Passage<'s, 't>),
     /// These, in brackets.
     Holds(Passage<'s, 't>),
+    /// What asks for something that only serde's or facet's own attributes can say.
+    Outside,
 }
 
 /// An entry of an attribute of serde or facet, as `rename = "kind"`.

@@ -1,9 +1,6 @@
-use Rattle.std.proofs.Common.{◌≡◌, ◌∙◌, ap, sym, subst, cond, true, Err, Ok, []}
-use Rattle.facet_solver_types.specs.declared.attribute.meaning.Misuse.TheVariants.{Unsupported}
-use Rattle.facet_solver_types.specs.declared.fault.Fault.TheVariants.{At}
-use Rattle.facet_solver_types.specs.declared.problem.Problem.TheVariants.{Misused}
+use Rattle.std.proofs.Common.{◌≡◌, ◌∙◌, ap, sym, subst, cond, true, Ok, [], ◌∷◌}
 use Rattle.facet_solver_types.specs.AttributeEntries.{entries_in, entries_of, is_ours, is_refused}
-use Rattle.facet_solver_types.specs.AttributeEntries.{own_entries}
+use Rattle.facet_solver_types.specs.AttributeEntries.{outside_entry, own_entries}
 use Rattle.facet_solver_types.specs.Entries.{entries_view}
 use Rattle.facet_solver_types.specs.Outcomes.{Gives}
 use Rattle.facet_solver_types.specs.Passages.{after, passage_view}
@@ -16,7 +13,7 @@ returns-then-is_ours c =
     let name = token_view c.in-Some.name.now in
     let ours : is_ours name ≡ true = sym c.is_ours.ensures ∙ c.if-is_ours.true in
     let other = cond (is_refused name (tokens_view c.in-Some.behind.now))
-    (Err (At name.offset (Misused Unsupported))) (Ok []) in
+    (Ok (outside_entry name ∷ [])) (Ok []) in
     let own : entries_in inner ≡ own_entries (passage_view c.after.result) =
     ap (λ ts. entries_of (tokens_view ts) inner) c.in-Some.ensures.cases.0
     ∙ ap (λ b. cond b (own_entries (after 1 inner)) other) ours
