@@ -27,3 +27,4 @@ pub mod Entries
 pub mod AttributeEntries
 pub mod Values
 pub mod Attributes
+pub mod AttributeTexts

@@ -5,6 +5,7 @@ ghost use Rattle.facet_solver_types.specs.Entries.{entry_view};
 ghost use Rattle.facet_solver_types.specs.Outcomes.{Gives};
 
 mod meaning;
+mod text;
 mod value;
 
 use crate::fault::Fault;
