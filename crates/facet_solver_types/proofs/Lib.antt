@@ -15,3 +15,4 @@ pub mod Pieces
 pub mod Digits
 pub mod EnteredAttributes
 pub mod ReadNames
+pub mod AttributeTurns

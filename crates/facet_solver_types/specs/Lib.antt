@@ -28,3 +28,5 @@ pub mod AttributeEntries
 pub mod Values
 pub mod Attributes
 pub mod AttributeTexts
+pub mod Clashes
+pub mod AttributeLists

@@ -4,6 +4,8 @@ ghost use Rattle.facet_solver_types.specs.Attributes.{attribute_of, attribute_vi
 ghost use Rattle.facet_solver_types.specs.Entries.{entry_view};
 ghost use Rattle.facet_solver_types.specs.Outcomes.{Gives};
 
+mod clash;
+mod list;
 mod meaning;
 mod text;
 mod value;

@@ -12,5 +12,6 @@ mod prefixes;
 mod run;
 mod starts;
 
+pub(crate) use attributes::attribute_entries;
 pub(crate) use entry::{Entry, EntryValue, entries};
 pub(crate) use passage::Passage;

@@ -29,6 +29,8 @@ pub enum Problem {
     NoText,
     /// A text that names no case.
     NoCase,
+    /// An attribute that one before it excludes.
+    Clashes,
 }
 
 /// What is expected where something else stands.

@@ -90,7 +90,9 @@ fn entries_in<'s, 't>(alloc: Global, inner: Passage<'s, 't>) -> Result<Vec<Entry
         return own_entries(alloc, inner.after(1));
     }
     if is_refused(name, behind) {
-        return Ok(vec![in alloc; outside(*name)]?);
+        let mut found = Vec::new(alloc);
+        found.push(outside(*name))?;
+        return Ok(found);
     }
     Ok(Vec::new(alloc))
 }

@@ -1,0 +1,119 @@
+//! All attributes of serde and facet that stand before something.
+ghost use Rattle.std.specs.Prelude.{◌≡◌, [], IfOk};
+ghost use Rattle.std.specs.String.{string_bytes};
+ghost use Rattle.facet_solver_types.specs.AttributeLists.{attributes, attributes_after, attributes_view, clashes, has_clash, next_attribute, said_by_value};
+ghost use Rattle.facet_solver_types.specs.Attributes.{attribute_view};
+ghost use Rattle.facet_solver_types.specs.Entries.{entries_view, entry_view};
+ghost use Rattle.facet_solver_types.specs.Outcomes.{Gives};
+ghost use Rattle.facet_solver_types.specs.Tokens.{tokens_view};
+ghost use Rattle.facet_solver_types.specs.Values.{value_view};
+
+use super::clash::clash;
+use super::meaning::Subject;
+use super::text::{said_text, text_of};
+use super::value::Value;
+use super::{Attribute, attribute_of};
+use crate::fault::Fault;
+use crate::grammar::{Entry, attribute_entries};
+use crate::problem::Problem;
+use crate::token::Token;
+use std::alloc::{AllocError, Global};
+
+/// What a value says: an empty text where it is none.
+fn said_by_value(alloc: Global, value: &Value<'_, '_>) -> Result<String, AllocError>
+    ensures { IfOk result (λ text. string_bytes text ≡ said_by_value (value_view value.now)) }
+{
+    let Value::Text(token) = value else {
+        return Ok(String::new(alloc));
+    };
+    match text_of(alloc, token)? {
+        Some(text) => Ok(text),
+        None => Ok(String::new(alloc)),
+    }
+}
+
+/// Whether two attributes exclude each other.
+fn clashes(
+    alloc: Global,
+    one: &Attribute<'_, '_>,
+    other: &Attribute<'_, '_>,
+) -> Result<bool, AllocError>
+    ensures { IfOk result (λ is. is
+        ≡ clashes (attribute_view one.now) (attribute_view other.now)) }
+{
+    let same = said_by_value(alloc, &one.value)? == said_by_value(alloc, &other.value)?;
+    Ok(clash(one.meaning, other.meaning, same))
+}
+
+/// Whether one of some attributes excludes another.
+fn has_clash(
+    alloc: Global,
+    found: &[Attribute<'_, '_>],
+    attribute: &Attribute<'_, '_>,
+) -> Result<bool, AllocError>
+    ensures { IfOk result (λ has. has
+        ≡ has_clash (attributes_view found.now) (attribute_view attribute.now)) }
+{
+    for one in found {
+        if clashes(alloc, one, attribute)? {
+            return Ok(true);
+        }
+    }
+    Ok(false)
+}
+
+/// The attribute that an entry is behind others.
+fn next_attribute<'s, 't>(
+    alloc: Global,
+    subject: Subject,
+    found: &[Attribute<'s, 't>],
+    entry: &Entry<'s, 't>,
+) -> Result<Attribute<'s, 't>, Fault>
+    ensures { Gives attribute_view
+        (next_attribute subject (attributes_view found.now) (entry_view entry.now)) result }
+{
+    let attribute = attribute_of(alloc, subject, entry)?;
+    if let Value::Text(token) = &attribute.value {
+        said_text(alloc, attribute.meaning, token)?;
+    }
+    if has_clash(alloc, found, &attribute)? {
+        return Err(Fault::At {
+            offset: attribute.offset,
+            problem: Problem::Clashes,
+        });
+    }
+    Ok(attribute)
+}
+
+/// The attributes that entries are.
+fn attributes_of<'s, 't>(
+    alloc: Global,
+    subject: Subject,
+    entries: &[Entry<'s, 't>],
+) -> Result<Vec<Attribute<'s, 't>>, Fault>
+    ensures { Gives (λ found. attributes_view found.items)
+        (attributes_after subject [] (entries_view entries.now)) result }
+{
+    let mut found = Vec::new(alloc);
+    for entry in entries {
+        let attribute = next_attribute(alloc, subject, &found, entry)?;
+        found.push(attribute)?;
+    }
+    Ok(found)
+}
+
+/// The attributes of serde and facet on a subject.
+///
+/// Errors: the first entry that means nothing there, has another value than it takes, or excludes
+/// one before it; what else stands where an entry should; out of memory.
+pub(crate) fn attributes<'s, 't>(
+    alloc: Global,
+    subject: Subject,
+    written: &'s [Token<'t>],
+) -> Result<Vec<Attribute<'s, 't>>, Fault>
+    ensures { Gives (λ found. attributes_view found.items)
+        (attributes subject (tokens_view written.now)) result }
+{
+    let entries = attribute_entries(alloc, written)?;
+    attributes_of(alloc, subject, &entries)
+}
