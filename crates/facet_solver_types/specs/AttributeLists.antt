@@ -1,12 +1,14 @@
 -- All attributes of serde and facet that stand before something.
-use Rattle.std.specs.Prelude.{Bool, if◌then◌else◌, List, [], ◌∷◌, ◌++◌, map, unwrap_or, Result, Ok, Err}
+use Rattle.std.specs.Prelude.{ℕ, Bool, true, false, if◌then◌else◌, List, [], ◌∷◌, ◌++◌, map, unwrap_or, Option, Some, None, Result, Ok, Err}
 use Rattle.std.specs.List.{list_any}
 use Rattle.facet_solver_shape.specs.Names.{Name, name_eq}
 use Rattle.facet_solver_types.specs.declared.attribute.Attribute as declared
+use Rattle.facet_solver_types.specs.declared.attribute.meaning.Meaning.{Meaning}
+use Rattle.facet_solver_types.specs.declared.attribute.meaning.Meaning.TheVariants.{Content, Tag}
 use Rattle.facet_solver_types.specs.declared.attribute.meaning.Subject.{Subject}
 use Rattle.facet_solver_types.specs.declared.fault.Fault.{Fault}
 use Rattle.facet_solver_types.specs.declared.fault.Fault.TheVariants.{At}
-use Rattle.facet_solver_types.specs.declared.problem.Problem.TheVariants.{Clashes}
+use Rattle.facet_solver_types.specs.declared.problem.Problem.TheVariants.{Clashes, NoTag}
 use Rattle.facet_solver_types.specs.AttributeEntries.{attribute_entries}
 use Rattle.facet_solver_types.specs.AttributeTexts.{said_text, text_of}
 use Rattle.facet_solver_types.specs.Attributes.{Attribute, attribute_of, attribute_view}
@@ -59,6 +61,38 @@ attributes_after subject found (entry ∷ entries) =
     and_then (next_attribute subject found entry)
     (λ attribute. attributes_after subject (found ++ attribute ∷ []) entries)
 
+-- whether a meaning is that of `tag`
+abbrev pub is_tag : Meaning → Bool
+is_tag Tag = true
+is_tag meaning = false
+
+-- whether a meaning is that of `content`
+abbrev pub is_content : Meaning → Bool
+is_content Content = true
+is_content meaning = false
+
+-- whether some attribute is `tag`
+abbrev pub has_tag : List Attribute → Bool
+has_tag found = list_any (λ attribute. is_tag attribute.meaning) found
+
+-- where the first attribute stands that is `content`
+abbrev pub content_offset : List Attribute → Option ℕ
+content_offset [] = None
+content_offset (attribute ∷ others) =
+    if is_content attribute.meaning then Some attribute.offset else content_offset others
+
+-- where `content` stands without `tag`
+abbrev pub lone_content : List Attribute → Option ℕ
+lone_content found = if has_tag found then None else content_offset found
+
+-- attributes, unless `content` stands without `tag`
+abbrev pub tagged_by : List Attribute → Option ℕ → Result (List Attribute) Fault
+tagged_by found None = Ok found
+tagged_by found (Some offset) = Err (At offset NoTag)
+
 -- the attributes of serde and facet on a subject
 abbrev pub attributes : Subject → List Token → Result (List Attribute) Fault
-attributes subject written = and_then (attribute_entries written) (attributes_after subject [])
+attributes subject written =
+    and_then (attribute_entries written)
+    (λ entries. and_then (attributes_after subject [] entries)
+    (λ found. tagged_by found (lone_content found)))

@@ -31,6 +31,8 @@ pub enum Problem {
     NoCase,
     /// An attribute that one before it excludes.
     Clashes,
+    /// `content` without `tag`.
+    NoTag,
 }
 
 /// What is expected where something else stands.

@@ -1,7 +1,7 @@
 //! All attributes of serde and facet that stand before something.
 ghost use Rattle.std.specs.Prelude.{◌≡◌, [], IfOk};
 ghost use Rattle.std.specs.String.{string_bytes};
-ghost use Rattle.facet_solver_types.specs.AttributeLists.{attributes, attributes_after, attributes_view, clashes, has_clash, next_attribute, said_by_value};
+ghost use Rattle.facet_solver_types.specs.AttributeLists.{attributes, attributes_after, attributes_view, clashes, content_offset, has_clash, has_tag, is_content, is_tag, lone_content, next_attribute, said_by_value};
 ghost use Rattle.facet_solver_types.specs.Attributes.{attribute_view};
 ghost use Rattle.facet_solver_types.specs.Entries.{entries_view, entry_view};
 ghost use Rattle.facet_solver_types.specs.Outcomes.{Gives};
@@ -9,7 +9,7 @@ ghost use Rattle.facet_solver_types.specs.Tokens.{tokens_view};
 ghost use Rattle.facet_solver_types.specs.Values.{value_view};
 
 use super::clash::clash;
-use super::meaning::Subject;
+use super::meaning::{Meaning, Subject};
 use super::text::{said_text, text_of};
 use super::value::Value;
 use super::{Attribute, attribute_of};
@@ -102,10 +102,66 @@ fn attributes_of<'s, 't>(
     Ok(found)
 }
 
+/// Whether a meaning is that of `tag`.
+fn is_tag(meaning: Meaning) -> bool
+    ensures { result ≡ is_tag meaning }
+{
+    match meaning {
+        Meaning::Tag => true,
+        _ => false,
+    }
+}
+
+/// Whether a meaning is that of `content`.
+fn is_content(meaning: Meaning) -> bool
+    ensures { result ≡ is_content meaning }
+{
+    match meaning {
+        Meaning::Content => true,
+        _ => false,
+    }
+}
+
+/// Whether some attribute is `tag`.
+fn has_tag(found: &[Attribute<'_, '_>]) -> bool
+    ensures { result ≡ has_tag (attributes_view found.now) }
+{
+    for attribute in found {
+        if is_tag(attribute.meaning) {
+            return true;
+        }
+    }
+    false
+}
+
+/// Where the first attribute stands that is `content`.
+fn content_offset(found: &[Attribute<'_, '_>]) -> Option<usize>
+    ensures { result ≡ content_offset (attributes_view found.now) }
+{
+    for attribute in found {
+        if is_content(attribute.meaning) {
+            return Some(attribute.offset);
+        }
+    }
+    None
+}
+
+/// Where `content` stands without `tag`.
+fn lone_content(found: &[Attribute<'_, '_>]) -> Option<usize>
+    ensures { result ≡ lone_content (attributes_view found.now) }
+{
+    if has_tag(found) {
+        None
+    } else {
+        content_offset(found)
+    }
+}
+
 /// The attributes of serde and facet on a subject.
 ///
 /// Errors: the first entry that means nothing there, has another value than it takes, or excludes
-/// one before it; what else stands where an entry should; out of memory.
+/// one before it; else `content` without `tag`; what else stands where an entry should; out of
+/// memory.
 pub(crate) fn attributes<'s, 't>(
     alloc: Global,
     subject: Subject,
@@ -115,5 +171,12 @@ pub(crate) fn attributes<'s, 't>(
         (attributes subject (tokens_view written.now)) result }
 {
     let entries = attribute_entries(alloc, written)?;
-    attributes_of(alloc, subject, &entries)
+    let found = attributes_of(alloc, subject, &entries)?;
+    match lone_content(&found) {
+        None => Ok(found),
+        Some(offset) => Err(Fault::At {
+            offset,
+            problem: Problem::NoTag,
+        }),
+    }
 }
