@@ -10,3 +10,4 @@ pub mod Listed
 pub mod ListedLifetimes
 pub mod Views
 pub mod Attributes
+pub mod Columns

@@ -20,3 +20,4 @@ pub mod Fields
 pub mod Bodies
 pub mod Starts
 pub mod Items
+pub mod Places

@@ -19,9 +19,9 @@ single byte =
     else None))))))
 
 -- a token of one character, if it is one
-abbrev pub if_token : Option TokenKind → Result Spelling Problem
-if_token None = Err NoToken
-if_token (Some kind) = Ok (whole kind 1)
+abbrev pub if_token : ℕ → Option TokenKind → Result Spelling Problem
+if_token byte None = Err (NoToken byte)
+if_token byte (Some kind) = Ok (whole kind 1)
 
 -- the mark or bracket that stands first: `::`, `->`, `=>` or one character
 unfoldable pub mark : List ℕ → Result Spelling Problem
@@ -31,4 +31,4 @@ mark text =
     if first == 58 && second == 58 then Ok (whole PathMark 2)
     else (if first == 45 && second == 62 then Ok (whole Arrow 2)
     else (if first == 61 && second == 62 then Ok (whole FatArrow 2)
-    else if_token (single first)))
+    else if_token first (single first)))

@@ -4,6 +4,10 @@
 mod fault;
 mod grammar;
 mod item;
+mod place;
 mod problem;
 mod token;
 mod tokens;
+
+pub use place::Place;
+pub use problem::{Expected, Problem};

@@ -3,8 +3,8 @@
 /// What is wrong at a place of a text.
 #[derive(Clone, Copy, Debug, PartialEq, Eq)]
 pub enum Problem {
-    /// A character begins no token.
-    NoToken,
+    /// A character of ASCII, this one, begins no token.
+    NoToken(u8),
     /// A text is not closed.
     OpenText,
     /// A character in quotes is not closed.
