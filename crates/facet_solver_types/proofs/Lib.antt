@@ -11,3 +11,4 @@ pub mod ListedLifetimes
 pub mod Views
 pub mod Attributes
 pub mod Columns
+pub mod ByteOrderMark

@@ -21,3 +21,6 @@ pub mod Bodies
 pub mod Starts
 pub mod Items
 pub mod Places
+pub mod PlaceTexts
+pub mod ProblemTexts
+pub mod Errors

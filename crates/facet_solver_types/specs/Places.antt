@@ -1,6 +1,6 @@
 -- Where in a text an offset is.
-use Rattle.std.specs.Prelude.{ℕ, ◌+◌, List, take, drop, reverse, Bool, not, ◌==◌, ◌||◌, ◌&&◌, if◌then◌else◌, slice_index, nat_le, nat_lt}
-use Rattle.std.specs.List.{count_by, take_while}
+use Rattle.std.specs.Prelude.{ℕ, ◌+◌, List, [], ◌∷◌, take, drop, reverse, Bool, not, ◌==◌, ◌||◌, if◌then◌else◌, nat_eq, nat_le, nat_lt}
+use Rattle.std.specs.List.{count_by, starts_with, take_while}
 use Rattle.facet_solver_types.specs.declared.place.Place.{Place}
 
 -- whether a byte ends a line
@@ -28,8 +28,10 @@ column_at offset text = column_after (take offset text)
 abbrev pub place_at : ℕ → List ℕ → Place
 place_at offset text = record { line = line_at offset text; column = column_at offset text }
 
+-- the byte order mark, U+FEFF
+abbrev pub byte_order_mark : List ℕ
+byte_order_mark = 0xef ∷ 0xbb ∷ 0xbf ∷ []
+
 -- a text without a byte order mark that stands first
 abbrev pub without_mark : List ℕ → List ℕ
-without_mark text =
-    if slice_index text 0 == 0xef && slice_index text 1 == 0xbb && slice_index text 2 == 0xbf
-    then drop 3 text else text
+without_mark text = if starts_with nat_eq text byte_order_mark then drop 3 text else text

@@ -1,6 +1,7 @@
 //! Rust declarations as a checked catalogue of shapes.
 #![tactic(auto)]
 
+mod error;
 mod fault;
 mod grammar;
 mod item;
@@ -9,5 +10,6 @@ mod problem;
 mod token;
 mod tokens;
 
+pub use error::TypesError;
 pub use place::Place;
 pub use problem::{Expected, Problem};

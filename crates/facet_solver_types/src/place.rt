@@ -1,6 +1,9 @@
 //! Lines and columns.
-ghost use Rattle.std.specs.Prelude.{◌≡◌, ◌≤◌, length, take};
-ghost use Rattle.facet_solver_types.specs.Places.{begins_character, column_at, line_at, place_at};
+ghost use Rattle.std.specs.Prelude.{◌≡◌, ◌≤◌, Some, drop, length, take};
+ghost use Rattle.facet_solver_types.specs.PlaceTexts.{place_text};
+ghost use Rattle.facet_solver_types.specs.Places.{begins_character, column_at, line_at, place_at, without_mark};
+
+use std::fmt;
 
 /// A place in a text. It counts from 1.
 #[derive(Clone, Copy, Debug, PartialEq, Eq)]
@@ -9,6 +12,16 @@ pub struct Place {
     pub line: usize,
     /// The column, in characters. A byte order mark at the text's start has none.
     pub column: usize,
+}
+
+/// As `3:18`.
+impl fmt::Display for Place {
+    ghost output = { λ p. Some (place_text p) };
+
+    fn fmt<W: fmt::Write>(&self, f: &mut fmt::Formatter<W>) -> fmt::Result {
+        let Place { line, column } = self;
+        write!(f, "{line}:{column}")
+    }
 }
 
 /// The place of an offset.
@@ -53,4 +66,15 @@ fn begins_character(byte: u8) -> bool
     ensures { result ≡ begins_character byte }
 {
     byte < 0x80 || byte >= 0xc0
+}
+
+/// A text without a byte order mark that stands first.
+pub(crate) fn without_mark(text: &str) -> &str
+    ensures { result.now ≡ without_mark text.now }
+{
+    if text.as_bytes().starts_with(&[0xef, 0xbb, 0xbf]) {
+        &text[3..]
+    } else {
+        text
+    }
 }

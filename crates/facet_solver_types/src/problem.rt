@@ -1,4 +1,8 @@
 //! What is wrong with a text.
+ghost use Rattle.std.specs.Prelude.{Some};
+ghost use Rattle.facet_solver_types.specs.ProblemTexts.{expected_text};
+
+use std::fmt;
 
 /// What is wrong at a place of a text.
 #[derive(Clone, Copy, Debug, PartialEq, Eq)]
@@ -48,4 +52,26 @@ pub enum Expected {
     Bracket,
     /// `,` or `}` after a variant.
     VariantEnd,
+}
+
+/// As `a name`, or `';' or '{'`.
+impl fmt::Display for Expected {
+    ghost output = { λ e. Some (expected_text e) };
+
+    fn fmt<W: fmt::Write>(&self, f: &mut fmt::Formatter<W>) -> fmt::Result {
+        match self {
+            Expected::Name => write!(f, "a name"),
+            Expected::FieldType => write!(f, "a type"),
+            Expected::Item => write!(f, "an item"),
+            Expected::Lifetime => write!(f, "a lifetime"),
+            Expected::LifetimeEnd => write!(f, "',' or '>'"),
+            Expected::Body => write!(f, "'{{', '(' or ';'"),
+            Expected::Braces => write!(f, "'{{'"),
+            Expected::Colon => write!(f, "':'"),
+            Expected::Semicolon => write!(f, "';'"),
+            Expected::HeadEnd => write!(f, "';' or '{{'"),
+            Expected::Bracket => write!(f, "a bracket"),
+            Expected::VariantEnd => write!(f, "',' or '}}'"),
+        }
+    }
 }
