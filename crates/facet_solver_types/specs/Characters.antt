@@ -16,7 +16,7 @@ blank_len text =
     else (if first == 0xe2 && second == 0x80 && is_late_blank (slice_index text 2) then 3
     else 0))
 
--- whether a letter, a digit or `_` stands first; a character past ASCII that is no blank is a letter
+-- whether a letter, a digit or `_` stands first; past ASCII a letter is what is no blank
 unfoldable pub continues_name : List ℕ → Bool
 continues_name text =
     let first = slice_index text 0 in

@@ -2,7 +2,7 @@
 use Rattle.std.specs.Prelude.{ℕ, ◌+◌, ◌-◌, Bool, true, false, not, ◌&&◌, ◌==◌, nat_le, if◌then◌else◌, List, [], ◌∷◌, Option, Some, None, slice_index}
 use Rattle.std.specs.List.{prefix_len}
 
--- The offset of the quote that closes, for bytes at an offset. A byte after `\` closes nothing, as the first where it is `passed`.
+-- the offset of the quote that closes, for bytes at an offset; one that `\` has passed does not
 abbrev pub closing : ℕ → Bool → ℕ → List ℕ → Option ℕ
 closing quote passed at [] = None
 closing quote true at (byte ∷ bytes) = closing quote false (at + 1) bytes
@@ -19,7 +19,7 @@ raw_closing count at [] = None
 raw_closing count at (byte ∷ bytes) =
     if byte == 34 && nat_le count (hashes bytes) then Some at else raw_closing count (at + 1) bytes
 
--- The offset after the `*/` that closes a comment in which `depth` more are open, for bytes at an offset. The first belongs to the mark before it where it is `passed`.
+-- the offset after the `*/` that closes a comment, in which `depth` others are open
 abbrev pub comment_end : ℕ → Bool → ℕ → List ℕ → Option ℕ
 comment_end depth passed at [] = None
 comment_end depth true at (byte ∷ bytes) = comment_end depth false (at + 1) bytes

@@ -19,7 +19,7 @@ next_lifetime kind =
     if is_mark 44 kind then Ok Start
     else (if is_mark 62 kind then Ok Ended else Err (Expected LifetimeEnd))
 
--- where a list of lifetimes is after a token: a lifetime or the end comes at its start and after a comma; after a lifetime come its bounds, the next or the end
+-- where a list of lifetimes is after a token
 unfoldable pub lifetime_step : Stage → TokenKind → List ℕ → Result Stage Problem
 lifetime_step Start kind text =
     if is_mark 62 kind then Ok Ended

@@ -21,7 +21,7 @@ abbrev pub attribute_len : Bool → List Token → ℕ
 attribute_len inner tokens =
     attribute_marks inner + group_len (drop (attribute_marks inner) tokens)
 
--- how many tokens attributes have, where the first `passed` tokens belong to the one before
+-- how many tokens attributes have, the first `passed` of them too
 unfoldable pub attributes_from : Bool → ℕ → List Token → ℕ
 attributes_from inner passed [] = 0
 attributes_from inner (suc passed) (token ∷ tokens) = suc (attributes_from inner passed tokens)

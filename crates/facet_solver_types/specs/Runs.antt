@@ -41,12 +41,12 @@ has_angles run = false
 abbrev pub outside : Nest
 outside = record { brackets = 0; angles = 0; path = false }
 
--- whether a run ends at a token: outside all brackets at what ends it, or where a bracket closes that was open before it
+-- whether a run ends at a token: what stops it, outside brackets, or a bracket's end
 abbrev pub ends : Run → Nest → TokenKind → Bool
 ends run nest kind =
     nest.brackets == 0 && (is_close kind || (nest.angles == 0 && stops run kind))
 
--- how many `<` are open after a token outside other brackets: `<` opens one in a type, in a head, after `::` and in another, and `>` closes one
+-- how many `<` are open after a token: it is one in a type, a head, after `::` and in another
 abbrev pub angles_after : Run → Nest → TokenKind → ℕ
 angles_after run nest (Mark byte) =
     if byte == 60 && (has_angles run || nest.path || nat_lt 0 nest.angles) then nest.angles + 1

@@ -71,7 +71,7 @@ is_segment kind text =
     is_name kind || is_word (codes "crate") kind text || is_word (codes "self") kind text
     || is_word (codes "super") kind text
 
--- how far the path of a macro is after a token: a name comes first and after each `::`, then `::` or the `!`
+-- how far the path of a macro is after a token: names with `::` between, and the `!`
 unfoldable pub path_step : Path → TokenKind → List ℕ → Path
 path_step Begun kind text = if is_segment kind text then Named else Broken
 path_step Named kind text =
@@ -88,7 +88,7 @@ abbrev pub is_broken : Path → Bool
 is_broken Broken = true
 is_broken path = false
 
--- after a token, where so many stood before: the count with it where it is the `!`, nothing, or the rest
+-- the count where the `!` was reached, nothing where the path is broken, or the rest
 abbrev pub then_path : Path → ℕ → (Path → Option ℕ) → Option ℕ
 then_path path count later =
     if is_called path then Some (count + 1) else (if is_broken path then None else later path)
@@ -150,7 +150,7 @@ item_len tokens =
     let visibility = visibility_len rest in
     attributes + (visibility + bare_len (drop visibility rest))
 
--- the items that tokens have, of which the first `passed` tokens belong to the one before
+-- the items that tokens have, after the first tokens that were `passed`
 unfoldable pub items_from : ℕ → ℕ → List Token → List Passage
 items_from end passed [] = []
 items_from end (suc passed) (token ∷ tokens) = items_from end passed tokens

@@ -9,7 +9,7 @@ use Rattle.facet_solver_types.specs.declared.tokens.texts.Opening.{Opening}
 use Rattle.facet_solver_types.specs.Closings.{closing, hashes, raw_closing}
 use Rattle.facet_solver_types.specs.Spellings.{whole}
 
--- what stands before the quote of a text: `b` or `c` if any, `r` if any, and after an `r` any number of `#`
+-- what stands before the quote of a text: maybe `b` or `c`, and maybe `r` and some `#`
 unfoldable pub opening_of : List ℕ → Opening
 opening_of text =
     let marked = slice_index text 0 == 98 || slice_index text 0 == 99 in
@@ -32,7 +32,8 @@ begins_text text = slice_index text (opening_of text).quote == 34
 abbrev pub text_until : Opening → Option ℕ → Result Spelling Problem
 text_until front None = Err OpenText
 text_until front (Some at) =
-    Ok (record { kind = front.kind; start = front.quote + 1; end = at; len = at + 1 + front.hashes })
+    let start = front.quote + 1 in
+    Ok (record { kind = front.kind; start = start; end = at; len = at + 1 + front.hashes })
 
 -- the text that stands first
 unfoldable pub text_token : List ℕ → Result Spelling Problem
@@ -47,7 +48,7 @@ text_token text =
 abbrev pub character_len : ℕ → ℕ
 character_len byte = 1 + continuation_len byte
 
--- whether a character's quote stands at an offset: `\` follows, or another quote after one character
+-- whether a character's quote stands at an offset: before `\`, or one character and a quote
 unfoldable pub begins_character : ℕ → List ℕ → Bool
 begins_character at text =
     let first = slice_index text (at + 1) in
