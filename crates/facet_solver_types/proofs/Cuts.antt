@@ -147,18 +147,18 @@ module _ (text : List ℕ) (utf8 : IsUtf8 text) where
 
   -- ---- marks
 
-  one_cut : (o : Option TokenKind) → 0 < length text → get_or text 0 0 < 128 → IfOk (if_token o) (IsCut text)
-  one_cut None some ascii = tt
-  one_cut (Some kind) some ascii = cut_whole kind 1 (IsCharBoundary-after_ascii text 0 utf8 some ascii)
+  one_cut : (byte : ℕ) (o : Option TokenKind) → 0 < length text → get_or text 0 0 < 128 → IfOk (if_token byte o) (IsCut text)
+  one_cut byte None some ascii = tt
+  one_cut byte (Some kind) some ascii = cut_whole kind 1 (IsCharBoundary-after_ascii text 0 utf8 some ascii)
 
   single_ascii : (byte : ℕ) → 128 ≤ byte → single byte ≡ None
   single_ascii byte high = grind (arith, nat_tests)
 
-  single_cut : 0 < length text → IfOk (if_token (single (slice_index text 0))) (IsCut text)
+  single_cut : 0 < length text → IfOk (if_token (slice_index text 0) (single (slice_index text 0))) (IsCut text)
   single_cut some =
       elim (order (get_or text 0 0) 128) [
-        | inl ascii ↦ one_cut (single (slice_index text 0)) some ascii
-        | inr high ↦ subst (λ o. IfOk (if_token o) (IsCut text)) (sym (single_ascii (slice_index text 0) high)) tt
+        | inl ascii ↦ one_cut (slice_index text 0) (single (slice_index text 0)) some ascii
+        | inr high ↦ subst (λ o. IfOk (if_token (slice_index text 0) o) (IsCut text)) (sym (single_ascii (slice_index text 0) high)) tt
       ]
 
   two_cut : (kind : TokenKind) (byte : ℕ) → 0 < byte → byte < 128 → get_or text 1 0 ≡ byte → IsCut text (whole kind 2)

@@ -10,6 +10,8 @@ pub mod Listed
 pub mod ListedLifetimes
 pub mod Views
 pub mod Attributes
+pub mod Columns
+pub mod ByteOrderMark
 pub mod Ascii
 pub mod Pieces
 pub mod Digits

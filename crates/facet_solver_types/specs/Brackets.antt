@@ -14,6 +14,7 @@ closed_by bracket (innermost ∷ outer) =
 
 -- the brackets that are open after a token, innermost first, unless it closes none of them
 abbrev pub open_after : TokenKind → ℕ → List Opened → Option (List Opened)
-open_after (Open bracket) offset outer = Some (record { bracket = bracket; offset = offset } ∷ outer)
+open_after (Open bracket) offset outer =
+    Some (record { bracket = bracket; offset = offset } ∷ outer)
 open_after (Close bracket) offset outer = closed_by bracket outer
 open_after kind offset outer = Some outer

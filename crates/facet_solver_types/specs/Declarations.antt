@@ -59,7 +59,7 @@ variant_view variant = record {
 abbrev pub variants_view : List VariantDeclaration → List Variant
 variants_view variants = map variant_view variants
 
--- an item: a struct or an enum with its attributes and its name, an alias with its name and what follows it to `;`, or another
+-- an item: a struct, an enum, an alias with what follows its name to `;`, or another
 pub data Item : Type 0 where
   struct : List Token → Token → Body → Item
   enum : List Token → Token → List Variant → Item

@@ -1,3 +1,4 @@
+pub mod Ascii
 pub mod Characters
 pub mod Closings
 pub mod Spellings
@@ -20,6 +21,10 @@ pub mod Fields
 pub mod Bodies
 pub mod Starts
 pub mod Items
+pub mod Places
+pub mod PlaceTexts
+pub mod ProblemTexts
+pub mod Errors
 pub mod Cases
 pub mod Literals
 pub mod Meanings

@@ -11,7 +11,7 @@ abbrev pub and_then : {A B : Type 0} → Result A Fault → (A → Result B Faul
 and_then (Ok value) later = later value
 and_then (Err fault) later = Err fault
 
--- The parts of tokens between commas outside brackets. A comma at the end has none after it. The first `passed` tokens belong to the part before.
+-- the parts of tokens between commas outside brackets, after the first that were `passed`
 unfoldable pub pieces_from : Run → ℕ → ℕ → List Token → List Passage
 pieces_from run end passed [] = []
 pieces_from run end (suc passed) (token ∷ tokens) = pieces_from run end passed tokens

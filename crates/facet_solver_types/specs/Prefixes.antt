@@ -1,5 +1,6 @@
 -- What stands before an item or a field: attributes and `pub`.
 use Rattle.std.specs.Prelude.{ℕ, zero, suc, ◌+◌, ◌-◌, Bool, true, ◌&&◌, ◌||◌, if◌then◌else◌, List, [], ◌∷◌, codes, drop}
+use Rattle.facet_solver_types.specs.Ascii as ascii
 use Rattle.facet_solver_types.specs.declared.token.Bracket.TheVariants.{Round, Square}
 use Rattle.facet_solver_types.specs.FirstTokens.{sees_close, sees_mark, sees_open, sees_word}
 use Rattle.facet_solver_types.specs.Runs.{group_len}
@@ -12,8 +13,8 @@ attribute_marks inner = if inner then 2 else 1
 -- whether an attribute stands first
 unfoldable pub begins_attribute : Bool → List Token → Bool
 begins_attribute inner tokens =
-    sees_mark 35 tokens
-    && (if inner then sees_mark 33 (drop 1 tokens) else true)
+    sees_mark ascii.hash tokens
+    && (if inner then sees_mark ascii.exclamation (drop 1 tokens) else true)
     && sees_open Square (drop (attribute_marks inner) tokens)
 
 -- how many tokens an attribute has
@@ -21,7 +22,7 @@ abbrev pub attribute_len : Bool → List Token → ℕ
 attribute_len inner tokens =
     attribute_marks inner + group_len (drop (attribute_marks inner) tokens)
 
--- how many tokens attributes have, where the first `passed` tokens belong to the one before
+-- how many tokens attributes have, the first `passed` of them too
 unfoldable pub attributes_from : Bool → ℕ → List Token → ℕ
 attributes_from inner passed [] = 0
 attributes_from inner (suc passed) (token ∷ tokens) = suc (attributes_from inner passed tokens)

@@ -2,6 +2,7 @@
 use Rattle.std.specs.Prelude.{ℕ, zero, suc, ◌+◌, ◌-◌, min, Bool, true, false, ◌&&◌, ◌||◌, if◌then◌else◌, List, [], ◌∷◌, codes, drop, length, Option, Some, None, is_some}
 use Rattle.std.specs.List.{list_any}
 use Rattle.std.specs.Str.{bytes_eq}
+use Rattle.facet_solver_types.specs.Ascii as ascii
 use Rattle.facet_solver_types.specs.declared.grammar.run.Run.{Run}
 use Rattle.facet_solver_types.specs.declared.grammar.run.Run.TheVariants as run
 use Rattle.facet_solver_types.specs.declared.grammar.starts.Path.{Path}
@@ -30,7 +31,7 @@ sees_plain word (token ∷ tokens) = is_plain word token.kind token.text
 -- whether a constant stands after `const`: a name or `_`, and a colon
 abbrev pub begins_constant : List Token → Bool
 begins_constant tokens =
-    (sees_name tokens || sees_word (codes "_") tokens) && sees_mark 58 (drop 1 tokens)
+    (sees_name tokens || sees_word (codes "_") tokens) && sees_mark ascii.colon (drop 1 tokens)
 
 -- whether an item stands first that ends with `;` alone and declares no type
 unfoldable pub begins_statement : List Token → Bool
@@ -71,11 +72,11 @@ is_segment kind text =
     is_name kind || is_word (codes "crate") kind text || is_word (codes "self") kind text
     || is_word (codes "super") kind text
 
--- how far the path of a macro is after a token: a name comes first and after each `::`, then `::` or the `!`
+-- how far the path of a macro is after a token: names with `::` between, and the `!`
 unfoldable pub path_step : Path → TokenKind → List ℕ → Path
 path_step Begun kind text = if is_segment kind text then Named else Broken
 path_step Named kind text =
-    if is_path_mark kind then Begun else (if is_mark 33 kind then Called else Broken)
+    if is_path_mark kind then Begun else (if is_mark ascii.exclamation kind then Called else Broken)
 path_step path kind text = Broken
 
 -- whether the `!` was reached
@@ -88,7 +89,7 @@ abbrev pub is_broken : Path → Bool
 is_broken Broken = true
 is_broken path = false
 
--- after a token, where so many stood before: the count with it where it is the `!`, nothing, or the rest
+-- the count where the `!` was reached, nothing where the path is broken, or the rest
 abbrev pub then_path : Path → ℕ → (Path → Option ℕ) → Option ℕ
 then_path path count later =
     if is_called path then Some (count + 1) else (if is_broken path then None else later path)
@@ -150,7 +151,7 @@ item_len tokens =
     let visibility = visibility_len rest in
     attributes + (visibility + bare_len (drop visibility rest))
 
--- the items that tokens have, of which the first `passed` tokens belong to the one before
+-- the items that tokens have, after the first tokens that were `passed`
 unfoldable pub items_from : ℕ → ℕ → List Token → List Passage
 items_from end passed [] = []
 items_from end (suc passed) (token ∷ tokens) = items_from end passed tokens

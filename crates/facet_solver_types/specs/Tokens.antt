@@ -53,15 +53,19 @@ token_at offset text spelling =
     let own = slice_range text spelling.start spelling.end in
     record { offset = offset; kind = spelling.kind; text = own }
 
--- what stands first in a text, and the tokens after it, which a bracket's openness and an offset determine
-abbrev pub after_part : List Opened → ℕ → List ℕ → Result Part Problem → (List Opened → ℕ → Read) → Read
+-- the tokens after some brackets and a length
+abbrev pub Later : Type 0
+Later = List Opened → ℕ → Read
+
+-- the token that a part of a text is, if it is one, and the tokens after it
+abbrev pub after_part : List Opened → ℕ → List ℕ → Result Part Problem → Later → Read
 after_part outer offset text (Err problem) later = Err (At offset problem)
 after_part outer offset text (Ok (Gap len)) later = later outer len
 after_part outer offset text (Ok (Spelled spelling)) later =
     then_tokens (token_at offset text spelling) (open_after spelling.kind offset outer)
     (λ outer. later outer spelling.len)
 
--- The tokens of bytes at an offset, where these brackets are open, innermost first. The first `passed` bytes belong to what stands before them.
+-- the tokens of bytes at an offset in open brackets, after the first that were `passed`
 unfoldable pub tokens_from : List Opened → ℕ → ℕ → List ℕ → Read
 tokens_from outer offset passed [] = at_end (reverse outer)
 tokens_from outer offset (suc passed) (byte ∷ bytes) = tokens_from outer (offset + 1) passed bytes
@@ -74,7 +78,7 @@ abbrev pub before : List Token → Read → Read
 before tokens (Ok later) = Ok (tokens ++ later)
 before tokens (Err fault) = Err fault
 
--- what a text gives that goes on with these bytes at an offset, where these tokens were read, and these brackets are open, the first in the text first
+-- what a text gives that goes on so, where these tokens were read and these brackets opened
 abbrev pub outcome : List declared.Token → List Opened → ℕ → List ℕ → Read
 outcome found opened offset rest =
     before (tokens_view found) (tokens_from (reverse opened) offset 0 rest)

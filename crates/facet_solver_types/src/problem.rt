@@ -1,12 +1,15 @@
 //! What is wrong with a text.
+ghost use Rattle.std.specs.Prelude.{Some};
+ghost use Rattle.facet_solver_types.specs.ProblemTexts.{expected_text, form_text, misuse_text};
 
 use crate::attribute::{Form, Misuse};
+use std::fmt;
 
 /// What is wrong at a place of a text.
 #[derive(Clone, Copy, Debug, PartialEq, Eq)]
 pub enum Problem {
-    /// A character begins no token.
-    NoToken,
+    /// A character of ASCII, this one, begins no token.
+    NoToken(u8),
     /// A text is not closed.
     OpenText,
     /// A character in quotes is not closed.
@@ -68,4 +71,56 @@ pub enum Expected {
     AttributeList,
     /// `=`, `(`, `,` or `)` after the name of an attribute.
     AttributeEnd,
+}
+
+/// As `a name`, or `';' or '{'`.
+impl fmt::Display for Expected {
+    ghost output = { λ e. Some (expected_text e) };
+
+    fn fmt<W: fmt::Write>(&self, f: &mut fmt::Formatter<W>) -> fmt::Result {
+        match self {
+            Expected::Name => write!(f, "a name"),
+            Expected::FieldType => write!(f, "a type"),
+            Expected::Item => write!(f, "an item"),
+            Expected::Lifetime => write!(f, "a lifetime"),
+            Expected::LifetimeEnd => write!(f, "',' or '>'"),
+            Expected::Body => write!(f, "'{{', '(' or ';'"),
+            Expected::Braces => write!(f, "'{{'"),
+            Expected::Colon => write!(f, "':'"),
+            Expected::Semicolon => write!(f, "';'"),
+            Expected::HeadEnd => write!(f, "';' or '{{'"),
+            Expected::Bracket => write!(f, "a bracket"),
+            Expected::VariantEnd => write!(f, "',' or '}}'"),
+            Expected::Attribute => write!(f, "the name of an attribute"),
+            Expected::AttributeList => write!(f, "'('"),
+            Expected::AttributeEnd => write!(f, "'=', '(' or ','"),
+        }
+    }
+}
+
+impl fmt::Display for Misuse {
+    ghost output = { λ m. Some (misuse_text m) };
+
+    fn fmt<W: fmt::Write>(&self, f: &mut fmt::Formatter<W>) -> fmt::Result {
+        match self {
+            Misuse::Unknown => write!(f, "is no attribute of serde or facet"),
+            Misuse::Misplaced => write!(f, "means nothing here"),
+            Misuse::Unsupported => write!(f, "cannot be said"),
+        }
+    }
+}
+
+impl fmt::Display for Form {
+    ghost output = { λ form. Some (form_text form) };
+
+    fn fmt<W: fmt::Write>(&self, f: &mut fmt::Formatter<W>) -> fmt::Result {
+        match self {
+            Form::Nothing => write!(f, "nothing"),
+            Form::Default => write!(f, "nothing, or a value after '='"),
+            Form::Text | Form::Names => write!(f, "a text"),
+            Form::Type => write!(f, "a type"),
+            Form::Value => write!(f, "a value"),
+            Form::Anything => write!(f, "anything"),
+        }
+    }
 }

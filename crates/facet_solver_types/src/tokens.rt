@@ -1,6 +1,7 @@
 //! From text to tokens.
 ghost use Rattle.std.specs.Prelude.{◌≡◌, ◌≢◌, ◌+◌, ◌<◌, ◌≤◌, [], drop, length, Ok, Err, IfErr, IfOk, OnOk};
 ghost use Rattle.std.specs.Str.{IsCharBoundary};
+ghost use Rattle.facet_solver_types.specs.Errors.{first_written};
 ghost use Rattle.facet_solver_types.specs.Outcomes.{Gives};
 ghost use Rattle.facet_solver_types.specs.Spellings.{IsCut};
 ghost use Rattle.facet_solver_types.specs.Tokens.{at_end, outcome, token_at, token_view, tokens, tokens_view};
@@ -79,6 +80,19 @@ fn token_at<'t>(offset: usize, text: &'t str, spelling: Spelling) -> Token<'t>
         offset,
         kind: spelling.kind,
         text: &text[spelling.start..spelling.end],
+    }
+}
+
+/// The token that stands first, as it is written, or nothing.
+pub(crate) fn first_written(text: &str) -> &str
+    ensures { result.now ≡ first_written text.now }
+{
+    if text.is_empty() {
+        return "";
+    }
+    match first_part(text.as_bytes()) {
+        Ok(Part::Spelled(spelling)) => &text[..spelling.len],
+        _ => "",
     }
 }
 

@@ -97,7 +97,8 @@ impl<'s, 't> Passage<'s, 't> {
 
     /// The name that stands first.
     pub(super) fn name(self) -> Result<Token<'t>, Fault>
-        ensures ok { IfOk result (λ name. name_at (passage_view self.entry) ≡ Ok (token_view name)) }
+        ensures ok { IfOk result (λ name.
+            name_at (passage_view self.entry) ≡ Ok (token_view name)) }
         ensures some { OnOk result (0 < length self.entry.tokens.now) }
         ensures fault { IfErr result (λ fault. name_at (passage_view self.entry) ≡ Err fault) }
     {

@@ -36,7 +36,8 @@ fn is_late_blank(byte: u8) -> bool
     byte == 0x8e || byte == 0x8f || byte == 0xa8 || byte == 0xa9
 }
 
-/// Whether a letter, a digit or `_` stands first. A character past ASCII that is no blank is a letter.
+/// Whether a letter, a digit or `_` stands first. A character past ASCII that is no blank is a
+/// letter.
 #[tactic(auto, unfolding(crate::specs::Characters::continues_name))]
 pub(super) fn continues_name(text: &[u8]) -> bool
     ensures { result ≡ continues_name text.now }

@@ -37,7 +37,7 @@ pub(super) fn mark(text: &[u8]) -> Result<Spelling, Problem>
         (b'-', b'>') => Ok(whole(TokenKind::Arrow, 2)),
         (b'=', b'>') => Ok(whole(TokenKind::FatArrow, 2)),
         (first, _) => match single(first) {
-            None => Err(Problem::NoToken),
+            None => Err(Problem::NoToken(first)),
             Some(kind) => Ok(whole(kind, 1)),
         },
     }

@@ -1,0 +1,64 @@
+-- Why a text was not read, with its place.
+use Rattle.std.specs.Prelude.{◌≡◌, ℕ, ◌==◌, List, [], ◌++◌, codes, length, min, take, drop, encode_utf8, if◌then◌else◌, ⊤, Result, Ok, Err}
+use Rattle.std.specs.Str.{IsCharBoundary}
+use Rattle.facet_solver_types.specs.declared.error.TypesError.{TypesError}
+use Rattle.facet_solver_types.specs.declared.error.TypesError.TheVariants as error
+use Rattle.facet_solver_types.specs.declared.fault.Fault.{Fault}
+use Rattle.facet_solver_types.specs.declared.fault.Fault.TheVariants as fault
+use Rattle.facet_solver_types.specs.declared.problem.Problem.{Problem}
+use Rattle.facet_solver_types.specs.declared.problem.Problem.TheVariants.{NoToken, OpenText, OpenCharacter, OpenComment, OpenBracket, ClosesNothing, Expected, Generic, Misused, Takes, NoText, NoCase, Clashes, NoTag}
+use Rattle.facet_solver_types.specs.declared.tokens.part.Part.{Part}
+use Rattle.facet_solver_types.specs.declared.tokens.part.Part.TheVariants.{Gap, Spelled}
+use Rattle.facet_solver_types.specs.FirstParts.{first_part}
+use Rattle.facet_solver_types.specs.Places.{place_at}
+use Rattle.facet_solver_types.specs.PlaceTexts.{place_text}
+use Rattle.facet_solver_types.specs.ProblemTexts.{expected_text, form_text, misuse_text}
+
+-- what is met: these bytes, or the end
+abbrev pub met_text : List ℕ → List ℕ
+met_text met =
+    if length met == 0 then codes "the end" else codes "'" ++ (met ++ codes "'")
+
+-- what is wrong, where this is met
+abbrev pub problem_text : Problem → List ℕ → List ℕ
+problem_text (NoToken byte) met = codes "'" ++ (encode_utf8 byte ++ codes "' begins no token")
+problem_text OpenText met = codes "text is not closed"
+problem_text OpenCharacter met = codes "character is not closed"
+problem_text OpenComment met = codes "comment is not closed"
+problem_text OpenBracket met = codes "'" ++ (met ++ codes "' is not closed")
+problem_text ClosesNothing met = codes "'" ++ (met ++ codes "' closes nothing")
+problem_text (Expected expected) met =
+    codes "expected " ++ (expected_text expected ++ (codes ", met " ++ met_text met))
+problem_text Generic met = codes "type parameters are not read"
+problem_text (Misused misuse) met = codes "'" ++ (met ++ (codes "' " ++ misuse_text misuse))
+problem_text (Takes form) met = codes "'" ++ (met ++ (codes "' takes " ++ form_text form))
+problem_text NoText met = codes "no text: " ++ met
+problem_text NoCase met = codes "no case: " ++ met
+problem_text Clashes met = codes "'" ++ (met ++ codes "' and one before it exclude each other")
+problem_text NoTag met = codes "'" ++ (met ++ codes "' asks for a 'tag' beside it")
+
+-- the place first, where the text cannot be read
+abbrev pub error_text : TypesError → List ℕ
+error_text (error.Invalid place problem met) =
+    place_text place ++ (codes ": " ++ problem_text problem met.now)
+error_text error.OutOfMemory = codes "out of memory"
+
+-- a token, as it is written
+abbrev pub spelled_text : List ℕ → Result Part Problem → List ℕ
+spelled_text text (Ok (Spelled token)) = take token.len text
+spelled_text text (Ok (Gap len)) = []
+spelled_text text (Err problem) = []
+
+-- the token that stands first, as it is written, or nothing
+abbrev pub first_written : List ℕ → List ℕ
+first_written text = if length text == 0 then [] else spelled_text text (first_part text)
+
+-- the error tells a fault of a text: its problem, its place, and the token that stands there
+abbrev pub Tells : List ℕ → Fault → TypesError → Type 0
+Tells text (fault.At offset problem) (error.Invalid place told met) =
+    (told ≡ problem)
+    × (place ≡ place_at (min offset (length text)) text)
+    × (IsCharBoundary text offset → met.now ≡ first_written (drop offset text))
+Tells text (fault.At offset problem) error.OutOfMemory = ⊥
+Tells text fault.OutOfMemory (error.Invalid place told met) = ⊥
+Tells text fault.OutOfMemory error.OutOfMemory = ⊤
