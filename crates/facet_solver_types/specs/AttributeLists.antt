@@ -8,7 +8,8 @@ use Rattle.facet_solver_types.specs.declared.attribute.meaning.Meaning.TheVarian
 use Rattle.facet_solver_types.specs.declared.attribute.meaning.Subject.{Subject}
 use Rattle.facet_solver_types.specs.declared.fault.Fault.{Fault}
 use Rattle.facet_solver_types.specs.declared.fault.Fault.TheVariants.{At}
-use Rattle.facet_solver_types.specs.declared.problem.Problem.TheVariants.{Clashes, NoTag}
+use Rattle.facet_solver_types.specs.declared.attribute.refusal.Refusal.TheVariants as refusal
+use Rattle.facet_solver_types.specs.declared.problem.Problem.TheVariants as problem
 use Rattle.facet_solver_types.specs.AttributeEntries.{attribute_entries}
 use Rattle.facet_solver_types.specs.AttributeTexts.{said_text, text_of}
 use Rattle.facet_solver_types.specs.Attributes.{Attribute, attribute_of, attribute_view}
@@ -46,7 +47,7 @@ with_text attribute value = Ok attribute
 -- an attribute that none of some others excludes
 abbrev pub admitted : List Attribute → Attribute → Result Attribute Fault
 admitted found attribute =
-    if has_clash found attribute then Err (At attribute.offset Clashes) else Ok attribute
+    if has_clash found attribute then Err (At attribute.offset (problem.Attribute refusal.Clashes)) else Ok attribute
 
 -- the attribute that an entry is behind others
 abbrev pub next_attribute : Subject → List Attribute → Entry → Result Attribute Fault
@@ -88,7 +89,7 @@ lone_content found = if has_tag found then None else content_offset found
 -- attributes, unless `content` stands without `tag`
 abbrev pub tagged_by : List Attribute → Option ℕ → Result (List Attribute) Fault
 tagged_by found None = Ok found
-tagged_by found (Some offset) = Err (At offset NoTag)
+tagged_by found (Some offset) = Err (At offset (problem.Attribute refusal.NoTag))
 
 -- the attributes of serde and facet on a subject
 abbrev pub attributes : Subject → List Token → Result (List Attribute) Fault

@@ -5,7 +5,8 @@ use Rattle.facet_solver_types.specs.declared.attribute.meaning.Meaning.{Meaning}
 use Rattle.facet_solver_types.specs.declared.attribute.meaning.Meaning.TheVariants.{RenameAll, RenameAllFields}
 use Rattle.facet_solver_types.specs.declared.fault.Fault.{Fault}
 use Rattle.facet_solver_types.specs.declared.fault.Fault.TheVariants.{At}
-use Rattle.facet_solver_types.specs.declared.problem.Problem.TheVariants.{NoText, NoCase}
+use Rattle.facet_solver_types.specs.declared.attribute.refusal.Refusal.TheVariants as refusal
+use Rattle.facet_solver_types.specs.declared.problem.Problem.TheVariants as problem
 use Rattle.facet_solver_types.specs.declared.token.TokenKind.{TokenKind}
 use Rattle.facet_solver_types.specs.declared.token.TokenKind.TheVariants.{RawText, Text}
 use Rattle.facet_solver_types.specs.Cases.{named}
@@ -30,9 +31,9 @@ names_case meaning = false
 
 -- a text that was read, which should name a case or not, at an offset
 abbrev pub checked_text : Bool → ℕ → Option (List ℕ) → Result (List ℕ) Fault
-checked_text is_case offset None = Err (At offset NoText)
+checked_text is_case offset None = Err (At offset (problem.Attribute refusal.NoText))
 checked_text is_case offset (Some text) =
-    if is_case && is_none (named text) then Err (At offset NoCase) else Ok text
+    if is_case && is_none (named text) then Err (At offset (problem.Attribute refusal.NoCase)) else Ok text
 
 -- the text that an attribute of that meaning says
 abbrev pub said_text : Meaning → Token → Result (List ℕ) Fault

@@ -11,7 +11,8 @@ use Rattle.facet_solver_types.specs.declared.attribute.meaning.Subject.{Subject}
 use Rattle.facet_solver_types.specs.declared.attribute.meaning.Subject.TheVariants.{NamedField}
 use Rattle.facet_solver_types.specs.declared.fault.Fault.{Fault}
 use Rattle.facet_solver_types.specs.declared.fault.Fault.TheVariants.{At}
-use Rattle.facet_solver_types.specs.declared.problem.Problem.TheVariants.{Misused, Takes}
+use Rattle.facet_solver_types.specs.declared.attribute.refusal.Refusal.TheVariants as refusal
+use Rattle.facet_solver_types.specs.declared.problem.Problem.TheVariants as problem
 use Rattle.facet_solver_types.specs.Entries.{Entry, EntryValue, outside}
 use Rattle.facet_solver_types.specs.Meanings.{dom_mark, means}
 use Rattle.facet_solver_types.specs.Pieces.{and_then}
@@ -70,7 +71,7 @@ meaning_of subject entry = meaning_by subject entry.value entry
 
 -- an attribute that takes its value, or the fault
 abbrev pub with_value : Meaning → ℕ → Option Value → Result Attribute Fault
-with_value meaning offset None = Err (At offset (Takes (form_of meaning)))
+with_value meaning offset None = Err (At offset (problem.Attribute (refusal.Takes (form_of meaning))))
 with_value meaning offset (Some value) =
     Ok (record { offset = offset; meaning = meaning; value = value })
 
@@ -82,7 +83,7 @@ with_meaning meaning entry =
 -- an attribute of that meaning, if it is no misuse
 abbrev pub if_meant : Result Meaning Misuse → Entry → Result Attribute Fault
 if_meant (Ok meaning) entry = with_meaning meaning entry
-if_meant (Err misuse) entry = Err (At (place_of entry) (Misused misuse))
+if_meant (Err misuse) entry = Err (At (place_of entry) (problem.Attribute (refusal.Misused misuse)))
 
 -- the attribute that an entry is on a subject
 abbrev pub attribute_of : Subject → Entry → Result Attribute Fault

@@ -6,13 +6,14 @@ use Rattle.facet_solver_types.specs.declared.error.TypesError.TheVariants as err
 use Rattle.facet_solver_types.specs.declared.fault.Fault.{Fault}
 use Rattle.facet_solver_types.specs.declared.fault.Fault.TheVariants as fault
 use Rattle.facet_solver_types.specs.declared.problem.Problem.{Problem}
-use Rattle.facet_solver_types.specs.declared.problem.Problem.TheVariants.{NoToken, OpenText, OpenCharacter, OpenComment, OpenBracket, ClosesNothing, Expected, Generic, Misused, Takes, NoText, NoCase, Clashes, NoTag}
+use Rattle.facet_solver_types.specs.declared.problem.Problem.TheVariants.{NoToken, OpenText, OpenCharacter, OpenComment, OpenBracket, ClosesNothing, Expected, Generic, Attribute}
 use Rattle.facet_solver_types.specs.declared.tokens.part.Part.{Part}
 use Rattle.facet_solver_types.specs.declared.tokens.part.Part.TheVariants.{Gap, Spelled}
 use Rattle.facet_solver_types.specs.FirstParts.{first_part}
 use Rattle.facet_solver_types.specs.Places.{place_at}
 use Rattle.facet_solver_types.specs.PlaceTexts.{place_text}
-use Rattle.facet_solver_types.specs.ProblemTexts.{expected_text, form_text, misuse_text}
+use Rattle.facet_solver_types.specs.ProblemTexts.{expected_text}
+use Rattle.facet_solver_types.specs.Refusals.{refusal_text}
 
 -- what is met: these bytes, or the end
 abbrev pub met_text : List ℕ → List ℕ
@@ -30,12 +31,7 @@ problem_text ClosesNothing met = codes "'" ++ (met ++ codes "' closes nothing")
 problem_text (Expected expected) met =
     codes "expected " ++ (expected_text expected ++ (codes ", met " ++ met_text met))
 problem_text Generic met = codes "type parameters are not read"
-problem_text (Misused misuse) met = codes "'" ++ (met ++ (codes "' " ++ misuse_text misuse))
-problem_text (Takes form) met = codes "'" ++ (met ++ (codes "' takes " ++ form_text form))
-problem_text NoText met = codes "no text: " ++ met
-problem_text NoCase met = codes "no case: " ++ met
-problem_text Clashes met = codes "'" ++ (met ++ codes "' and one before it exclude each other")
-problem_text NoTag met = codes "'" ++ (met ++ codes "' asks for a 'tag' beside it")
+problem_text (Attribute refusal) met = refusal_text refusal met
 
 -- the place first, where the text cannot be read
 abbrev pub error_text : TypesError → List ℕ

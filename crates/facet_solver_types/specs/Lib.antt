@@ -35,3 +35,4 @@ pub mod Attributes
 pub mod AttributeTexts
 pub mod Clashes
 pub mod AttributeLists
+pub mod Refusals

@@ -7,6 +7,7 @@ ghost use Rattle.facet_solver_types.specs.Outcomes.{Gives};
 mod clash;
 mod list;
 mod meaning;
+mod refusal;
 mod text;
 mod value;
 
@@ -15,6 +16,8 @@ use crate::grammar::{Entry, EntryValue};
 use crate::problem::Problem;
 pub use meaning::Misuse;
 use meaning::{Meaning, Subject, dom_mark, means};
+pub use refusal::Refusal;
+pub(crate) use refusal::Refused;
 use std::alloc::Global;
 pub use value::Form;
 use value::{Value, form_of, value_of};
@@ -87,7 +90,7 @@ fn with_meaning<'s, 't>(
         }),
         None => Err(Fault::At {
             offset,
-            problem: Problem::Takes(form),
+            problem: Problem::Attribute(Refusal::Takes(form)),
         }),
     }
 }
@@ -106,7 +109,7 @@ pub(crate) fn attribute_of<'s, 't>(
         Ok(meaning) => with_meaning(alloc, meaning, entry),
         Err(misuse) => Err(Fault::At {
             offset: place_of(entry),
-            problem: Problem::Misused(misuse),
+            problem: Problem::Attribute(Refusal::Misused(misuse)),
         }),
     }
 }

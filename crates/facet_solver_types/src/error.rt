@@ -3,6 +3,7 @@ ghost use Rattle.std.specs.Prelude.{◌≡◌, Some, drop};
 ghost use Rattle.std.specs.Str.{IsCharBoundary};
 ghost use Rattle.facet_solver_types.specs.Errors.{Tells, error_text, first_written, met_text};
 
+use crate::attribute::Refused;
 use crate::fault::Fault;
 use crate::place::{Place, place_at};
 use crate::problem::Problem;
@@ -55,12 +56,13 @@ impl fmt::Display for TypesError<'_> {
                 write!(f, "{place}: expected {expected}, met {met}")
             }
             Problem::Generic => write!(f, "{place}: type parameters are not read"),
-            Problem::Misused(misuse) => write!(f, "{place}: '{met}' {misuse}"),
-            Problem::Takes(form) => write!(f, "{place}: '{met}' takes {form}"),
-            Problem::NoText => write!(f, "{place}: no text: {met}"),
-            Problem::NoCase => write!(f, "{place}: no case: {met}"),
-            Problem::Clashes => write!(f, "{place}: '{met}' and one before it exclude each other"),
-            Problem::NoTag => write!(f, "{place}: '{met}' asks for a 'tag' beside it"),
+            Problem::Attribute(refusal) => {
+                let refused = Refused {
+                    refusal: *refusal,
+                    met,
+                };
+                write!(f, "{place}: {refused}")
+            }
         }
     }
 }

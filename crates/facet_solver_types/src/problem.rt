@@ -1,8 +1,8 @@
 //! What is wrong with a text.
 ghost use Rattle.std.specs.Prelude.{Some};
-ghost use Rattle.facet_solver_types.specs.ProblemTexts.{expected_text, form_text, misuse_text};
+ghost use Rattle.facet_solver_types.specs.ProblemTexts.{expected_text};
 
-use crate::attribute::{Form, Misuse};
+use crate::attribute::Refusal;
 use std::fmt;
 
 /// What is wrong at a place of a text.
@@ -24,18 +24,8 @@ pub enum Problem {
     Expected(Expected),
     /// A type or const parameter, or `where`.
     Generic,
-    /// An attribute that means nothing there.
-    Misused(Misuse),
-    /// An attribute that takes this has something else.
-    Takes(Form),
-    /// A text that Rust reads as none.
-    NoText,
-    /// A text that names no case.
-    NoCase,
-    /// An attribute that one before it excludes.
-    Clashes,
-    /// `content` without `tag`.
-    NoTag,
+    /// An attribute is refused.
+    Attribute(Refusal),
 }
 
 /// What is expected where something else stands.
@@ -94,33 +84,6 @@ impl fmt::Display for Expected {
             Expected::Attribute => write!(f, "the name of an attribute"),
             Expected::AttributeList => write!(f, "'('"),
             Expected::AttributeEnd => write!(f, "'=', '(' or ','"),
-        }
-    }
-}
-
-impl fmt::Display for Misuse {
-    ghost output = { λ m. Some (misuse_text m) };
-
-    fn fmt<W: fmt::Write>(&self, f: &mut fmt::Formatter<W>) -> fmt::Result {
-        match self {
-            Misuse::Unknown => write!(f, "is no attribute of serde or facet"),
-            Misuse::Misplaced => write!(f, "means nothing here"),
-            Misuse::Unsupported => write!(f, "cannot be said"),
-        }
-    }
-}
-
-impl fmt::Display for Form {
-    ghost output = { λ form. Some (form_text form) };
-
-    fn fmt<W: fmt::Write>(&self, f: &mut fmt::Formatter<W>) -> fmt::Result {
-        match self {
-            Form::Nothing => write!(f, "nothing"),
-            Form::Default => write!(f, "nothing, or a value after '='"),
-            Form::Text | Form::Names => write!(f, "a text"),
-            Form::Type => write!(f, "a type"),
-            Form::Value => write!(f, "a value"),
-            Form::Anything => write!(f, "anything"),
         }
     }
 }

@@ -10,6 +10,7 @@ ghost use Rattle.facet_solver_types.specs.Values.{value_view};
 
 use super::clash::clash;
 use super::meaning::{Meaning, Subject};
+use super::refusal::Refusal;
 use super::text::{said_text, text_of};
 use super::value::Value;
 use super::{Attribute, attribute_of};
@@ -79,7 +80,7 @@ fn next_attribute<'s, 't>(
     if has_clash(alloc, found, &attribute)? {
         return Err(Fault::At {
             offset: attribute.offset,
-            problem: Problem::Clashes,
+            problem: Problem::Attribute(Refusal::Clashes),
         });
     }
     Ok(attribute)
@@ -176,7 +177,7 @@ pub(crate) fn attributes<'s, 't>(
         None => Ok(found),
         Some(offset) => Err(Fault::At {
             offset,
-            problem: Problem::NoTag,
+            problem: Problem::Attribute(Refusal::NoTag),
         }),
     }
 }

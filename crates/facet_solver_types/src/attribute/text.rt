@@ -6,6 +6,7 @@ ghost use Rattle.facet_solver_types.specs.Outcomes.{Gives};
 ghost use Rattle.facet_solver_types.specs.Tokens.{token_view};
 
 use super::meaning::Meaning;
+use super::refusal::Refusal;
 use crate::case::Case;
 use crate::fault::Fault;
 use crate::literal::{quoted_value, raw_value};
@@ -43,13 +44,13 @@ pub(super) fn said_text(alloc: Global, meaning: Meaning, token: &Token<'_>) -> R
     let Some(text) = text_of(alloc, token)? else {
         return Err(Fault::At {
             offset: token.offset,
-            problem: Problem::NoText,
+            problem: Problem::Attribute(Refusal::NoText),
         });
     };
     if names_case(meaning) && Case::named(&text).is_none() {
         return Err(Fault::At {
             offset: token.offset,
-            problem: Problem::NoCase,
+            problem: Problem::Attribute(Refusal::NoCase),
         });
     }
     Ok(text)
