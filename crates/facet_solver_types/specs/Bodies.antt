@@ -1,5 +1,6 @@
 -- What stands in the brackets of structs, enums and variants.
 use Rattle.std.specs.Prelude.{Bool, true, false, ◌||◌, if◌then◌else◌, ◌==◌, List, length, codes, Result, Ok, Err}
+use Rattle.facet_solver_types.specs.Ascii as ascii
 use Rattle.facet_solver_types.specs.declared.fault.Fault.{Fault}
 use Rattle.facet_solver_types.specs.declared.grammar.run.Run.TheVariants.{Value}
 use Rattle.facet_solver_types.specs.declared.problem.Expected as problem
@@ -31,7 +32,7 @@ after_body passage =
 -- a variant may end here: nothing follows, or a value
 abbrev pub variant_end : Passage → Result (Unit {0}) Fault
 variant_end passage =
-    if length passage.tokens == 0 || sees_mark 61 passage.tokens then Ok tt
+    if length passage.tokens == 0 || sees_mark ascii.equals passage.tokens then Ok tt
     else Err (unexpected expected.VariantEnd passage)
 
 -- a variant: attributes, a name, fields if any, and a value if any
@@ -63,7 +64,7 @@ expected_after (named fields) = expected.Semicolon
 abbrev pub struct_end : Body → Passage → Result (Unit {0}) Fault
 struct_end (named fields) passage = Ok tt
 struct_end body passage =
-    if sees_mark 59 passage.tokens then Ok tt
+    if sees_mark ascii.semicolon passage.tokens then Ok tt
     else Err (refused (expected_after body) passage)
 
 -- what stands in the braces that stand first

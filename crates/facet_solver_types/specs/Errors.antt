@@ -1,5 +1,5 @@
 -- Why a text was not read, with its place.
-use Rattle.std.specs.Prelude.{◌≡◌, ◌≤◌, ℕ, ◌==◌, List, [], ◌++◌, codes, length, take, drop, encode_utf8, if◌then◌else◌, ⊤, Result, Ok, Err}
+use Rattle.std.specs.Prelude.{◌≡◌, ℕ, ◌==◌, List, [], ◌++◌, codes, length, min, take, drop, encode_utf8, if◌then◌else◌, ⊤, Result, Ok, Err}
 use Rattle.std.specs.Str.{IsCharBoundary}
 use Rattle.facet_solver_types.specs.declared.error.TypesError.{TypesError}
 use Rattle.facet_solver_types.specs.declared.error.TypesError.TheVariants as error
@@ -47,11 +47,11 @@ spelled_text text (Err problem) = []
 abbrev pub first_written : List ℕ → List ℕ
 first_written text = if length text == 0 then [] else spelled_text text (first_part text)
 
--- the error tells a fault of a text: its problem and its place, and what stands there
+-- the error tells a fault of a text: its problem, its place, and the token that stands there
 abbrev pub Tells : List ℕ → Fault → TypesError → Type 0
 Tells text (fault.At offset problem) (error.Invalid place told met) =
     (told ≡ problem)
-    × (offset ≤ length text → place ≡ place_at offset text)
+    × (place ≡ place_at (min offset (length text)) text)
     × (IsCharBoundary text offset → met.now ≡ first_written (drop offset text))
 Tells text (fault.At offset problem) error.OutOfMemory = ⊥
 Tells text fault.OutOfMemory (error.Invalid place told met) = ⊥

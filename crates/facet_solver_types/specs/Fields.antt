@@ -1,5 +1,6 @@
 -- The fields of structs and variants.
 use Rattle.std.specs.Prelude.{Bool, false, ◌==◌, if◌then◌else◌, List, length, take, Option, Some, None, Result, Ok, Err}
+use Rattle.facet_solver_types.specs.Ascii as ascii
 use Rattle.facet_solver_types.specs.declared.fault.Fault.{Fault}
 use Rattle.facet_solver_types.specs.declared.grammar.run.Run.TheVariants as run
 use Rattle.facet_solver_types.specs.declared.problem.Expected.TheVariants.{Colon, FieldType}
@@ -29,7 +30,8 @@ field_of passage name written =
 -- the type of a field, after a colon
 abbrev pub after_colon : Passage → Result Passage Fault
 after_colon passage =
-    if sees_mark 58 passage.tokens then Ok (after 1 passage) else Err (unexpected Colon passage)
+    if sees_mark ascii.colon passage.tokens then Ok (after 1 passage)
+    else Err (unexpected Colon passage)
 
 -- a field in `{ }`: attributes, `pub` where it may stand, a name, a colon and a type
 unfoldable pub named_field : Bool → Passage → Result Field Fault

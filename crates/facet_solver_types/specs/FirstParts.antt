@@ -3,6 +3,7 @@ use Rattle.std.specs.Prelude.{ℕ, ◌≤◌, ◌<◌, false, ◌&&◌, ◌==◌
 use Rattle.std.specs.Char.{is_ascii_digit}
 use Rattle.std.specs.Option.{ok_or}
 use Rattle.std.specs.Str.{IsCharBoundary}
+use Rattle.facet_solver_types.specs.Ascii as ascii
 use Rattle.facet_solver_types.specs.declared.problem.Problem.{Problem}
 use Rattle.facet_solver_types.specs.declared.problem.Problem.TheVariants.{OpenComment}
 use Rattle.facet_solver_types.specs.declared.tokens.part.Part.{Part}
@@ -20,8 +21,8 @@ unfoldable pub gap_len : List ℕ → Result ℕ Problem
 gap_len text =
     let first = slice_index text 0 in
     let second = slice_index text 1 in
-    if first == 47 && second == 47 then Ok (line_end 2 (drop 2 text))
-    else (if first == 47 && second == 42
+    if first == ascii.slash && second == ascii.slash then Ok (line_end 2 (drop 2 text))
+    else (if first == ascii.slash && second == ascii.star
     then ok_or (comment_end 0 false 2 (drop 2 text)) OpenComment
     else Ok (blank_len text))
 
@@ -31,7 +32,7 @@ first_token text =
     let first = slice_index text 0 in
     if begins_text text then text_token text
     else (if begins_character 0 text then character 0 text
-    else (if first == 98 && begins_character 1 text then character 1 text
+    else (if first == ascii.letter_b && begins_character 1 text then character 1 text
     else (if begins_lifetime text then Ok (lifetime text)
     else (if begins_raw_name text then Ok (raw_name text)
     else (if begins_name text then Ok (word text)

@@ -1,5 +1,6 @@
 -- The items of a text.
 use Rattle.std.specs.Prelude.{true, ◌||◌, if◌then◌else◌, List, take, Result, Ok, Err, unwrap_or}
+use Rattle.facet_solver_types.specs.Ascii as ascii
 use Rattle.facet_solver_types.specs.declared.fault.Fault.{Fault}
 use Rattle.facet_solver_types.specs.declared.grammar.run.Run.TheVariants as run
 use Rattle.facet_solver_types.specs.declared.grammar.starts.Start.{Start}
@@ -41,7 +42,8 @@ enum_of attributes passage =
 -- a `;` stands first
 abbrev pub semicolon : Passage → Result (Unit {0}) Fault
 semicolon passage =
-    if sees_mark 59 passage.tokens then Ok tt else Err (unexpected expected.Semicolon passage)
+    if sees_mark ascii.semicolon passage.tokens then Ok tt
+    else Err (unexpected expected.Semicolon passage)
 
 -- an alias, after `type`: a name, and what follows to `;`
 unfoldable pub alias_of : Passage → Result Item Fault
@@ -60,7 +62,7 @@ statement passage =
 abbrev pub head : Passage → Result Item Fault
 head passage =
     let rest = after (run_len run.Head passage.tokens) passage in
-    if sees_mark 59 rest.tokens || sees_open Curly rest.tokens then Ok other
+    if sees_mark ascii.semicolon rest.tokens || sees_open Curly rest.tokens then Ok other
     else Err (unexpected expected.HeadEnd rest)
 
 -- what stands after the `!` of a call, and after a name, if one stands there

@@ -1,5 +1,6 @@
 -- The lifetimes of a struct or an enum.
 use Rattle.std.specs.Prelude.{ℕ, ◌+◌, ◌||◌, if◌then◌else◌, List, [], ◌∷◌, codes, drop, Bool, true, false, Result, Ok, Err}
+use Rattle.facet_solver_types.specs.Ascii as ascii
 use Rattle.facet_solver_types.specs.declared.fault.Fault.{Fault}
 use Rattle.facet_solver_types.specs.declared.fault.Fault.TheVariants.{At}
 use Rattle.facet_solver_types.specs.declared.grammar.lifetimes.Stage.{Stage}
@@ -16,19 +17,19 @@ use Rattle.facet_solver_types.specs.Tokens.{Token}
 -- a list of lifetimes goes on after a comma, and ends with `>`
 abbrev pub next_lifetime : TokenKind → Result Stage Problem
 next_lifetime kind =
-    if is_mark 44 kind then Ok Start
-    else (if is_mark 62 kind then Ok Ended else Err (Expected LifetimeEnd))
+    if is_mark ascii.comma kind then Ok Start
+    else (if is_mark ascii.greater kind then Ok Ended else Err (Expected LifetimeEnd))
 
 -- where a list of lifetimes is after a token
 unfoldable pub lifetime_step : Stage → TokenKind → List ℕ → Result Stage Problem
 lifetime_step Start kind text =
-    if is_mark 62 kind then Ok Ended
+    if is_mark ascii.greater kind then Ok Ended
     else (if is_lifetime kind then Ok Named
     else (if is_name kind || is_word (codes "const") kind text then Err Generic
     else Err (Expected Lifetime)))
-lifetime_step Named kind text = if is_mark 58 kind then Ok Bounds else next_lifetime kind
+lifetime_step Named kind text = if is_mark ascii.colon kind then Ok Bounds else next_lifetime kind
 lifetime_step Bounds kind text =
-    if is_lifetime kind || is_mark 43 kind then Ok Bounds else next_lifetime kind
+    if is_lifetime kind || is_mark ascii.plus kind then Ok Bounds else next_lifetime kind
 lifetime_step Ended kind text = Ok Ended
 
 -- what is wrong where the tokens end within a list of lifetimes
@@ -47,7 +48,8 @@ is_over Ended = true
 is_over stage = false
 
 -- after a token at an offset: a fault, or the rest
-abbrev pub then_lifetimes : ℕ → Result Stage Problem → (Stage → Result ℕ Fault) → Result ℕ Fault
+abbrev pub then_lifetimes
+    : ℕ → Result Stage Problem → (Stage → Result ℕ Fault) → Result ℕ Fault
 then_lifetimes offset (Err problem) later = Err (At offset problem)
 then_lifetimes offset (Ok stage) later = if is_over stage then Ok 1 else more 1 (later stage)
 
@@ -65,5 +67,6 @@ list_len end tokens = lifetimes_from Start end tokens
 -- how many tokens a list of lifetimes has that stands first, with its `<` and `>`, or 0
 abbrev pub lifetimes_len : Passage → Result ℕ Fault
 lifetimes_len passage =
-    if sees_mark 60 passage.tokens then more 1 (list_len passage.end (drop 1 passage.tokens))
+    if sees_mark ascii.less passage.tokens
+    then more 1 (list_len passage.end (drop 1 passage.tokens))
     else Ok 0

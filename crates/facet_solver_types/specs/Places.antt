@@ -1,11 +1,12 @@
 -- Where in a text an offset is.
 use Rattle.std.specs.Prelude.{ℕ, ◌+◌, List, [], ◌∷◌, take, drop, reverse, Bool, not, ◌==◌, ◌||◌, if◌then◌else◌, nat_eq, nat_le, nat_lt}
 use Rattle.std.specs.List.{count_by, starts_with, take_while}
+use Rattle.facet_solver_types.specs.Ascii as ascii
 use Rattle.facet_solver_types.specs.declared.place.Place.{Place}
 
 -- whether a byte ends a line
 abbrev pub is_line_feed : ℕ → Bool
-is_line_feed byte = byte == 10
+is_line_feed byte = byte == ascii.line_feed
 
 -- whether a character of UTF-8 begins with a byte: the bytes from 128 to 191 continue one
 abbrev pub begins_character : ℕ → Bool

@@ -1,5 +1,6 @@
 -- What stands before an item or a field: attributes and `pub`.
 use Rattle.std.specs.Prelude.{ℕ, zero, suc, ◌+◌, ◌-◌, Bool, true, ◌&&◌, ◌||◌, if◌then◌else◌, List, [], ◌∷◌, codes, drop}
+use Rattle.facet_solver_types.specs.Ascii as ascii
 use Rattle.facet_solver_types.specs.declared.token.Bracket.TheVariants.{Round, Square}
 use Rattle.facet_solver_types.specs.FirstTokens.{sees_close, sees_mark, sees_open, sees_word}
 use Rattle.facet_solver_types.specs.Runs.{group_len}
@@ -12,8 +13,8 @@ attribute_marks inner = if inner then 2 else 1
 -- whether an attribute stands first
 unfoldable pub begins_attribute : Bool → List Token → Bool
 begins_attribute inner tokens =
-    sees_mark 35 tokens
-    && (if inner then sees_mark 33 (drop 1 tokens) else true)
+    sees_mark ascii.hash tokens
+    && (if inner then sees_mark ascii.exclamation (drop 1 tokens) else true)
     && sees_open Square (drop (attribute_marks inner) tokens)
 
 -- how many tokens an attribute has

@@ -1,5 +1,6 @@
 -- Runs of tokens: up to a mark outside brackets.
 use Rattle.std.specs.Prelude.{ℕ, suc, ◌+◌, ◌-◌, min, Bool, true, false, ◌&&◌, ◌||◌, ◌==◌, nat_lt, if◌then◌else◌, List, [], ◌∷◌, length, drop}
+use Rattle.facet_solver_types.specs.Ascii as ascii
 use Rattle.facet_solver_types.specs.declared.grammar.run.Nest.{Nest}
 use Rattle.facet_solver_types.specs.declared.grammar.run.Run.{Run}
 use Rattle.facet_solver_types.specs.declared.grammar.run.Run.TheVariants.{FieldType, Head, Value, Statement, Group}
@@ -25,10 +26,10 @@ opens_braces kind = false
 
 -- what ends a run: a comma ends a type and a value, `;` a head and a statement, braces a head
 abbrev pub stops : Run → TokenKind → Bool
-stops FieldType kind = is_mark 44 kind
-stops Value kind = is_mark 44 kind
-stops Statement kind = is_mark 59 kind
-stops Head kind = is_mark 59 kind || opens_braces kind
+stops FieldType kind = is_mark ascii.comma kind
+stops Value kind = is_mark ascii.comma kind
+stops Statement kind = is_mark ascii.semicolon kind
+stops Head kind = is_mark ascii.semicolon kind || opens_braces kind
 stops Group kind = false
 
 -- whether each `<` of a run is a bracket
@@ -49,8 +50,9 @@ ends run nest kind =
 -- how many `<` are open after a token: it is one in a type, a head, after `::` and in another
 abbrev pub angles_after : Run → Nest → TokenKind → ℕ
 angles_after run nest (Mark byte) =
-    if byte == 60 && (has_angles run || nest.path || nat_lt 0 nest.angles) then nest.angles + 1
-    else (if byte == 62 then nest.angles - 1 else nest.angles)
+    if byte == ascii.less && (has_angles run || nest.path || nat_lt 0 nest.angles)
+    then nest.angles + 1
+    else (if byte == ascii.greater then nest.angles - 1 else nest.angles)
 angles_after run nest kind = nest.angles
 
 -- in which brackets the tokens after a token stand

@@ -2,6 +2,7 @@
 use Rattle.std.specs.Prelude.{ℕ, zero, suc, ◌+◌, ◌-◌, min, Bool, true, false, ◌&&◌, ◌||◌, if◌then◌else◌, List, [], ◌∷◌, codes, drop, length, Option, Some, None, is_some}
 use Rattle.std.specs.List.{list_any}
 use Rattle.std.specs.Str.{bytes_eq}
+use Rattle.facet_solver_types.specs.Ascii as ascii
 use Rattle.facet_solver_types.specs.declared.grammar.run.Run.{Run}
 use Rattle.facet_solver_types.specs.declared.grammar.run.Run.TheVariants as run
 use Rattle.facet_solver_types.specs.declared.grammar.starts.Path.{Path}
@@ -30,7 +31,7 @@ sees_plain word (token ∷ tokens) = is_plain word token.kind token.text
 -- whether a constant stands after `const`: a name or `_`, and a colon
 abbrev pub begins_constant : List Token → Bool
 begins_constant tokens =
-    (sees_name tokens || sees_word (codes "_") tokens) && sees_mark 58 (drop 1 tokens)
+    (sees_name tokens || sees_word (codes "_") tokens) && sees_mark ascii.colon (drop 1 tokens)
 
 -- whether an item stands first that ends with `;` alone and declares no type
 unfoldable pub begins_statement : List Token → Bool
@@ -75,7 +76,7 @@ is_segment kind text =
 unfoldable pub path_step : Path → TokenKind → List ℕ → Path
 path_step Begun kind text = if is_segment kind text then Named else Broken
 path_step Named kind text =
-    if is_path_mark kind then Begun else (if is_mark 33 kind then Called else Broken)
+    if is_path_mark kind then Begun else (if is_mark ascii.exclamation kind then Called else Broken)
 path_step path kind text = Broken
 
 -- whether the `!` was reached

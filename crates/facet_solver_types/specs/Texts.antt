@@ -1,6 +1,7 @@
 -- Texts and characters.
 use Rattle.std.specs.Prelude.{ℕ, ◌+◌, Bool, false, ◌&&◌, ◌||◌, ◌==◌, if◌then◌else◌, List, drop, slice_index, Option, Some, None, Result, Ok, Err}
 use Rattle.std.specs.Str.{continuation_len}
+use Rattle.facet_solver_types.specs.Ascii as ascii
 use Rattle.facet_solver_types.specs.declared.problem.Problem.{Problem}
 use Rattle.facet_solver_types.specs.declared.problem.Problem.TheVariants.{OpenText, OpenCharacter}
 use Rattle.facet_solver_types.specs.declared.token.TokenKind.TheVariants.{Character, Text, RawText, OtherText}
@@ -12,9 +13,9 @@ use Rattle.facet_solver_types.specs.Spellings.{whole}
 -- what stands before the quote of a text: maybe `b` or `c`, and maybe `r` and some `#`
 unfoldable pub opening_of : List ℕ → Opening
 opening_of text =
-    let marked = slice_index text 0 == 98 || slice_index text 0 == 99 in
+    let marked = slice_index text 0 == ascii.letter_b || slice_index text 0 == ascii.letter_c in
     let raw_at = if marked then 1 else 0 in
-    let raw = slice_index text raw_at == 114 in
+    let raw = slice_index text raw_at == ascii.letter_r in
     let hash_at = if raw then raw_at + 1 else raw_at in
     let count = if raw then hashes (drop hash_at text) else 0 in
     record {
@@ -26,7 +27,7 @@ opening_of text =
 
 -- whether a text stands first
 abbrev pub begins_text : List ℕ → Bool
-begins_text text = slice_index text (opening_of text).quote == 34
+begins_text text = slice_index text (opening_of text).quote == ascii.quote
 
 -- the text that its closing quote ends, if there is one
 abbrev pub text_until : Opening → Option ℕ → Result Spelling Problem
@@ -42,7 +43,7 @@ text_token text =
     let start = front.quote + 1 in
     text_until front
     (if front.raw then raw_closing front.hashes start (drop start text)
-    else closing 34 false start (drop start text))
+    else closing ascii.quote false start (drop start text))
 
 -- how many bytes a character has that begins with a byte
 abbrev pub character_len : ℕ → ℕ
@@ -52,8 +53,9 @@ character_len byte = 1 + continuation_len byte
 unfoldable pub begins_character : ℕ → List ℕ → Bool
 begins_character at text =
     let first = slice_index text (at + 1) in
-    slice_index text at == 39
-    && (first == 92 || slice_index text (at + 1 + character_len first) == 39)
+    let next = slice_index text (at + 1 + character_len first) in
+    slice_index text at == ascii.apostrophe
+    && (first == ascii.backslash || next == ascii.apostrophe)
 
 -- the character that its closing quote ends, if there is one
 abbrev pub character_until : Option ℕ → Result Spelling Problem
@@ -64,5 +66,6 @@ character_until (Some at) = Ok (whole Character (at + 1))
 unfoldable pub character : ℕ → List ℕ → Result Spelling Problem
 character at text =
     let first = slice_index text (at + 1) in
-    if first == 92 then character_until (closing 39 false (at + 1) (drop (at + 1) text))
+    if first == ascii.backslash
+    then character_until (closing ascii.apostrophe false (at + 1) (drop (at + 1) text))
     else Ok (whole Character (at + 2 + character_len first))

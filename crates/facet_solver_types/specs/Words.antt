@@ -2,6 +2,7 @@
 use Rattle.std.specs.Prelude.{ℕ, ◌+◌, Bool, ◌&&◌, ◌==◌, if◌then◌else◌, List, [], ◌∷◌, codes, drop, take, slice_index}
 use Rattle.std.specs.List.{list_any}
 use Rattle.std.specs.Str.{bytes_eq}
+use Rattle.facet_solver_types.specs.Ascii as ascii
 use Rattle.facet_solver_types.specs.declared.token.TokenKind.TheVariants.{Name, RawName, Keyword, Lifetime, Number}
 use Rattle.facet_solver_types.specs.declared.tokens.spelling.Spelling.{Spelling}
 use Rattle.facet_solver_types.specs.Characters.{begins_name, word_len}
@@ -34,7 +35,7 @@ word text =
 -- whether a name after `r#` stands first
 abbrev pub begins_raw_name : List ℕ → Bool
 begins_raw_name text =
-    slice_index text 0 == 114 && slice_index text 1 == 35 && begins_name (drop 2 text)
+    slice_index text 0 == ascii.letter_r && slice_index text 1 == ascii.hash && begins_name (drop 2 text)
 
 -- the name after `r#`
 abbrev pub raw_name : List ℕ → Spelling
@@ -44,7 +45,7 @@ raw_name text =
 
 -- whether a lifetime stands first
 abbrev pub begins_lifetime : List ℕ → Bool
-begins_lifetime text = slice_index text 0 == 39 && begins_name (drop 1 text)
+begins_lifetime text = slice_index text 0 == ascii.apostrophe && begins_name (drop 1 text)
 
 -- a `'` and a name
 abbrev pub lifetime : List ℕ → Spelling
