@@ -1,5 +1,5 @@
 //! Lines and columns.
-ghost use Rattle.std.specs.Prelude.{◌≡◌, ◌≤◌, Some, drop, length, take};
+ghost use Rattle.std.specs.Prelude.{◌≡◌, ◌≤◌, Some, length};
 ghost use Rattle.facet_solver_types.specs.PlaceTexts.{place_text};
 ghost use Rattle.facet_solver_types.specs.Places.{begins_character, column_at, line_at, place_at, without_mark};
 

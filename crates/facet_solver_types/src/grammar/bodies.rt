@@ -1,6 +1,6 @@
 //! What stands in the brackets of structs, enums and variants.
 ghost use Rattle.std.specs.Prelude.{◌≡◌};
-ghost use Rattle.facet_solver_types.specs.Bodies.{after_body, body_at, braces, expected_after, refused, struct_end, variant, variant_end, variants};
+ghost use Rattle.facet_solver_types.specs.Bodies.{after_body, body_at, braces, refused, struct_end, variant, variant_end, variants};
 ghost use Rattle.facet_solver_types.specs.Declarations.{body_view, variant_view, variants_view};
 ghost use Rattle.facet_solver_types.specs.Outcomes.{Gives};
 ghost use Rattle.facet_solver_types.specs.Passages.{passage_view};

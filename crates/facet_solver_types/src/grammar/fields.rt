@@ -1,5 +1,5 @@
 //! The fields of structs and variants.
-ghost use Rattle.std.specs.Prelude.{◌≡◌, ◌≤◌, Err, IfErr, IfOk, Ok, length, option_map};
+ghost use Rattle.std.specs.Prelude.{◌≡◌, option_map};
 ghost use Rattle.facet_solver_types.specs.Declarations.{field_view, fields_view};
 ghost use Rattle.facet_solver_types.specs.Fields.{after_colon, after_prefix, attributes, field, field_of, fields, named_field, tuple_field};
 ghost use Rattle.facet_solver_types.specs.Outcomes.{Gives};

@@ -1,5 +1,5 @@
 //! The items of a text.
-ghost use Rattle.std.specs.Prelude.{◌≡◌, ◌<◌, ◌≤◌, IfOk, IsTrue, length};
+ghost use Rattle.std.specs.Prelude.{◌≡◌};
 ghost use Rattle.facet_solver_types.specs.Declarations.{alias_view, enum_view, item_view, items_view, other, struct_view};
 ghost use Rattle.facet_solver_types.specs.Items.{after_call, after_lifetimes, alias_of, call, enum_of, head, item, items, semicolon, statement, struct_of};
 ghost use Rattle.facet_solver_types.specs.Outcomes.{Gives};

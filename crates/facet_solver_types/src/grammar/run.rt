@@ -1,6 +1,6 @@
 //! Runs of tokens: up to a mark outside brackets.
 ghost use Rattle.std.specs.Prelude.{◌≡◌, ◌+◌, ◌^◌, ◌≤◌, ◌<◌, length};
-ghost use Rattle.facet_solver_types.specs.Runs.{angles_after, ends, group_len, has_angles, is_close, is_mark, nest_after, opens_braces, outside, run_len, stops};
+ghost use Rattle.facet_solver_types.specs.Runs.{angles_after, ends, group_len, has_angles, is_close, is_mark, nest_after, opens_braces, run_len, stops};
 ghost use Rattle.facet_solver_types.specs.Tokens.{tokens_view};
 
 use crate::token::{Bracket, Token, TokenKind};

@@ -1,5 +1,5 @@
 //! Texts and characters.
-ghost use Rattle.std.specs.Prelude.{◌≡◌, ◌+◌, ◌<◌, ◌≤◌, ◌⊎◌, IfOk, IsTrue, length};
+ghost use Rattle.std.specs.Prelude.{◌≡◌, ◌≤◌, ◌⊎◌, IfOk, IsTrue, length};
 ghost use Rattle.facet_solver_types.specs.Spellings.{IsIn};
 ghost use Rattle.facet_solver_types.specs.Texts.{begins_character, begins_text, character, character_len, opening_of, text_token};
 
