@@ -3,9 +3,9 @@
 mod bodies;
 mod fields;
 mod first;
+mod inside;
 mod items;
 mod lifetimes;
-mod passage;
 mod prefixes;
 mod run;
 mod starts;

@@ -5,6 +5,7 @@ mod error;
 mod fault;
 mod grammar;
 mod item;
+mod passage;
 mod place;
 mod problem;
 mod token;
