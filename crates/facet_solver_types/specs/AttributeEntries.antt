@@ -6,7 +6,8 @@ use Rattle.facet_solver_types.specs.declared.problem.Expected.TheVariants.{Attri
 use Rattle.facet_solver_types.specs.declared.token.Bracket.TheVariants.{Round}
 use Rattle.facet_solver_types.specs.Entries.{Entry, EntryValue, entries, holds, is_over, outside, value_at}
 use Rattle.facet_solver_types.specs.FirstTokens.{is_name, sees_open}
-use Rattle.facet_solver_types.specs.Passages.{Passage, after, inside, unexpected}
+use Rattle.facet_solver_types.specs.Inside.{inside}
+use Rattle.facet_solver_types.specs.Passages.{Passage, after, unexpected}
 use Rattle.facet_solver_types.specs.Pieces.{and_then}
 use Rattle.facet_solver_types.specs.Prefixes.{attribute_len, begins_attribute}
 use Rattle.facet_solver_types.specs.Tokens.{Token}

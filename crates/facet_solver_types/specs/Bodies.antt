@@ -9,7 +9,8 @@ use Rattle.facet_solver_types.specs.declared.token.Bracket.TheVariants.{Round, C
 use Rattle.facet_solver_types.specs.Declarations.{Body, Variant, unit, tuple, named}
 use Rattle.facet_solver_types.specs.Fields.{attributes, fields}
 use Rattle.facet_solver_types.specs.FirstTokens.{sees_mark, sees_open, sees_word}
-use Rattle.facet_solver_types.specs.Passages.{Passage, after, generic, inside, name_at, unexpected}
+use Rattle.facet_solver_types.specs.Inside.{inside, name_at}
+use Rattle.facet_solver_types.specs.Passages.{Passage, after, generic, unexpected}
 use Rattle.facet_solver_types.specs.Pieces.{and_then, each, pieces}
 use Rattle.facet_solver_types.specs.Prefixes.{attributes_len}
 use Rattle.facet_solver_types.specs.Runs.{group_len}

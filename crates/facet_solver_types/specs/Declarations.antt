@@ -9,20 +9,21 @@ use Rattle.facet_solver_types.specs.declared.item.Item as declared
 use Rattle.facet_solver_types.specs.declared.item.Item.TheVariants as item
 use Rattle.facet_solver_types.specs.declared.item.StructDeclaration.{StructDeclaration}
 use Rattle.facet_solver_types.specs.declared.item.VariantDeclaration.{VariantDeclaration}
+use Rattle.facet_solver_types.specs.Passages.{Passage, passage_view}
 use Rattle.facet_solver_types.specs.Tokens.{Token, token_view, tokens_view}
 
 -- a field: its attributes, its name if it has one, and its type
 pub record Field : Type 0 where
   pub attributes : List Token
   pub name : Option Token
-  pub written : List Token
+  pub written : Passage
 
 -- what is seen of a field
 abbrev pub field_view : FieldDeclaration → Field
 field_view field = record {
   attributes = tokens_view field.attributes.now;
   name = option_map token_view field.name;
-  written = tokens_view field.written.now;
+  written = passage_view field.written;
 }
 
 -- what is seen of fields
@@ -63,7 +64,7 @@ variants_view variants = map variant_view variants
 pub data Item : Type 0 where
   struct : List Token → Token → Body → Item
   enum : List Token → Token → List Variant → Item
-  alias : Token → List Token → Item
+  alias : Token → Passage → Item
   other : Item
 
 -- what is seen of a struct
@@ -77,7 +78,7 @@ enum_view e =
 
 -- what is seen of an alias
 abbrev pub alias_view : AliasDeclaration → Item
-alias_view a = alias (token_view a.name) (tokens_view a.written.now)
+alias_view a = alias (token_view a.name) (passage_view a.written)
 
 -- what is seen of an item
 abbrev pub item_view : declared.Item → Item

@@ -11,7 +11,8 @@ use Rattle.facet_solver_types.specs.declared.token.Bracket.TheVariants.{Round}
 use Rattle.facet_solver_types.specs.declared.token.TokenKind.{TokenKind}
 use Rattle.facet_solver_types.specs.declared.token.TokenKind.TheVariants.{Keyword}
 use Rattle.facet_solver_types.specs.FirstTokens.{is_name, sees_mark, sees_open, sees_path}
-use Rattle.facet_solver_types.specs.Passages.{Passage, after, inside, passage_view, unexpected}
+use Rattle.facet_solver_types.specs.Inside.{inside}
+use Rattle.facet_solver_types.specs.Passages.{Passage, after, passage_view, unexpected}
 use Rattle.facet_solver_types.specs.Pieces.{and_then, each, pieces}
 use Rattle.facet_solver_types.specs.Runs.{group_len}
 use Rattle.facet_solver_types.specs.Tokens.{Token, token_view}

@@ -1,6 +1,5 @@
 -- Why a text was not read, with its place.
-use Rattle.std.specs.Prelude.{◌≡◌, ℕ, ◌==◌, List, [], ◌++◌, codes, length, min, take, drop, encode_utf8, if◌then◌else◌, ⊤, Result, Ok, Err}
-use Rattle.std.specs.Str.{IsCharBoundary}
+use Rattle.std.specs.Prelude.{◌≡◌, ℕ, Bool, ◌&&◌, ◌||◌, ◌==◌, nat_le, slice_index, List, [], ◌++◌, codes, length, min, take, drop, encode_utf8, if◌then◌else◌, ⊤, Result, Ok, Err}
 use Rattle.facet_solver_types.specs.declared.error.TypesError.{TypesError}
 use Rattle.facet_solver_types.specs.declared.error.TypesError.TheVariants as error
 use Rattle.facet_solver_types.specs.declared.fault.Fault.{Fault}
@@ -10,7 +9,7 @@ use Rattle.facet_solver_types.specs.declared.problem.Problem.TheVariants.{NoToke
 use Rattle.facet_solver_types.specs.declared.tokens.part.Part.{Part}
 use Rattle.facet_solver_types.specs.declared.tokens.part.Part.TheVariants.{Gap, Spelled}
 use Rattle.facet_solver_types.specs.FirstParts.{first_part}
-use Rattle.facet_solver_types.specs.Places.{place_at}
+use Rattle.facet_solver_types.specs.Places.{begins_character, place_at}
 use Rattle.facet_solver_types.specs.PlaceTexts.{place_text}
 use Rattle.facet_solver_types.specs.ProblemTexts.{expected_text}
 use Rattle.facet_solver_types.specs.Refusals.{refusal_text}
@@ -49,12 +48,22 @@ spelled_text text (Err problem) = []
 abbrev pub first_written : List ℕ → List ℕ
 first_written text = if length text == 0 then [] else spelled_text text (first_part text)
 
+-- whether a character begins at an offset, or the text ends there
+abbrev pub is_boundary : ℕ → List ℕ → Bool
+is_boundary offset text =
+    nat_le offset (length text)
+    && (offset == length text || begins_character (slice_index text offset))
+
+-- the token that stands at an offset, as it is written, or nothing
+abbrev pub met_at : ℕ → List ℕ → List ℕ
+met_at offset text = if is_boundary offset text then first_written (drop offset text) else []
+
 -- the error tells a fault of a text: its problem, its place, and the token that stands there
 abbrev pub Tells : List ℕ → Fault → TypesError → Type 0
 Tells text (fault.At offset problem) (error.Invalid place told met) =
     (told ≡ problem)
     × (place ≡ place_at (min offset (length text)) text)
-    × (IsCharBoundary text offset → met.now ≡ first_written (drop offset text))
+    × (met.now ≡ met_at offset text)
 Tells text (fault.At offset problem) error.OutOfMemory = ⊥
 Tells text fault.OutOfMemory (error.Invalid place told met) = ⊥
 Tells text fault.OutOfMemory error.OutOfMemory = ⊤

@@ -6,7 +6,8 @@ use Rattle.facet_solver_types.specs.declared.grammar.run.Run.TheVariants as run
 use Rattle.facet_solver_types.specs.declared.problem.Expected.TheVariants.{Colon, FieldType}
 use Rattle.facet_solver_types.specs.Declarations.{Field}
 use Rattle.facet_solver_types.specs.FirstTokens.{sees_mark}
-use Rattle.facet_solver_types.specs.Passages.{Passage, after, name_at, unexpected}
+use Rattle.facet_solver_types.specs.Inside.{name_at}
+use Rattle.facet_solver_types.specs.Passages.{Passage, after, unexpected}
 use Rattle.facet_solver_types.specs.Pieces.{and_then, each, pieces}
 use Rattle.facet_solver_types.specs.Prefixes.{attributes_len, visibility_len}
 use Rattle.facet_solver_types.specs.Tokens.{Token}
@@ -25,7 +26,7 @@ after_prefix may_be_public passage =
 abbrev pub field_of : Passage → Option Token → Passage → Result Field Fault
 field_of passage name written =
     if length written.tokens == 0 then Err (unexpected FieldType written)
-    else Ok (record { attributes = attributes passage; name = name; written = written.tokens })
+    else Ok (record { attributes = attributes passage; name = name; written = written })
 
 -- the type of a field, after a colon
 abbrev pub after_colon : Passage → Result Passage Fault

@@ -1,5 +1,5 @@
 -- The items of a text.
-use Rattle.std.specs.Prelude.{true, ◌||◌, if◌then◌else◌, List, take, Result, Ok, Err, unwrap_or}
+use Rattle.std.specs.Prelude.{true, ◌||◌, if◌then◌else◌, List, Result, Ok, Err, unwrap_or}
 use Rattle.facet_solver_types.specs.Ascii as ascii
 use Rattle.facet_solver_types.specs.declared.fault.Fault.{Fault}
 use Rattle.facet_solver_types.specs.declared.grammar.run.Run.TheVariants as run
@@ -12,7 +12,8 @@ use Rattle.facet_solver_types.specs.Declarations.{Item, struct, enum, alias, oth
 use Rattle.facet_solver_types.specs.Fields.{after_prefix, attributes}
 use Rattle.facet_solver_types.specs.FirstTokens.{sees_mark, sees_name, sees_open}
 use Rattle.facet_solver_types.specs.Lifetimes.{lifetimes_len}
-use Rattle.facet_solver_types.specs.Passages.{Passage, after, name_at, unexpected}
+use Rattle.facet_solver_types.specs.Inside.{name_at}
+use Rattle.facet_solver_types.specs.Passages.{Passage, after, unexpected, up_to}
 use Rattle.facet_solver_types.specs.Pieces.{and_then, each}
 use Rattle.facet_solver_types.specs.Prefixes.{attributes_len}
 use Rattle.facet_solver_types.specs.Runs.{group_len, run_len}
@@ -51,7 +52,7 @@ alias_of passage =
     let rest = after 1 passage in
     let len = run_len run.Statement rest.tokens in
     and_then (name_at passage) (λ name.
-    and_then (semicolon (after len rest)) (λ end. Ok (alias name (take len rest.tokens))))
+    and_then (semicolon (after len rest)) (λ end. Ok (alias name (up_to len rest))))
 
 -- an item that is passed over, to `;`
 abbrev pub statement : Passage → Result Item Fault

@@ -14,6 +14,7 @@ pub mod Runs
 pub mod FirstTokens
 pub mod Prefixes
 pub mod Passages
+pub mod Inside
 pub mod Lifetimes
 pub mod Declarations
 pub mod Pieces

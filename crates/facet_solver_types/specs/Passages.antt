@@ -1,14 +1,10 @@
 -- Some tokens of a text, and where the token after them stands.
-use Rattle.std.specs.Prelude.{ℕ, List, [], ◌∷◌, drop, take, if◌then◌else◌, Result, Ok, Err}
+use Rattle.std.specs.Prelude.{ℕ, List, [], ◌∷◌, drop, take}
 use Rattle.facet_solver_types.specs.declared.fault.Fault.{Fault}
 use Rattle.facet_solver_types.specs.declared.fault.Fault.TheVariants.{At}
-use Rattle.facet_solver_types.specs.declared.grammar.passage.Passage as declared
+use Rattle.facet_solver_types.specs.declared.passage.Passage as declared
 use Rattle.facet_solver_types.specs.declared.problem.Expected as problem
-use Rattle.facet_solver_types.specs.declared.problem.Expected.TheVariants.{Name}
 use Rattle.facet_solver_types.specs.declared.problem.Problem.TheVariants.{Expected, Generic}
-use Rattle.facet_solver_types.specs.FirstTokens.{is_name}
-use Rattle.facet_solver_types.specs.Runs.{run_len}
-use Rattle.facet_solver_types.specs.declared.grammar.run.Run.TheVariants.{Group}
 use Rattle.facet_solver_types.specs.Tokens.{Token, tokens_view}
 
 -- some tokens of a text, and where the token after them stands, or the end
@@ -37,10 +33,6 @@ after len passage = record { tokens = drop len passage.tokens; end = passage.end
 abbrev pub up_to : ℕ → Passage → Passage
 up_to len passage = record { tokens = take len passage.tokens; end = place (after len passage) }
 
--- what stands in the brackets that stand first
-abbrev pub inside : Passage → Passage
-inside passage = up_to (run_len Group (drop 1 passage.tokens)) (after 1 passage)
-
 -- the fault where something else stands first
 abbrev pub unexpected : problem.Expected → Passage → Fault
 unexpected expected passage = At (place passage) (Expected expected)
@@ -48,13 +40,3 @@ unexpected expected passage = At (place passage) (Expected expected)
 -- the fault where a generic parameter or `where` stands first
 abbrev pub generic : Passage → Fault
 generic passage = At (place passage) Generic
-
--- the name that stands first
-abbrev pub name_of : List Token → ℕ → Result Token Fault
-name_of [] end = Err (At end (Expected Name))
-name_of (token ∷ tokens) end =
-    if is_name token.kind then Ok token else Err (At token.offset (Expected Name))
-
--- the name that stands first in a passage
-abbrev pub name_at : Passage → Result Token Fault
-name_at passage = name_of passage.tokens passage.end

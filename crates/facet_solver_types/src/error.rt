@@ -1,7 +1,6 @@
 //! Why a text was not read, with its place.
-ghost use Rattle.std.specs.Prelude.{◌≡◌, Some, drop};
-ghost use Rattle.std.specs.Str.{IsCharBoundary};
-ghost use Rattle.facet_solver_types.specs.Errors.{Tells, error_text, first_written, met_text};
+ghost use Rattle.std.specs.Prelude.{◌≡◌, Some};
+ghost use Rattle.facet_solver_types.specs.Errors.{Tells, error_text, met_at, met_text};
 
 use crate::attribute::Refused;
 use crate::fault::Fault;
@@ -102,7 +101,7 @@ pub(crate) fn error_at<'t>(text: &'t str, fault: Fault) -> TypesError<'t>
 
 /// The token that stands at an offset, as it is written, or nothing.
 fn met_at<'t>(text: &'t str, offset: usize) -> &'t str
-    ensures { IsCharBoundary text.now offset → result.now ≡ first_written (drop offset text.now) }
+    ensures { result.now ≡ met_at offset text.now }
 {
     match text.split_at_checked(offset) {
         Some((_, rest)) => first_written(rest),

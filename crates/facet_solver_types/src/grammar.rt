@@ -5,13 +5,12 @@ mod bodies;
 mod entry;
 mod fields;
 mod first;
+mod inside;
 mod items;
 mod lifetimes;
-mod passage;
 mod prefixes;
 mod run;
 mod starts;
 
 pub(crate) use attributes::attribute_entries;
 pub(crate) use entry::{Entry, EntryValue, entries};
-pub(crate) use passage::Passage;

@@ -1,5 +1,6 @@
 //! Declarations, as their tokens. What types and attributes mean is not looked at.
 
+use crate::passage::Passage;
 use crate::token::Token;
 
 /// A field of a struct or a variant.
@@ -9,8 +10,8 @@ pub(crate) struct FieldDeclaration<'s, 't> {
     pub(crate) attributes: &'s [Token<'t>],
     /// Its name, if it has one.
     pub(crate) name: Option<Token<'t>>,
-    /// The tokens of its type, of which there are some.
-    pub(crate) written: &'s [Token<'t>],
+    /// Its type, as it is written, which has some tokens.
+    pub(crate) written: Passage<'s, 't>,
 }
 
 /// The fields of a struct or a variant.
@@ -55,8 +56,8 @@ pub(crate) struct EnumDeclaration<'s, 't> {
 #[derive(Clone, Copy, Debug)]
 pub(crate) struct AliasDeclaration<'s, 't> {
     pub(crate) name: Token<'t>,
-    /// The tokens between its name and `;`.
-    pub(crate) written: &'s [Token<'t>],
+    /// What stands between its name and `;`.
+    pub(crate) written: Passage<'s, 't>,
 }
 
 /// An item of a text.

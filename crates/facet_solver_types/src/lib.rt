@@ -8,6 +8,7 @@ mod fault;
 mod grammar;
 mod item;
 mod literal;
+mod passage;
 mod place;
 mod problem;
 mod token;

@@ -33,39 +33,39 @@ pub(crate) fn tokens<'t>(alloc: Global, text: &'t str) -> Result<Vec<Token<'t>>,
     ensures { Gives (λ found. tokens_view found.items) (tokens text.now) result }
 {
     let mut found = Vec::new(alloc);
-    let mut open = Vec::new(alloc);
+    let mut opened = Vec::new(alloc);
     let mut rest = text;
     let mut offset = 0;
     while !rest.is_empty() {
-        let len = read_part(&mut found, &mut open, offset, rest)?;
+        let len = read_part(&mut found, &mut opened, offset, rest)?;
         rest = &rest[len..];
         offset += len;
     }
-    all_closed(&open)?;
+    all_closed(&opened)?;
     Ok(found)
 }
 
 /// Adds what stands first in the rest of a text, at an offset. The answer is its length in bytes.
 fn read_part<'t>(
     found: &mut Vec<Token<'t>>,
-    open: &mut Vec<Opened>,
+    opened: &mut Vec<Opened>,
     offset: usize,
     rest: &'t str,
 ) -> Result<usize, Fault>
     requires { 0 < length rest.now }
     ensures some { IfOk result (λ len. (0 < len) × IsCharBoundary rest.now len) }
     ensures ok { IfOk result (λ len.
-        outcome found.old.items open.old.items offset rest.now
-        ≡ outcome found.new.items open.new.items (offset + len) (drop len rest.now)) }
+        outcome found.old.items opened.old.items offset rest.now
+        ≡ outcome found.new.items opened.new.items (offset + len) (drop len rest.now)) }
     ensures fault { IfErr result (λ fault. fault ≢ OutOfMemory →
-        outcome found.old.items open.old.items offset rest.now ≡ Err fault) }
+        outcome found.old.items opened.old.items offset rest.now ≡ Err fault) }
 {
     let spelling = match first_part(rest.as_bytes()) {
         Err(problem) => return Err(Fault::At { offset, problem }),
         Ok(Part::Gap(len)) => return Ok(len),
         Ok(Part::Spelled(spelling)) => spelling,
     };
-    follow(open, spelling.kind, offset)?;
+    follow(opened, spelling.kind, offset)?;
     found.push(token_at(offset, rest, spelling))?;
     Ok(spelling.len)
 }
@@ -97,11 +97,11 @@ pub(crate) fn first_written(text: &str) -> &str
 }
 
 /// The end of a text, where no bracket may be open.
-fn all_closed(open: &[Opened]) -> Result<(), Fault>
-    ensures ok { OnOk result (at_end open.now ≡ Ok []) }
-    ensures fault { IfErr result (λ fault. at_end open.now ≡ Err fault) }
+fn all_closed(opened: &[Opened]) -> Result<(), Fault>
+    ensures ok { OnOk result (at_end opened.now ≡ Ok []) }
+    ensures fault { IfErr result (λ fault. at_end opened.now ≡ Err fault) }
 {
-    match open.first() {
+    match opened.first() {
         None => Ok(()),
         Some(first) => Err(Fault::At {
             offset: first.offset,

@@ -8,7 +8,8 @@ ghost use Rattle.facet_solver_types.specs.Values as values;
 
 use super::meaning::Meaning;
 use crate::fault::Fault;
-use crate::grammar::{Entry, EntryValue, Passage, entries};
+use crate::grammar::{Entry, EntryValue, entries};
+use crate::passage::Passage;
 use crate::token::{Token, TokenKind};
 use std::alloc::Global;
 

@@ -8,9 +8,10 @@ ghost use Rattle.facet_solver_types.specs.Tokens.{token_view, tokens_view};
 
 use super::entry::{Entry, EntryValue, entries, value_at};
 use super::first::{is_name, sees_open};
-use super::passage::Passage;
+use super::inside::inside;
 use super::prefixes::{attribute_len, begins_attribute};
 use crate::fault::Fault;
+use crate::passage::Passage;
 use crate::problem::Expected;
 use crate::token::{Bracket, Token};
 use std::alloc::Global;
@@ -112,7 +113,7 @@ pub(crate) fn attribute_entries<'s, 't>(
         end: 0,
     };
     while begins_attribute(false, left.tokens) {
-        let entries = entries_in(alloc, left.after(1).inside())?;
+        let entries = entries_in(alloc, inside(left.after(1)))?;
         found.extend_from_slice(&entries)?;
         left = left.after(attribute_len(false, left.tokens));
     }

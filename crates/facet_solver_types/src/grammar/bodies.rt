@@ -7,11 +7,12 @@ ghost use Rattle.facet_solver_types.specs.Passages.{passage_view};
 
 use super::fields::{attributes, fields};
 use super::first::{sees_mark, sees_open, sees_word};
-use super::passage::Passage;
+use super::inside::{inside, name_at};
 use super::prefixes::attributes_len;
 use super::run::{Run, group_len, run_len};
 use crate::fault::Fault;
 use crate::item::{Body, VariantDeclaration};
+use crate::passage::Passage;
 use crate::problem::Expected;
 use crate::token::Bracket;
 use std::alloc::Global;
@@ -25,11 +26,11 @@ pub(super) fn body_at<'s, 't>(
     ensures { Gives body_view (body_at may_be_public (passage_view passage.entry)) result }
 {
     if sees_open(Bracket::Curly, passage.tokens) {
-        let found = fields(alloc, true, may_be_public, passage.inside())?;
+        let found = fields(alloc, true, may_be_public, inside(passage))?;
         return Ok(Body::Named(found));
     }
     if sees_open(Bracket::Round, passage.tokens) {
-        let found = fields(alloc, false, may_be_public, passage.inside())?;
+        let found = fields(alloc, false, may_be_public, inside(passage))?;
         return Ok(Body::Tuple(found));
     }
     Ok(Body::Unit)
@@ -66,7 +67,7 @@ fn variant<'s, 't>(
     ensures { Gives variant_view (variant (passage_view passage.entry)) result }
 {
     let rest = passage.after(attributes_len(false, passage.tokens));
-    let name = rest.name()?;
+    let name = name_at(rest)?;
     let fields = rest.after(1);
     let body = body_at(alloc, false, fields)?;
     variant_end(after_body(fields))?;
@@ -128,7 +129,7 @@ pub(super) fn braces<'s, 't>(passage: Passage<'s, 't>) -> Result<Passage<'s, 't>
     ensures { Gives passage_view (braces (passage_view passage.entry)) result }
 {
     if sees_open(Bracket::Curly, passage.tokens) {
-        Ok(passage.inside())
+        Ok(inside(passage))
     } else {
         Err(refused(Expected::Braces, passage))
     }

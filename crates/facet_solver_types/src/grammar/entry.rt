@@ -6,9 +6,10 @@ ghost use Rattle.facet_solver_types.specs.Passages.{passage_view};
 ghost use Rattle.facet_solver_types.specs.Tokens.{token_view};
 
 use super::first::{is_name, sees_mark, sees_open, sees_path};
-use super::passage::Passage;
+use super::inside::inside;
 use super::run::{Run, group_len, run_len};
 use crate::fault::Fault;
+use crate::passage::Passage;
 use crate::problem::Expected;
 use crate::token::{Bracket, Token, TokenKind};
 use std::alloc::Global;
@@ -65,7 +66,7 @@ fn held<'s, 't>(passage: Passage<'s, 't>) -> Result<EntryValue<'s, 't>, Fault>
 {
     let rest = passage.after(group_len(passage.tokens));
     if rest.tokens.is_empty() {
-        Ok(EntryValue::Holds(passage.inside()))
+        Ok(EntryValue::Holds(inside(passage)))
     } else {
         Err(rest.unexpected(Expected::AttributeEnd))
     }

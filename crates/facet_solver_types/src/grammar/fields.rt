@@ -7,11 +7,12 @@ ghost use Rattle.facet_solver_types.specs.Passages.{passage_view};
 ghost use Rattle.facet_solver_types.specs.Tokens.{token_view, tokens_view};
 
 use super::first::sees_mark;
-use super::passage::Passage;
+use super::inside::name_at;
 use super::prefixes::{attributes_len, visibility_len};
 use super::run::{Run, run_len};
 use crate::fault::Fault;
 use crate::item::FieldDeclaration;
+use crate::passage::Passage;
 use crate::problem::Expected;
 use crate::token::Token;
 use std::alloc::Global;
@@ -51,7 +52,7 @@ fn field_of<'s, 't>(
     Ok(FieldDeclaration {
         attributes: attributes(passage),
         name,
-        written: written.tokens,
+        written,
     })
 }
 
@@ -75,7 +76,7 @@ fn named_field<'s, 't>(
     ensures { Gives field_view (named_field may_be_public (passage_view passage.entry)) result }
 {
     let rest = after_prefix(may_be_public, passage);
-    let name = rest.name()?;
+    let name = name_at(rest)?;
     let written = after_colon(rest.after(1))?;
     field_of(passage, Some(name), written)
 }

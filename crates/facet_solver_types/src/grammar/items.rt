@@ -9,13 +9,14 @@ ghost use Rattle.facet_solver_types.specs.Tokens.{tokens_view};
 use super::bodies::{after_body, body_at, braces, struct_end, variants};
 use super::fields::{after_prefix, attributes};
 use super::first::{sees_mark, sees_name, sees_open};
+use super::inside::name_at;
 use super::lifetimes::lifetimes_len;
-use super::passage::Passage;
 use super::prefixes::attributes_len;
 use super::run::{Run, group_len, run_len};
 use super::starts::{Start, call_len, item_len, start_of};
 use crate::fault::Fault;
 use crate::item::{AliasDeclaration, EnumDeclaration, Item, StructDeclaration};
+use crate::passage::Passage;
 use crate::problem::Expected;
 use crate::token::{Bracket, Token};
 use std::alloc::Global;
@@ -38,7 +39,7 @@ fn struct_of<'s, 't>(
     ensures { Gives struct_view
         (struct_of (tokens_view attributes.now) (passage_view passage.entry)) result }
 {
-    let name = passage.name()?;
+    let name = name_at(passage)?;
     let rest = after_lifetimes(passage.after(1))?;
     let body = body_at(alloc, true, rest)?;
     struct_end(&body, after_body(rest))?;
@@ -59,7 +60,7 @@ fn enum_of<'s, 't>(
     ensures { Gives enum_view
         (enum_of (tokens_view attributes.now) (passage_view passage.entry)) result }
 {
-    let name = passage.name()?;
+    let name = name_at(passage)?;
     let rest = after_lifetimes(passage.after(1))?;
     let variants = variants(alloc, braces(rest)?)?;
     Ok(EnumDeclaration {
@@ -85,13 +86,13 @@ fn semicolon(passage: Passage<'_, '_>) -> Result<(), Fault>
 fn alias_of<'s, 't>(passage: Passage<'s, 't>) -> Result<AliasDeclaration<'s, 't>, Fault>
     ensures { Gives alias_view (alias_of (passage_view passage.entry)) result }
 {
-    let name = passage.name()?;
+    let name = name_at(passage)?;
     let rest = passage.after(1);
     let len = run_len(Run::Statement, rest.tokens);
     semicolon(rest.after(len))?;
     Ok(AliasDeclaration {
         name,
-        written: rest.up_to(len).tokens,
+        written: rest.up_to(len),
     })
 }
 

@@ -5,9 +5,9 @@ ghost use Rattle.facet_solver_types.specs.Passages.{passage_view};
 ghost use Rattle.facet_solver_types.specs.Tokens.{tokens_view};
 
 use super::first::{is_lifetime, is_name, is_word, sees_mark};
-use super::passage::Passage;
 use super::run::is_mark;
 use crate::fault::Fault;
+use crate::passage::Passage;
 use crate::problem::{Expected, Problem};
 use crate::token::{Token, TokenKind};
 

@@ -16,19 +16,19 @@ pub(super) struct Opened {
 }
 
 /// Opens or closes a bracket, if a token is one.
-pub(super) fn follow(open: &mut Vec<Opened>, kind: TokenKind, offset: usize) -> Result<(), Fault>
+pub(super) fn follow(opened: &mut Vec<Opened>, kind: TokenKind, offset: usize) -> Result<(), Fault>
     ensures ok { OnOk result
-        (open_after kind offset (reverse open.old.items) ≡ Some (reverse open.new.items)) }
+        (open_after kind offset (reverse opened.old.items) ≡ Some (reverse opened.new.items)) }
     ensures fault { IfErr result (λ fault. fault ≢ OutOfMemory →
         (fault ≡ Fault.At offset Problem.ClosesNothing)
-        × (open_after kind offset (reverse open.old.items) ≡ None)) }
+        × (open_after kind offset (reverse opened.old.items) ≡ None)) }
 {
     match kind {
         TokenKind::Open(bracket) => {
-            open.push(Opened { bracket, offset })?;
+            opened.push(Opened { bracket, offset })?;
             Ok(())
         }
-        TokenKind::Close(bracket) => match open.pop() {
+        TokenKind::Close(bracket) => match opened.pop() {
             Some(innermost) if same_bracket(innermost.bracket, bracket) => Ok(()),
             _ => Err(Fault::At {
                 offset,

@@ -8,13 +8,13 @@ returns-in_err-all_closed c =
     let l = c.loop-rest in
     let fault = c.in_err-all_closed.field-0.0 in
     let none : length l.rest.now ≡ 0 = grind arith in
-    let at : at_end l.open.items ≡ Err fault = ap at_end (sym c.deref.ensures.value) ∙ c.in_err-all_closed.ensures.fault in
-    let told : tokens c.args.text.now ≡ Err fault = l.invariant.1 ∙ outcome_at_end l.found.items l.open.items l.offset l.rest.now fault none at in
+    let at : at_end l.opened.items ≡ Err fault = ap at_end (sym c.deref.ensures.value) ∙ c.in_err-all_closed.ensures.fault in
+    let told : tokens c.args.text.now ≡ Err fault = l.invariant.1 ∙ outcome_at_end l.found.items l.opened.items l.offset l.rest.now fault none at in
     search (rules, told)
 
 pub returns : goal.returns
 returns c =
     let l = c.loop-rest in
     let none : length l.rest.now ≡ 0 = grind arith in
-    let at : at_end l.open.items ≡ Ok [] = ap at_end (sym c.deref.ensures.value) ∙ c.in_ok-all_closed.ensures.ok in
-    l.invariant.1 ∙ outcome_closed l.found.items l.open.items l.offset l.rest.now none at
+    let at : at_end l.opened.items ≡ Ok [] = ap at_end (sym c.deref.ensures.value) ∙ c.in_ok-all_closed.ensures.ok in
+    l.invariant.1 ∙ outcome_closed l.found.items l.opened.items l.offset l.rest.now none at

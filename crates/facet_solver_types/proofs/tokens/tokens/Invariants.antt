@@ -7,7 +7,7 @@ use Rattle.facet_solver_types.proofs.tokens.tokens.Given as goal
 abbrev pub invariant-loop-rest : goal.invariant-loop-rest
 invariant-loop-rest l =
     shadow (Utf8 l.rest)
-    × (tokens l.text ≡ outcome l.found.items l.open.items l.offset l.rest)
+    × (tokens l.text ≡ outcome l.found.items l.opened.items l.offset l.rest)
     × (l.offset + length l.rest ≡ length l.text)
 
 abbrev pub decreases-loop-rest : goal.decreases-loop-rest

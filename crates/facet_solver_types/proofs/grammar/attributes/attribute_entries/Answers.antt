@@ -5,7 +5,8 @@ use Rattle.facet_solver_types.specs.declared.fault.Fault.TheVariants.{OutOfMemor
 use Rattle.facet_solver_types.specs.AttributeEntries.{attribute_entries, entries_from, entries_in}
 use Rattle.facet_solver_types.specs.AttributeEntries.{first_entries, joined}
 use Rattle.facet_solver_types.specs.Entries.{entries_view, entry_view}
-use Rattle.facet_solver_types.specs.Passages.{Passage, after, inside, passage_view}
+use Rattle.facet_solver_types.specs.Inside.{inside}
+use Rattle.facet_solver_types.specs.Passages.{Passage, after, passage_view}
 use Rattle.facet_solver_types.specs.Prefixes.{attribute_len, begins_attribute}
 use Rattle.facet_solver_types.specs.Tokens.{tokens_view}
 use Rattle.facet_solver_types.proofs.EnteredAttributes.{attribute_more, attribute_none}

@@ -1,9 +1,6 @@
 //! Some tokens of a text, and where the token after them stands.
-ghost use Rattle.std.specs.Prelude.{◌≡◌, ◌+◌, ◌-◌, ◌<◌, ◌≤◌, Err, IfErr, IfOk, Ok, OnOk, length};
-ghost use Rattle.facet_solver_types.specs.Tokens.{token_view};
+ghost use Rattle.std.specs.Prelude.{◌≡◌, ◌+◌, ◌-◌, ◌<◌, ◌≤◌, length};
 
-use super::first::is_name;
-use super::run::{Run, run_len};
 use crate::fault::Fault;
 use crate::problem::{Expected, Problem};
 use crate::token::Token;
@@ -17,10 +14,10 @@ pub(crate) struct Passage<'s, 't> {
 }
 
 impl<'s, 't> Passage<'s, 't> {
-    ghost use Rattle.facet_solver_types.specs.Passages.{after, generic, inside, name_at, passage_view, place, unexpected, up_to};
+    ghost use Rattle.facet_solver_types.specs.Passages.{after, generic, passage_view, place, unexpected, up_to};
 
     /// Where the passage begins, or the token after it.
-    pub(super) fn place(self) -> usize
+    pub(crate) fn place(self) -> usize
         ensures { result ≡ place (passage_view self.entry) }
     {
         match self.tokens.first() {
@@ -30,7 +27,7 @@ impl<'s, 't> Passage<'s, 't> {
     }
 
     /// The passage without its first tokens.
-    pub(super) fn after(self, len: usize) -> Passage<'s, 't>
+    pub(crate) fn after(self, len: usize) -> Passage<'s, 't>
         requires { len ≤ length self.tokens.now }
         ensures value { passage_view result ≡ after len (passage_view self.entry) }
         ensures len { length result.tokens.now ≡ length self.entry.tokens.now - len }
@@ -42,7 +39,7 @@ impl<'s, 't> Passage<'s, 't> {
     }
 
     /// The first tokens of the passage.
-    pub(super) fn up_to(self, len: usize) -> Passage<'s, 't>
+    pub(crate) fn up_to(self, len: usize) -> Passage<'s, 't>
         requires { len ≤ length self.tokens.now }
         ensures { passage_view result ≡ up_to len (passage_view self.entry) }
     {
@@ -53,7 +50,7 @@ impl<'s, 't> Passage<'s, 't> {
     }
 
     /// What stands after the first tokens and a comma.
-    pub(super) fn after_comma(self, len: usize) -> Passage<'s, 't>
+    pub(crate) fn after_comma(self, len: usize) -> Passage<'s, 't>
         requires some { 0 < length self.tokens.now }
         requires within { len ≤ length self.tokens.now }
         ensures value { passage_view result ≡ after (len + 1) (passage_view self.entry) }
@@ -66,17 +63,8 @@ impl<'s, 't> Passage<'s, 't> {
         }
     }
 
-    /// What stands in the brackets that stand first.
-    pub(super) fn inside(self) -> Passage<'s, 't>
-        requires { 0 < length self.tokens.now }
-        ensures { passage_view result ≡ inside (passage_view self.entry) }
-    {
-        let rest = self.after(1);
-        rest.up_to(run_len(Run::Group, rest.tokens))
-    }
-
     /// The fault where something else stands first.
-    pub(super) fn unexpected(self, expected: Expected) -> Fault
+    pub(crate) fn unexpected(self, expected: Expected) -> Fault
         ensures { result ≡ unexpected expected (passage_view self.entry) }
     {
         Fault::At {
@@ -86,25 +74,12 @@ impl<'s, 't> Passage<'s, 't> {
     }
 
     /// The fault where a generic parameter or `where` stands first.
-    pub(super) fn generic(self) -> Fault
+    pub(crate) fn generic(self) -> Fault
         ensures { result ≡ generic (passage_view self.entry) }
     {
         Fault::At {
             offset: self.place(),
             problem: Problem::Generic,
-        }
-    }
-
-    /// The name that stands first.
-    pub(super) fn name(self) -> Result<Token<'t>, Fault>
-        ensures ok { IfOk result (λ name.
-            name_at (passage_view self.entry) ≡ Ok (token_view name)) }
-        ensures some { OnOk result (0 < length self.entry.tokens.now) }
-        ensures fault { IfErr result (λ fault. name_at (passage_view self.entry) ≡ Err fault) }
-    {
-        match self.tokens.first() {
-            Some(token) if is_name(token.kind) => Ok(*token),
-            _ => Err(self.unexpected(Expected::Name)),
         }
     }
 }

@@ -2,7 +2,7 @@ use Rattle.std.proofs.Common.{◌∙◌, ap, take}
 use Rattle.facet_solver_types.specs.Passages.{place}
 use Rattle.facet_solver_types.specs.Tokens.{tokens_view}
 use Rattle.facet_solver_types.proofs.Views.{front_view, passage_of}
-use Rattle.facet_solver_types.proofs.grammar.passage.Passage.up_to.Goals as goal
+use Rattle.facet_solver_types.proofs.passage.Passage.up_to.Goals as goal
 
 pub returns : goal.returns
 returns c =
