@@ -2,5 +2,7 @@
 #![tactic(auto)]
 
 mod case;
+mod literal;
 
 pub use case::Case;
+pub use literal::{quoted_value, raw_value};
