@@ -1,0 +1,4 @@
+//! A catalogue as Rust declarations.
+
+mod text;
+mod word;
