@@ -1,3 +1,4 @@
 pub mod Cases
 pub mod Literals
 pub mod PrintedTexts
+pub mod PrintedAttributes

@@ -1,4 +1,5 @@
 //! A catalogue as Rust declarations.
 
+mod attribute;
 mod text;
 mod word;
