@@ -2,3 +2,4 @@ pub mod Cases
 pub mod Literals
 pub mod PrintedTexts
 pub mod PrintedAttributes
+pub mod PrintedFields

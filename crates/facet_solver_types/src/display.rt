@@ -1,5 +1,6 @@
 //! A catalogue as Rust declarations.
 
 mod attribute;
+mod field;
 mod text;
 mod word;
