@@ -2,3 +2,5 @@ pub mod Ascii
 pub mod Pieces
 pub mod Digits
 pub mod Attributes
+pub mod Decimals
+pub mod Numbered

@@ -3,3 +3,4 @@ pub mod Literals
 pub mod PrintedTexts
 pub mod PrintedAttributes
 pub mod PrintedFields
+pub mod PrintedNames

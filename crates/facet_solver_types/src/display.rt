@@ -3,4 +3,5 @@
 mod attribute;
 mod field;
 mod text;
+mod variant_name;
 mod word;
