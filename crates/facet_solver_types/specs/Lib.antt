@@ -4,3 +4,5 @@ pub mod PrintedTexts
 pub mod PrintedAttributes
 pub mod PrintedFields
 pub mod PrintedNames
+pub mod PrintedVariants
+pub mod PrintedDeclarations

@@ -6,4 +6,5 @@ mod display;
 mod literal;
 
 pub use case::Case;
+pub use display::Declarations;
 pub use literal::{quoted_value, raw_value};
