@@ -4,3 +4,4 @@ pub mod Digits
 pub mod Attributes
 pub mod Decimals
 pub mod Numbered
+pub mod ReadBack

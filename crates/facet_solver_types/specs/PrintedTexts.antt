@@ -16,9 +16,13 @@ escaped c =
     else if c == 0 then codes "\\0"
     else encode_utf8 c
 
+-- what stands for a text between quotes
+abbrev pub between_quotes : Name → Name
+between_quotes text = flat_map escaped (chars text)
+
 -- a text between quotes
 abbrev pub quoted : Name → Name
-quoted text = 34 ∷ flat_map escaped (chars text) ++ 34 ∷ []
+quoted text = 34 ∷ between_quotes text ++ 34 ∷ []
 
 -- whether a text is one of some
 abbrev pub is_one_of : List Name → Name → Bool

@@ -3,6 +3,7 @@
 
 mod case;
 mod display;
+pub mod laws;
 mod literal;
 
 pub use case::Case;

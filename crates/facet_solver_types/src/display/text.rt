@@ -1,9 +1,7 @@
 //! Texts between quotes.
 ghost use Rattle.std.specs.Prelude.{Some};
 ghost use Rattle.std.specs.Fmt.{WritesOnOk};
-ghost use Rattle.std.specs.List.{flat_map};
-ghost use Rattle.std.specs.Str.{chars};
-ghost use Rattle.facet_solver_types.specs.PrintedTexts.{escaped, quoted};
+ghost use Rattle.facet_solver_types.specs.PrintedTexts.{between_quotes, escaped, quoted};
 
 use std::fmt;
 
@@ -32,7 +30,7 @@ impl fmt::Display for Escaped {
 struct Letters<'t>(&'t str);
 
 impl fmt::Display for Letters<'_> {
-    ghost output = { λ l. Some (flat_map escaped (chars l.0.now)) };
+    ghost output = { λ l. Some (between_quotes l.0.now) };
 
     fn fmt<W: fmt::Write>(&self, f: &mut fmt::Formatter<W>) -> fmt::Result {
         write_letters(self.0, f)
@@ -41,7 +39,7 @@ impl fmt::Display for Letters<'_> {
 
 /// Writes the letters of a text, each as itself or as an escape.
 fn write_letters<W: fmt::Write>(text: &str, f: &mut fmt::Formatter<W>) -> fmt::Result
-    ensures { WritesOnOk W.write_str_gives f.old result (flat_map escaped (chars text.now)) f.new }
+    ensures { WritesOnOk W.write_str_gives f.old result (between_quotes text.now) f.new }
 {
     for letter in text.chars() {
         let letter = Escaped(letter);
