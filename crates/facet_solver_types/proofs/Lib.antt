@@ -5,3 +5,5 @@ pub mod Attributes
 pub mod Decimals
 pub mod Numbered
 pub mod ReadBack
+pub mod FreeNames
+pub mod ApartNames
