@@ -1,5 +1,5 @@
 -- The fields of a struct or of a variant.
-use Rattle.std.specs.Prelude.{ℕ, List, [], ◌∷◌, ◌++◌, codes, slice_get}
+use Rattle.std.specs.Prelude.{ℕ, List, [], ◌∷◌, ◌++◌, codes, length, slice_get, ◌==◌, if◌then◌else◌}
 use Rattle.std.specs.List.{flat_map}
 use Rattle.std.specs.Option.{option_map_or}
 use Rattle.std.specs.String.{string_bytes}
@@ -37,7 +37,8 @@ all_unnamed shapes (f ∷ fs) = unnamed shapes f ++ flat_map (later_unnamed shap
 -- fields with a name, in braces
 abbrev pub in_braces : Catalogue → Name → List Field → Name
 in_braces shapes indent fields =
-    codes " {\n" ++ (flat_map (field_line shapes indent) fields ++ (indent ++ codes "}"))
+    if length fields == 0 then codes " {}"
+    else codes " {\n" ++ (flat_map (field_line shapes indent) fields ++ (indent ++ codes "}"))
 
 -- fields without a name, in parentheses
 abbrev pub in_parentheses : Catalogue → List Field → Name

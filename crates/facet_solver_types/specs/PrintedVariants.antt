@@ -1,5 +1,5 @@
 -- The variants of an enum.
-use Rattle.std.specs.Prelude.{ℕ, List, [], ◌++◌, codes, if◌then◌else◌}
+use Rattle.std.specs.Prelude.{ℕ, List, [], ◌++◌, codes, length, ◌==◌, if◌then◌else◌}
 use Rattle.std.specs.List.{enumerate_from, flat_map}
 use Rattle.std.specs.String.{string_bytes}
 use Rattle.facet_solver_shape.specs.Catalogues.{Catalogue}
@@ -25,3 +25,8 @@ variant_line shapes names number v =
 abbrev pub variant_lines : Catalogue → List Variant → Name
 variant_lines shapes vs =
     flat_map (λ p. variant_line shapes (variant_names vs) p.0 p.1) (enumerate_from 0 vs)
+
+-- the variants, in braces
+abbrev pub in_braces : Catalogue → List Variant → Name
+in_braces shapes vs =
+    if length vs == 0 then codes " {}" else codes " {\n" ++ (variant_lines shapes vs ++ codes "}")

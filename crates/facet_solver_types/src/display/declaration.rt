@@ -6,7 +6,7 @@ ghost use Rattle.facet_solver_types.specs.PrintedDeclarations as declarations;
 
 use super::attribute::{Attribute, Attributes};
 use super::field::{Body, type_at};
-use super::variant::VariantLines;
+use super::variant::Variants;
 use facet_solver_shape::{Field, Shape, ShapeId, ShapeKind, Shapes, StructKind, Variant};
 use std::fmt;
 
@@ -132,11 +132,11 @@ impl fmt::Display for EnumDeclaration<'_> {
             shape: self.shape,
         };
         let name = self.shape.type_identifier.as_str();
-        let lines = VariantLines {
+        let variants = Variants {
             shapes: self.shapes,
             variants: self.variants,
         };
-        write!(f, "{attributes}enum {name} {{\n{lines}}}\n")
+        write!(f, "{attributes}enum {name}{variants}\n")
     }
 }
 

@@ -128,6 +128,31 @@ impl fmt::Display for AllUnnamed<'_> {
     }
 }
 
+/// Fields with a name, in braces.
+#[derive(Drop)]
+struct Braced<'s> {
+    shapes: &'s Shapes,
+    indent: &'static str,
+    fields: &'s [Field],
+}
+
+impl fmt::Display for Braced<'_> {
+    ghost output = { λ b. Some (fields.in_braces b.shapes.now b.indent.now b.fields.now) };
+
+    fn fmt<W: fmt::Write>(&self, f: &mut fmt::Formatter<W>) -> fmt::Result {
+        if self.fields.is_empty() {
+            return f.write_str(" {}");
+        }
+        let indent = self.indent;
+        let lines = FieldLines {
+            shapes: self.shapes,
+            indent,
+            fields: self.fields,
+        };
+        write!(f, " {{\n{lines}{indent}}}")
+    }
+}
+
 /// The fields of a struct or of a variant, as they stand behind its name.
 #[derive(Drop)]
 pub(super) struct Body<'s> {
@@ -147,12 +172,12 @@ impl fmt::Display for Body<'_> {
         match self.kind {
             StructKind::Unit => Ok(()),
             StructKind::Struct => {
-                let lines = FieldLines {
+                let fields = Braced {
                     shapes,
                     indent,
                     fields,
                 };
-                write!(f, " {{\n{lines}{indent}}}")
+                write!(f, "{fields}")
             }
             _ => {
                 let fields = AllUnnamed { shapes, fields };

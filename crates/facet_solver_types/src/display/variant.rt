@@ -59,9 +59,9 @@ impl fmt::Display for VariantLine<'_> {
 
 /// A line for each variant.
 #[derive(Drop)]
-pub(super) struct VariantLines<'s> {
-    pub(super) shapes: &'s Shapes,
-    pub(super) variants: &'s [Variant],
+struct VariantLines<'s> {
+    shapes: &'s Shapes,
+    variants: &'s [Variant],
 }
 
 impl fmt::Display for VariantLines<'_> {
@@ -78,5 +78,27 @@ impl fmt::Display for VariantLines<'_> {
             write!(f, "{line}")?;
         }
         Ok(())
+    }
+}
+
+/// Variants, in braces.
+#[derive(Drop)]
+pub(super) struct Variants<'s> {
+    pub(super) shapes: &'s Shapes,
+    pub(super) variants: &'s [Variant],
+}
+
+impl fmt::Display for Variants<'_> {
+    ghost output = { λ v. Some (variants.in_braces v.shapes.now v.variants.now) };
+
+    fn fmt<W: fmt::Write>(&self, f: &mut fmt::Formatter<W>) -> fmt::Result {
+        if self.variants.is_empty() {
+            return f.write_str(" {}");
+        }
+        let lines = VariantLines {
+            shapes: self.shapes,
+            variants: self.variants,
+        };
+        write!(f, " {{\n{lines}}}")
     }
 }

@@ -1,4 +1,4 @@
-use Rattle.std.proofs.Common.{◌+◌, ◌++◌, map, option_map, take, ap, sym, subst, refl, ◌∙◌}
+use Rattle.std.proofs.Common.{◌+◌, ◌++◌, map, option_map, take, ap, sym, subst, refl, true, ◌∙◌}
 use Rattle.std.proofs.Output.{has_written_of_eq, has_written_append}
 use Rattle.std.specs.Fmt.{HasWritten}
 use Rattle.facet_solver_types.specs.PrintedAttributes.{attribute, present, opened, one_of_list, is_empty}
@@ -20,7 +20,7 @@ loop-attribute-preserved g c =
             first = w.is_first-is ∙ sym (not_empty so_far one) ∙ ap is_empty (sym more);
             written = λ plain.
                 let before = c.loop-attribute.invariant.written plain in
-                let here = w.in_ok-write_attribute.ensures before.plain refl in
+                let here = w.in_ok-write_attribute.ensures before.plain (refl {a = true}) in
                 subst (λ f. HasWritten g.W.Write.write_str_gives c.args.f.now (opened (present (map (option_map attribute) (take (i + 1) list)))) f)
                 (sym w.f-is)
                 (has_written_of_eq _ _ _ _ _

@@ -1,4 +1,4 @@
-use Rattle.std.proofs.Common.{ℕ, refl, ap}
+use Rattle.std.proofs.Common.{ℕ, refl, true, ap}
 use Rattle.std.proofs.Output.{has_written_of_eq, has_written_append}
 use Rattle.std.specs.List.{flat_map}
 use Rattle.facet_solver_shape.specs.Names.{variant_names}
@@ -16,7 +16,7 @@ loop-number-preserved g c plain =
     has_written_of_eq _ _ _ _ _
     (numbered_piece_more (λ (p : ℕ × Variant). variant_line shapes (variant_names variants) p.0 p.1) variants
     c.loop-number.number c.variant-item.result c.loop-number-test.true c.variant-item.is)
-    (has_written_append _ _ _ _ _ _ so_far (c.in_ok-write.ensures.writes so_far.plain refl))
+    (has_written_append _ _ _ _ _ _ so_far (c.in_ok-write.ensures.writes so_far.plain (refl {a = true})))
 
 -- all lines
 pub returns-clause-writes : goal.returns-clause-writes
