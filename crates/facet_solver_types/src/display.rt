@@ -18,18 +18,25 @@ use std::fmt;
 ///
 /// It prints a declaration for each struct, enum and shape with a proxy, in the catalogue's order:
 ///
-/// - types are said by their identifiers. Scalars, lists, tuples and other shapes that aren't
-///   declared stand there alone;
-/// - a field with a name and a variant have a line each, and fields without a name stand in the line
-///   of what they belong to;
-/// - attributes stand before what they are said of, those of a declaration on a line of their own;
-/// - a field whose name is a keyword has `r#` before it;
-/// - a variant whose name isn't ASCII, or is no name, is declared as `V` with its number from 0, then
-///   `_` until no other has it, and renamed.
+/// - Types are said by their identifiers. Scalars, lists, tuples and the like have no declaration.
+/// - A field with a name has a line, and so has a variant. Fields without a name stand in the line
+///   of what they belong to.
+/// - Attributes stand before what they are said of, and those of a declaration on a line of their
+///   own.
+/// - A field whose name is a keyword has `r#` before it.
+/// - A variant whose name isn't ASCII, or is no name, is declared as `V` with its number from 0,
+///   then `_` until no other has it, and renamed.
 ///
-/// Read as declarations the text gives the same catalogue, if declarations gave this one. What no
-/// declarations give is printed as the nearest text: a name that is no name, attributes where they
-/// have no place, the fields of a tuple struct with one field that stands for no other shape.
+/// What no declaration says is printed as it stands, and isn't read back as it was:
+///
+/// - an attribute where it has no place, or beside one that excludes it;
+/// - a name of a field or a type that is no name, and a field `self`, `Self`, `super`, `crate` or
+///   `_`;
+/// - a field that is renamed to its own name;
+/// - a struct of one field without a name that stands for no other type, or for another than that
+///   of the field.
+///
+/// Shapes of no known kind are printed only where they have a proxy.
 #[derive(Drop)]
 pub struct Declarations<'s>(pub &'s Shapes);
 

@@ -71,7 +71,7 @@ impl fmt::Display for Attribute<'_> {
     }
 }
 
-/// Those attributes of a list that there are, and what stands behind them; nothing if there is none.
+/// The attributes that there are in a list, and what stands behind them; nothing if there is none.
 #[derive(Drop)]
 pub(super) struct Attributes<'a, 's> {
     pub(super) list: &'a [Option<Attribute<'s>>],
