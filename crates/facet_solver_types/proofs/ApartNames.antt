@@ -8,8 +8,9 @@ use Rattle.std.proofs.lemmas.Fmt.{decimal_by_steps, decimal_injective}
 use Rattle.std.proofs.lemmas.Slice.Eq.{bytes_eq-Decides}
 use Rattle.facet_solver_shape.specs.Catalogues.{RepeatsName}
 use Rattle.facet_solver_shape.specs.Names.{Name, name_eq}
-use Rattle.facet_solver_types.specs.PrintedNames.{numbered, underscore, is_taken, marks_of, variant_name}
-use Rattle.facet_solver_types.specs.PrintedTexts.{is_ascii_name, go_on_in_word, goes_on_in_word}
+use Rattle.facet_solver_types.specs.Cases.{underscore}
+use Rattle.facet_solver_types.specs.PrintedNames.{numbered, is_taken, marks_of, variant_name}
+use Rattle.facet_solver_types.specs.PrintedTexts.{is_plain_name, go_on_in_word, goes_on_in_word}
 use Rattle.facet_solver_types.proofs.FreeNames.{free}
 
 -- whether there is a `_` among bytes
@@ -103,7 +104,7 @@ module _ (names : List Name) (few : length names ≤ 2 ^ 64) (once : ¬ RepeatsN
   -- variants of one declared name are one
   pub one_variant : (i j : ℕ) (x y : Name) → slice_get names i ≡ Some x → slice_get names j ≡ Some y
       → variant_name names i x ≡ variant_name names j y → i ≡ j
-  one_variant i j x y at_i at_j = go (is_ascii_name x) (is_ascii_name y)
+  one_variant i j x y at_i at_j = go (is_plain_name x) (is_plain_name y)
     where
       go : (b c : Bool) → cond b x (numbered i (marks_of names i)) ≡ cond c y (numbered j (marks_of names j)) → i ≡ j
       go true true e = alone i j x at_i (at_j ∙ ap Some (sym e))
@@ -135,13 +136,13 @@ marks_go_on zero = refl
 marks_go_on (suc k) = marks_go_on k
 
 -- a number with `V` before it is a name
-numbered_is_name : (n k : ℕ) → n < 2 ^ 64 → is_ascii_name (numbered n k) ≡ true
+numbered_is_name : (n k : ℕ) → n < 2 ^ 64 → is_plain_name (numbered n k) ≡ true
 numbered_is_name n k small = ap (λ b. b && true) (go_on_more (decimal n) (replicate k underscore) (digits_go_on n small) (marks_go_on k))
 
 -- each declared name is one
-pub is_named : (names : List Name) (n : ℕ) (x : Name) → n < 2 ^ 64 → is_ascii_name (variant_name names n x) ≡ true
-is_named names n x small = go (is_ascii_name x) refl
+pub is_named : (names : List Name) (n : ℕ) (x : Name) → n < 2 ^ 64 → is_plain_name (variant_name names n x) ≡ true
+is_named names n x small = go (is_plain_name x) refl
   where
-    go : (b : Bool) → is_ascii_name x ≡ b → is_ascii_name (cond b x (numbered n (marks_of names n))) ≡ true
+    go : (b : Bool) → is_plain_name x ≡ b → is_plain_name (cond b x (numbered n (marks_of names n))) ≡ true
     go true e = e
     go false e = numbered_is_name n (marks_of names n) small

@@ -7,7 +7,8 @@ use Rattle.std.proofs.lemmas.Bool.Decides.{nat_tests}
 use Rattle.std.proofs.lemmas.List.{length-append, length-replicate, length-map}
 use Rattle.std.proofs.lemmas.Slice.Eq.{bytes_eq-Decides}
 use Rattle.facet_solver_shape.specs.Names.{Name, name_eq}
-use Rattle.facet_solver_types.specs.PrintedNames.{numbered, underscore, is_taken, marks_from, marks_of}
+use Rattle.facet_solver_types.specs.Cases.{underscore}
+use Rattle.facet_solver_types.specs.PrintedNames.{numbered, is_taken, marks_from, marks_of}
 
 -- where one of two tests passes, the first does or the second
 either : (a b : Bool) → (a || b) ≡ true → (a ≡ true) ⊎ (b ≡ true)

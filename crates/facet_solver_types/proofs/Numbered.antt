@@ -5,7 +5,8 @@ use Rattle.std.specs.String.{string_bytes}
 use Rattle.std.proofs.lemmas.Slice.Eq.{bytes_eq-Decides}
 use Rattle.facet_solver_shape.specs.declared.shape.Variant.{Variant}
 use Rattle.facet_solver_shape.specs.Names.{Name, name_eq, variant_names}
-use Rattle.facet_solver_types.specs.PrintedNames.{numbered, underscore, is_taken, marks_from}
+use Rattle.facet_solver_types.specs.Cases.{underscore}
+use Rattle.facet_solver_types.specs.PrintedNames.{numbered, is_taken, marks_from}
 use Rattle.facet_solver_types.proofs.Decimals.{same_ends}
 
 -- one `_` more stands at the end

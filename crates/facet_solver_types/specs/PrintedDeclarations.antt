@@ -14,7 +14,7 @@ use Rattle.facet_solver_shape.specs.declared.shape.StructKind.TheVariants.{Tuple
 use Rattle.facet_solver_shape.specs.declared.shape.Variant.{Variant}
 use Rattle.facet_solver_types.specs.PrintedAttributes.{attributes, flag, saying, with_text}
 use Rattle.facet_solver_types.specs.PrintedFields.{body, type_at}
-use Rattle.facet_solver_types.specs.PrintedVariants.{in_braces}
+use Rattle.facet_solver_types.specs.PrintedVariants.{variants_in_braces}
 
 -- whether a kind is a struct of one field without a name
 abbrev pub is_newtype : ShapeKind → Bool
@@ -55,7 +55,7 @@ struct_declaration shapes s kind fields =
 abbrev pub enum_declaration : Catalogue → Shape → List Variant → Name
 enum_declaration shapes s variants =
     before_declaration shapes s ++ (codes "enum " ++ (string_bytes s.type_identifier
-    ++ (in_braces shapes variants ++ codes "\n")))
+    ++ (variants_in_braces shapes variants ++ codes "\n")))
 
 -- the declaration of a shape that is read and written as another, where it is
 abbrev pub proxy_declaration : Catalogue → Shape → Name

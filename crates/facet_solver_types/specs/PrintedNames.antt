@@ -3,11 +3,8 @@ use Rattle.std.specs.Prelude.{ℕ, Bool, List, ◌++◌, codes, ◌+◌, zero, s
 use Rattle.std.specs.Fmt.{decimal}
 use Rattle.std.specs.List.{list_any}
 use Rattle.facet_solver_shape.specs.Names.{Name, name_eq}
-use Rattle.facet_solver_types.specs.PrintedTexts.{is_ascii_name}
-
--- `_`
-abbrev pub underscore : ℕ
-underscore = 95
+use Rattle.facet_solver_types.specs.Cases.{underscore}
+use Rattle.facet_solver_types.specs.PrintedTexts.{is_plain_name}
 
 -- `V`, a number and so many `_`
 abbrev pub numbered : ℕ → ℕ → Name
@@ -30,4 +27,4 @@ marks_of names number = marks_from names number 0 (length names)
 -- the name under which a variant of a number is declared, among the names of all
 abbrev pub variant_name : List Name → ℕ → Name → Name
 variant_name names number name =
-    if is_ascii_name name then name else numbered number (marks_of names number)
+    if is_plain_name name then name else numbered number (marks_of names number)

@@ -4,6 +4,7 @@ use Rattle.std.specs.Char.{is_ascii_alphabetic, is_ascii_alphanumeric}
 use Rattle.std.specs.List.{flat_map, list_all, list_any}
 use Rattle.std.specs.Str.{chars}
 use Rattle.facet_solver_shape.specs.Names.{Name, name_eq}
+use Rattle.facet_solver_types.specs.Cases.{underscore}
 
 -- a letter of a text between quotes, as itself or as an escape
 abbrev pub escaped : ℕ → Name
@@ -53,11 +54,11 @@ is_keyword text = is_used_keyword text || is_reserved_keyword text
 
 -- whether a word may begin with a byte
 abbrev pub begins_word : ℕ → Bool
-begins_word b = is_ascii_alphabetic b || (b == 95)
+begins_word b = is_ascii_alphabetic b || (b == underscore)
 
 -- whether a word may go on with a byte
 abbrev pub goes_on_in_word : ℕ → Bool
-goes_on_in_word b = is_ascii_alphanumeric b || (b == 95)
+goes_on_in_word b = is_ascii_alphanumeric b || (b == underscore)
 
 -- whether a word may go on with bytes
 abbrev pub go_on_in_word : Name → Bool
@@ -69,8 +70,8 @@ is_word [] = false
 is_word (b ∷ bs) = begins_word b && go_on_in_word bs
 
 -- whether a text is a name of ASCII letters, and no keyword
-abbrev pub is_ascii_name : Name → Bool
-is_ascii_name text = is_word text && not (is_keyword text)
+abbrev pub is_plain_name : Name → Bool
+is_plain_name text = is_word text && not (is_keyword text)
 
 -- a declared name, raw where it is a keyword
 abbrev pub declared : Name → Name

@@ -7,12 +7,12 @@ use Rattle.facet_solver_shape.specs.Names.{Name, variant_names}
 use Rattle.facet_solver_shape.specs.declared.shape.Variant.{Variant}
 use Rattle.facet_solver_types.specs.PrintedFields.{body}
 use Rattle.facet_solver_types.specs.PrintedNames.{variant_name}
-use Rattle.facet_solver_types.specs.PrintedTexts.{is_ascii_name, quoted}
+use Rattle.facet_solver_types.specs.PrintedTexts.{is_plain_name, quoted}
 
 -- what stands before a variant of a name, where that isn't the declared one
 abbrev pub before_variant : Name → Name
 before_variant name =
-    if is_ascii_name name then [] else codes "#[facet(rename = " ++ (quoted name ++ codes ")] ")
+    if is_plain_name name then [] else codes "#[facet(rename = " ++ (quoted name ++ codes ")] ")
 
 -- a line for a variant of a number, among the names of all
 abbrev pub variant_line : Catalogue → List Name → ℕ → Variant → Name
@@ -27,6 +27,6 @@ variant_lines shapes vs =
     flat_map (λ p. variant_line shapes (variant_names vs) p.0 p.1) (enumerate_from 0 vs)
 
 -- the variants, in braces
-abbrev pub in_braces : Catalogue → List Variant → Name
-in_braces shapes vs =
+abbrev pub variants_in_braces : Catalogue → List Variant → Name
+variants_in_braces shapes vs =
     if length vs == 0 then codes " {}" else codes " {\n" ++ (variant_lines shapes vs ++ codes "}")

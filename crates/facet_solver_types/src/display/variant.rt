@@ -6,7 +6,7 @@ ghost use Rattle.facet_solver_types.specs.PrintedVariants as variants;
 use super::field::Body;
 use super::text::Quoted;
 use super::variant_name::VariantName;
-use super::word::is_ascii_name;
+use super::word::is_plain_name;
 use facet_solver_shape::{Shapes, Variant};
 use std::fmt;
 
@@ -18,7 +18,7 @@ impl fmt::Display for VariantAttributes<'_> {
     ghost output = { λ a. Some (variants.before_variant a.0.now) };
 
     fn fmt<W: fmt::Write>(&self, f: &mut fmt::Formatter<W>) -> fmt::Result {
-        if is_ascii_name(self.0) {
+        if is_plain_name(self.0) {
             return Ok(());
         }
         let name = Quoted(self.0);
@@ -89,7 +89,7 @@ pub(super) struct Variants<'s> {
 }
 
 impl fmt::Display for Variants<'_> {
-    ghost output = { λ v. Some (variants.in_braces v.shapes.now v.variants.now) };
+    ghost output = { λ v. Some (variants.variants_in_braces v.shapes.now v.variants.now) };
 
     fn fmt<W: fmt::Write>(&self, f: &mut fmt::Formatter<W>) -> fmt::Result {
         if self.variants.is_empty() {

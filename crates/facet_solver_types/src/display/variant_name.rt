@@ -1,10 +1,11 @@
 //! The names under which variants are declared.
 ghost use Rattle.std.specs.Prelude.{◌≡◌, ◌↔◌, IsTrue, Some, replicate};
 ghost use Rattle.std.specs.Fmt.{decimal};
+ghost use Rattle.facet_solver_types.specs.Cases.{underscore};
 ghost use Rattle.facet_solver_types.specs.PrintedNames as names;
 ghost use Rattle.facet_solver_shape.specs.Names.{variant_names};
 
-use super::word::is_ascii_name;
+use super::word::is_plain_name;
 use facet_solver_shape::Variant;
 use std::fmt;
 
@@ -23,7 +24,7 @@ impl fmt::Display for VariantName<'_> {
 
     fn fmt<W: fmt::Write>(&self, f: &mut fmt::Formatter<W>) -> fmt::Result {
         let name = self.name;
-        if is_ascii_name(name) {
+        if is_plain_name(name) {
             return write!(f, "{name}");
         }
         let number = self.number;
@@ -37,7 +38,7 @@ impl fmt::Display for VariantName<'_> {
 struct Marks(usize);
 
 impl fmt::Display for Marks {
-    ghost output = { λ m. Some (replicate m.0 names.underscore) };
+    ghost output = { λ m. Some (replicate m.0 underscore) };
 
     fn fmt<W: fmt::Write>(&self, f: &mut fmt::Formatter<W>) -> fmt::Result {
         for _mark in 0..self.0 {

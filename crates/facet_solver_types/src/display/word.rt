@@ -5,8 +5,8 @@ ghost use Rattle.facet_solver_types.specs.PrintedTexts as texts;
 use std::fmt;
 
 /// Whether a text is a name of ASCII letters, and no keyword.
-pub(super) fn is_ascii_name(text: &str) -> bool
-    ensures { result ≡ texts.is_ascii_name text.now }
+pub(super) fn is_plain_name(text: &str) -> bool
+    ensures { result ≡ texts.is_plain_name text.now }
 {
     is_word(text.as_bytes()) && !is_keyword(text)
 }

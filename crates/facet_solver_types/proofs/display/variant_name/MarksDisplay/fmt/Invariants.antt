@@ -1,6 +1,6 @@
 use Rattle.std.proofs.Common.{replicate}
 use Rattle.std.specs.Fmt.{HasWritten, IsPlainFormatter}
-use Rattle.facet_solver_types.specs.PrintedNames.{underscore}
+use Rattle.facet_solver_types.specs.Cases.{underscore}
 use Rattle.facet_solver_types.proofs.display.variant_name.MarksDisplay.fmt.Given as goal
 
 -- the marks so far are written
