@@ -18,3 +18,9 @@ pub mod Digits
 pub mod EnteredAttributes
 pub mod ReadNames
 pub mod AttributeTurns
+pub mod Decimals
+pub mod Numbered
+pub mod ReadBack
+pub mod FreeNames
+pub mod ApartNames
+pub mod PrintedAttributes

@@ -37,3 +37,9 @@ pub mod AttributeTexts
 pub mod Clashes
 pub mod AttributeLists
 pub mod Refusals
+pub mod PrintedTexts
+pub mod PrintedAttributes
+pub mod PrintedFields
+pub mod PrintedNames
+pub mod PrintedVariants
+pub mod PrintedDeclarations

@@ -121,7 +121,8 @@ fn field_in(case: Case, alloc: Global, name: &str) -> Result<String, AllocError>
 fn push_ascii(text: &mut String, letter: u8) -> Result<(), AllocError>
     requires { letter < 128 }
     ensures value { OnOk result (string_bytes text.new ≡ string_bytes text.old ++ letter ∷ []) }
-    ensures ascii { IsAscii (string_bytes text.old) → OnOk result (IsAscii (string_bytes text.new)) }
+    ensures ascii { IsAscii (string_bytes text.old)
+        → OnOk result (IsAscii (string_bytes text.new)) }
 {
     text.push(char::from(letter))
 }
@@ -162,7 +163,8 @@ fn push_small_apart(text: &mut String, letter: u8) -> Result<(), AllocError>
     requires { letter < 128 }
     ensures value { OnOk result
         (string_bytes text.new ≡ string_bytes text.old ++ cases.small_apart letter) }
-    ensures ascii { IsAscii (string_bytes text.old) → OnOk result (IsAscii (string_bytes text.new)) }
+    ensures ascii { IsAscii (string_bytes text.old)
+        → OnOk result (IsAscii (string_bytes text.new)) }
 {
     if letter.is_ascii_uppercase() {
         push_ascii(text, b'_')?;
@@ -190,7 +192,8 @@ fn push_behind(text: &mut String, before: u8, letter: u8) -> Result<(), AllocErr
     requires { letter < 128 }
     ensures value { OnOk result
         (string_bytes text.new ≡ string_bytes text.old ++ cases.letter_behind before letter) }
-    ensures ascii { IsAscii (string_bytes text.old) → OnOk result (IsAscii (string_bytes text.new)) }
+    ensures ascii { IsAscii (string_bytes text.old)
+        → OnOk result (IsAscii (string_bytes text.new)) }
 {
     if letter == b'_' {
         return Ok(());

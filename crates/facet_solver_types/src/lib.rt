@@ -1,12 +1,18 @@
-//! Rust declarations as a checked catalogue of shapes.
+//! Catalogues of shapes as Rust declarations.
+//!
+//! [`Declarations`] prints a catalogue as the declarations that it is of. The way back is there in
+//! its first parts: the tokens of a text, its items, and what the attributes of serde and facet on
+//! them mean.
 #![tactic(auto)]
 
 mod attribute;
 mod case;
+mod display;
 mod error;
 mod fault;
 mod grammar;
 mod item;
+pub mod laws;
 mod literal;
 mod passage;
 mod place;
@@ -14,8 +20,4 @@ mod problem;
 mod token;
 mod tokens;
 
-pub use case::Case;
-pub use error::TypesError;
-pub use literal::{quoted_value, raw_value};
-pub use place::Place;
-pub use problem::{Expected, Problem};
+pub use display::Declarations;
