@@ -36,10 +36,10 @@ module _ (rules : Rules) (reads : Reads) (m : Member) where
 
 module _ (rules : Rules) (reads : Reads) (object : Object) (k : CatchAll) where
   -- no members
-  pub count_of_no_rest : Counted (TakesRest rules reads object k []) One
+  pub count_of_no_rest : Counted (TakesRest rules object (Takes rules reads k) []) One
   count_of_no_rest = record { value = none_left; has = tt; only = only }
     where
-      only : (t : Taken) → TakesRest rules reads object k [] t → t ≡ none_left
+      only : (t : Taken) → TakesRest rules object (Takes rules reads k) [] t → t ≡ none_left
       only none_left h = refl
       only (passing t) h = absurd h
       only (taken r t) h = absurd h
@@ -47,13 +47,13 @@ module _ (rules : Rules) (reads : Reads) (object : Object) (k : CatchAll) where
   -- a member of a known name is passed over
   pub passing_images : (m : Member) (ms : List Member)
       → IsKnown (Chooses rules.lists object.list) (named m.name)
-      → AreImages (TakesRest rules reads object k ms) (TakesRest rules reads object k (m ∷ ms))
+      → AreImages (TakesRest rules object (Takes rules reads k) ms) (TakesRest rules object (Takes rules reads k) (m ∷ ms))
       passing
   passing_images m ms known =
       record { into = λ t h. (known, h); out = out; same = λ x y p. cc }
     where
-      out : (z : Taken) → TakesRest rules reads object k (m ∷ ms) z
-          → (t : Taken) × TakesRest rules reads object k ms t × (z ≡ passing t)
+      out : (z : Taken) → TakesRest rules object (Takes rules reads k) (m ∷ ms) z
+          → (t : Taken) × TakesRest rules object (Takes rules reads k) ms t × (z ≡ passing t)
       out none_left w = absurd w
       out (passing t) w = (t, w.1, refl)
       out (taken r t) w = absurd (w.0 known)
@@ -61,16 +61,16 @@ module _ (rules : Rules) (reads : Reads) (object : Object) (k : CatchAll) where
   -- so there are as many readings as of the others
   pub count_of_passing : (m : Member) (ms : List Member) (n : Count)
       → IsKnown (Chooses rules.lists object.list) (named m.name)
-      → Counted (TakesRest rules reads object k ms) n
-      → Counted (TakesRest rules reads object k (m ∷ ms)) n
+      → Counted (TakesRest rules object (Takes rules reads k) ms) n
+      → Counted (TakesRest rules object (Takes rules reads k) (m ∷ ms)) n
   count_of_passing m ms n known h =
-      counted_images (TakesRest rules reads object k ms)
-      (TakesRest rules reads object k (m ∷ ms)) passing n (passing_images m ms known) h
+      counted_images (TakesRest rules object (Takes rules reads k) ms)
+      (TakesRest rules object (Takes rules reads k) (m ∷ ms)) passing n (passing_images m ms known) h
 
   -- a member of another name is taken, beside the others
   pub taken_join : (m : Member) (ms : List Member) → IsUnknown rules object m.name
-      → AreJoined (Takes rules reads k m) (TakesRest rules reads object k ms)
-      (TakesRest rules reads object k (m ∷ ms)) taken
+      → AreJoined (Takes rules reads k m) (TakesRest rules object (Takes rules reads k) ms)
+      (TakesRest rules object (Takes rules reads k) (m ∷ ms)) taken
   taken_join m ms unknown =
       record {
         into = λ r t p q. (unknown, p, q);
@@ -79,8 +79,8 @@ module _ (rules : Rules) (reads : Reads) (object : Object) (k : CatchAll) where
         same_second = λ x u y v p. cc;
       }
     where
-      part : (z : Taken) → TakesRest rules reads object k (m ∷ ms) z
-          → IsJoined (Takes rules reads k m) (TakesRest rules reads object k ms) taken z
+      part : (z : Taken) → TakesRest rules object (Takes rules reads k) (m ∷ ms) z
+          → IsJoined (Takes rules reads k m) (TakesRest rules object (Takes rules reads k) ms) taken z
       part none_left w = absurd w
       part (passing t) w = absurd (unknown w.0)
       part (taken r t) w =
@@ -89,11 +89,11 @@ module _ (rules : Rules) (reads : Reads) (object : Object) (k : CatchAll) where
   -- so the count is the product
   pub count_of_taken : (m : Member) (ms : List Member) (a b : Count)
       → IsUnknown rules object m.name
-      → Counted (Takes rules reads k m) a → Counted (TakesRest rules reads object k ms) b
-      → Counted (TakesRest rules reads object k (m ∷ ms)) (times a b)
+      → Counted (Takes rules reads k m) a → Counted (TakesRest rules object (Takes rules reads k) ms) b
+      → Counted (TakesRest rules object (Takes rules reads k) (m ∷ ms)) (times a b)
   count_of_taken m ms a b unknown h g =
-      counted_times (Takes rules reads k m) (TakesRest rules reads object k ms)
-      (TakesRest rules reads object k (m ∷ ms)) taken a b (taken_join m ms unknown) h g
+      counted_times (Takes rules reads k m) (TakesRest rules object (Takes rules reads k) ms)
+      (TakesRest rules object (Takes rules reads k) (m ∷ ms)) taken a b (taken_join m ms unknown) h g
 
   -- what the choices of a catch-all have, each has
   known_of_rest : (t : Taken) (x : Key)
@@ -111,11 +111,11 @@ module _ (rules : Rules) (reads : Reads) (object : Object) (k : CatchAll) where
 
   -- the readings of a catch-all are what it can take of the object
   pub catch_all_images : IsTrue object.takes
-      → AreImages (TakesRest rules reads object k object.members)
+      → AreImages (TakesRest rules object (Takes rules reads k) object.members)
       (ReadsPart rules reads object (a_catch_all k)) taking
   catch_all_images takes = record { into = into; out = out; same = λ x y p. cc }
     where
-      into : (t : Taken) → TakesRest rules reads object k object.members t
+      into : (t : Taken) → TakesRest rules object (Takes rules reads k) object.members t
           → ReadsPart rules reads object (a_catch_all k) (taking t)
       into t h =
           record {
@@ -126,7 +126,7 @@ module _ (rules : Rules) (reads : Reads) (object : Object) (k : CatchAll) where
           }
 
       out : (z : ChoiceAt) → ReadsPart rules reads object (a_catch_all k) z
-          → (t : Taken) × TakesRest rules reads object k object.members t × (z ≡ taking t)
+          → (t : Taken) × TakesRest rules object (Takes rules reads k) object.members t × (z ≡ taking t)
       out (taking t) r =
           (t, (subst (Agrees rules reads object) r.chooses r.agrees).0.1, refl)
       out lacking r = absurd r.chooses
@@ -136,10 +136,10 @@ module _ (rules : Rules) (reads : Reads) (object : Object) (k : CatchAll) where
 
   -- and as many
   pub count_of_catch_all : (n : Count) → IsTrue object.takes
-      → Counted (TakesRest rules reads object k object.members) n
+      → Counted (TakesRest rules object (Takes rules reads k) object.members) n
       → Counted (ReadsPart rules reads object (a_catch_all k)) n
   count_of_catch_all n takes h =
-      counted_images (TakesRest rules reads object k object.members)
+      counted_images (TakesRest rules object (Takes rules reads k) object.members)
       (ReadsPart rules reads object (a_catch_all k)) taking n (catch_all_images takes) h
 
   -- where unknown members are ignored, a catch-all has no reading
@@ -167,10 +167,10 @@ module _ (rules : Rules) (reads : Reads) (object : Object) (k : CatchAll) where
   pub taken_step : (ms : List Member) (i : ℕ) (d : Member) (a b : Count)
       → 0 < i → i ≤ length ms → IsUnknown rules object (get_or ms (i - 1) d).name
       → Counted (Takes rules reads k (get_or ms (i - 1) d)) a
-      → Counted (TakesRest rules reads object k (drop i ms)) b
-      → Counted (TakesRest rules reads object k (drop (i - 1) ms)) (times a b)
+      → Counted (TakesRest rules object (Takes rules reads k) (drop i ms)) b
+      → Counted (TakesRest rules object (Takes rules reads k) (drop (i - 1) ms)) (times a b)
   taken_step ms i d a b positive within unknown h g =
-      subst (λ xs. Counted (TakesRest rules reads object k xs) (times a b))
+      subst (λ xs. Counted (TakesRest rules object (Takes rules reads k) xs) (times a b))
       (sym (begins ms i d positive within))
       (count_of_taken (get_or ms (i - 1) d) (drop i ms) a b unknown h g)
 
@@ -178,9 +178,9 @@ module _ (rules : Rules) (reads : Reads) (object : Object) (k : CatchAll) where
   pub passing_step : (ms : List Member) (i : ℕ) (d : Member) (n : Count)
       → 0 < i → i ≤ length ms
       → IsKnown (Chooses rules.lists object.list) (named (get_or ms (i - 1) d).name)
-      → Counted (TakesRest rules reads object k (drop i ms)) n
-      → Counted (TakesRest rules reads object k (drop (i - 1) ms)) n
+      → Counted (TakesRest rules object (Takes rules reads k) (drop i ms)) n
+      → Counted (TakesRest rules object (Takes rules reads k) (drop (i - 1) ms)) n
   passing_step ms i d n positive within known g =
-      subst (λ xs. Counted (TakesRest rules reads object k xs) n)
+      subst (λ xs. Counted (TakesRest rules object (Takes rules reads k) xs) n)
       (sym (begins ms i d positive within))
       (count_of_passing (get_or ms (i - 1) d) (drop i ms) n known g)

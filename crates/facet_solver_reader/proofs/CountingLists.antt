@@ -231,8 +231,8 @@ before_parts t nodes o position l tables h next =
 
 module _ (rules : Rules) (reads : Reads) (object : Object) (k : CatchAll) where
   -- what is taken of the first members, where all are read
-  front : (ms : List Member) (i : ℕ) (t : Taken) → TakesRest rules reads object k ms t
-      → (u : Taken) × TakesRest rules reads object k (take i ms) u
+  front : (ms : List Member) (i : ℕ) (t : Taken) → TakesRest rules object (Takes rules reads k) ms t
+      → (u : Taken) × TakesRest rules object (Takes rules reads k) (take i ms) u
   front ms zero t h = (none_left, tt)
   front [] (suc i) t h = (none_left, tt)
   front (m ∷ ms) (suc i) none_left h = absurd h
@@ -243,8 +243,8 @@ module _ (rules : Rules) (reads : Reads) (object : Object) (k : CatchAll) where
 
   -- where nothing takes the first ones, nothing takes all
   pub none_by_front : (ms : List Member) (i : ℕ)
-      → Counted (TakesRest rules reads object k (take i ms)) NoReading
-      → Counted (TakesRest rules reads object k ms) NoReading
+      → Counted (TakesRest rules object (Takes rules reads k) (take i ms)) NoReading
+      → Counted (TakesRest rules object (Takes rules reads k) ms) NoReading
   none_by_front ms i none = λ t h. let f = front ms i t h in none f.0 f.1
 
   module _ (ms : List Member) (i : ℕ) (m : Member) (at : slice_get ms i ≡ Some m) where
@@ -254,9 +254,9 @@ module _ (rules : Rules) (reads : Reads) (object : Object) (k : CatchAll) where
 
     -- one member more is taken
     pub taken_more : (a b : Count) → IsUnknown rules object m.name
-        → Counted (TakesRest rules reads object k (take i ms)) a
+        → Counted (TakesRest rules object (Takes rules reads k) (take i ms)) a
         → Counted (Takes rules reads k m) b
-        → Counted (TakesRest rules reads object k (take (i + 1) ms)) (times a b)
+        → Counted (TakesRest rules object (Takes rules reads k) (take (i + 1) ms)) (times a b)
     taken_more a b unknown f g =
         taken_upto rules reads object k ms i m a b (slice_get_within ms i m at)
         (subst (λ (n : Member). IsUnknown rules object n.name) (sym here) unknown) f
@@ -264,8 +264,8 @@ module _ (rules : Rules) (reads : Reads) (object : Object) (k : CatchAll) where
 
     -- or passed over
     pub passing_more : (a : Count) → IsKnown (Chooses rules.lists object.list) (named m.name)
-        → Counted (TakesRest rules reads object k (take i ms)) a
-        → Counted (TakesRest rules reads object k (take (i + 1) ms)) a
+        → Counted (TakesRest rules object (Takes rules reads k) (take i ms)) a
+        → Counted (TakesRest rules object (Takes rules reads k) (take (i + 1) ms)) a
     passing_more a known f =
         passing_upto rules reads object k ms i m a (slice_get_within ms i m at)
         (subst (λ (n : Member). IsKnown (Chooses rules.lists object.list) (named n.name))
@@ -273,12 +273,12 @@ module _ (rules : Rules) (reads : Reads) (object : Object) (k : CatchAll) where
 
     -- where it cannot be taken, nothing takes all
     pub none_taken : (a b : Count) → b ≡ NoReading → IsUnknown rules object m.name
-        → Counted (TakesRest rules reads object k (take i ms)) a
+        → Counted (TakesRest rules object (Takes rules reads k) (take i ms)) a
         → Counted (Takes rules reads k m) b
-        → Counted (TakesRest rules reads object k ms) NoReading
+        → Counted (TakesRest rules object (Takes rules reads k) ms) NoReading
     none_taken a b none unknown f g =
         none_by_front ms (i + 1)
-        (subst (Counted (TakesRest rules reads object k (take (i + 1) ms))) (times_none a b none)
+        (subst (Counted (TakesRest rules object (Takes rules reads k) (take (i + 1) ms))) (times_none a b none)
         (taken_more a b unknown f g))
 
 -- an object has no reading by a list that has no choice

@@ -95,6 +95,5 @@ pub mod OneObject
 pub mod OneParts
 pub mod ToldObject
 pub mod FirstRest
-pub mod MoreSteps
 pub mod Lacking
 pub mod Blaming

@@ -81,14 +81,14 @@ module _ (rules : Rules) (reads : Reads) (object : Object) where
             absurd (count_of_no_catch_all rules reads object k e one.value one.has)
 
     -- and the members are taken in one way
-    pub one_rest : IsOnly (TakesRest rules reads object k object.members)
+    pub one_rest : IsOnly (TakesRest rules object (Takes rules reads k) object.members)
     one_rest =
-        only_of_images (TakesRest rules reads object k object.members)
+        only_of_images (TakesRest rules object (Takes rules reads k) object.members)
         (ReadsPart rules reads object (a_catch_all k)) taking
         (catch_all_images rules reads object k takes_here) one
 
     -- in whatever way they are taken, it is that one
-    pub only_taking : (t : Taken) → TakesRest rules reads object k object.members t
+    pub only_taking : (t : Taken) → TakesRest rules object (Takes rules reads k) object.members t
         → IsOnlyAt rules reads object (a_catch_all k) (taking t)
     only_taking t h =
         only_at (a_catch_all k) (taking t) one

@@ -46,7 +46,7 @@ module _ (rules : Rules) (reads others : Reads) where
   -- and the same of several
   rest_same : (object : Object) (k : CatchAll) (ms : List Member) (t : Taken)
       → All (λ (m : Member). ReadSame reads others m.value) ms
-      → TakesRest rules reads object k ms t → TakesRest rules others object k ms t
+      → TakesRest rules object (Takes rules reads k) ms t → TakesRest rules object (Takes rules others k) ms t
   rest_same object k [] none_left a h = tt
   rest_same object k [] (passing t) a h = absurd h
   rest_same object k [] (taken r t) a h = absurd h

@@ -75,8 +75,8 @@ module _ (rules : Rules) (reads : Reads) (object : Object) (k : CatchAll) where
   module _ (m : Member) (unknown : IsUnknown rules object m.name) where
     -- one more of another name is taken
     pub taken_after : (ms : List Member) (t : Taken) (r : Reading)
-        → TakesRest rules reads object k ms t → Takes rules reads k m r
-        → TakesRest rules reads object k (ms ++ m ∷ []) (taken_last t r)
+        → TakesRest rules object (Takes rules reads k) ms t → Takes rules reads k m r
+        → TakesRest rules object (Takes rules reads k) (ms ++ m ∷ []) (taken_last t r)
     taken_after [] none_left r h q = (unknown, q, tt)
     taken_after [] (passing t) r h q = absurd h
     taken_after [] (taken p t) r h q = absurd h
@@ -86,8 +86,8 @@ module _ (rules : Rules) (reads : Reads) (object : Object) (k : CatchAll) where
 
     -- and each reading has it so
     part_after : (ms : List Member) (z : Taken)
-        → TakesRest rules reads object k (ms ++ m ∷ []) z
-        → IsJoined (TakesRest rules reads object k ms) (Takes rules reads k m) taken_last z
+        → TakesRest rules object (Takes rules reads k) (ms ++ m ∷ []) z
+        → IsJoined (TakesRest rules object (Takes rules reads k) ms) (Takes rules reads k m) taken_last z
     part_after [] none_left w = absurd w
     part_after [] (passing z) w = absurd (unknown w.0)
     part_after [] (taken r none_left) w =
@@ -122,8 +122,8 @@ module _ (rules : Rules) (reads : Reads) (object : Object) (k : CatchAll) where
 
     -- so it stands beside those before it
     pub taken_after_join : (ms : List Member)
-        → AreJoined (TakesRest rules reads object k ms) (Takes rules reads k m)
-        (TakesRest rules reads object k (ms ++ m ∷ [])) taken_last
+        → AreJoined (TakesRest rules object (Takes rules reads k) ms) (Takes rules reads k m)
+        (TakesRest rules object (Takes rules reads k) (ms ++ m ∷ [])) taken_last
     taken_after_join ms =
         record {
           into = λ t r h q. taken_after ms t r h q;
@@ -134,16 +134,16 @@ module _ (rules : Rules) (reads : Reads) (object : Object) (k : CatchAll) where
 
     -- and the count is the product
     pub count_of_taken_after : (ms : List Member) (a b : Count)
-        → Counted (TakesRest rules reads object k ms) a → Counted (Takes rules reads k m) b
-        → Counted (TakesRest rules reads object k (ms ++ m ∷ [])) (times a b)
+        → Counted (TakesRest rules object (Takes rules reads k) ms) a → Counted (Takes rules reads k m) b
+        → Counted (TakesRest rules object (Takes rules reads k) (ms ++ m ∷ [])) (times a b)
     count_of_taken_after ms a b f g =
-        counted_times (TakesRest rules reads object k ms) (Takes rules reads k m)
-        (TakesRest rules reads object k (ms ++ m ∷ [])) taken_last a b (taken_after_join ms) f g
+        counted_times (TakesRest rules object (Takes rules reads k) ms) (Takes rules reads k m)
+        (TakesRest rules object (Takes rules reads k) (ms ++ m ∷ [])) taken_last a b (taken_after_join ms) f g
 
   module _ (m : Member) (known : IsKnown (Chooses rules.lists object.list) (named m.name)) where
     -- one more of a known name is passed over
-    pub passing_after : (ms : List Member) (t : Taken) → TakesRest rules reads object k ms t
-        → TakesRest rules reads object k (ms ++ m ∷ []) (passing_last t)
+    pub passing_after : (ms : List Member) (t : Taken) → TakesRest rules object (Takes rules reads k) ms t
+        → TakesRest rules object (Takes rules reads k) (ms ++ m ∷ []) (passing_last t)
     passing_after [] none_left h = (known, tt)
     passing_after [] (passing t) h = absurd h
     passing_after [] (taken p t) h = absurd h
@@ -153,8 +153,8 @@ module _ (rules : Rules) (reads : Reads) (object : Object) (k : CatchAll) where
 
     -- and each reading has it so
     image_after : (ms : List Member) (z : Taken)
-        → TakesRest rules reads object k (ms ++ m ∷ []) z
-        → (t : Taken) × TakesRest rules reads object k ms t × (z ≡ passing_last t)
+        → TakesRest rules object (Takes rules reads k) (ms ++ m ∷ []) z
+        → (t : Taken) × TakesRest rules object (Takes rules reads k) ms t × (z ≡ passing_last t)
     image_after [] none_left w = absurd w
     image_after [] (passing none_left) w = (none_left, tt, refl)
     image_after [] (passing (passing z)) w = absurd w.1
@@ -168,8 +168,8 @@ module _ (rules : Rules) (reads : Reads) (object : Object) (k : CatchAll) where
 
     -- so the readings are those of the members before it
     pub passing_after_images : (ms : List Member)
-        → AreImages (TakesRest rules reads object k ms)
-        (TakesRest rules reads object k (ms ++ m ∷ [])) passing_last
+        → AreImages (TakesRest rules object (Takes rules reads k) ms)
+        (TakesRest rules object (Takes rules reads k) (ms ++ m ∷ [])) passing_last
     passing_after_images ms =
         record {
           into = λ t h. passing_after ms t h;
@@ -179,18 +179,18 @@ module _ (rules : Rules) (reads : Reads) (object : Object) (k : CatchAll) where
 
     -- and as many
     pub count_of_passing_after : (ms : List Member) (n : Count)
-        → Counted (TakesRest rules reads object k ms) n
-        → Counted (TakesRest rules reads object k (ms ++ m ∷ [])) n
+        → Counted (TakesRest rules object (Takes rules reads k) ms) n
+        → Counted (TakesRest rules object (Takes rules reads k) (ms ++ m ∷ [])) n
     count_of_passing_after ms n f =
-        counted_images (TakesRest rules reads object k ms)
-        (TakesRest rules reads object k (ms ++ m ∷ [])) passing_last n (passing_after_images ms) f
+        counted_images (TakesRest rules object (Takes rules reads k) ms)
+        (TakesRest rules object (Takes rules reads k) (ms ++ m ∷ [])) passing_last n (passing_after_images ms) f
 
   -- one member more up to an index, of another name
   pub taken_upto : (ms : List Member) (i : ℕ) (d : Member) (a b : Count) → i < length ms
       → IsUnknown rules object (get_or ms i d).name
-      → Counted (TakesRest rules reads object k (take i ms)) a
+      → Counted (TakesRest rules object (Takes rules reads k) (take i ms)) a
       → Counted (Takes rules reads k (get_or ms i d)) b
-      → Counted (TakesRest rules reads object k (take (i + 1) ms)) (times a b)
+      → Counted (TakesRest rules object (Takes rules reads k) (take (i + 1) ms)) (times a b)
   taken_upto ms i d a b within unknown f g =
       rw (add-one, take-suc ms i d within)
       (count_of_taken_after (get_or ms i d) unknown (take i ms) a b f g)
@@ -198,8 +198,8 @@ module _ (rules : Rules) (reads : Reads) (object : Object) (k : CatchAll) where
   -- one member more up to an index, of a known name
   pub passing_upto : (ms : List Member) (i : ℕ) (d : Member) (n : Count) → i < length ms
       → IsKnown (Chooses rules.lists object.list) (named (get_or ms i d).name)
-      → Counted (TakesRest rules reads object k (take i ms)) n
-      → Counted (TakesRest rules reads object k (take (i + 1) ms)) n
+      → Counted (TakesRest rules object (Takes rules reads k) (take i ms)) n
+      → Counted (TakesRest rules object (Takes rules reads k) (take (i + 1) ms)) n
   passing_upto ms i d n within known f =
       rw (add-one, take-suc ms i d within)
       (count_of_passing_after (get_or ms i d) known (take i ms) n f)

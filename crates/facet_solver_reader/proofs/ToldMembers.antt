@@ -38,21 +38,21 @@ use Rattle.facet_solver_reader.proofs.FoundSteps.{members_in-append}
 module _ (rules : Rules) (reads : Reads) (object : Object) (k : CatchAll) where
   -- where members are taken in one way, so are those behind the first
   one_behind : (n : Member) (ms : List Member) (t : Taken)
-      → TakesRest rules reads object k (n ∷ ms) t
-      → IsOnly (TakesRest rules reads object k (n ∷ ms))
-      → IsOnly (TakesRest rules reads object k ms)
+      → TakesRest rules object (Takes rules reads k) (n ∷ ms) t
+      → IsOnly (TakesRest rules object (Takes rules reads k) (n ∷ ms))
+      → IsOnly (TakesRest rules object (Takes rules reads k) ms)
   one_behind n ms none_left h one = absurd h
   one_behind n ms (passing t) h one =
-      only_of_images (TakesRest rules reads object k ms) (TakesRest rules reads object k (n ∷ ms))
+      only_of_images (TakesRest rules object (Takes rules reads k) ms) (TakesRest rules object (Takes rules reads k) (n ∷ ms))
       passing (passing_images rules reads object k n ms h.0) one
   one_behind n ms (taken r t) h one =
-      only_second (Takes rules reads k n) (TakesRest rules reads object k ms)
-      (TakesRest rules reads object k (n ∷ ms)) taken
+      only_second (Takes rules reads k n) (TakesRest rules object (Takes rules reads k) ms)
+      (TakesRest rules object (Takes rules reads k) (n ∷ ms)) taken
       (taken_join rules reads object k n ms h.0) one
 
   -- and each of them that has no known name
   pub one_taken_at : (ms : List Member) (i : ℕ) (m : Member) → slice_get ms i ≡ Some m
-      → IsUnknown rules object m.name → IsOnly (TakesRest rules reads object k ms)
+      → IsUnknown rules object m.name → IsOnly (TakesRest rules object (Takes rules reads k) ms)
       → IsOnly (Takes rules reads k m)
   one_taken_at [] i m e unknown one =
       let l : i < 0 = slice_get_within [] i m e in absurd (omega arith)
@@ -60,8 +60,8 @@ module _ (rules : Rules) (reads : Reads) (object : Object) (k : CatchAll) where
       let same : n ≡ m = cc in
       let u = subst (λ (x : Member). IsUnknown rules object x.name) (sym same) unknown in
       subst (λ (x : Member). IsOnly (Takes rules reads k x)) same
-      (only_first (Takes rules reads k n) (TakesRest rules reads object k ms)
-      (TakesRest rules reads object k (n ∷ ms)) taken
+      (only_first (Takes rules reads k n) (TakesRest rules object (Takes rules reads k) ms)
+      (TakesRest rules object (Takes rules reads k) (n ∷ ms)) taken
       (taken_join rules reads object k n ms u) one)
   one_taken_at (n ∷ ms) (suc i) m e unknown one =
       one_taken_at ms i m e unknown (one_behind n ms one.value one.has one)
@@ -70,7 +70,7 @@ module _ (rules : Rules) (shapes : Catalogue) (object : Object) (k : CatchAll) w
   -- what a catch-all takes of members is told
   pub record TakenTold (ms : List Member) (ns : List Name) (ws : List code.Reading) : Type 0 where
     pub takes : Taken
-    pub reads : TakesRest rules (ReadsValue rules) object k ms takes
+    pub reads : TakesRest rules object (Takes rules (ReadsValue rules) k) ms takes
     pub tells : TellsTaken rules shapes (end_taken rules k) ms takes ns ws
 
   -- of no members there is nothing to tell
@@ -89,7 +89,7 @@ module _ (rules : Rules) (shapes : Catalogue) (object : Object) (k : CatchAll) w
   -- one more at the end is passed over
   last_passed : (ms : List Member) (t : Taken) (ns : List Name) (ws : List code.Reading)
       (m : Member) → IsKnown (Chooses rules.lists object.list) (named m.name)
-      → TakesRest rules (ReadsValue rules) object k ms t
+      → TakesRest rules object (Takes rules (ReadsValue rules) k) ms t
       → TellsTaken rules shapes (end_taken rules k) ms t ns ws
       → TakenTold (ms ++ m ∷ []) ns ws
   last_passed [] none_left ns ws m known h (none_taken e) =
@@ -122,7 +122,7 @@ module _ (rules : Rules) (shapes : Catalogue) (object : Object) (k : CatchAll) w
       (m : Member) (r : Reading) (w : code.Reading) → IsUnknown rules object m.name
       → Takes rules (ReadsValue rules) k m r
       → Tells rules shapes (end_taken rules k) m.value r w.variants.items w.kind
-      → TakesRest rules (ReadsValue rules) object k ms t
+      → TakesRest rules object (Takes rules (ReadsValue rules) k) ms t
       → TellsTaken rules shapes (end_taken rules k) ms t ns ws
       → TakenTold (ms ++ m ∷ []) (ns ++ m.name ∷ []) (ws ++ w ∷ [])
   last_taken [] none_left ns ws m r w unknown takes told h (none_taken e) =
@@ -164,7 +164,7 @@ module _ (rules : Rules) (shapes : Catalogue) (object : Object) (k : CatchAll) w
     -- is passed over
     pub more_passed : (t : Taken) (ns : List Name) (ws : List code.Reading)
         → IsKnown (Chooses rules.lists object.list) (named m.name)
-        → TakesRest rules (ReadsValue rules) object k (take i ms) t
+        → TakesRest rules object (Takes rules (ReadsValue rules) k) (take i ms) t
         → TellsTaken rules shapes (end_taken rules k) (take i ms) t ns ws
         → TakenTold (take (i + 1) ms) ns ws
     more_passed t ns ws known h g =
@@ -175,7 +175,7 @@ module _ (rules : Rules) (shapes : Catalogue) (object : Object) (k : CatchAll) w
     pub more_taken : (t : Taken) (ns : List Name) (ws : List code.Reading) (r : Reading)
         (w : code.Reading) → IsUnknown rules object m.name → Takes rules (ReadsValue rules) k m r
         → Tells rules shapes (end_taken rules k) m.value r w.variants.items w.kind
-        → TakesRest rules (ReadsValue rules) object k (take i ms) t
+        → TakesRest rules object (Takes rules (ReadsValue rules) k) (take i ms) t
         → TellsTaken rules shapes (end_taken rules k) (take i ms) t ns ws
         → TakenTold (take (i + 1) ms) (ns ++ m.name ∷ []) (ws ++ w ∷ [])
     more_taken t ns ws r w unknown takes told h g =

@@ -105,7 +105,7 @@ member_within A B n f m (Some v) l (Some r) h = f v (l v refl) m.target r h
 -- so is what a catch-all takes
 taken_within : (rules : Rules) (A B : Reads) (n : ℕ) → ReadsShallower A B n → (o : Object)
     (k : CatchAll) (ms : List Member) → AreAll (BelowMember n) ms → (t : Taken)
-    → TakesRest rules A o k ms t → TakesRest rules B o k ms t
+    → TakesRest rules o (Takes rules A k) ms t → TakesRest rules o (Takes rules B k) ms t
 taken_within rules A B n f o k [] l none_left h = h
 taken_within rules A B n f o k [] l (passing t) h = h
 taken_within rules A B n f o k [] l (taken r t) h = h

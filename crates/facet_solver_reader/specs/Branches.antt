@@ -1,11 +1,12 @@
 -- The readings of the parts of an object's list, and of a selection by some of its branches.
-use Rattle.std.specs.Prelude.{◌≡◌, ◌⊎◌, ◌<◌, ℕ, false, List}
+use Rattle.std.specs.Prelude.{◌≡◌, ◌⊎◌, ◌↔◌, ◌<◌, ℕ, false, List}
 use Rattle.facet_solver_reader.specs.Choices.{Choice, ChoiceAt, choosing}
 use Rattle.facet_solver_shape.specs.Names.{Name}
 use Rattle.facet_solver_reader.specs.Documents.{Member}
 use Rattle.facet_solver_reader.specs.Known.{Chooses, ChoosesAll, ChoosesAt, IsKnown, IsKnownIn, Key}
 use Rattle.facet_solver_reader.specs.Known.{named}
-use Rattle.facet_solver_reader.specs.Objects.{Has, HasNamed, IsReading, Object, Reads, Touches}
+use Rattle.facet_solver_reader.specs.Objects.{Has, HasNamed, IsReading, Object, Reads, ReadsObject}
+use Rattle.facet_solver_reader.specs.Objects.{Touches}
 use Rattle.facet_solver_reader.specs.Parts.{ListId, Part, Selection}
 use Rattle.facet_solver_reader.specs.Rules.{Rules}
 
@@ -20,6 +21,12 @@ ReadsParts rules reads object ps c = IsReading rules reads object (ChoosesAll ru
 -- a reading of an object by the parts of a list
 abbrev pub ReadsList : Rules → Reads → Object → ListId → Choice → Type 0
 ReadsList rules reads object id c = IsReading rules reads object (Chooses rules.lists id) c
+
+-- the readings of an object by the parts of its list are all that it has
+abbrev pub IsReadByList : Rules → Reads → Object → Type 0
+IsReadByList rules reads object =
+    (c : Choice) → ReadsList rules reads object object.list c
+    ↔ ReadsObject rules reads object.list object.members c
 
 -- of readings by a selection, one by a branch before the k-th
 abbrev pub ReadsBelow : (ChoiceAt → Type 0) → ℕ → ChoiceAt → Type 0

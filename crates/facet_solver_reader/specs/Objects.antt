@@ -73,16 +73,14 @@ Takes rules reads (of_map key value) m r =
     IsTrue (rules.is_key key m.name) × reads (of_shape value) m.value r
 Takes rules reads of_anything m r = r ≡ a_value
 
--- a catch-all takes each of these members whose name is not known
-abbrev pub TakesRest : Rules → Reads → Object → CatchAll → List Member → Taken → Type 0
-TakesRest rules reads object k [] none_left = ⊤
-TakesRest rules reads object k (m ∷ ms) (passing t) =
-    IsKnown (Chooses rules.lists object.list) (named m.name)
-    × TakesRest rules reads object k ms t
-TakesRest rules reads object k (m ∷ ms) (taken r t) =
-    IsUnknown rules object m.name × Takes rules reads k m r
-    × TakesRest rules reads object k ms t
-TakesRest rules reads object k _ _ = ⊥
+-- each of these members whose name is not known is taken
+abbrev pub TakesRest : Rules → Object → (Member → Reading → Type 0) → List Member → Taken → Type 0
+TakesRest rules object takes [] none_left = ⊤
+TakesRest rules object takes (m ∷ ms) (passing t) =
+    IsKnown (Chooses rules.lists object.list) (named m.name) × TakesRest rules object takes ms t
+TakesRest rules object takes (m ∷ ms) (taken r t) =
+    IsUnknown rules object m.name × takes m r × TakesRest rules object takes ms t
+TakesRest rules object takes _ _ = ⊥
 
 -- each item of a choice is as the object has it
 abbrev pub Agrees : Rules → Reads → Object → List Item → Type 0
@@ -90,7 +88,7 @@ Agrees rules reads object [] = ⊤
 Agrees rules reads object (member_of m r ∷ items) =
     ReadsMember reads m (find object.members m.name) r × Agrees rules reads object items
 Agrees rules reads object (catch_all_of k t ∷ items) =
-    (IsTrue object.takes × TakesRest rules reads object k object.members t)
+    (IsTrue object.takes × TakesRest rules object (Takes rules reads k) object.members t)
     × Agrees rules reads object items
 Agrees rules reads object (presence_of s ∷ items) =
     Touches rules object s × Agrees rules reads object items

@@ -6,6 +6,7 @@ use Rattle.facet_solver_reader.specs.Counted.{Counted}
 use Rattle.facet_solver_reader.specs.Rules as types
 use Rattle.facet_solver_reader.specs.Rules.{Alternative, AlternativeKind, Rules}
 use Rattle.facet_solver_reader.specs.Branches.{ReadsAt, ReadsList, ReadsPart}
+use Rattle.facet_solver_reader.specs.Choices.{ChoiceAt}
 use Rattle.facet_solver_reader.specs.declared.count.Count.{Count}
 use Rattle.facet_solver_reader.specs.declared.nodes.Nodes.{Nodes}
 use Rattle.facet_solver_reader.specs.declared.read.memo.MemoEntry.{MemoEntry}
@@ -19,7 +20,7 @@ use Rattle.std.specs.Borrow.{Bor}
 use Rattle.facet_solver_reader.specs.Memo.{IsNoted}
 use Rattle.facet_solver_reader.specs.Nodes.{count, members_in, value_of, IsNumbering}
 use Rattle.facet_solver_reader.specs.Objects.{find, HasUnknown, Object}
-use Rattle.facet_solver_reader.specs.Parts.{MemberPart, Part, a_member, a_selection, Selection, Target, of_tag}
+use Rattle.facet_solver_reader.specs.Parts.{MemberPart, Part, a_member, Target, of_tag}
 use Rattle.facet_solver_reader.specs.Readings.{ReadsValue}
 use Rattle.facet_solver_reader.specs.Tables.{AreTables, rules_at}
 use Rattle.facet_solver_reader.specs.Views.{list_view}
@@ -100,13 +101,9 @@ abbrev pub IsPartCount : Tables → Nodes → code.Object → Part → Count →
 IsPartCount t nodes o p count =
     Counted (ReadsPart (rules_at t) (ReadsValue (rules_at t)) (object_view nodes o) p) count
 
--- the count of the readings of an object by the k-th branch of a selection
-abbrev pub IsBranchCount : Tables → Nodes → code.Object → Selection → ℕ → Count → Type 0
-IsBranchCount t nodes o s k count =
-    Counted
-    (ReadsAt
-    (ReadsPart (rules_at t) (ReadsValue (rules_at t)) (object_view nodes o) (a_selection s)) k)
-    count
+-- the count of the readings by a selection that choose its k-th branch
+abbrev pub IsBranchCount : (ChoiceAt → Type 0) → ℕ → Count → Type 0
+IsBranchCount reads k count = Counted (ReadsAt reads k) count
 
 -- whether a value is not the text of a tag, where the target is one
 abbrev pub is_other_tag : Target → Tree → Bool

@@ -1,5 +1,5 @@
 //! What steps select, where their members stand, and what takes the rest.
-ghost use Rattle.std.specs.Prelude.{◌≡◌, IfOk, map};
+ghost use Rattle.std.specs.Prelude.{◌≡◌, ◌++◌, ◌∷◌, [], IfOk, OnOk, map};
 ghost use Rattle.std.specs.Option.{option_map};
 ghost use Rattle.facet_solver_shape.specs.Resolved.{selection_view};
 ghost use Rattle.facet_solver_reader.specs.Found as spec;
@@ -11,49 +11,60 @@ use super::steps::Step;
 use crate::field_at::{shape_name, variant_name};
 use crate::part::CatchAll;
 use crate::reading::FieldPlace;
-use facet_solver_shape::{FieldPath, Shapes, VariantSelection};
+use facet_solver_shape::{Shapes, VariantSelection};
 use std::alloc::{AllocError, Global};
 
-/// The variants that steps select, with their paths.
-pub(super) fn selections_in<'c>(
-    alloc: Global,
-    shapes: &'c Shapes,
-    steps: &[Step<'_, 'c>],
-) -> Result<Vec<VariantSelection<'c>>, AllocError>
-    ensures { IfOk result (λ selections. map selection_view selections.items
-        ≡ spec.selections_in shapes.now (map step_view steps.now)) }
-{
-    let mut selections = Vec::new(alloc);
-    for step in steps {
-        if let Step::Variant(path, shape, variant) = step {
-            selections.push(VariantSelection {
-                path: copied(alloc, path)?,
-                enum_name: shape_name(shapes, *shape),
-                variant_name: variant_name(shapes, *shape, *variant),
-            })?;
-        }
-    }
-    Ok(selections)
+/// What steps tell: the variants that they select, with their paths, and where their members stand.
+#[derive(Drop)]
+pub(super) struct Found<'c> {
+    pub(super) selections: Vec<VariantSelection<'c>>,
+    pub(super) fields: Vec<FieldPlace<'c>>,
 }
 
-/// Where the members among steps stand.
-pub(super) fn places_in<'c>(
-    alloc: Global,
-    steps: &[Step<'_, 'c>],
-) -> Result<Vec<FieldPlace<'c>>, AllocError>
-    ensures { IfOk result (λ places. map place_view places.items
-        ≡ spec.places_in (map step_view steps.now)) }
-{
-    let mut places = Vec::new(alloc);
-    for step in steps {
-        if let Step::Field(path, member) = step {
-            places.push(FieldPlace {
-                path: copied(alloc, path)?,
-                name: member.name,
-            })?;
+impl<'c> Found<'c> {
+    /// What steps tell. Each path goes where it is told.
+    pub(super) fn of(
+        alloc: Global,
+        shapes: &'c Shapes,
+        steps: Vec<Step<'_, 'c>>,
+    ) -> Result<Found<'c>, AllocError>
+        ensures selections { IfOk result (λ found. map selection_view found.selections.items
+            ≡ spec.selections_in shapes.now (map step_view steps.entry.items)) }
+        ensures fields { IfOk result (λ found. map place_view found.fields.items
+            ≡ spec.places_in (map step_view steps.entry.items)) }
+    {
+        let mut found = Found {
+            selections: Vec::new(alloc),
+            fields: Vec::new(alloc),
+        };
+        for step in steps {
+            found.add(shapes, step)?;
         }
+        Ok(found)
     }
-    Ok(places)
+
+    /// What one more step tells.
+    fn add(&mut self, shapes: &'c Shapes, step: Step<'_, 'c>) -> Result<(), AllocError>
+        ensures selections { OnOk result (map selection_view self.new.selections.items
+            ≡ map selection_view self.old.selections.items
+            ++ spec.selections_in shapes.now (step_view step.entry ∷ [])) }
+        ensures fields { OnOk result (map place_view self.new.fields.items
+            ≡ map place_view self.old.fields.items ++ spec.places_in (step_view step.entry ∷ [])) }
+    {
+        match step {
+            Step::Variant(path, shape, variant) => self.selections.push(VariantSelection {
+                path,
+                enum_name: shape_name(shapes, shape),
+                variant_name: variant_name(shapes, shape, variant),
+            })?,
+            Step::Field(path, member) => self.fields.push(FieldPlace {
+                path,
+                name: member.name,
+            })?,
+            Step::Rest(_) => {}
+        }
+        Ok(())
+    }
 }
 
 /// The first catch-all among steps.
@@ -67,11 +78,4 @@ pub(super) fn catch_all_in<'s>(steps: &'s [Step<'_, '_>]) -> Option<&'s CatchAll
         }
     }
     None
-}
-
-/// The same path in memory of its own.
-fn copied<'c>(alloc: Global, path: &FieldPath<'c>) -> Result<FieldPath<'c>, AllocError>
-    ensures { IfOk result (λ copy. copy ≡ path.now) }
-{
-    Ok(FieldPath::from(Vec::from_slice(alloc, path.segments())?))
 }

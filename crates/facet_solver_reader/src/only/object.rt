@@ -1,26 +1,27 @@
 //! The only reading of an object by a list of parts.
 ghost use Rattle.std.specs.Prelude.{◌≡◌, ◌<◌, IfOk};
 ghost use Rattle.facet_solver_reader.specs.declared.count.Count.TheVariants.{One};
-ghost use Rattle.facet_solver_reader.specs.Branches.{ReadsList};
+ghost use Rattle.facet_solver_reader.specs.Branches.{IsReadByList, ReadsList};
 ghost use Rattle.facet_solver_reader.specs.Choices.{Choice};
 ghost use Rattle.facet_solver_reader.specs.Counted.{Counted};
 ghost use Rattle.facet_solver_reader.specs.Nodes.{count, members_in, value_of};
 ghost use Rattle.facet_solver_reader.specs.Objects.{ReadsObject};
 ghost use Rattle.facet_solver_reader.specs.Planned.{IsPlan};
-ghost use Rattle.facet_solver_reader.specs.Reading.{AreSound, IsObject, object_view};
+ghost use Rattle.facet_solver_reader.specs.Reading.{AreSound, IsListed, IsObject, object_view};
 ghost use Rattle.facet_solver_reader.specs.Readings.{ReadsValue};
+ghost use Rattle.facet_solver_reader.specs.Tables as spec;
 ghost use Rattle.facet_solver_reader.specs.Tables.{ListIsServed, rules_at};
 ghost use Rattle.facet_solver_reader.specs.ToldAt.{IsToldBy};
 ghost use Rattle.facet_solver_reader.specs.Views.{list_view};
 
-use super::found::{catch_all_in, places_in, selections_in};
+use super::found::{Found, catch_all_in};
 use super::members::{ignored_names, read_fields, read_rest};
 use super::steps::{Step, steps_of};
 use crate::nodes::Nodes;
 use crate::part::ListId;
 use crate::read::{Memo, Object, count_all, has_unknown, list_counts};
 use crate::reading::{ObjectReading, Reading, ReadingKind};
-use crate::tables::Tables;
+use crate::tables::{List, Tables};
 use std::alloc::AllocError;
 
 /// The only reading of an object by a list of parts.
@@ -44,16 +45,48 @@ pub(super) fn read_object<'c, 'v, 'd>(
         unreachable!()
     };
     let has_unknown = has_unknown(nodes, node, list);
-    let all = count_all(tables, nodes, memo, node, list, has_unknown)?;
+    let takes = is_read_whole(tables, nodes, memo, node, list, has_unknown)?;
     let object = Object {
         node,
         list,
-        takes: !all.is_none(),
+        takes,
         has_unknown,
     };
     let counts = list_counts(tables, nodes, memo, &object)?;
     let steps = steps_of(tables, nodes, &object, &counts)?;
-    read_steps(tables, nodes, memo, &object, &steps)
+    read_steps(tables, nodes, memo, &object, steps)
+}
+
+/// Whether an object that has one reading is read with all its members. Where each name is known it
+/// is, so that nothing has to be counted.
+fn is_read_whole(
+    tables: &Tables<'_>,
+    nodes: &Nodes<'_, '_>,
+    memo: &mut Memo,
+    node: usize,
+    list: &List<'_>,
+    has_unknown: bool,
+) -> Result<bool, AllocError>
+    requires sound { AreSound tables.now nodes.now memo.old.entries.items }
+    requires inside { node < count nodes.now }
+    requires listed { IsListed tables.now list.now }
+    requires unknown { has_unknown
+        ≡ spec.has_unknown list.now (members_in (value_of nodes.now node)) }
+    requires one { Counted (ReadsObject (rules_at tables.now) (ReadsValue (rules_at tables.now))
+        (list_view list.now.id) (members_in (value_of nodes.now node))) One }
+    ensures sound { AreSound tables.now nodes.now memo.new.entries.items }
+    ensures by_list { IfOk result (λ whole. IsReadByList (rules_at tables.now)
+        (ReadsValue (rules_at tables.now)) (record {
+          members = members_in (value_of nodes.now node);
+          list = list_view list.now.id;
+          takes = whole;
+        })) }
+{
+    if !has_unknown {
+        return Ok(true);
+    }
+    let all = count_all(tables, nodes, memo, node, list, has_unknown)?;
+    Ok(!all.is_none())
 }
 
 /// The reading that goes through steps.
@@ -63,11 +96,11 @@ fn read_steps<'c, 'v, 'd>(
     nodes: &Nodes<'v, 'd>,
     memo: &mut Memo,
     object: &Object<'_, 'c>,
-    steps: &[Step<'_, 'c>],
+    steps: Vec<Step<'_, 'c>>,
 ) -> Result<Reading<'c, 'v, 'd>, AllocError>
     requires sound { AreSound tables.now nodes.now memo.old.entries.items }
     requires object { IsObject tables.now nodes.now object.now }
-    requires plan { IsPlan tables.now nodes.now object.now steps.now }
+    requires plan { IsPlan tables.now nodes.now object.now steps.items }
     requires reads { (c : Choice)
         → ReadsList (rules_at tables.now) (ReadsValue (rules_at tables.now))
         (object_view nodes.now object.now) (list_view object.now.list.now.id) c
@@ -77,21 +110,20 @@ fn read_steps<'c, 'v, 'd>(
     ensures told { IfOk result (IsToldBy tables.now nodes.now object.now.node
         (list_view object.now.list.now.id)) }
 {
-    let values = read_fields(tables, nodes, memo, object, steps)?;
-    let (taken, rest) = match catch_all_in(steps) {
+    let values = read_fields(tables, nodes, memo, object, &steps)?;
+    let (taken, rest) = match catch_all_in(&steps) {
         Some(catch_all) => read_rest(tables, nodes, memo, object, catch_all)?,
         None => (Vec::new(tables.alloc), Vec::new(tables.alloc)),
     };
-    let ignored = match catch_all_in(steps) {
+    let ignored = match catch_all_in(&steps) {
         Some(_) => Vec::new(tables.alloc),
         None => ignored_names(tables.alloc, nodes, object)?,
     };
-    let selections = selections_in(tables.alloc, tables.shapes, steps)?;
-    let fields = places_in(tables.alloc, steps)?;
+    let found = Found::of(tables.alloc, tables.shapes, steps)?;
     let kind = ReadingKind::Object {
         object: ObjectReading {
-            selections,
-            fields,
+            selections: found.selections,
+            fields: found.fields,
             taken,
             ignored,
         },

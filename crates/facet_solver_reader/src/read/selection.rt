@@ -2,12 +2,13 @@
 ghost use Rattle.std.specs.Prelude.{◌≡◌, ◌↔◌, ◌&&◌, ◌<◌, ℕ, All, IsSorted, IsTrue, Some, false, length, not, slice_get};
 ghost use Rattle.std.specs.List.{list_any};
 ghost use Rattle.facet_solver_shape.specs.Names.{name_ref_cmp};
-ghost use Rattle.facet_solver_reader.specs.Branches.{CanBePresent, Fits, KnowsMember, KnowsOther, Misfits};
+ghost use Rattle.facet_solver_reader.specs.Branches.{CanBePresent, Fits, KnowsMember, KnowsOther, Misfits, ReadsPart};
 ghost use Rattle.facet_solver_reader.specs.Known.{Chooses, IsKnown, IsKnownIn, named, rest};
 ghost use Rattle.facet_solver_reader.specs.Nodes.{count, members_in, value_of, IsNumbering};
 ghost use Rattle.facet_solver_reader.specs.Objects.{Touches, has_name};
 ghost use Rattle.facet_solver_reader.specs.Parts.{a_selection};
 ghost use Rattle.facet_solver_reader.specs.Reading.{AreListCounts, IsBranchCount, IsListed, IsObject, IsPartCount, object_view};
+ghost use Rattle.facet_solver_reader.specs.Readings.{ReadsValue};
 ghost use Rattle.facet_solver_reader.specs.Tables.{AreTables, BranchIsBefore, ListIsServed, PartIsBefore, knows, rules_at};
 ghost use Rattle.facet_solver_reader.specs.Views.{list_view, selection_view};
 
@@ -68,7 +69,8 @@ pub(crate) fn count_branch(
         (selection_view selection.now) }
     ensures { (k : ℕ)
         → slice_get (selection_view selection.now).branches k ≡ Some (list_view branch)
-        → IsBranchCount tables.now nodes.now object.now (selection_view selection.now) k result }
+        → IsBranchCount (ReadsPart (rules_at tables.now) (ReadsValue (rules_at tables.now))
+        (object_view nodes.now object.now) (a_selection (selection_view selection.now))) k result }
 {
     let Some(index) = tables.slots.index_of(branch) else {
         return Count::None;

@@ -1,7 +1,7 @@
 -- What is told of the only reading of a value is what its parts are told.
 use Rattle.std.proofs.Common.{◌≡◌, ◌∙◌, sym, ap, subst, refl, ℕ, suc, ◌+◌, ◌-◌, ◌<◌, ◌≤◌, List, []}
 use Rattle.std.proofs.Common.{◌∷◌, map, length, Some, slice_get, zip, take, true, false, arith}
-use Rattle.std.proofs.Common.{take_all, ◌++◌, Bor, None, not, option_map}
+use Rattle.std.proofs.Common.{All, take_all, ◌++◌, Bor, None, not, option_map}
 use Rattle.std.proofs.lemmas.List.{length-map, map-append}
 use Rattle.std.proofs.lemmas.Option.{slice_get_read, slice_get_within}
 use Rattle.std.proofs.lemmas.Slice.Zip.{length-zip}
@@ -77,11 +77,12 @@ use Rattle.facet_solver_reader.specs.Branches.{ReadsPart}
 use Rattle.facet_solver_reader.specs.Known.{named}
 use Rattle.facet_solver_reader.specs.Objects.{IsUnknown, ReadsObject, Takes}
 use Rattle.facet_solver_reader.specs.Planned.{IsPlan, StepIsServed, step_view}
-use Rattle.facet_solver_reader.specs.ToldObjects.{AreToldFields, IsToldField, IsToldTaken, Rest}
+use Rattle.facet_solver_reader.specs.ToldObjects.{AreOnlyMembers, AreToldFields, IsToldField}
+use Rattle.facet_solver_reader.specs.ToldObjects.{IsToldTaken, Rest}
 use Rattle.facet_solver_reader.proofs.CountingLists.{child_of_member, found_levels, member_within}
 use Rattle.facet_solver_reader.proofs.CountingObjects.{itself, known_by_list, seen_read}
 use Rattle.facet_solver_reader.proofs.CountingObjects.{unknown_by_list}
-use Rattle.facet_solver_reader.proofs.OneObject.{one_by_list, reads_by_list, taken_unless}
+use Rattle.facet_solver_reader.proofs.OneObject.{object_by, one_by_list}
 use Rattle.facet_solver_reader.proofs.OneParts.{anything_taken, entry_taken, field_absent}
 use Rattle.facet_solver_reader.proofs.OneParts.{field_there, no_members_in, one_of_entry}
 use Rattle.facet_solver_reader.proofs.OneParts.{one_of_member, one_rest, rest_told, told_then}
@@ -930,20 +931,33 @@ members::read_taken-returns-in-Map-clause-told t c =
     (subst (λ x. IsTold rules tb.shapes.now (of_shape c.in-Map.value) x r) same h)))
     c.read_shape.ensures.told
 
+pub object::read_object-is_read_whole-requires : goal.object::read_object-is_read_whole-requires
+object::read_object-is_read_whole-requires t c =
+    let tb = c.args.tables.now in
+    let rules = rules_at tb in
+    let ms = members_in (value_of c.args.nodes.now c.args.node) in
+    let of = c.in-Some.ensures in
+    record {
+      sound = c.requires.sound;
+      inside = c.requires.inside;
+      listed = record { index = of.index; listed = of.listed };
+      unknown = c.has_unknown-has_unknown.ensures;
+      one = subst (λ i. Counted (ReadsObject rules (ReadsValue rules) i ms) One) (sym of.same)
+          c.requires.one;
+    }
+
 pub object::read_object-list_counts-requires-clause-object :
     goal.object::read_object-list_counts-requires-clause-object
 object::read_object-list_counts-requires-clause-object t c =
     let tb = c.args.tables.now in
     let rules = rules_at tb in
     let ms = members_in (value_of c.args.nodes.now c.args.node) in
-    let l = c.in-Some.list.now in
     let of = c.in-Some.ensures in
-    let id = list_view l.id in
-    let none = c.is_none.result in
-    let listed : IsListed tb l = record { index = of.index; listed = of.listed } in
-    let unknown = unknown_by_list tb c.requires.sound.tables l listed
-    (taken_unless rules (ReadsValue rules) ms id none) c.has_unknown-has_unknown.result refl
-    c.has_unknown-has_unknown.ensures in
+    let listed : IsListed tb c.in-Some.list.now =
+    record { index = of.index; listed = of.listed } in
+    let unknown = unknown_by_list tb c.requires.sound.tables c.in-Some.list.now listed
+    (object_by ms (list_view c.in-Some.list.now.id) c.in_ok-takes.takes)
+    c.has_unknown-has_unknown.result refl c.has_unknown-has_unknown.ensures in
     record {
       inside = c.requires.inside;
       index = of.index;
@@ -957,14 +971,12 @@ object::read_object-steps_of-requires-clause-object t c =
     let tb = c.args.tables.now in
     let rules = rules_at tb in
     let ms = members_in (value_of c.args.nodes.now c.args.node) in
-    let l = c.in-Some.list.now in
     let of = c.in-Some.ensures in
-    let id = list_view l.id in
-    let none = c.is_none.result in
-    let listed : IsListed tb l = record { index = of.index; listed = of.listed } in
-    let unknown = unknown_by_list tb c.requires.sound.tables l listed
-    (taken_unless rules (ReadsValue rules) ms id none) c.has_unknown-has_unknown.result refl
-    c.has_unknown-has_unknown.ensures in
+    let listed : IsListed tb c.in-Some.list.now =
+    record { index = of.index; listed = of.listed } in
+    let unknown = unknown_by_list tb c.requires.sound.tables c.in-Some.list.now listed
+    (object_by ms (list_view c.in-Some.list.now.id) c.in_ok-takes.takes)
+    c.has_unknown-has_unknown.result refl c.has_unknown-has_unknown.ensures in
     record {
       inside = c.requires.inside;
       index = of.index;
@@ -978,38 +990,24 @@ object::read_object-steps_of-requires-clause-one t c =
     let tb = c.args.tables.now in
     let rules = rules_at tb in
     let ms = members_in (value_of c.args.nodes.now c.args.node) in
-    let l = c.in-Some.list.now in
     let of = c.in-Some.ensures in
-    let id = list_view l.id in
     let one = subst (λ i. Counted (ReadsObject rules (ReadsValue rules) i ms) One) (sym of.same)
     c.requires.one in
-    one_by_list rules (ReadsValue rules) ms id c.in_ok-all.all c.is_none.result c.is_none.ensures
-    c.in_ok-all.ensures.count one
+    one_by_list rules (ReadsValue rules)
+    (object_by ms (list_view c.in-Some.list.now.id) c.in_ok-takes.takes)
+    c.in_ok-takes.ensures.by_list one
 
 pub object::read_object-read_steps-requires : goal.object::read_object-read_steps-requires
 object::read_object-read_steps-requires t c =
     let tb = c.args.tables.now in
     let rules = rules_at tb in
     let ms = members_in (value_of c.args.nodes.now c.args.node) in
-    let l = c.in-Some.list.now in
     let of = c.in-Some.ensures in
-    let id = list_view l.id in
-    let none = c.is_none.result in
-    let listed : IsListed tb l = record { index = of.index; listed = of.listed } in
-    let unknown = unknown_by_list tb c.requires.sound.tables l listed
-    (taken_unless rules (ReadsValue rules) ms id none) c.has_unknown-has_unknown.result refl
-    c.has_unknown-has_unknown.ensures in
-    let one = subst (λ i. Counted (ReadsObject rules (ReadsValue rules) i ms) One) (sym of.same)
-    c.requires.one in
-    let plan = subst
-    (IsPlan tb c.args.nodes.now
-    (record {
-      node = c.args.node;
-      list = c.in-Some.list;
-      takes = not none;
-      has_unknown = c.has_unknown-has_unknown.result;
-    }))
-    (sym c.deref-2.ensures.value) c.in_ok-steps.ensures in (
+    let listed : IsListed tb c.in-Some.list.now =
+    record { index = of.index; listed = of.listed } in
+    let unknown = unknown_by_list tb c.requires.sound.tables c.in-Some.list.now listed
+    (object_by ms (list_view c.in-Some.list.now.id) c.in_ok-takes.takes)
+    c.has_unknown-has_unknown.result refl c.has_unknown-has_unknown.ensures in (
       omega arith,
       (
         c.list_counts.ensures.sound,
@@ -1020,13 +1018,7 @@ object::read_object-read_steps-requires t c =
             listed = of.listed;
             unknown = unknown;
           },
-          (
-            plan,
-            λ a r.
-                (reads_by_list rules (ReadsValue rules) ms id c.in_ok-all.all none c.is_none.ensures
-                c.in_ok-all.ensures.count one a).0
-                r,
-          ),
+          (c.in_ok-steps.ensures, λ a r. (c.in_ok-takes.ensures.by_list a).0 r),
         ),
       ),
     )
@@ -1040,8 +1032,14 @@ object::read_steps-read_fields-requires t c =
         (
           c.requires.object,
           (
-            c.requires.plan.served,
-            members_of_plan tb c.args.nodes.now c.args.object.now c.args.steps.now c.requires.plan,
+            subst (λ ss. All (StepIsServed tb) (map step_view ss)) (sym c.deref.ensures.value)
+                c.requires.plan.served,
+            subst
+                (λ ss. AreOnlyMembers tb c.args.nodes.now c.args.object.now
+                (found.members_in (map step_view ss)))
+                (sym c.deref.ensures.value)
+                (members_of_plan tb c.args.nodes.now c.args.object.now c.args.steps.items
+                c.requires.plan),
           ),
         ),
       ),
@@ -1051,9 +1049,10 @@ pub object::read_steps-read_rest-requires : goal.object::read_steps-read_rest-re
 object::read_steps-read_rest-requires t c =
     let tb = c.args.tables.now in
     let k = catch_all_view c.in-Some.catch_all.now in
-    let is = sym c.catch_all_in.ensures
-    ∙ ap (option_map (λ j. catch_all_view j.now)) c.in-Some.is in
-    let rest = rest_of_plan tb c.args.nodes.now c.args.object.now c.args.steps.now c.requires.plan k
+    let is : found.catch_all_in (map step_view c.args.steps.items) ≡ Some k =
+    ap (λ ss. found.catch_all_in (map step_view ss)) (sym c.deref-2.ensures.value)
+    ∙ (sym c.catch_all_in.ensures ∙ ap (option_map (λ j. catch_all_view j.now)) c.in-Some.is) in
+    let rest = rest_of_plan tb c.args.nodes.now c.args.object.now c.args.steps.items c.requires.plan k
     is in (
       omega arith,
       (
@@ -1061,25 +1060,16 @@ object::read_steps-read_rest-requires t c =
         (
           c.requires.object,
           (
-            rest_served tb (map step_view c.args.steps.now) k c.requires.plan.served is,
+            rest_served tb (map step_view c.args.steps.items) k c.requires.plan.served is,
             rest.2.only,
           ),
         ),
       ),
     )
 
-pub object::read_steps-returns-in_err-selections-clause-sound :
-    goal.object::read_steps-returns-in_err-selections-clause-sound
-object::read_steps-returns-in_err-selections-clause-sound t c =
-    elim c.match-catch_all_in.branch [
-      | object::read_steps-in-Some+in_ok-read_rest-in-Some w ↦
-          rw w.memo-is w.read_rest.ensures.sound
-      | object::read_steps-in-None w ↦ rw w.memo-is c.read_fields.ensures.sound
-    ]
-
-pub object::read_steps-returns-in_err-fields-clause-sound :
-    goal.object::read_steps-returns-in_err-fields-clause-sound
-object::read_steps-returns-in_err-fields-clause-sound t c =
+pub object::read_steps-returns-in_err-found-clause-sound :
+    goal.object::read_steps-returns-in_err-found-clause-sound
+object::read_steps-returns-in_err-found-clause-sound t c =
     elim c.match-catch_all_in.branch [
       | object::read_steps-in-Some+in_ok-read_rest-in-Some w ↦
           rw w.memo-is w.read_rest.ensures.sound
@@ -1100,15 +1090,23 @@ object::read_steps-returns-clause-told t c =
     let rules = rules_at tb in
     let nodes = c.args.nodes.now in
     let o = c.args.object.now in
-    let steps = c.args.steps.now in
+    let steps = c.args.steps.items in
     let plan = c.requires.plan in
     let ms = members_in (value_of nodes o.node) in
     let l = o.list.now in
     let r = c.match-catch_all_in.taken in
+    let first = ap (λ ss. found.catch_all_in (map step_view ss)) (sym c.deref-2.ensures.value)
+    ∙ sym c.catch_all_in.ensures in
+    let second = ap (λ ss. found.catch_all_in (map step_view ss)) (sym c.deref-3.ensures.value)
+    ∙ sym c.catch_all_in-2.ensures in
+    let values = subst
+    (λ ss. AreToldFields tb nodes o (found.members_in (map step_view ss))
+    c.in_ok-values.values.items)
+    c.deref.ensures.value c.in_ok-values.ensures.told in
     let x : ObjectReading =
     record {
-      selections = c.in_ok-selections.selections;
-      fields = c.in_ok-fields.fields;
+      selections = c.in_ok-found.found.selections;
+      fields = c.in_ok-found.found.fields;
       taken = r.0;
       ignored = c.match-catch_all_in-2.ignored;
     } in
@@ -1117,8 +1115,7 @@ object::read_steps-returns-clause-told t c =
       | object::read_steps-in-Some+in_ok-read_rest-in-Some w ↦
           let k = catch_all_view w.in-Some.catch_all.now in
           let is : found.catch_all_in (map step_view steps) ≡ Some k =
-          sym c.catch_all_in.ensures
-          ∙ ap (option_map (λ j. catch_all_view j.now)) w.in-Some.is in
+          first ∙ ap (option_map (λ j. catch_all_view j.now)) w.in-Some.is in
           elim c.match-catch_all_in-2.branch [
             | object::read_steps-in-Some-catch_all_in v ↦
                 rest_is_taken tb nodes o steps plan k
@@ -1128,20 +1125,17 @@ object::read_steps-returns-clause-told t c =
                 (ap (λ y. y.items) v.ignored-is ∙ v.new-ignored.ensures.items)
             | object::read_steps-in-None-catch_all_in+in_ok-ignored-in-None-catch_all_in v ↦
                 let isnt : found.catch_all_in (map step_view steps) ≡ None =
-                sym c.catch_all_in-2.ensures
-                ∙ ap (option_map (λ j. catch_all_view j.now)) v.in-None-catch_all_in.is in
+                second ∙ ap (option_map (λ j. catch_all_view j.now)) v.in-None-catch_all_in.is in
                 absurd (cc)
           ]
       | object::read_steps-in-None w ↦
           let isnt : found.catch_all_in (map step_view steps) ≡ None =
-          sym c.catch_all_in.ensures
-          ∙ ap (option_map (λ j. catch_all_view j.now)) w.in-None.is in
+          first ∙ ap (option_map (λ j. catch_all_view j.now)) w.in-None.is in
           elim c.match-catch_all_in-2.branch [
             | object::read_steps-in-Some-catch_all_in v ↦
                 let is : found.catch_all_in (map step_view steps)
                 ≡ Some (catch_all_view v.in-Some-catch_all_in.field-0.now) =
-                sym c.catch_all_in-2.ensures
-                ∙ ap (option_map (λ j. catch_all_view j.now)) v.in-Some-catch_all_in.is in
+                second ∙ ap (option_map (λ j. catch_all_view j.now)) v.in-Some-catch_all_in.is in
                 absurd (cc)
             | object::read_steps-in-None-catch_all_in+in_ok-ignored-in-None-catch_all_in v ↦
                 let listed : IsListed tb l =
@@ -1158,8 +1152,9 @@ object::read_steps-returns-clause-told t c =
           ]
     ] in
     told_by_plan tb nodes o steps plan c.plain.result x c.in_ok-values.values r.1 c.requires.reads
-    c.plain.ensures.variants c.plain.ensures.kind c.in_ok-selections.ensures c.in_ok-fields.ensures
-    c.in_ok-values.ensures.told rest
+    c.plain.ensures.variants c.plain.ensures.kind c.in_ok-found.ensures.selections
+    c.in_ok-found.ensures.fields
+    values rest
 
 pub target::read_end-read_shape-requires : goal.target::read_end-read_shape-requires
 target::read_end-read_shape-requires t c =

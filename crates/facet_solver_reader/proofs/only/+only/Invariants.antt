@@ -5,7 +5,7 @@ use Rattle.std.proofs.Common.{◌≡◌, ◌+◌, ◌*◌, map, take, zip}
 use Rattle.facet_solver_reader.specs.Choices.{Taken}
 use Rattle.facet_solver_reader.specs.Found as found
 use Rattle.facet_solver_reader.specs.Nodes.{children, members_in, value_of}
-use Rattle.facet_solver_reader.specs.Objects.{TakesRest}
+use Rattle.facet_solver_reader.specs.Objects.{Takes, TakesRest}
 use Rattle.facet_solver_reader.specs.Parts.{of_shape}
 use Rattle.facet_solver_reader.specs.Planned.{step_view}
 use Rattle.facet_solver_reader.specs.Reading.{AreSound, object_view}
@@ -113,8 +113,8 @@ abbrev pub invariant-members::read_rest-loop-index : goal.invariant-members::rea
 invariant-members::read_rest-loop-index l = record {
   sound : AreSound l.tables l.nodes l.memo.entries.items;
   takes : Taken;
-  reads : TakesRest (rules_at l.tables) (ReadsValue (rules_at l.tables))
-      (object_view l.nodes l.object) (catch_all_view l.catch_all)
+  reads : TakesRest (rules_at l.tables) (object_view l.nodes l.object)
+      (Takes (rules_at l.tables) (ReadsValue (rules_at l.tables)) (catch_all_view l.catch_all))
       (take l.index (members_in (value_of l.nodes l.object.node))) takes;
   tells : TellsTaken (rules_at l.tables) l.tables.shapes.now
       (end_taken (rules_at l.tables) (catch_all_view l.catch_all))

@@ -243,7 +243,8 @@ catch_all::count_catch_all-returns-clause-count t c =
     let past : length ms ≤ i = omega (arith, length-map items member_view, ap length same) in
     count_of_catch_all rules (ReadsValue rules) object k c.loop-index.count c.if-not-object.false
     (subst
-    (λ ns. Counted (TakesRest rules (ReadsValue rules) object k ns) c.loop-index.count)
+    (λ ns.
+    Counted (TakesRest rules object (Takes rules (ReadsValue rules) k) ns) c.loop-index.count)
     (take_all i ms past) c.loop-index.invariant.counted)
 
 pub catch_all::count_taken-child-member-requires-clause-index_in_range :

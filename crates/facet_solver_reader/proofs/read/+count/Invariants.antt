@@ -16,7 +16,7 @@ use Rattle.facet_solver_reader.proofs.NamedVariants.{AsNamed}
 use Rattle.facet_solver_reader.proofs.UntaggedVariants.{ReadsAloneBelow, ReadsFallbackBelow}
 use Rattle.facet_solver_reader.specs.declared.count.Count.{Count}
 use Rattle.facet_solver_reader.specs.Branches.{ReadsParts}
-use Rattle.facet_solver_reader.specs.Objects.{TakesRest}
+use Rattle.facet_solver_reader.specs.Objects.{Takes, TakesRest}
 use Rattle.facet_solver_reader.proofs.read.+count.Given as goal
 
 abbrev pub decreases-catch_all::count_catch_all : goal.decreases-catch_all::count_catch_all
@@ -30,8 +30,8 @@ invariant-catch_all::count_catch_all-loop-index l =
       sound : AreSound l.tables l.nodes l.memo.entries.items;
       counted :
           Counted
-          (TakesRest (rules_at l.tables) (ReadsValue (rules_at l.tables))
-          (object_view l.nodes l.object) (catch_all_view l.catch_all)
+          (TakesRest (rules_at l.tables) (object_view l.nodes l.object)
+          (Takes (rules_at l.tables) (ReadsValue (rules_at l.tables)) (catch_all_view l.catch_all))
           (take l.index (members_in (value_of l.nodes l.object.node))))
           l.count;
     }

@@ -2,8 +2,9 @@ use Rattle.std.proofs.Common.{◌≡◌, ◌∙◌, ap, sym, subst, ◌<◌, len
 use Rattle.std.proofs.lemmas.List.{length-map}
 use Rattle.std.proofs.lemmas.Option.{slice_get-get_or}
 use Rattle.facet_solver_reader.specs.declared.count.Count.TheVariants.{None as NoReading}
-use Rattle.facet_solver_reader.specs.Branches.{Fits, Misfits, ReadsList}
+use Rattle.facet_solver_reader.specs.Branches.{Fits, Misfits, ReadsList, ReadsPart}
 use Rattle.facet_solver_reader.specs.Counted.{Counted}
+use Rattle.facet_solver_reader.specs.Parts.{a_selection}
 use Rattle.facet_solver_reader.specs.Reading.{IsBranchCount, object_view}
 use Rattle.facet_solver_reader.specs.Readings.{ReadsValue}
 use Rattle.facet_solver_reader.specs.Tables.{rules_at}
@@ -20,6 +21,7 @@ returns-then-is_none c = λ k e.
     let rules = rules_at t in
     let object = object_view c.args.nodes.now c.args.object.now in
     let s = selection_view c.args.selection.now in
+    let part = ReadsPart rules (ReadsValue rules) object (a_selection s) in
     let id = list_view c.args.branch in
     let counts = c.args.counts.now in
     let at = list_at t id c.in-Some.index c.in-Some.ensures c.requires.branch in
@@ -33,12 +35,12 @@ returns-then-is_none c = λ k e.
     subst (λ i. Counted (ReadsList rules (ReadsValue rules) object i) count) at.same
     (c.requires.counts.are b.0 c.in-Some.index count at.entry
     (slice_get-get_or counts b.0 NoReading b.1) b.2 at.is_there) in
-    let here : IsBranchCount t c.args.nodes.now c.args.object.now s k count =
+    let here : IsBranchCount part k count =
     elim c.then-is_none.branch [
       | then-is_none-via-then-is_none w ↦
           let none : count ≡ NoReading =
           ap (λ q. get_or counts q NoReading) same ∙ c.is_none.ensures.0 w.if-is_none.true in
-          subst (λ n. IsBranchCount t c.args.nodes.now c.args.object.now s k n) (sym none)
+          subst (λ n. IsBranchCount part k n) (sym none)
           (count_at_none rules (ReadsValue rules) object s k id e
           (subst (Counted (ReadsList rules (ReadsValue rules) object id)) none counted))
       | then-is_none-via-else-is_none+then-len-eq1 w ↦
@@ -50,7 +52,7 @@ returns-then-is_none c = λ k e.
           (only_fits rules (ReadsValue rules) object s k id e one) c.requires.present counted
     ] in
     subst
-    (λ q. IsBranchCount t c.args.nodes.now c.args.object.now s k (get_or counts q NoReading))
+    (λ q. IsBranchCount part k (get_or counts q NoReading))
     same here
 
 pub returns-else-fits : goal.returns-else-fits
@@ -59,6 +61,7 @@ returns-else-fits c = λ k e.
     let rules = rules_at t in
     let object = object_view c.args.nodes.now c.args.object.now in
     let s = selection_view c.args.selection.now in
+    let part = ReadsPart rules (ReadsValue rules) object (a_selection s) in
     let id = list_view c.args.branch in
     let read = list_read t id c.in-Some.index c.index.result.now
     (list_at t id c.in-Some.index c.in-Some.ensures c.requires.branch) c.index.ensures in
@@ -71,6 +74,7 @@ returns-then-fits c = λ k e.
     let rules = rules_at t in
     let object = object_view c.args.nodes.now c.args.object.now in
     let s = selection_view c.args.selection.now in
+    let part = ReadsPart rules (ReadsValue rules) object (a_selection s) in
     let id = list_view c.args.branch in
     let counts = c.args.counts.now in
     let l = c.index.result.now in
@@ -89,7 +93,7 @@ returns-then-fits c = λ k e.
     c.requires.present
     (subst (λ i. Counted (ReadsList rules (ReadsValue rules) object i) count) read.1 counted) in
     subst
-    (λ q. IsBranchCount t c.args.nodes.now c.args.object.now s k (get_or counts q NoReading))
+    (λ q. IsBranchCount part k (get_or counts q NoReading))
     same at
 
 pub bounds-counts-position : goal.bounds-counts-position
