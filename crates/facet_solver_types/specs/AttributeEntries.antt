@@ -29,7 +29,8 @@ abbrev pub has_list : List Token → Bool
 has_list [] = false
 has_list (token ∷ tokens) = (is_ours token && sees_open Round tokens) || has_list tokens
 
--- whether an attribute of another name asks what only serde's or facet's own can say, by its name and what stands behind it
+-- whether an attribute of another name asks what only serde's or facet's own can say, by its name
+-- and what stands behind it
 abbrev pub is_refused : Token → List Token → Bool
 is_refused name behind =
     if is_named (codes "cfg_attr") name then has_list behind
@@ -49,7 +50,7 @@ own_entries behind = and_then (value_at behind) (in_list behind)
 abbrev pub outside_entry : Token → Entry
 outside_entry name = record { qualifier = None; name = name; value = outside }
 
--- the entries of an attribute of that name, by what stands behind it and by what stands in its brackets
+-- the entries of an attribute of that name, by what stands behind it, and in its brackets
 abbrev pub named_entries : Token → List Token → Passage → Entries
 named_entries name behind inner =
     if is_ours name then own_entries (after 1 inner)
@@ -60,7 +61,8 @@ abbrev pub entries_of : List Token → Passage → Entries
 entries_of [] inner = Ok []
 entries_of (name ∷ behind) inner = named_entries name behind inner
 
--- the entries of an attribute, by what stands in its brackets: none where it is neither serde's nor facet's, unless it asks what only these can say
+-- the entries of an attribute, by what stands in its brackets: none where it is neither serde's nor
+-- facet's, unless it asks what only these can say
 abbrev pub entries_in : Passage → Entries
 entries_in inner = entries_of inner.tokens inner
 
@@ -82,6 +84,7 @@ entries_from zero (token ∷ tokens) =
     (entries_from (attribute_len false (token ∷ tokens) - 1) tokens)
     else Ok []
 
--- The entries of serde's and facet's attributes. Each is closed, so that nothing is told of what stands after them.
+-- The entries of serde's and facet's attributes. Each is closed, so that nothing is told of what
+-- stands after them.
 abbrev pub attribute_entries : List Token → Entries
 attribute_entries attributes = entries_from 0 attributes

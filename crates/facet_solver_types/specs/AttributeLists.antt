@@ -47,7 +47,8 @@ with_text attribute value = Ok attribute
 -- an attribute that none of some others excludes
 abbrev pub admitted : List Attribute → Attribute → Result Attribute Fault
 admitted found attribute =
-    if has_clash found attribute then Err (At attribute.offset (problem.Attribute refusal.Clashes)) else Ok attribute
+    if has_clash found attribute
+    then Err (At attribute.offset (problem.Attribute refusal.Clashes)) else Ok attribute
 
 -- the attribute that an entry is behind others
 abbrev pub next_attribute : Subject → List Attribute → Entry → Result Attribute Fault

@@ -33,7 +33,8 @@ names_case meaning = false
 abbrev pub checked_text : Bool → ℕ → Option (List ℕ) → Result (List ℕ) Fault
 checked_text is_case offset None = Err (At offset (problem.Attribute refusal.NoText))
 checked_text is_case offset (Some text) =
-    if is_case && is_none (named text) then Err (At offset (problem.Attribute refusal.NoCase)) else Ok text
+    if is_case && is_none (named text)
+    then Err (At offset (problem.Attribute refusal.NoCase)) else Ok text
 
 -- the text that an attribute of that meaning says
 abbrev pub said_text : Meaning → Token → Result (List ℕ) Fault

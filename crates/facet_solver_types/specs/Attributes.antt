@@ -71,7 +71,8 @@ meaning_of subject entry = meaning_by subject entry.value entry
 
 -- an attribute that takes its value, or the fault
 abbrev pub with_value : Meaning → ℕ → Option Value → Result Attribute Fault
-with_value meaning offset None = Err (At offset (problem.Attribute (refusal.Takes (form_of meaning))))
+with_value meaning offset None =
+    Err (At offset (problem.Attribute (refusal.Takes (form_of meaning))))
 with_value meaning offset (Some value) =
     Ok (record { offset = offset; meaning = meaning; value = value })
 

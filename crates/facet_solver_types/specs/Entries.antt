@@ -17,7 +17,8 @@ use Rattle.facet_solver_types.specs.Pieces.{and_then, each, pieces}
 use Rattle.facet_solver_types.specs.Runs.{group_len}
 use Rattle.facet_solver_types.specs.Tokens.{Token, token_view}
 
--- what stands after the name in an entry: nothing, some tokens after `=`, or some in brackets; or what asks for something that only serde's or facet's own attributes can say
+-- What stands after the name in an entry: nothing, some tokens after `=`, or some in brackets. Or
+-- the entry asks for something that only serde's and facet's own attributes can say.
 pub data EntryValue : Type 0 where
   nothing : EntryValue
   is : Passage → EntryValue

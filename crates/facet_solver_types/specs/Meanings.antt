@@ -50,7 +50,8 @@ on_struct =
 abbrev pub on_named_struct : Name → Option Meaning
 on_named_struct name =
     option_or
-    (said_by ((codes "default", Default) ∷ (codes "metadata_container", MetadataContainer) ∷ []) name)
+    (said_by ((codes "default", Default)
+    ∷ (codes "metadata_container", MetadataContainer) ∷ []) name)
     (on_struct name)
 
 -- on an enum

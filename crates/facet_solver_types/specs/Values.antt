@@ -61,7 +61,8 @@ text_after value = None
 abbrev pub is_said : List ℕ → Entry → Bool
 is_said name entry = is_none entry.qualifier && bytes_eq entry.name.text name
 
--- what an entry says of the name for reading, by what those before it said: that of `deserialize`, which stands once at most; `serialize` says nothing
+-- what an entry says of the name for reading, by what those before it said: that of `deserialize`,
+-- which stands once at most; `serialize` says nothing
 abbrev pub then_name : Option Token → Entry → Option (Option Token)
 then_name found entry =
     if is_said (codes "serialize") entry then Some found
