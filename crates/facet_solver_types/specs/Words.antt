@@ -35,7 +35,8 @@ word text =
 -- whether a name after `r#` stands first
 abbrev pub begins_raw_name : List ℕ → Bool
 begins_raw_name text =
-    slice_index text 0 == ascii.letter_r && slice_index text 1 == ascii.hash && begins_name (drop 2 text)
+    slice_index text 0 == ascii.letter_r && slice_index text 1 == ascii.hash
+    && begins_name (drop 2 text)
 
 -- the name after `r#`
 abbrev pub raw_name : List ℕ → Spelling

@@ -1,8 +1,7 @@
-//! Catalogues of shapes as Rust declarations.
+//! Parts of a way from Rust declarations to a catalogue of shapes, and back.
 //!
-//! [`Declarations`] prints a catalogue as the declarations that it is of. The way back is there in
-//! its first parts: the tokens of a text, its items, and what the attributes of serde and facet on
-//! them mean.
+//! A text is cut into tokens and items, and the attributes of serde and facet on them are
+//! understood. A catalogue is printed as declarations. Nothing of it is public yet.
 #![tactic(auto)]
 
 mod attribute;
@@ -12,12 +11,10 @@ mod error;
 mod fault;
 mod grammar;
 mod item;
-pub mod laws;
+mod laws;
 mod literal;
 mod passage;
 mod place;
 mod problem;
 mod token;
 mod tokens;
-
-pub use display::Declarations;
