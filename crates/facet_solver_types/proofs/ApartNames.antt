@@ -8,6 +8,7 @@ use Rattle.std.proofs.lemmas.Fmt.{decimal_by_steps, decimal_injective}
 use Rattle.std.proofs.lemmas.Slice.Eq.{bytes_eq-Decides}
 use Rattle.facet_solver_shape.specs.Catalogues.{RepeatsName}
 use Rattle.facet_solver_shape.specs.Names.{Name, name_eq}
+use Rattle.facet_solver_types.specs.Keywords.{is_keyword}
 use Rattle.facet_solver_types.specs.Cases.{underscore}
 use Rattle.facet_solver_types.specs.PrintedNames.{numbered, is_taken, marks_of, variant_name}
 use Rattle.facet_solver_types.specs.PrintedTexts.{is_plain_name, go_on_in_word, goes_on_in_word}
@@ -137,6 +138,7 @@ marks_go_on (suc k) = marks_go_on k
 
 -- a number with `V` before it is a name
 numbered_is_name : (n k : ℕ) → n < 2 ^ 64 → is_plain_name (numbered n k) ≡ true
+unfolding is_keyword
 numbered_is_name n k small = ap (λ b. b && true) (go_on_more (decimal n) (replicate k underscore) (digits_go_on n small) (marks_go_on k))
 
 -- each declared name is one

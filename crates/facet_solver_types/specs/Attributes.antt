@@ -1,5 +1,5 @@
 -- The attributes of serde and facet, with what they mean.
-use Rattle.std.specs.Prelude.{ℕ, not, ◌&&◌, if◌then◌else◌, List, Option, Some, None, codes, Result, Ok, Err}
+use Rattle.std.specs.Prelude.{ℕ, not, ◌&&◌, if◌then◌else◌, Option, Some, None, codes, Result, Ok, Err}
 use Rattle.facet_solver_shape.specs.Names.{Name, name_eq}
 use Rattle.facet_solver_shape.specs.declared.shape.DomMark.{DomMark}
 use Rattle.facet_solver_types.specs.declared.attribute.Attribute as declared

@@ -1,5 +1,5 @@
 -- Attributes that exclude each other.
-use Rattle.std.specs.Prelude.{Bool, true, false, not, ◌&&◌, ◌||◌, if◌then◌else◌}
+use Rattle.std.specs.Prelude.{Bool, true, false, not, ◌&&◌, ◌||◌}
 use Rattle.facet_solver_types.specs.declared.attribute.meaning.Meaning.{Meaning}
 use Rattle.facet_solver_types.specs.declared.attribute.meaning.Meaning.TheVariants.{Flatten, Default, Rename, RenameAll, RenameAllFields, Tag, Content, Untagged, Transparent, Proxy, Dom}
 

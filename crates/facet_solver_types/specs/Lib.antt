@@ -43,3 +43,4 @@ pub mod PrintedFields
 pub mod PrintedNames
 pub mod PrintedVariants
 pub mod PrintedDeclarations
+pub mod Keywords

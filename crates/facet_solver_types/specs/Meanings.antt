@@ -1,5 +1,5 @@
 -- What an attribute of serde or facet means, by its name and by what it stands on.
-use Rattle.std.specs.Prelude.{Bool, ◌||◌, if◌then◌else◌, List, [], ◌∷◌, Option, Some, None, option_map, codes, Result, Ok, Err}
+use Rattle.std.specs.Prelude.{Bool, ◌||◌, if◌then◌else◌, List, [], ◌∷◌, Option, Some, option_map, codes, Result, Ok, Err}
 use Rattle.std.specs.List.{list_any}
 use Rattle.std.specs.Option.{is_some, ok_or, option_or}
 use Rattle.facet_solver_shape.specs.Names.{Name, name_eq}

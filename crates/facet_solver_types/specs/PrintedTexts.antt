@@ -1,9 +1,10 @@
 -- Texts between quotes and names, as declarations have them.
-use Rattle.std.specs.Prelude.{ℕ, Bool, false, List, [], ◌∷◌, ◌++◌, codes, ◌==◌, ◌||◌, ◌&&◌, not, if◌then◌else◌, encode_utf8}
+use Rattle.std.specs.Prelude.{ℕ, Bool, false, [], ◌∷◌, ◌++◌, codes, ◌==◌, ◌||◌, ◌&&◌, not, if◌then◌else◌, encode_utf8}
 use Rattle.std.specs.Char.{is_ascii_alphabetic, is_ascii_alphanumeric}
-use Rattle.std.specs.List.{flat_map, list_all, list_any}
+use Rattle.std.specs.List.{flat_map, list_all}
 use Rattle.std.specs.Str.{chars}
-use Rattle.facet_solver_shape.specs.Names.{Name, name_eq}
+use Rattle.facet_solver_types.specs.Keywords.{is_keyword}
+use Rattle.facet_solver_shape.specs.Names.{Name}
 use Rattle.facet_solver_types.specs.Cases.{underscore}
 
 -- a letter of a text between quotes, as itself or as an escape
@@ -24,33 +25,6 @@ between_quotes text = flat_map escaped (chars text)
 -- a text between quotes
 abbrev pub quoted : Name → Name
 quoted text = 34 ∷ between_quotes text ++ 34 ∷ []
-
--- whether a text is one of some
-abbrev pub is_one_of : List Name → Name → Bool
-is_one_of words text = list_any (λ word. name_eq text word) words
-
--- whether it is a keyword that Rust uses, or `_`
-abbrev pub is_used_keyword : Name → Bool
-is_used_keyword =
-    is_one_of (codes "_" ∷ codes "as" ∷ codes "async" ∷ codes "await" ∷ codes "break"
-    ∷ codes "const" ∷ codes "continue" ∷ codes "crate" ∷ codes "dyn" ∷ codes "else"
-    ∷ codes "enum" ∷ codes "extern" ∷ codes "false" ∷ codes "fn" ∷ codes "for" ∷ codes "if"
-    ∷ codes "impl" ∷ codes "in" ∷ codes "let" ∷ codes "loop" ∷ codes "match" ∷ codes "mod"
-    ∷ codes "move" ∷ codes "mut" ∷ codes "pub" ∷ codes "ref" ∷ codes "return" ∷ codes "self"
-    ∷ codes "Self" ∷ codes "static" ∷ codes "struct" ∷ codes "super" ∷ codes "trait"
-    ∷ codes "true" ∷ codes "type" ∷ codes "unsafe" ∷ codes "use" ∷ codes "where"
-    ∷ codes "while" ∷ [])
-
--- whether it is a keyword that Rust keeps for later
-abbrev pub is_reserved_keyword : Name → Bool
-is_reserved_keyword =
-    is_one_of (codes "abstract" ∷ codes "become" ∷ codes "box" ∷ codes "do" ∷ codes "final"
-    ∷ codes "macro" ∷ codes "override" ∷ codes "priv" ∷ codes "try" ∷ codes "typeof"
-    ∷ codes "unsized" ∷ codes "virtual" ∷ codes "yield" ∷ [])
-
--- whether it is a keyword, or `_`
-abbrev pub is_keyword : Name → Bool
-is_keyword text = is_used_keyword text || is_reserved_keyword text
 
 -- whether a word may begin with a byte
 abbrev pub begins_word : ℕ → Bool

@@ -12,7 +12,6 @@ use Rattle.facet_solver_types.specs.declared.token.TokenKind.{TokenKind}
 use Rattle.facet_solver_types.specs.declared.token.TokenKind.TheVariants.{RawText, Text}
 use Rattle.facet_solver_types.specs.Entries.{Entry, EntryValue, entries, holds, is, nothing}
 use Rattle.facet_solver_types.specs.Passages.{Passage, passage_view}
-use Rattle.facet_solver_types.specs.Pieces.{and_then}
 use Rattle.facet_solver_types.specs.Tokens.{Token, token_view}
 
 -- the value of an attribute, as far as its meaning goes: none that says anything, a text, or a type

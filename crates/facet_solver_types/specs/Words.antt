@@ -1,31 +1,11 @@
 -- Names, keywords, lifetimes and numbers.
-use Rattle.std.specs.Prelude.{ℕ, ◌+◌, Bool, ◌&&◌, ◌==◌, if◌then◌else◌, List, [], ◌∷◌, codes, drop, take, slice_index}
-use Rattle.std.specs.List.{list_any}
-use Rattle.std.specs.Str.{bytes_eq}
+use Rattle.std.specs.Prelude.{ℕ, ◌+◌, Bool, ◌&&◌, ◌==◌, if◌then◌else◌, List, drop, take, slice_index}
 use Rattle.facet_solver_types.specs.Ascii as ascii
 use Rattle.facet_solver_types.specs.declared.token.TokenKind.TheVariants.{Name, RawName, Keyword, Lifetime, Number}
 use Rattle.facet_solver_types.specs.declared.tokens.spelling.Spelling.{Spelling}
 use Rattle.facet_solver_types.specs.Characters.{begins_name, word_len}
+use Rattle.facet_solver_types.specs.Keywords.{is_keyword}
 use Rattle.facet_solver_types.specs.Spellings.{whole}
-
--- the keywords of Rust's edition of 2021, those in use, then those that are kept free, and `_`
-abbrev pub keywords : List (List ℕ)
-keywords =
-    codes "as" ∷ codes "break" ∷ codes "const" ∷ codes "continue" ∷ codes "crate" ∷ codes "else"
-    ∷ codes "enum" ∷ codes "extern" ∷ codes "false" ∷ codes "fn" ∷ codes "for" ∷ codes "if"
-    ∷ codes "impl" ∷ codes "in" ∷ codes "let" ∷ codes "loop" ∷ codes "match" ∷ codes "mod"
-    ∷ codes "move" ∷ codes "mut" ∷ codes "pub" ∷ codes "ref" ∷ codes "return" ∷ codes "self"
-    ∷ codes "Self" ∷ codes "static" ∷ codes "struct" ∷ codes "super" ∷ codes "trait"
-    ∷ codes "true" ∷ codes "type" ∷ codes "unsafe" ∷ codes "use" ∷ codes "where"
-    ∷ codes "while" ∷ codes "async" ∷ codes "await" ∷ codes "dyn"
-    ∷ codes "abstract" ∷ codes "become" ∷ codes "box" ∷ codes "do" ∷ codes "final"
-    ∷ codes "macro" ∷ codes "override" ∷ codes "priv" ∷ codes "try" ∷ codes "typeof"
-    ∷ codes "unsized" ∷ codes "virtual" ∷ codes "yield"
-    ∷ codes "_" ∷ []
-
--- whether a word is a keyword
-unfoldable pub is_keyword : List ℕ → Bool
-is_keyword word = list_any (λ keyword. bytes_eq keyword word) keywords
 
 -- the name or the keyword that stands first
 abbrev pub word : List ℕ → Spelling

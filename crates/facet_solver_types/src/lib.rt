@@ -11,6 +11,7 @@ mod error;
 mod fault;
 mod grammar;
 mod item;
+mod keyword;
 mod laws;
 mod literal;
 mod passage;

@@ -2,13 +2,14 @@
 ghost use Rattle.std.specs.Prelude.{◌≡◌, Some};
 ghost use Rattle.facet_solver_types.specs.PrintedTexts as texts;
 
+use crate::keyword::is_keyword;
 use std::fmt;
 
 /// Whether a text is a name of ASCII letters, and no keyword.
 pub(super) fn is_plain_name(text: &str) -> bool
     ensures { result ≡ texts.is_plain_name text.now }
 {
-    is_word(text.as_bytes()) && !is_keyword(text)
+    is_word(text.as_bytes()) && !is_keyword(text.as_bytes())
 }
 
 /// Whether bytes are ASCII letters, digits and `_`, and begin with no digit.
@@ -42,82 +43,6 @@ fn goes_on_in_word(byte: u8) -> bool
     byte.is_ascii_alphanumeric() || byte == b'_'
 }
 
-/// Whether a text is a keyword of Rust, used or reserved, or `_`.
-fn is_keyword(text: &str) -> bool
-    ensures { result ≡ texts.is_keyword text.now }
-{
-    is_used_keyword(text) || is_reserved_keyword(text)
-}
-
-/// Whether a text is a keyword that Rust uses, or `_`.
-fn is_used_keyword(text: &str) -> bool
-    ensures { result ≡ texts.is_used_keyword text.now }
-{
-    matches!(
-        text,
-        "_" | "as"
-            | "async"
-            | "await"
-            | "break"
-            | "const"
-            | "continue"
-            | "crate"
-            | "dyn"
-            | "else"
-            | "enum"
-            | "extern"
-            | "false"
-            | "fn"
-            | "for"
-            | "if"
-            | "impl"
-            | "in"
-            | "let"
-            | "loop"
-            | "match"
-            | "mod"
-            | "move"
-            | "mut"
-            | "pub"
-            | "ref"
-            | "return"
-            | "self"
-            | "Self"
-            | "static"
-            | "struct"
-            | "super"
-            | "trait"
-            | "true"
-            | "type"
-            | "unsafe"
-            | "use"
-            | "where"
-            | "while"
-    )
-}
-
-/// Whether a text is a keyword that Rust keeps for later.
-fn is_reserved_keyword(text: &str) -> bool
-    ensures { result ≡ texts.is_reserved_keyword text.now }
-{
-    matches!(
-        text,
-        "abstract"
-            | "become"
-            | "box"
-            | "do"
-            | "final"
-            | "macro"
-            | "override"
-            | "priv"
-            | "try"
-            | "typeof"
-            | "unsized"
-            | "virtual"
-            | "yield"
-    )
-}
-
 /// A declared name, raw where it is a keyword.
 #[derive(Drop)]
 pub(super) struct Declared<'t>(pub(super) &'t str);
@@ -127,7 +52,7 @@ impl fmt::Display for Declared<'_> {
 
     fn fmt<W: fmt::Write>(&self, f: &mut fmt::Formatter<W>) -> fmt::Result {
         let name = self.0;
-        if is_keyword(name) {
+        if is_keyword(name.as_bytes()) {
             return write!(f, "r#{name}");
         }
         write!(f, "{name}")

@@ -1,4 +1,4 @@
-use Rattle.std.proofs.Common.{◌≡◌, ◌≢◌, ◌∙◌, ◌++◌, ◌<◌, true, false, ap, sym, map, length, drop, Ok, Err, refl, arith, rules}
+use Rattle.std.proofs.Common.{◌≡◌, ◌≢◌, ◌∙◌, ◌++◌, true, false, ap, sym, drop, Ok, Err, refl, arith, rules}
 use Rattle.std.proofs.Common.{append-nil}
 use Rattle.std.proofs.lemmas.List.{map-append}
 use Rattle.facet_solver_types.specs.declared.fault.Fault.TheVariants.{OutOfMemory}
