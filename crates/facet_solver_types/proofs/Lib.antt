@@ -24,3 +24,7 @@ pub mod ReadBack
 pub mod FreeNames
 pub mod ApartNames
 pub mod PrintedAttributes
+pub mod CaseRows
+pub mod LiteralRows
+pub mod AttributeRows
+pub mod FaultRows
