@@ -17,6 +17,7 @@ pub(crate) mod distinct_fields;
 mod finish;
 mod hint;
 pub(crate) mod key_result;
+pub(crate) mod path_ends;
 pub(crate) mod path_search;
 mod probe;
 pub(crate) mod report;

@@ -7,6 +7,7 @@ ghost use Rattle.facet_solver.specs.solver.ShapeAtPath.{distinct, has_shape_at_p
 use crate::schema::Schema;
 use crate::set::ResolutionSet;
 use crate::solver::conditions::Test;
+use crate::solver::path_ends::PathEnds;
 use crate::solver::shaped::is_among;
 use facet_solver_shape::{Field, Resolution, ShapeId, ShapeKind, Shapes};
 use std::alloc::{AllocError, Global};
@@ -40,21 +41,14 @@ pub(crate) fn distinct_shapes(
     ensures { IfOk result (λ shapes. shapes.items
         ≡ at_path.distinct_shapes (names_of path.now) schema.now set.now.members) }
 {
+    let mut ends = PathEnds::new(schema.shapes(), path);
     let mut shapes = Vec::new(alloc);
     for index in set.iter() {
-        if let Some(shape) = shape_at(schema, path, index) {
+        if let Some(shape) = ends.shape_at(schema.resolutions(), index) {
             add_if_new(&mut shapes, shape)?;
         }
     }
     Ok(shapes)
-}
-
-/// The shape at a path of the resolution at an index.
-fn shape_at(schema: &Schema<'_>, path: &[&str], index: usize) -> Option<ShapeId>
-    ensures { let schema = schema.now in result
-        ≡ at_path.shape_at schema.build.catalogue (names_of path.now) schema.resolutions index }
-{
-    shape_at_path(schema.shapes(), path, schema.resolutions().get(index)?)
 }
 
 /// Adds a shape that is not there yet.
