@@ -1,17 +1,16 @@
 -- Key paths, by the path to a key and the key apart.
-use Rattle.std.proofs.Common.{◌≡◌, Bool, true, false, ◌&&◌, List, [], ◌∷◌, ◌++◌, Vec, nat_eq, refl, ap, sym, ◌∙◌}
+use Rattle.std.proofs.Common.{◌≡◌, Bool, true, false, ◌&&◌, List, [], ◌∷◌, ◌++◌, nat_eq, refl, ap, sym, ◌∙◌}
 use Rattle.std.proofs.lemmas.Bool.{and_right}
 use Rattle.std.proofs.lemmas.List.{map-append}
-use Rattle.std.specs.FinSet as set
-use Rattle.std.specs.List.{list_any}
-use Rattle.std.specs.declared.alloc.Global.{Global}
+use Rattle.std.specs.Ordering.{nat_cmp}
+use Rattle.std.specs.Cmp.Lexicographic.{slice_cmp, lists_ties, texts_ties}
 use denote.Bor.{Bor}
 use lib.Pointwise.{pointwise}
 use Rattle.facet_solver_shape.specs.Names.{Name, name_eq, names_of}
 use Rattle.facet_solver_shape.specs.Paths.{key_path_eq}
-use Rattle.facet_solver_shape.specs.Resolved.{key_paths_view}
-use Rattle.facet_solver_shape.proofs.Lists.{list_any-map}
-use Rattle.facet_solver_shape.proofs.Resolved.{contains_path, names_agree}
+use Rattle.facet_solver_shape.proofs.Finite.{equal}
+use Rattle.facet_solver_shape.proofs.Keys.{path_cmp_same}
+use Rattle.facet_solver_shape.proofs.Resolved.{names_agree}
 
 swap : (a b c : Bool) → (a && (b && c)) ≡ (b && (a && c))
 swap true true c = refl
@@ -51,7 +50,6 @@ is_path_to path before known key last is =
     ∙ sym (same_ends (names_of path) (names_of before) key last.now)
     ∙ ap (key_path_eq (names_of path ++ key ∷ [])) (sym (map-append (λ (n : Bor Name). n.now) before (last ∷ [])) ∙ ap names_of (sym is))
 
--- a key path is one of a set where one of those that are kept is equal to it
-pub among_known : (whole : List Name) (known : List (Vec (Bor Name) Global)) → list_any (λ (p : Vec (Bor Name) Global). key_path_eq whole (names_of p.items)) known ≡ set.contains (key_paths_view known) whole
-among_known whole known =
-    sym (contains_path whole known ∙ list_any-map (key_path_eq whole) (λ (p : Vec (Bor Name) Global). names_of p.items) known)
+-- equal key paths are one
+pub key_path_same : (p q : List Name) → key_path_eq p q ≡ true → p ≡ q
+key_path_same p q e = path_cmp_same p q (equal (slice_cmp (slice_cmp nat_cmp) p q) (sym (lists_ties (slice_cmp nat_cmp) texts_ties p q) ∙ e))

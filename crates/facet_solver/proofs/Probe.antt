@@ -1,31 +1,12 @@
--- Keys at a path: shapes at whole paths, and the first field for each shape.
+-- Keys at a path: the first field for each shape.
 use Rattle.std.proofs.Common.{◌≡◌, ℕ, Bool, true, false, cond, List, [], ◌∷◌, ◌++◌, filter, map, nat_eq, refl, ap, sym, ◌∙◌, Option, Some, None, append-nil}
 use Rattle.std.specs.List.{filter_map, list_any}
-use Rattle.std.specs.Option.{option_and_then}
 use Rattle.facet_solver_shape.specs.Fields.{FieldView}
-use Rattle.facet_solver_shape.specs.Names.{Name}
 use Rattle.facet_solver_shape.proofs.Lists.{list_any-map}
-use Rattle.facet_solver.specs.build.Build.{Catalogue}
-use Rattle.facet_solver.specs.solver.ShapeAtPath.{shape_below, shape_of_member}
 use Rattle.facet_solver.specs.solver.FirstOfEach.{first_of_each}
 use Rattle.facet_solver.proofs.FirstOfEach.{first_of_each-told}
 use Rattle.facet_solver.proofs.IndexSet.{filter_more}
 use Rattle.facet_solver.proofs.KeyResultFields.{filter_map_found, filter_map_none}
-
--- ---- shapes at them
-and_then_some : (o : Option ℕ) → option_and_then (λ id. Some id) o ≡ o
-and_then_some None = refl
-and_then_some (Some id) = refl
-
--- one name more
-pub shape_below-push : (cat : Catalogue) (ps : List Name) (k : Name) (id : ℕ) → shape_below cat (ps ++ k ∷ []) id ≡ option_and_then (shape_of_member cat k) (shape_below cat ps id)
-shape_below-push cat [] k id = and_then_some (shape_of_member cat k id)
-shape_below-push cat (p ∷ ps) k id = go (shape_of_member cat p id) (shape_below-push cat ps k)
-  where
-    go : (o : Option ℕ) → ((next : ℕ) → shape_below cat (ps ++ k ∷ []) next ≡ option_and_then (shape_of_member cat k) (shape_below cat ps next))
-        → option_and_then (shape_below cat (ps ++ k ∷ [])) o ≡ option_and_then (shape_of_member cat k) (option_and_then (shape_below cat ps) o)
-    go None later = refl
-    go (Some next) later = later next
 
 -- ---- the first field for each shape, of the indices that pass
 

@@ -1,26 +1,38 @@
-//! Key paths of a resolution, sought by a path and a key apart, so that the two are never joined in
-//! memory.
-ghost use Rattle.std.specs.Prelude.{◌≡◌};
-ghost use Rattle.std.specs.List.{list_any};
+//! Key paths of resolutions.
+//!
+//! A path that is told is sought with its key apart, so that the two are never joined in memory. A
+//! set looks up only a path whose names live as long as its own: the whole path, as some resolution
+//! has it.
+ghost use Rattle.std.specs.Prelude.{◌≡◌, IfSome, is_some};
 ghost use Rattle.facet_solver_shape.specs.Names.{names_of};
 ghost use Rattle.facet_solver_shape.specs.Paths.{key_path_eq};
-ghost use Rattle.facet_solver.specs.KeyPath.{has_key_at, whole_path};
+ghost use Rattle.facet_solver.specs.KeyPath.{has_key_at, has_key_path, whole_path};
 
 use facet_solver_shape::{KeyPath, Resolution};
-use std::collections::BTreeSet;
 
-/// Whether a resolution has the whole path of a key that stands at a path.
-pub(crate) fn has_key_at(resolution: &Resolution<'_>, path: &[&str], key: &str) -> bool
-    ensures { result ≡ has_key_at (names_of path.now) key.now resolution.now }
+/// The whole path of a key that stands at a path, as a resolution has it, if it does.
+pub(crate) fn known_path<'s, 'c>(
+    resolution: &'s Resolution<'c>,
+    path: &[&str],
+    key: &str,
+) -> Option<&'s KeyPath<'c>>
+    ensures known { is_some result ≡ has_key_at (names_of path.now) key.now resolution.now }
+    ensures whole { IfSome result
+        (λ known. names_of known.now.items ≡ whole_path (names_of path.now) key.now) }
 {
-    is_among(resolution.known_paths(), path, key)
+    for known in resolution.known_paths() {
+        if is_path_to(known, path, key) {
+            return Some(known);
+        }
+    }
+    None
 }
 
-fn is_among(known: &BTreeSet<KeyPath<'_>>, path: &[&str], key: &str) -> bool
-    ensures { let whole = whole_path (names_of path.now) key.now in
-        result ≡ list_any (λ p. key_path_eq whole (names_of p.items)) known.now.keys }
+/// Whether a resolution has a path that it or another has.
+pub(crate) fn has_known_path<'c>(resolution: &Resolution<'c>, known: &KeyPath<'c>) -> bool
+    ensures { result ≡ has_key_path (names_of known.now.items) resolution.now }
 {
-    known.iter().any(|known| is_path_to(known, path, key))
+    resolution.known_paths().contains(known)
 }
 
 fn is_path_to(known: &[&str], path: &[&str], key: &str) -> bool

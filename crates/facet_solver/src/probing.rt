@@ -1,12 +1,14 @@
 //! A solver that goes by key paths alone: it narrows resolutions by the nested keys of a document,
 //! and records none.
-ghost use Rattle.std.specs.Prelude.{◌≡◌, IfOk};
+ghost use Rattle.std.specs.Prelude.{◌≡◌, [], IfOk, IfSome, filter};
+ghost use Rattle.std.specs.Option.{IfNone};
 ghost use Rattle.facet_solver_shape.specs.Names.{names_of};
+ghost use Rattle.facet_solver.specs.KeyPath.{has_key_path, whole_path};
 ghost use Rattle.facet_solver.specs.Probing.{probe_key, probe_result, probe_result_view, resolutions_of};
 
-use crate::key_path::has_key_at;
+use crate::key_path::{has_known_path, known_path};
 use crate::schema::Schema;
-use facet_solver_shape::Resolution;
+use facet_solver_shape::{KeyPath, Resolution};
 use std::alloc::{AllocError, Global};
 use std::fmt;
 use std::marker::Model;
@@ -36,6 +38,7 @@ impl<'s, 'c> Model for ProbingSolver<'s, 'c> {
     ghost use Rattle.std.specs.Coded.{coded_list};
     ghost use Rattle.facet_solver_shape.specs.Resolved.{Resolved};
     ghost use Rattle.facet_solver_shape.specs.ResolvedCode.{resolved_code};
+    ghost use Rattle.facet_solver.specs.KeyPath.{has_key_path, whole_path};
     ghost use Rattle.facet_solver.specs.Probing.{resolutions_of};
 
     ghost Value = { List Resolved };
@@ -104,7 +107,47 @@ fn retain_with_key<'s, 'c>(resolutions: &mut Vec<&'s Resolution<'c>>, path: &[&s
     ensures { resolutions_of resolutions.new.items
         ≡ probe_key (names_of path.now) key.now (resolutions_of resolutions.old.items) }
 {
-    resolutions.retain(|resolution| has_key_at(resolution, path, key));
+    match first_known_path(resolutions, path, key) {
+        Some(known) => retain_with_path(resolutions, known),
+        None => resolutions.clear(),
+    }
+}
+
+/// The whole path of a key that stands at a path, as the first resolution has it that does.
+fn first_known_path<'s, 'c>(
+    resolutions: &[&'s Resolution<'c>],
+    path: &[&str],
+    key: &str,
+) -> Option<&'s KeyPath<'c>>
+    ensures none { IfNone result
+        (probe_key (names_of path.now) key.now (resolutions_of resolutions.now) ≡ []) }
+    ensures whole { IfSome result
+        (λ known. names_of known.now.items ≡ whole_path (names_of path.now) key.now) }
+{
+    for resolution in resolutions {
+        if let Some(known) = known_path(resolution, path, key) {
+            return Some(known);
+        }
+    }
+    None
+}
+
+/// Only the resolutions stay that have a path, in their order.
+///
+/// The checker has no rule for a closure of `retain` that looks up the path.
+fn retain_with_path<'s, 'c>(resolutions: &mut Vec<&'s Resolution<'c>>, known: &KeyPath<'c>)
+    ensures { resolutions_of resolutions.new.items
+        ≡ filter (has_key_path (names_of known.now.items)) (resolutions_of resolutions.old.items) }
+{
+    let mut kept = 0;
+    for index in 0..resolutions.len() {
+        let resolution = resolutions[index];
+        if has_known_path(resolution, known) {
+            resolutions[kept] = resolution;
+            kept += 1;
+        }
+    }
+    resolutions.truncate(kept);
 }
 
 /// Printed as a derived impl would. The derive gets no proof where references lie in a vector, so

@@ -1,8 +1,8 @@
 //! Where a path of names ends in resolutions.
 ghost use Rattle.std.specs.Prelude.{◌≡◌};
-ghost use Rattle.std.specs.Option.{option_and_then, option_copied};
+ghost use Rattle.std.specs.Option.{option_and_then, option_copied, option_map};
 ghost use Rattle.facet_solver_shape.specs.Names.{names_of};
-ghost use Rattle.facet_solver.specs.solver.Probe.{below_first, field_on_path, first_field};
+ghost use Rattle.facet_solver.specs.solver.Probe.{below_first, field_on_path_at, first_field};
 ghost use Rattle.facet_solver.specs.solver.ShapeAtPath.{shape_at, shape_at_path, shape_below};
 
 use crate::solver::shape_at_path::shape_below;
@@ -48,6 +48,24 @@ impl<'k, 'p, 'n> PathEnds<'k, 'p, 'n> {
         ensures path { self.new.path ≡ self.old.path }
     {
         self.shape_at_path(resolutions.get(index)?)
+    }
+
+    /// Where the resolution at an index has a shape at the path: the field of the first name, with
+    /// that shape.
+    pub(crate) fn field_at<'s, 'c>(
+        &mut self,
+        resolutions: &'s [Resolution<'c>],
+        index: usize,
+    ) -> Option<(&'s FieldInfo<'c>, ShapeId)>
+        ensures field { option_map (λ e. (e.0.now, e.1)) result
+            ≡ field_on_path_at self.old.catalogue.now (names_of self.old.path.now)
+            resolutions.now index }
+        ensures catalogue { self.new.catalogue ≡ self.old.catalogue }
+        ensures path { self.new.path ≡ self.old.path }
+    {
+        let field = first_field(self.path, resolutions.get(index)?)?;
+        let shape = self.end_from(field.value_shape)?;
+        Some((field, shape))
     }
 
     /// The shape of a resolution at the path.

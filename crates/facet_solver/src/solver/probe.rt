@@ -6,10 +6,10 @@ ghost use Rattle.facet_solver.specs.solver.Probe as probe;
 ghost use Rattle.facet_solver.specs.solver.Probe.{key_path_result};
 
 use crate::schema::handle::ResolutionHandle;
-use crate::set::Matches;
+use crate::set::{Matches, Never};
 use crate::solver::Solver;
 use crate::solver::key_result::KeyResult;
-use crate::solver::path_search::PathSearch;
+use crate::solver::path_search::{PathSearch, first_known_path};
 use std::alloc::{AllocError, Global};
 
 impl<'s, 'c> Solver<'s, 'c, '_> {
@@ -37,13 +37,17 @@ impl<'s, 'c> Solver<'s, 'c, '_> {
         ensures err { OnErr result (self.new ≡ self.old) }
     {
         let schema = self.schema;
-        let search = PathSearch { path, key };
-        let answer = match self.matching(search) {
+        let Some(path) = first_known_path(schema, &self.candidates, path, key) else {
+            self.candidates.retain(&Never);
+            return Ok(KeyResult::Unknown);
+        };
+        let search = PathSearch { schema, path };
+        let answer = match self.candidates.matching(&search) {
             Matches::None => KeyResult::Unknown,
             Matches::One(index) => KeyResult::Solved(ResolutionHandle::new(schema, index)),
-            Matches::Several => search.by_shapes(alloc, schema, &self.candidates)?,
+            Matches::Several => search.by_shapes(alloc, &self.candidates)?,
         };
-        self.retain(search);
+        self.candidates.retain(&search);
         Ok(answer)
     }
 }
