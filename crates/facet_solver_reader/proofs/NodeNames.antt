@@ -154,6 +154,33 @@ module _ (es : Named) (x : Name) where
         | inr high ↦ false≢true (sym (ap is_eq (parts.1 k d high within)) ∙ tie)
       ]
 
+-- ---- what a walk finds
+
+module _ (es : Named) (x : Name) where
+  -- the name at an index is the one that is sought
+  pub found_here : (i : ℕ) (d : Item) → i < length es → bytes_eq (get_or es i d).0.now x ≡ true
+      → Contains (entries es) (x, (get_or es i d).1)
+  found_here i d within tie =
+      let same = (bytes_eq-Decides (get_or es i d).0.now x).0 tie in
+      contains_at (entries es) i (x, (get_or es i d).1)
+      (entry_at es i d within ∙ ap (λ n. Some (n, (get_or es i d).1)) same)
+
+  -- the names below an index are others
+  abbrev pub NoneBelow : ℕ → Type 0
+  NoneBelow n = (k : ℕ) (d : Item) → k < n → bytes_eq (get_or es k d).0.now x ≡ false
+
+  -- none where all are others
+  pub none_here : NoneBelow (length es) → (n : ℕ) → ¬ Contains (entries es) (x, n)
+  none_here others n held =
+      let k = held.0 in
+      let entry : Item → Name × ℕ = λ e. (e.0.now, e.1) in
+      let within : k < length es = omega (arith, held.1, length-map es entry) in
+      let d : Item = (record { ref_ptr = (0, 0); now = [] }, 0) in
+      let same : (get_or es k d).0.now ≡ x =
+      (some_pair_parts (get_or es k d).0.now x (get_or es k d).1 n
+      (sym (entry_at es k d within) ∙ at_contained (entries es) (x, n) held)).0 in
+      false≢true (sym (others k d within) ∙ (bytes_eq-Decides (get_or es k d).0.now x).1 same)
+
 -- ---- the least name that stands twice
 
 neither_less : (o p : Ordering) → o ≡ ordering_reverse p → is_lt o ≡ false → is_lt p ≡ false → is_eq o ≡ true

@@ -5,6 +5,9 @@ ghost use Rattle.facet_solver_shape.specs.Names.{name_ref_cmp, names_of};
 ghost use Rattle.facet_solver_reader.specs.Places.{IsLeastRepeated};
 ghost use Rattle.facet_solver_reader.specs.Nodes.{AreByName, entries, names_among};
 
+/// So many names are gone through faster than they are halved.
+const FEW_NAMES: usize = 8;
+
 /// The name of a member, and the number of its value.
 pub(super) type NamedNode<'d> = (&'d str, usize);
 
@@ -61,8 +64,36 @@ fn repeated_name<'d>(named: &[NamedNode<'d>]) -> Option<&'d str>
     None
 }
 
-/// The number that stands with a name, by halving.
+/// The number that stands with a name. Few names are gone through, since that is faster.
 pub(super) fn find_by_name(named: &[NamedNode<'_>], name: &str) -> Option<usize>
+    requires { AreByName named.now }
+    ensures { MatchOption result
+        ((number : ℕ) → ¬ Contains (entries named.now) (name.now, number))
+        (λ number. Contains (entries named.now) (name.now, number)) }
+{
+    if named.len() <= FEW_NAMES {
+        find_by_walk(named, name)
+    } else {
+        find_by_halving(named, name)
+    }
+}
+
+/// The number that stands with a name, by going through all of them.
+fn find_by_walk(named: &[NamedNode<'_>], name: &str) -> Option<usize>
+    ensures { MatchOption result
+        ((number : ℕ) → ¬ Contains (entries named.now) (name.now, number))
+        (λ number. Contains (entries named.now) (name.now, number)) }
+{
+    for member in named {
+        if member.0 == name {
+            return Some(member.1);
+        }
+    }
+    None
+}
+
+/// The number that stands with a name, by halving.
+fn find_by_halving(named: &[NamedNode<'_>], name: &str) -> Option<usize>
     requires { AreByName named.now }
     ensures { MatchOption result
         ((number : ℕ) → ¬ Contains (entries named.now) (name.now, number))

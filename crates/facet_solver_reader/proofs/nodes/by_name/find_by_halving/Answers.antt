@@ -2,7 +2,7 @@ use Rattle.std.proofs.Common.{ℕ, Bor, rules}
 use Rattle.std.proofs.lemmas.Fn.{always_returns_same}
 use Rattle.facet_solver_shape.specs.Names.{Name}
 use Rattle.facet_solver_reader.proofs.NodeNames.{found_at, none_found}
-use Rattle.facet_solver_reader.proofs.nodes.by_name.find_by_name.Goals as goal
+use Rattle.facet_solver_reader.proofs.nodes.by_name.find_by_halving.Goals as goal
 
 -- one that is found
 pub returns-in-Ok : goal.returns-in-Ok
