@@ -5,11 +5,11 @@ use Rattle.facet_solver_shape.proofs.Lists.{list_any-map}
 use Rattle.facet_solver_shape.proofs.RepeatedNames.{found_by_halving}
 use Rattle.facet_solver_reader.proofs.tables.List.has_name.Goals as goal
 
-pub returns : goal.returns
-returns c =
+pub returns-else-len-le-FEW_NAMES : goal.returns-else-len-le-FEW_NAMES
+returns-else-len-le-FEW_NAMES c =
     let x = c.args.name.now in
-    let names = c.deref.result.now in
-    let same = c.deref.ensures.value in
+    let names = c.deref-else-len-le-FEW_NAMES.result.now in
+    let same = c.deref-else-len-le-FEW_NAMES.ensures.value in
     let sorted = subst (IsSorted name_ref_cmp) (sym same) c.requires in
     c.is_ok.ensures.value
     ∙ found_by_halving names x c.binary_search.result sorted c.binary_search.ensures.bound
