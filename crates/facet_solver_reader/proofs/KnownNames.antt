@@ -22,7 +22,7 @@ use Rattle.facet_solver_reader.specs.Views.{list_view}
 use Rattle.facet_solver_reader.proofs.CountingObjects.{both, itself, known_by_list, none_of_each}
 use Rattle.facet_solver_reader.proofs.CountingObjects.{not_both, other}
 use Rattle.facet_solver_reader.proofs.Knowledge.{known_in_some}
-use Rattle.facet_solver_reader.proofs.Named.{Has-at, Has-not_missing}
+use Rattle.facet_solver_reader.proofs.Named.{Has-at, Has-not_missing, has_named}
 use Rattle.facet_solver_reader.proofs.Quantifiers.{any_at}
 
 module _ (test : Name → Bool) (names : List (Bor Name)) where
@@ -98,6 +98,31 @@ module _ (t : Tables) (tables : AreTables t) where
           ((known_iff id l of k.name).1 k.known),
     )
 
+    -- and where it has the name of one of the object's members
+    pub knows_some : (b : Bool) → b ≡ list_any (λ (m : Member). knows l (named m.name)) ms
+        → IsTrue b ↔ KnowsMember (rules_at t) ms id
+    knows_some b e = (
+      λ p.
+          let a = Any-from_list_any test ms (sym e ∙ p) in
+          record {
+            name = a.1.name;
+            has = (has_named ms a.1.name).1 (a.0, a.1, a.2, a.3, refl);
+            known = (known_iff id l of a.1.name).0 a.4;
+          },
+      λ k.
+          let a = (has_named ms k.name).0 k.has in
+          e ∙ list_any-from_Any test ms (
+            a.0,
+            a.1,
+            a.2,
+            a.3,
+            subst (λ x. knows l (named x) ≡ true) (sym a.4) ((known_iff id l of k.name).1 k.known),
+          ),
+    )
+      where
+        test : Member → Bool
+        test m = knows l (named m.name)
+
     -- the same of a member that another list does not know
     pub knows_other : (o : ListEntry) → IsListed t o → (b : Bool)
         → b
@@ -125,6 +150,44 @@ module _ (t : Tables) (tables : AreTables t) where
       where
         test : Name → Bool
         test x = not (knows o (named x)) && has_name ms x
+
+        at : (x : Name) → IsTrue (knows o (named x))
+            ↔ IsKnown (Chooses (rules_at t).lists (list_view o.id)) (named x)
+        at x = known_iff (list_view o.id) o (itself t tables o listed) x
+
+    -- and where it has the name of one of them that the other lacks
+    pub knows_some_other : (o : ListEntry) → IsListed t o → (b : Bool)
+        → b
+        ≡ list_any (λ (m : Member). knows l (named m.name) && not (knows o (named m.name))) ms
+        → IsTrue b ↔ KnowsOther (rules_at t) ms id (list_view o.id)
+    knows_some_other o listed b e = (
+      λ p.
+          let a = Any-from_list_any test ms (sym e ∙ p) in
+          let x = a.1.name in
+          let two = (both (knows l (named x)) (not (knows o (named x)))).0 a.4 in
+          record {
+            name = x;
+            has = (has_named ms x).1 (a.0, a.1, a.2, a.3, refl);
+            known = (known_iff id l of x).0 two.0;
+            unknown = λ k. not_both (knows o (named x)) two.1 ((at x).1 k);
+          },
+      λ k.
+          let a = (has_named ms k.name).0 k.has in
+          e ∙ list_any-from_Any test ms (
+            a.0,
+            a.1,
+            a.2,
+            a.3,
+            subst (λ x. (knows l (named x) && not (knows o (named x))) ≡ true) (sym a.4)
+                ((both (knows l (named k.name)) (not (knows o (named k.name)))).1 (
+                  (known_iff id l of k.name).1 k.known,
+                  other (knows o (named k.name)) (λ p. k.unknown ((at k.name).0 p)),
+                )),
+          ),
+    )
+      where
+        test : Member → Bool
+        test m = knows l (named m.name) && not (knows o (named m.name))
 
         at : (x : Name) → IsTrue (knows o (named x))
             ↔ IsKnown (Chooses (rules_at t).lists (list_view o.id)) (named x)

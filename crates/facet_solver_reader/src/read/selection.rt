@@ -12,8 +12,10 @@ ghost use Rattle.facet_solver_reader.specs.Readings.{ReadsValue};
 ghost use Rattle.facet_solver_reader.specs.Tables.{AreTables, BranchIsBefore, ListIsServed, PartIsBefore, knows, rules_at};
 ghost use Rattle.facet_solver_reader.specs.Views.{list_view, selection_view};
 
+use super::members::members_of;
 use super::object::Object;
 use crate::count::Count;
+use crate::document::Document;
 use crate::nodes::Nodes;
 use crate::part::{ListId, Selection};
 use crate::tables::{List, Tables};
@@ -153,8 +155,9 @@ pub(crate) fn fits(
     list.takes_rest || !touches_rest(tables, object, selection)
 }
 
-/// Whether a choice of a branch has a member that an object has. Its names are looked up among the
-/// object's, so that all selections of a list cost no more than the names of its choices.
+/// Whether a choice of a branch has a member that an object has. Of the branch's names and the
+/// object's members the fewer are looked up among the others, so that all selections of a list cost
+/// no more than the names of its choices.
 fn knows_member(tables: &Tables<'_>, nodes: &Nodes<'_, '_>, node: usize, branch: ListId) -> bool
     requires tables { AreTables tables.now }
     requires numbering { IsNumbering nodes.now }
@@ -164,9 +167,24 @@ fn knows_member(tables: &Tables<'_>, nodes: &Nodes<'_, '_>, node: usize, branch:
         (members_in (value_of nodes.now node)) (list_view branch) }
 {
     match tables.list(branch) {
-        Some(known) => has_any(nodes, node, &known.names),
+        Some(known) => {
+            let members = members_of(nodes.value(node));
+            if members.len() < known.names.len() {
+                some_is_known(members, known)
+            } else {
+                has_any(nodes, node, &known.names)
+            }
+        }
         None => false,
     }
+}
+
+/// Whether a list has the name of one of some members.
+fn some_is_known(members: &[(&str, Document<'_>)], list: &List<'_>) -> bool
+    requires { IsSorted name_ref_cmp list.now.names.items }
+    ensures { result ≡ list_any (λ m. knows list.now (named m.0.now)) members.now }
+{
+    members.iter().any(|member| list.has_name(member.0))
 }
 
 /// Whether an object has a member of one of some names.
@@ -196,9 +214,26 @@ fn knows_other(
         (members_in (value_of nodes.now node)) (list_view branch) (list_view other.now.id) }
 {
     match tables.list(branch) {
-        Some(known) => has_any_but(nodes, node, &known.names, other),
+        Some(known) => {
+            let members = members_of(nodes.value(node));
+            if members.len() < known.names.len() {
+                some_is_other(members, known, other)
+            } else {
+                has_any_but(nodes, node, &known.names, other)
+            }
+        }
         None => false,
     }
+}
+
+/// Whether a list has the name of one of some members that another list lacks.
+fn some_is_other(members: &[(&str, Document<'_>)], list: &List<'_>, other: &List<'_>) -> bool
+    requires sorted { IsSorted name_ref_cmp list.now.names.items }
+    requires other_sorted { IsSorted name_ref_cmp other.now.names.items }
+    ensures { result ≡ list_any (λ m. knows list.now (named m.0.now)
+        && not (knows other.now (named m.0.now))) members.now }
+{
+    members.iter().any(|member| list.has_name(member.0) && !other.has_name(member.0))
 }
 
 /// Whether an object has a member of one of some names that a list lacks.

@@ -1,15 +1,35 @@
-use Rattle.std.proofs.Common.{◌≡◌, ◌∙◌, ap, true, false}
+use Rattle.std.proofs.Common.{◌≡◌, ◌∙◌, ap, sym, true, false}
 use Rattle.std.specs.Borrow.{Bor}
 use Rattle.std.specs.List.{list_any}
 use Rattle.facet_solver_shape.specs.Names.{Name}
+use Rattle.facet_solver_shape.proofs.Lists.{list_any-map}
+use Rattle.facet_solver_reader.specs.Documents.{Member}
+use Rattle.facet_solver_reader.specs.Known.{named}
 use Rattle.facet_solver_reader.specs.Nodes.{members_in, value_of}
 use Rattle.facet_solver_reader.specs.Objects.{has_name}
+use Rattle.facet_solver_reader.specs.Reading.{member_view}
+use Rattle.facet_solver_reader.specs.Tables.{knows}
 use Rattle.facet_solver_reader.specs.Views.{list_view}
-use Rattle.facet_solver_reader.proofs.KnownNames.{knows_member}
+use Rattle.facet_solver_reader.proofs.KnownNames.{knows_member, knows_some}
 use Rattle.facet_solver_reader.proofs.read.selection.knows_member.Goals as goal
 
-pub returns-in-Some : goal.returns-in-Some
-returns-in-Some c =
+pub some_is_known-requires : goal.some_is_known-requires
+some_is_known-requires c =
+    let of = c.in-Some.ensures in
+    (c.requires.tables.lists of.index c.in-Some.known.now of.listed).sorted
+
+pub returns-then-members-len : goal.returns-then-members-len
+returns-then-members-len c =
+    let known = c.in-Some.known.now in
+    let test = λ (m : Member). knows known (named m.name) in
+    knows_some c.args.tables.now c.requires.tables (members_in (value_of c.args.nodes.now c.args.node))
+    (list_view c.args.branch) known c.in-Some.ensures c.some_is_known.result
+    (c.some_is_known.ensures
+    ∙ (sym (list_any-map test member_view c.members_of-members.result.now)
+    ∙ ap (list_any test) (c.members_of-members.ensures ∙ ap members_in c.value.ensures)))
+
+pub returns-else-members-len : goal.returns-else-members-len
+returns-else-members-len c =
     let ms = members_in (value_of c.args.nodes.now c.args.node) in
     knows_member c.args.tables.now c.requires.tables ms (list_view c.args.branch)
     c.in-Some.known.now c.in-Some.ensures c.has_any.result
