@@ -1,18 +1,27 @@
 -- The names of members that no choice of a list has.
-use Rattle.std.proofs.Common.{◌≡◌, ◌∷◌, ◌++◌, [], Bool, List, ap, false, if◌then◌else◌, refl}
-use Rattle.std.proofs.Common.{sym, true, ◌∙◌, ℕ, ◌+◌, ◌<◌, take, map, length, get_or, arith}
+use Rattle.std.proofs.Common.{◌≡◌, ◌↔◌, ◌∷◌, ◌++◌, [], Bool, List, ap, false, if◌then◌else◌, refl}
+use Rattle.std.proofs.Common.{sym, true, ◌∙◌, ℕ, ◌+◌, ◌<◌, take, map, length, get_or, arith, not, ◌||◌}
+use Rattle.std.proofs.lemmas.Bool.Decides.{same_from_decides}
 use Rattle.std.proofs.lemmas.List.{append-nil, length-map, take_more}
 use Rattle.std.proofs.lemmas.Option.{get_or_from_slice_get}
 use Rattle.facet_solver_shape.specs.Names.{Name}
+use Rattle.std.specs.List.{All}
+use Rattle.facet_solver_reader.specs.declared.nodes.Nodes.{Nodes}
+use Rattle.facet_solver_reader.specs.declared.read.object.Object as code
 use Rattle.facet_solver_reader.specs.declared.tables.List.{List as ListEntry}
 use Rattle.facet_solver_reader.specs.declared.tables.Tables.{Tables}
 use Rattle.facet_solver_reader.specs.Documents.{Member}
-use Rattle.facet_solver_reader.specs.Known.{named}
+use Rattle.facet_solver_reader.specs.Known.{Chooses, IsKnown, named}
+use Rattle.facet_solver_reader.specs.Nodes.{members_in, value_of}
 use Rattle.facet_solver_reader.specs.Parts.{ListId}
-use Rattle.facet_solver_reader.specs.Tables.{AreTables, IsListOf, knows, rules_at}
+use Rattle.facet_solver_reader.specs.Reading.{IsListed, IsObject, object_view}
+use Rattle.facet_solver_reader.specs.Tables.{AreTables, IsListOf, has_unknown, knows, rules_at}
 use Rattle.facet_solver_reader.specs.Told.{AreUnknown, a_known, an_unknown, no_member}
 use Rattle.facet_solver_reader.specs.ToldObjects.{unknown_names}
-use Rattle.facet_solver_reader.proofs.CountingObjects.{known_by_list, seen_read}
+use Rattle.facet_solver_reader.specs.Views.{list_view}
+use Rattle.facet_solver_reader.proofs.CountingObjects.{itself, known_by_list, seen_read}
+use Rattle.facet_solver_reader.proofs.CountingObjects.{unknown_by_list}
+use Rattle.facet_solver_reader.proofs.Named.{Has-at}
 
 -- the names of more members come behind
 pub unknown_names-append : (l : ListEntry) (ms ns : List Member)
@@ -26,6 +35,18 @@ unknown_names-append l (m ∷ ms) ns =
         ≡ (if b then unknown_names l ms else m.name ∷ unknown_names l ms) ++ unknown_names l ns
     at e true = e
     at e false = ap (λ xs. m.name ∷ xs) e
+
+-- there are none, where the list has each name
+pub unknown_names-none : (l : ListEntry) (ms : List Member) → has_unknown l ms ≡ false
+    → unknown_names l ms ≡ []
+unknown_names-none l [] e = refl
+unknown_names-none l (m ∷ ms) e = at (unknown_names-none l ms) (knows l (named m.name)) e
+  where
+    at : (has_unknown l ms ≡ false → unknown_names l ms ≡ []) → (b : Bool)
+        → (not b || has_unknown l ms) ≡ false
+        → (if b then unknown_names l ms else m.name ∷ unknown_names l ms) ≡ []
+    at rest true none = rest none
+    at rest false none = absurd (cc)
 
 module _ {X : Type 0} (see : X → Member) (xs : List X) (l : ListEntry) (i : ℕ) (x : X)
     (within : i < length xs) (is : x ≡ get_or xs i x) where
@@ -77,3 +98,43 @@ are_unknown t tables id l h (m ∷ ms) =
         an_unknown m ms (unknown_names l ms)
         (λ k. let is : false ≡ true = (known_by_list t tables id l h (named m.name) false e).1 k in
         absurd (cc)) u
+
+module _ (t : Tables) (tables : AreTables t) (nodes : Nodes) (o : code.Object)
+    (h : IsObject t nodes o) where
+  listed : IsListed t o.list.now
+  listed = record { index = h.index; listed = h.listed }
+
+  -- whether an object has members of no known name, as the entry of its list tells
+  pub unknown_told : o.has_unknown ≡ has_unknown o.list.now (members_in (value_of nodes o.node))
+  unknown_told =
+      same_from_decides o.has_unknown
+      (has_unknown o.list.now (members_in (value_of nodes o.node))) h.unknown
+      (unknown_by_list t tables o.list.now listed (object_view nodes o)
+      (has_unknown o.list.now (members_in (value_of nodes o.node))) refl refl)
+
+  -- where it has none, each name of it is known
+  pub all_known : o.has_unknown ≡ false
+      → All
+      (λ (m : Member). IsKnown (Chooses (rules_at t).lists (list_view o.list.now.id)) (named m.name))
+      (members_in (value_of nodes o.node))
+  all_known none k d within = go (knows o.list.now (named x)) refl
+    where
+      x : Name
+      x = (get_or (members_in (value_of nodes o.node)) k d).name
+
+      at : (b : Bool) → b ≡ knows o.list.now (named x) → (b ≡ true)
+          ↔ IsKnown (Chooses (rules_at t).lists (list_view o.list.now.id)) (named x)
+      at b e =
+          known_by_list t tables (list_view o.list.now.id) o.list.now (itself t tables o.list.now listed)
+          (named x) b e
+
+      go : (b : Bool) → b ≡ knows o.list.now (named x)
+          → IsKnown (Chooses (rules_at t).lists (list_view o.list.now.id)) (named x)
+      go true e = (at true e).0 refl
+      go false e =
+          let has : o.has_unknown ≡ true = h.unknown.1 (record {
+            name = x;
+            has = Has-at (members_in (value_of nodes o.node)) k d within;
+            unknown = λ known. let q : false ≡ true = (at false e).1 known in absurd (cc);
+          }) in
+          absurd (cc)

@@ -11,7 +11,7 @@ ghost use Rattle.facet_solver_reader.specs.Objects.{Takes};
 ghost use Rattle.facet_solver_reader.specs.Parts.{a_catch_all, a_member};
 ghost use Rattle.facet_solver_reader.specs.Reading.{AreSound, IsObject, IsPartCount};
 ghost use Rattle.facet_solver_reader.specs.Readings.{ReadsValue};
-ghost use Rattle.facet_solver_reader.specs.Tables.{PartIsServed, rules_at};
+ghost use Rattle.facet_solver_reader.specs.Tables.{PartIsServed, has_unknown, rules_at};
 ghost use Rattle.facet_solver_reader.specs.Told.{texts};
 ghost use Rattle.facet_solver_reader.specs.ToldObjects.{AreOnlyMembers, AreToldFields, IsToldField, IsToldRest, IsToldTaken, unknown_names};
 ghost use Rattle.facet_solver_reader.specs.Views.{catch_all_view, member_view};
@@ -45,7 +45,7 @@ pub(super) fn read_fields<'c, 'v, 'd>(
     ensures told { IfOk result (λ values. AreToldFields tables.now nodes.now object.now
         (found.members_in (map step_view steps.now)) values.items) }
 {
-    let mut values = Vec::new(tables.alloc);
+    let mut values = Vec::with_capacity(tables.alloc, steps.len())?;
     for step in steps {
         if let Step::Field(_, member) = step {
             let reading = read_field(tables, nodes, memo, object, member)?;
@@ -97,6 +97,9 @@ pub(super) fn read_rest<'c, 'v, 'd>(
     ensures told { IfOk result (λ rest. IsToldRest tables.now nodes.now object.now
         (catch_all_view catch_all.now) rest) }
 {
+    if !object.has_unknown {
+        return Ok((Vec::new(tables.alloc), Vec::new(tables.alloc)));
+    }
     let Document::Object(members) = nodes.value(object.node) else {
         return Ok((Vec::new(tables.alloc), Vec::new(tables.alloc)));
     };
@@ -149,10 +152,15 @@ pub(super) fn ignored_names<'d>(
 ) -> Result<Vec<&'d str>, AllocError>
     requires inside { object.now.node < count nodes.now }
     requires sorted { IsSorted name_ref_cmp object.now.list.now.names.items }
+    requires unknown { object.now.has_unknown ≡ has_unknown object.now.list.now
+        (members_in (value_of nodes.now object.now.node)) }
     ensures { IfOk result (λ names. texts names.items ≡ unknown_names object.now.list.now
         (members_in (value_of nodes.now object.now.node))) }
 {
     let mut names = Vec::new(alloc);
+    if !object.has_unknown {
+        return Ok(names);
+    }
     for member in members_of(nodes.value(object.node)) {
         if !object.list.has_name(member.0) {
             names.push(member.0)?;
