@@ -2,7 +2,7 @@
 use Rattle.std.proofs.Common.{◌≡◌, ◌⊎◌, ◌↔◌, ◌∙◌, inl, inr, sym, ap, subst, ⊎_elim, refl, ℕ}
 use Rattle.std.proofs.Common.{List, Bool, true, false, not, ◌&&◌, IsTrue, Option, Some, None}
 use Rattle.std.proofs.Common.{bytes_eq, get_or, slice_get}
-use Rattle.std.proofs.lemmas.List.Folds.{Any-from_list_any, list_any-from_Any}
+use Rattle.std.proofs.lemmas.List.Folds.{Any-from_list_any, list_any-from_Any, list_any_at}
 use Rattle.std.proofs.lemmas.Slice.Eq.{bytes_eq-Decides}
 use Rattle.std.specs.Borrow.{Bor}
 use Rattle.std.specs.List.{All, list_any}
@@ -17,7 +17,7 @@ use Rattle.facet_solver_reader.specs.Objects.{HasNamed, Object, Touches, find, h
 use Rattle.facet_solver_reader.specs.Parts.{ListId, Selection}
 use Rattle.facet_solver_reader.specs.Reading.{IsListed}
 use Rattle.facet_solver_reader.specs.Rules.{Rules}
-use Rattle.facet_solver_reader.specs.Tables.{AreTables, IsListOf, knows, rules_at}
+use Rattle.facet_solver_reader.specs.Tables.{AreTables, IsListOf, has_unknown, knows, rules_at}
 use Rattle.facet_solver_reader.specs.Views.{list_view}
 use Rattle.facet_solver_reader.proofs.CountingObjects.{both, itself, known_by_list, none_of_each}
 use Rattle.facet_solver_reader.proofs.CountingObjects.{not_both, other}
@@ -79,6 +79,23 @@ module _ (t : Tables) (tables : AreTables t) where
           ⊎ (IsKnown (Chooses (rules_at t).lists (list_view l.id)) (named x) → ⊥)
       go true e = inl (at.0 e)
       go false e = inr (λ k. let p : knows l (named x) ≡ true = at.1 k in absurd (cc))
+
+  -- a list knows each member where it lacks no name of them
+  pub known_each : (ms : List Member) (l : ListEntry) → IsListed t l → has_unknown l ms ≡ false
+      → All
+      (λ (m : Member). IsKnown (Chooses (rules_at t).lists (list_view l.id)) (named m.name)) ms
+  known_each ms l listed none k d within = go (knows l (named x)) refl
+    where
+      x : Name
+      x = (get_or ms k d).name
+
+      go : (b : Bool) → knows l (named x) ≡ b
+          → IsKnown (Chooses (rules_at t).lists (list_view l.id)) (named x)
+      go true e = (known_iff (list_view l.id) l (itself t tables l listed) x).0 e
+      go false e =
+          let some : has_unknown l ms ≡ true =
+          list_any_at (λ (m : Member). not (knows l (named m.name))) ms k d within (ap not e) in
+          absurd (cc)
 
   module _ (ms : List Member) (id : ListId) (l : ListEntry) (of : IsListOf t id l) where
     -- a list knows a member where the object has one of its names

@@ -13,7 +13,7 @@ ghost use Rattle.facet_solver_reader.specs.Tables.{AreTables, BranchIsBefore, Li
 ghost use Rattle.facet_solver_reader.specs.Views.{list_view, selection_view};
 
 use super::members::members_of;
-use super::object::Object;
+use super::object::{Object, has_unknown};
 use crate::count::Count;
 use crate::document::Document;
 use crate::nodes::Nodes;
@@ -147,12 +147,43 @@ pub(crate) fn fits(
     ensures no { result ≡ false → Misfits (rules_at tables.now) (object_view nodes.now object.now)
         (selection_view selection.now) (list_view list.now.id) }
 {
-    for branch in &selection.branches {
-        if knows_other(tables, nodes, object.node, *branch, list) {
-            return false;
-        }
+    if has_other(tables, nodes, object, selection, list) {
+        return false;
     }
     list.takes_rest || !touches_rest(tables, object, selection)
+}
+
+/// Whether an object has a member that a branch of a selection knows and a list lacks.
+fn has_other(
+    tables: &Tables<'_>,
+    nodes: &Nodes<'_, '_>,
+    object: &Object<'_, '_>,
+    selection: &Selection,
+    list: &List<'_>,
+) -> bool
+    requires tables { AreTables tables.now }
+    requires numbering { IsNumbering nodes.now }
+    requires object { IsObject tables.now nodes.now object.now }
+    requires served { All (ListIsServed tables.now) (selection_view selection.now).branches }
+    requires listed { IsListed tables.now list.now }
+    ensures yes { IsTrue result → Misfits (rules_at tables.now) (object_view nodes.now object.now)
+        (selection_view selection.now) (list_view list.now.id) }
+    ensures no { result ≡ false → All (λ m. IsKnownIn (rules_at tables.now).lists
+        (selection_view selection.now) (named m.name)
+        → IsKnown (Chooses (rules_at tables.now).lists (list_view list.now.id)) (named m.name))
+        (members_in (value_of nodes.now object.now.node)) }
+{
+    // Where the list has all of few members, no names of the branches are gone through.
+    let members = members_of(nodes.value(object.node));
+    if members.len() <= list.names.len() && !has_unknown(nodes, object.node, list) {
+        return false;
+    }
+    for branch in &selection.branches {
+        if knows_other(tables, nodes, object.node, *branch, list) {
+            return true;
+        }
+    }
+    false
 }
 
 /// Whether a choice of a branch has a member that an object has. Of the branch's names and the
