@@ -1,6 +1,7 @@
 //! What the only reading of an object goes through.
-ghost use Rattle.std.specs.Prelude.{◌≡◌, ◌++◌, ◌∷◌, [], IfOk, OnOk, length};
+ghost use Rattle.std.specs.Prelude.{◌≡◌, ◌+◌, ◌<◌, ◌^◌, ◌++◌, ◌∷◌, [], IfOk, OnOk, length};
 ghost use Rattle.facet_solver_reader.specs.declared.count.Count.TheVariants.{One};
+ghost use Rattle.facet_solver_reader.specs.FieldPlaces.{path_at};
 ghost use Rattle.facet_solver_reader.specs.Known.{Chooses, HasChoice};
 ghost use Rattle.facet_solver_reader.specs.Nodes.{IsNumbering};
 ghost use Rattle.facet_solver_reader.specs.Planned.{IsPlan};
@@ -81,6 +82,22 @@ pub(super) fn steps_of<'r, 'c>(
     Err(AllocError)
 }
 
+impl<'c> Frame<'_, 'c> {
+    /// The path of the next part.
+    fn path(&self, tables: &Tables<'c>) -> Result<FieldPath<'c>, AllocError>
+        ensures { IfOk result (λ path. path ≡ path_at tables.now.shapes.now self.now.place
+            (list_view self.now.list.now.id) self.now.next) }
+    {
+        path_at(
+            tables.alloc,
+            tables.shapes,
+            &self.place,
+            self.list.id,
+            self.next,
+        )
+    }
+}
+
 impl<'r, 'c> Way<'r, 'c> {
     /// Takes the next part of the innermost list. What it is goes behind the steps, and a list that
     /// is chosen there behind the others.
@@ -90,7 +107,7 @@ impl<'r, 'c> Way<'r, 'c> {
         nodes: &Nodes<'_, '_>,
         object: &Object<'r, 'c>,
         counts: &[Count],
-        mut frame: Frame<'r, 'c>,
+        frame: Frame<'r, 'c>,
     ) -> Result<(), AllocError>
         requires tables { AreTables tables.now }
         requires numbering { IsNumbering nodes.now }
@@ -106,27 +123,42 @@ impl<'r, 'c> Way<'r, 'c> {
         let Some(part) = list.parts.get(frame.next) else {
             return Ok(());
         };
-        let path = path_at(
-            tables.alloc,
-            tables.shapes,
-            &frame.place,
-            list.id,
-            frame.next,
-        )?;
-        let name = field_name(tables.shapes, list.id, frame.next);
-        frame.next += 1;
-        self.frames.push(frame)?;
         match part {
-            Part::Member(member) => self.steps.push(Step::Field(path, member))?,
-            Part::CatchAll(catch_all) => self.steps.push(Step::Rest(catch_all))?,
+            Part::Member(member) => {
+                let path = frame.path(tables)?;
+                self.go_behind(frame)?;
+                self.steps.push(Step::Field(path, member))?;
+            }
+            Part::CatchAll(catch_all) => {
+                self.go_behind(frame)?;
+                self.steps.push(Step::Rest(catch_all))?;
+            }
             Part::Selection(selection) => {
-                if let Some(k) = chosen_branch(tables, nodes, object, selection, counts) {
-                    let branch = &selection.branches[k];
-                    self.enter(tables, &path, name, branch)?;
-                    self.select(path, branch)?;
+                match chosen_branch(tables, nodes, object, selection, counts) {
+                    Some(k) => {
+                        let branch = &selection.branches[k];
+                        let path = frame.path(tables)?;
+                        let name = field_name(tables.shapes, list.id, frame.next);
+                        self.go_behind(frame)?;
+                        self.enter(tables, &path, name, branch)?;
+                        self.select(path, branch)?;
+                    }
+                    None => self.go_behind(frame)?,
                 }
             }
         }
+        Ok(())
+    }
+
+    /// Puts a list behind the others, one part further.
+    fn go_behind(&mut self, mut frame: Frame<'r, 'c>) -> Result<(), AllocError>
+        requires { frame.next + 1 < 2 ^ 64 }
+        ensures frames { OnOk result (self.new.frames.items
+            ≡ self.old.frames.items ++ record frame.entry { next = frame.entry.next + 1 } ∷ []) }
+        ensures steps { self.new.steps.items ≡ self.old.steps.items }
+    {
+        frame.next += 1;
+        self.frames.push(frame)?;
         Ok(())
     }
 

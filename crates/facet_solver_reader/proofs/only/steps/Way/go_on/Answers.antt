@@ -84,11 +84,11 @@ returns-in_ok-push-in-Member c =
     let look = c.in-Some.ensures.lookup in
     let x = taken_at t nodes o c.requires.tables fs f old h c.deref.result.now c.in-Some.part.now
     (code_part.TheVariants.Member m) c.deref.ensures.value look.3.0 look.1 c.in-Member.is in
-    moved t nodes o (fs ++ behind_next f ∷ []) c.push.new.self.items _
-    c.push-in-Member.new.self.items c.in_ok-push.ensures.items
-    c.in_ok-push-in-Member.ensures.items
+    moved t nodes o (fs ++ behind_next f ∷ []) c.go_behind.new.self.frames.items _
+    c.push.new.self.items c.in_ok-go_behind-in-Member.ensures.frames
+    (rw c.in_ok-go_behind-in-Member.ensures.steps at c.in_ok-push-in-Member.ensures.items)
     (member_taken t nodes o fs f (member_view m) old _ h x
-    (ap (λ path. planned.a_field path (member_view m)) c.in_ok-path.ensures)
+    (ap (λ path. planned.a_field path (member_view m)) c.in_ok-path-in-Member.ensures)
     (part_served t nodes o c.requires.tables fs f p h.others x))
 
 pub returns-in_ok-push-in-CatchAll : goal.returns-in_ok-push-in-CatchAll
@@ -105,9 +105,9 @@ returns-in_ok-push-in-CatchAll c =
     let look = c.in-Some.ensures.lookup in
     let x = taken_at t nodes o c.requires.tables fs f old h c.deref.result.now c.in-Some.part.now
     (code_part.TheVariants.CatchAll k) c.deref.ensures.value look.3.0 look.1 c.in-CatchAll.is in
-    moved t nodes o (fs ++ behind_next f ∷ []) c.push.new.self.items _
-    c.push-in-CatchAll.new.self.items c.in_ok-push.ensures.items
-    c.in_ok-push-in-CatchAll.ensures.items
+    moved t nodes o (fs ++ behind_next f ∷ []) c.go_behind-in-CatchAll.new.self.frames.items _
+    c.push-in-CatchAll.new.self.items c.in_ok-go_behind-in-CatchAll.ensures.frames
+    (rw c.in_ok-go_behind-in-CatchAll.ensures.steps at c.in_ok-push-in-CatchAll.ensures.items)
     (catch_all_taken t nodes o fs f (catch_all_view k) old _ h x refl
     (part_served t nodes o c.requires.tables fs f p h.others x))
 
@@ -160,8 +160,8 @@ chosen_branch-requires-clause-one c =
     (code_part.TheVariants.Selection s) c.deref.ensures.value look.3.0 look.1 c.in-Selection.is in
     record { value = x.choice; has = x.only.0; only = x.only.1 }
 
-pub returns-in_default-chosen_branch : goal.returns-in_default-chosen_branch
-returns-in_default-chosen_branch c =
+pub returns-in_ok-go_behind-in-None : goal.returns-in_ok-go_behind-in-None
+returns-in_ok-go_behind-in-None c =
     let t = c.args.tables.now in
     let nodes = c.args.nodes.now in
     let o = c.args.object.now in
@@ -174,9 +174,10 @@ returns-in_default-chosen_branch c =
     let look = c.in-Some.ensures.lookup in
     let x = taken_at t nodes o c.requires.tables fs f old h c.deref.result.now c.in-Some.part.now
     (code_part.TheVariants.Selection s) c.deref.ensures.value look.3.0 look.1 c.in-Selection.is in
-    moved t nodes o (fs ++ behind_next f ∷ []) c.push.new.self.items old old
-    c.in_ok-push.ensures.items refl
-    (absent_taken t nodes o fs f (selection_view s) old h x c.in_default-chosen_branch.ensures)
+    moved t nodes o (fs ++ behind_next f ∷ []) c.go_behind-in-None.new.self.frames.items old
+    c.go_behind-in-None.new.self.steps.items c.in_ok-go_behind-in-None.ensures.frames
+    c.in_ok-go_behind-in-None.ensures.steps
+    (absent_taken t nodes o fs f (selection_view s) old h x c.in-None.ensures)
 
 pub index-branch-requires : goal.index-branch-requires
 index-branch-requires c =
@@ -224,8 +225,8 @@ enter-requires-clause-chosen c =
       chooses = b.chooses;
     })
 
-pub returns-in_ok-select-in-Selection : goal.returns-in_ok-select-in-Selection
-returns-in_ok-select-in-Selection c =
+pub returns-in_ok-select-in-Some-chosen_branch : goal.returns-in_ok-select-in-Some-chosen_branch
+returns-in_ok-select-in-Some-chosen_branch c =
     let t = c.args.tables.now in
     let nodes = c.args.nodes.now in
     let o = c.args.object.now in
@@ -249,22 +250,24 @@ returns-in_ok-select-in-Selection c =
     let path = spec.path_at t.shapes.now f.place (list_view f.list.now.id) f.next in
     let field = spec.field_name t.shapes.now (list_view f.list.now.id) f.next in
     let place = place_below t.shapes.now path field id in
-    let place_is : place_below t.shapes.now c.in_ok-path.path c.field_name-name.result.now id
+    let place_is : place_below t.shapes.now c.in_ok-path-in-Some-chosen_branch.path c.field_name-name.result.now id
     ≡ place =
     ap (λ (q : Path). place_below t.shapes.now q c.field_name-name.result.now id)
-    c.in_ok-path.ensures
+    c.in_ok-path-in-Some-chosen_branch.ensures
     ∙ ap (λ (n : Name). place_below t.shapes.now path n id) c.field_name-name.ensures in
     let gs = c.enter.new.self.frames.items in
     let entered = subst (λ (q : Path). IsEntered t id q (fs ++ behind_next f ∷ []) gs) place_is
     (subst
     (λ (x : List Frame).
     IsEntered t id
-    (place_below t.shapes.now c.in_ok-path.path c.field_name-name.result.now id) x gs)
-    c.in_ok-push.ensures.items c.in_ok-enter-in-Selection.ensures.entered) in
+    (place_below t.shapes.now c.in_ok-path-in-Some-chosen_branch.path c.field_name-name.result.now id) x gs)
+    c.in_ok-go_behind-in-Some-chosen_branch.ensures.frames
+    c.in_ok-enter-in-Some-chosen_branch.ensures.entered) in
     let new = c.select.new.self.steps.items in
-    let selects = subst (λ (q : Path). IsSelected q id old new) c.in_ok-path.ensures
-    (subst (λ (x : List code.Step). IsSelected c.in_ok-path.path id x new) c.enter.ensures.steps
-    c.in_ok-select-in-Selection.ensures.steps) in
+    let selects = subst (λ (q : Path). IsSelected q id old new) c.in_ok-path-in-Some-chosen_branch.ensures
+    (subst (λ (x : List code.Step). IsSelected c.in_ok-path-in-Some-chosen_branch.path id x new)
+    (c.enter.ensures.steps ∙ c.in_ok-go_behind-in-Some-chosen_branch.ensures.steps)
+    c.in_ok-select-in-Some-chosen_branch.ensures.steps) in
     moved t nodes o gs c.select.new.self.frames.items new new c.select.ensures.frames refl
     (branch_taken t nodes o c.requires.tables fs f (selection_view s) old h x k
     c.in-Some-chosen_branch.ensures.0 id r at gs new
