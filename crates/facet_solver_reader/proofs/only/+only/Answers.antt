@@ -1,7 +1,7 @@
 -- What is told of the only reading of a value is what its parts are told.
 use Rattle.std.proofs.Common.{◌≡◌, ◌∙◌, sym, ap, subst, refl, ℕ, suc, ◌+◌, ◌-◌, ◌<◌, ◌≤◌, List, []}
 use Rattle.std.proofs.Common.{◌∷◌, map, length, Some, slice_get, zip, take, true, false, arith}
-use Rattle.std.proofs.Common.{All, take_all, ◌++◌, Bor, None, not, option_map}
+use Rattle.std.proofs.Common.{All, take_all, ◌++◌, Bor, None, option_map}
 use Rattle.std.proofs.lemmas.List.{length-map, map-append}
 use Rattle.std.proofs.lemmas.Option.{slice_get_read, slice_get_within}
 use Rattle.std.proofs.lemmas.Slice.Zip.{length-zip}
@@ -11,8 +11,8 @@ use Rattle.facet_solver_reader.specs.Choices.{a_value}
 use Rattle.facet_solver_reader.specs.Counted.{Counted, IsOnly}
 use Rattle.facet_solver_reader.specs.Documents.{Member, Tree, items_view, list, members_view, null}
 use Rattle.facet_solver_reader.specs.Documents.{object, view}
-use Rattle.facet_solver_reader.specs.Kinds.{is_list, is_null, is_object}
-use Rattle.facet_solver_reader.specs.Nodes.{children, count, members_in, value_of}
+use Rattle.facet_solver_reader.specs.Kinds.{is_null, is_object}
+use Rattle.facet_solver_reader.specs.Nodes.{children, members_in, value_of}
 use Rattle.facet_solver_reader.specs.Parts.{ListId, of_content, of_shape, of_tag, a_catch_all}
 use Rattle.facet_solver_reader.specs.Parts.{a_member}
 use Rattle.facet_solver_reader.specs.Reached.{IsRanked}
@@ -963,9 +963,9 @@ object::read_object-is_read_whole-requires t c =
           c.requires.one;
     }
 
-pub object::read_object-list_counts-requires-clause-object :
-    goal.object::read_object-list_counts-requires-clause-object
-object::read_object-list_counts-requires-clause-object t c =
+pub object::read_object-plan_of-requires-clause-object :
+    goal.object::read_object-plan_of-requires-clause-object
+object::read_object-plan_of-requires-clause-object t c =
     let tb = c.args.tables.now in
     let rules = rules_at tb in
     let ms = members_in (value_of c.args.nodes.now c.args.node) in
@@ -982,28 +982,9 @@ object::read_object-list_counts-requires-clause-object t c =
       unknown = unknown;
     }
 
-pub object::read_object-steps_of-requires-clause-object :
-    goal.object::read_object-steps_of-requires-clause-object
-object::read_object-steps_of-requires-clause-object t c =
-    let tb = c.args.tables.now in
-    let rules = rules_at tb in
-    let ms = members_in (value_of c.args.nodes.now c.args.node) in
-    let of = c.in-Some.ensures in
-    let listed : IsListed tb c.in-Some.list.now =
-    record { index = of.index; listed = of.listed } in
-    let unknown = unknown_by_list tb c.requires.sound.tables c.in-Some.list.now listed
-    (object_by ms (list_view c.in-Some.list.now.id) c.in_ok-takes.takes)
-    c.has_unknown-has_unknown.result refl c.has_unknown-has_unknown.ensures in
-    record {
-      inside = c.requires.inside;
-      index = of.index;
-      listed = of.listed;
-      unknown = unknown;
-    }
-
-pub object::read_object-steps_of-requires-clause-one :
-    goal.object::read_object-steps_of-requires-clause-one
-object::read_object-steps_of-requires-clause-one t c =
+pub object::read_object-plan_of-requires-clause-one :
+    goal.object::read_object-plan_of-requires-clause-one
+object::read_object-plan_of-requires-clause-one t c =
     let tb = c.args.tables.now in
     let rules = rules_at tb in
     let ms = members_in (value_of c.args.nodes.now c.args.node) in
@@ -1027,7 +1008,7 @@ object::read_object-read_steps-requires t c =
     c.has_unknown-has_unknown.result refl c.has_unknown-has_unknown.ensures in (
       omega arith,
       (
-        c.list_counts.ensures.sound,
+        c.plan_of.ensures.sound,
         (
           record {
             inside = c.requires.inside;
@@ -1035,7 +1016,7 @@ object::read_object-read_steps-requires t c =
             listed = of.listed;
             unknown = unknown;
           },
-          (c.in_ok-steps.ensures, λ a r. (c.in_ok-takes.ensures.by_list a).0 r),
+          (c.in_ok-steps.ensures.plan, λ a r. (c.in_ok-takes.ensures.by_list a).0 r),
         ),
       ),
     )
