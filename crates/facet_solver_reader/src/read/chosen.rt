@@ -38,8 +38,10 @@ pub(crate) fn chosen_branch(
     if selection.optional && !touches(tables, nodes, object, selection) {
         return None;
     }
+    let mut near = 0;
     for (k, branch) in selection.branches.iter().enumerate() {
-        if !count_branch(tables, nodes, object, selection, *branch, counts).is_none() {
+        let count = count_branch(tables, nodes, object, selection, *branch, counts, &mut near);
+        if !count.is_none() {
             return Some(k);
         }
     }

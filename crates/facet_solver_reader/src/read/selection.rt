@@ -1,6 +1,8 @@
 //! The readings of an object by a selection.
 ghost use Rattle.std.specs.Prelude.{◌≡◌, ◌↔◌, ◌&&◌, ◌<◌, ℕ, All, IsSorted, IsTrue, Some, false, length, not, slice_get};
 ghost use Rattle.std.specs.List.{list_any};
+ghost use Rattle.std.specs.List.Sorted.{IsBinarySearchResult};
+ghost use Rattle.std.specs.Ordering.{nat_cmp};
 ghost use Rattle.facet_solver_shape.specs.Names.{name_ref_cmp};
 ghost use Rattle.facet_solver_reader.specs.Branches.{CanBePresent, Fits, KnowsMember, KnowsOther, Misfits, ReadsPart};
 ghost use Rattle.facet_solver_reader.specs.Known.{Chooses, IsKnown, IsKnownIn, named, rest};
@@ -44,13 +46,15 @@ pub(crate) fn count_selection(
         return Count::One;
     }
     let mut count = Count::None;
+    let mut near = 0;
     for branch in &selection.branches {
-        count = count.plus(count_branch(tables, nodes, object, selection, *branch, counts));
+        let next = count_branch(tables, nodes, object, selection, *branch, counts, &mut near);
+        count = count.plus(next);
     }
     count
 }
 
-/// How often an object is read by a branch.
+/// How often an object is read by a branch. The branch is looked for near the one before it.
 pub(crate) fn count_branch(
     tables: &Tables<'_>,
     nodes: &Nodes<'_, '_>,
@@ -58,6 +62,7 @@ pub(crate) fn count_branch(
     selection: &Selection,
     branch: ListId,
     counts: &[Count],
+    near: &mut usize,
 ) -> Count
     requires tables { AreTables tables.now }
     requires numbering { IsNumbering nodes.now }
@@ -77,9 +82,10 @@ pub(crate) fn count_branch(
     let Some(index) = tables.slots.index_of(branch) else {
         return Count::None;
     };
-    let Ok(position) = object.list.below.binary_search(&index) else {
+    let Ok(position) = search_near(&object.list.below, index, *near) else {
         return Count::None;
     };
+    *near = position.saturating_add(1);
     let count = counts[position];
     // Names are compared only where the branch reads the object, and another may have more.
     if count.is_none() || selection.branches.len() == 1 {
@@ -90,6 +96,17 @@ pub(crate) fn count_branch(
     } else {
         Count::None
     }
+}
+
+/// What `binary_search` finds. It is found at once where it stands at a guess: branches of one
+/// selection mostly stand side by side.
+fn search_near(below: &[usize], index: usize, guess: usize) -> Result<usize, usize>
+    ensures position { IsBinarySearchResult (λ y. nat_cmp y index) below.now result }
+{
+    if guess < below.len() && below[guess] == index {
+        return Ok(guess);
+    }
+    below.binary_search(&index)
 }
 
 /// Whether an object has a member that a selection knows.

@@ -199,7 +199,8 @@ fn add_branch<'c>(
         (value_of nodes.now tallied.now.object.node)) branches.new.items) }
 {
     let object = &tallied.object;
-    let count = count_branch(tables, nodes, object, selection, *branch, &tallied.counts);
+    let counts = &tallied.counts;
+    let count = count_branch(tables, nodes, object, selection, *branch, counts, &mut 0);
     if count.is_none() {
         return Ok(());
     }

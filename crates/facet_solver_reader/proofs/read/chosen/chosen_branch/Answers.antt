@@ -24,16 +24,16 @@ returns-then-not-touches c =
     let isnt : c.touches.result ≡ false = c.if-not-touches.true in
     absurd (cc))
 
-pub count_branch-requires-clause-branch : goal.count_branch-requires-clause-branch
-count_branch-requires-clause-branch c =
+pub count_branch-count-requires-clause-branch : goal.count_branch-count-requires-clause-branch
+count_branch-count-requires-clause-branch c =
     let ids = (selection_view c.args.selection.now).branches in
     all_at (ListIsServed c.args.tables.now) ids c.loop-k.k (list_view c.branch-item.result)
     c.requires.served
     (seen_read list_view c.deref-branch-items.result.now ids c.loop-k.k c.branch-item.result
     (ap (map list_view) c.deref-branch-items.ensures.value) c.loop-k-test.true c.branch-item.is)
 
-pub count_branch-requires-clause-before : goal.count_branch-requires-clause-before
-count_branch-requires-clause-before c =
+pub count_branch-count-requires-clause-before : goal.count_branch-count-requires-clause-before
+count_branch-count-requires-clause-before c =
     let ids = (selection_view c.args.selection.now).branches in
     all_at
     (BranchIsBefore c.args.tables.now c.args.object.now.list.now.below.items
@@ -50,12 +50,12 @@ returns-then-not-is_none c =
     c.branch-item.result (ap (map list_view) c.deref-branch-items.ensures.value)
     c.loop-k-test.true c.branch-item.is in
     read_at rules (ReadsValue rules) (object_view c.args.nodes.now c.args.object.now) s c.loop-k.k
-    c.count_branch.result
+    c.count_branch-count.result
     (λ none.
     let is : c.is_none.result ≡ true = c.is_none.ensures.1 none in
     let isnt : c.is_none.result ≡ false = c.if-not-is_none.true in
     absurd (cc))
-    (c.count_branch.ensures c.loop-k.k at)
+    (c.count_branch-count.ensures c.loop-k.k at)
 
 pub loop-k-preserved : goal.loop-k-preserved
 loop-k-preserved c =
@@ -72,7 +72,7 @@ loop-k-preserved c =
           c.loop-k.invariant.none
           (subst (Counted (ReadsAt (ReadsPart rules (ReadsValue rules) object (a_selection s))
           c.loop-k.k))
-          (c.is_none.ensures.0 c.if-not-is_none.false) (c.count_branch.ensures c.loop-k.k at));
+          (c.is_none.ensures.0 c.if-not-is_none.false) (c.count_branch-count.ensures c.loop-k.k at));
     }
 
 pub unreachable-requires : goal.unreachable-requires

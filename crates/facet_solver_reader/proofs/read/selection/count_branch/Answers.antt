@@ -27,8 +27,8 @@ returns-then-is_none c = λ k e.
     let at = list_at t id c.in-Some.index c.in-Some.ensures c.requires.branch in
     let b = halved_before t c.args.nodes.now c.args.object.now c.requires.object
     c.requires.tables (length counts) id c.in-Some.index c.deref.result.now
-    c.binary_search.result c.in-Some.ensures c.requires.before c.deref.ensures.value
-    c.binary_search.ensures.position in
+    c.search_near.result c.in-Some.ensures c.requires.before c.deref.ensures.value
+    c.search_near.ensures.position in
     let same : b.0 ≡ c.in-Ok.position = cc (b.3, c.in-Ok.is) in
     let count = get_or counts b.0 NoReading in
     let counted : Counted (ReadsList rules (ReadsValue rules) object id) count =
@@ -82,8 +82,8 @@ returns-then-fits c = λ k e.
     (list_at t id c.in-Some.index c.in-Some.ensures c.requires.branch) c.index.ensures in
     let b = halved_before t c.args.nodes.now c.args.object.now c.requires.object
     c.requires.tables (length counts) id c.in-Some.index c.deref.result.now
-    c.binary_search.result c.in-Some.ensures c.requires.before c.deref.ensures.value
-    c.binary_search.ensures.position in
+    c.search_near.result c.in-Some.ensures c.requires.before c.deref.ensures.value
+    c.search_near.ensures.position in
     let same : b.0 ≡ c.in-Ok.position = cc (b.3, c.in-Ok.is) in
     let count = get_or counts b.0 NoReading in
     let counted = c.requires.counts.are b.0 c.in-Some.index count l
@@ -100,15 +100,15 @@ pub bounds-counts-position : goal.bounds-counts-position
 bounds-counts-position c =
     let b = halved_before c.args.tables.now c.args.nodes.now c.args.object.now c.requires.object
     c.requires.tables (length c.args.counts.now) (list_view c.args.branch) c.in-Some.index
-    c.deref.result.now c.binary_search.result c.in-Some.ensures c.requires.before
-    c.deref.ensures.value c.binary_search.ensures.position in
+    c.deref.result.now c.search_near.result c.in-Some.ensures c.requires.before
+    c.deref.ensures.value c.search_near.ensures.position in
     let same : b.0 ≡ c.in-Ok.position = cc (b.3, c.in-Ok.is) in
     subst (λ q. q < length c.args.counts.now) same b.1
 
-pub returns-in_default-binary_search : goal.returns-in_default-binary_search
-returns-in_default-binary_search c = λ k e x w.
+pub returns-in_default-search_near : goal.returns-in_default-search_near
+returns-in_default-search_near c = λ k e x w.
     let b = halved_before c.args.tables.now c.args.nodes.now c.args.object.now c.requires.object
     c.requires.tables (length c.args.counts.now) (list_view c.args.branch) c.in-Some.index
-    c.deref.result.now c.binary_search.result c.in-Some.ensures c.requires.before
-    c.deref.ensures.value c.binary_search.ensures.position in
-    absurd (c.in_default-binary_search.not-Ok b.0 b.3)
+    c.deref.result.now c.search_near.result c.in-Some.ensures c.requires.before
+    c.deref.ensures.value c.search_near.ensures.position in
+    absurd (c.in_default-search_near.not-Ok b.0 b.3)

@@ -39,8 +39,8 @@ loop-branch-init c =
       counted = count_below_none rules (ReadsValue rules) object s;
     }
 
-pub count_branch-requires-clause-branch : goal.count_branch-requires-clause-branch
-count_branch-requires-clause-branch c =
+pub count_branch-next-requires-clause-branch : goal.count_branch-next-requires-clause-branch
+count_branch-next-requires-clause-branch c =
     let ids = (selection_view c.args.selection.now).branches in
     let i = c.loop-branch.branch-index in
     all_at (ListIsServed c.args.tables.now) ids i (list_view c.branch-item.result)
@@ -49,8 +49,8 @@ count_branch-requires-clause-branch c =
     (ap (map list_view) c.deref-branch-items.ensures.value) c.loop-branch-test.true
     c.branch-item.is)
 
-pub count_branch-requires-clause-before : goal.count_branch-requires-clause-before
-count_branch-requires-clause-before c =
+pub count_branch-next-requires-clause-before : goal.count_branch-next-requires-clause-before
+count_branch-next-requires-clause-before c =
     let ids = (selection_view c.args.selection.now).branches in
     let i = c.loop-branch.branch-index in
     all_at
@@ -77,7 +77,7 @@ loop-branch-preserved c =
           (Counted (ReadsBelow (ReadsPart rules (ReadsValue rules) object (a_selection s)) (i + 1)))
           (sym c.plus-count.ensures)
           (count_below_more rules (ReadsValue rules) object s i c.loop-branch.count
-          c.count_branch.result c.loop-branch.invariant.counted (c.count_branch.ensures i at));
+          c.count_branch-next.result c.loop-branch.invariant.counted (c.count_branch-next.ensures i at));
     }
 
 pub returns : goal.returns
