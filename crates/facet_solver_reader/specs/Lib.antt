@@ -30,6 +30,7 @@ pub mod Memo
 pub mod Reading
 pub mod EveryList
 pub mod Listing
+pub mod LookedUp
 pub mod OrderedLists
 pub mod Readers
 pub mod Placing

@@ -12,6 +12,7 @@ mod memo;
 mod object;
 mod scalar;
 mod selection;
+mod tag;
 mod target;
 mod untagged;
 mod variant;

@@ -13,6 +13,7 @@ ghost use Rattle.facet_solver_reader.specs.Views.{list_view};
 use super::Memo;
 use super::list::count_list;
 use super::members::members_of;
+use super::tag::fails_at_tag;
 use crate::count::Count;
 use crate::nodes::Nodes;
 use crate::part::ListId;
@@ -157,8 +158,13 @@ pub(crate) fn list_counts(
 {
     let below = &object.list.below;
     let mut counts = Vec::with_capacity(tables.alloc, below.len())?;
+    let mut last = None;
     for index in below {
         let list = &tables.lists[*index];
+        if fails_at_tag(nodes, object.node, list, &mut last) {
+            counts.push(Count::None)?;
+            continue;
+        }
         let count = count_list(tables, nodes, memo, object, list, &counts)?;
         counts.push(count)?;
     }

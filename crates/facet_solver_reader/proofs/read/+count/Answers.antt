@@ -612,6 +612,41 @@ object::list_counts-count_list-requires t c =
       ),
     )
 
+pub object::list_counts-loop-index-preserved-then-fails_at_tag :
+    goal.object::list_counts-loop-index-preserved-then-fails_at_tag
+object::list_counts-loop-index-preserved-then-fails_at_tag t c =
+    let tb = c.args.tables.now in
+    let o = c.args.object.now in
+    let rules = rules_at tb in
+    let object = object_view c.args.nodes.now o in
+    let tables = c.requires.sound.tables in
+    let position = c.loop-index.index-index in
+    let xs = c.deref-index-items.result.now in
+    let b = listed_below tb c.args.nodes.now o c.requires.object tables position xs
+    c.deref-index-items.ensures.value c.loop-index-test.true in
+    let index = get_or xs position 0 in
+    let l = c.index-list.result.now in
+    let at = slice_get_read tb.lists.items (length tb.lists.items) index l refl
+    (slice_get_within tb.lists.items index b.0 b.2) c.index-list.ensures in
+    let ps = parts_view l.parts.items in
+    let is = tables.lists index l at in
+    let distinct = distinct_parts rules.lists (list_view l.id) ps is.same is.chosen is.distinct in
+    let some = c.fails_at_tag.ensures.fails c.if-fails_at_tag.true in
+    let none = count_of_list rules (ReadsValue rules) object (list_view l.id) ps NoReading is.same
+    (none_where_fails rules object l.parts.items some distinct) in
+    let done : length c.loop-index.counts.items ≡ position = c.loop-index.invariant.so_far in
+    let here = subst (λ p. slice_get o.list.now.below.items p ≡ Some index) (sym done) b.1 in
+    let counts = c.loop-index.counts.items in
+    let more = counts_more tb c.args.nodes.now o c.requires.object counts NoReading index l
+    c.loop-index.invariant.counts here at none in
+    let items = c.in_ok-push.ensures.items in
+    record {
+      sound = c.loop-index.invariant.sound;
+      counts = subst (AreListCounts tb c.args.nodes.now o) (sym items) more;
+      so_far = omega (arith, ap length items, length-append counts (NoReading ∷ []));
+      last = c.fails_at_tag.ensures.last;
+    }
+
 pub object::list_counts-loop-index-preserved : goal.object::list_counts-loop-index-preserved
 object::list_counts-loop-index-preserved t c =
     let tb = c.args.tables.now in
@@ -629,11 +664,12 @@ object::list_counts-loop-index-preserved t c =
     let counts = c.loop-index.counts.items in
     let more = counts_more tb c.args.nodes.now o c.requires.object counts c.in_ok-count.count
     index list c.loop-index.invariant.counts here at c.in_ok-count.ensures.count in
-    let items = c.in_ok-push.ensures.items in
+    let items = c.in_ok-push-2.ensures.items in
     record {
       sound = c.count_list.ensures.sound;
       counts = subst (AreListCounts tb c.args.nodes.now o) (sym items) more;
       so_far = omega (arith, ap length items, length-append counts (c.in_ok-count.count ∷ []));
+      last = c.fails_at_tag.ensures.last;
     }
 
 pub object::count_members-returns-clause-count : goal.object::count_members-returns-clause-count

@@ -2,6 +2,7 @@
 -- are left at it, and by how far it is from asking about another value or step.
 use Rattle.std.proofs.Common.{◌+◌, ◌*◌, take, zip, map, ◌≡◌, length, drop}
 use Rattle.facet_solver_reader.specs.Counted.{Counted, times}
+use Rattle.facet_solver_reader.specs.LookedUp.{IsLast}
 use Rattle.facet_solver_reader.specs.Nodes.{children, members_in, value_of}
 use Rattle.facet_solver_reader.specs.Parts.{of_shape}
 use Rattle.facet_solver_reader.specs.Reading.{AreSound, AreListCounts, object_view}
@@ -124,6 +125,7 @@ invariant-object::list_counts-loop-index l =
       sound : AreSound l.tables l.nodes l.memo.entries.items;
       counts : AreListCounts l.tables l.nodes l.object l.counts.items;
       so_far : length l.counts.items ≡ l.index-index;
+      last : IsLast (members_in (value_of l.nodes l.object.node)) l.last;
     }
 
 abbrev pub decreases-target::count_end : goal.decreases-target::count_end
