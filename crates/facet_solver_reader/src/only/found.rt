@@ -22,20 +22,22 @@ pub(super) struct Found<'c> {
 }
 
 impl<'c> Found<'c> {
-    /// What steps tell. Each path goes where it is told.
+    /// What steps tell, with room for so many members. Each path goes where it is told.
     pub(super) fn of(
         alloc: Global,
         shapes: &'c Shapes,
         steps: Vec<Step<'_, 'c>>,
+        members: usize,
     ) -> Result<Found<'c>, AllocError>
         ensures selections { IfOk result (λ found. map selection_view found.selections.items
             ≡ spec.selections_in shapes.now (map step_view steps.entry.items)) }
         ensures fields { IfOk result (λ found. map place_view found.fields.items
             ≡ spec.places_in (map step_view steps.entry.items)) }
     {
+        let fields = Vec::with_capacity(alloc, members)?;
         let mut found = Found {
             selections: Vec::new(alloc),
-            fields: Vec::new(alloc),
+            fields,
         };
         for step in steps {
             found.add(shapes, step)?;

@@ -140,7 +140,7 @@ fn read_steps<'c, 'v, 'd>(
         Some(_) => Vec::new(tables.alloc),
         None => ignored_names(tables.alloc, nodes, object)?,
     };
-    let found = Found::of(tables.alloc, tables.shapes, steps)?;
+    let found = Found::of(tables.alloc, tables.shapes, steps, values.len())?;
     let kind = ReadingKind::Object {
         object: ObjectReading {
             selections: found.selections,

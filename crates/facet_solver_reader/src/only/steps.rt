@@ -63,8 +63,9 @@ pub(super) fn steps_of<'r, 'c>(
     requires one { IsListCount tables.now nodes.now object.now object.now.list.now One }
     ensures { IfOk result (λ steps. IsPlan tables.now nodes.now object.now steps.items) }
 {
+    let steps = Vec::with_capacity(tables.alloc, object.list.parts.len())?;
     let mut way = Way {
-        steps: Vec::new(tables.alloc),
+        steps,
         frames: Vec::new(tables.alloc),
     };
     way.frames.push(Frame {
@@ -140,8 +141,7 @@ impl<'r, 'c> Way<'r, 'c> {
                         let path = frame.path(tables)?;
                         let name = field_name(tables.shapes, list.id, frame.next);
                         self.go_behind(frame)?;
-                        self.enter(tables, &path, name, branch)?;
-                        self.select(path, branch)?;
+                        self.enter(tables, path, name, branch)?;
                     }
                     None => self.go_behind(frame)?,
                 }
@@ -174,12 +174,37 @@ impl<'r, 'c> Way<'r, 'c> {
         Ok(())
     }
 
-    /// Goes into the list of a branch that is chosen at the path of a field. One that has nothing
-    /// to tell is passed over.
+    /// Where the parts of a branch stand that is chosen at the path of a field. The variant that it
+    /// selects, if it is one, goes behind the steps.
+    fn select_above(
+        &mut self,
+        tables: &Tables<'c>,
+        path: FieldPath<'c>,
+        field: &'c str,
+        branch: &ListId,
+    ) -> Result<FieldPath<'c>, AllocError>
+        ensures place { IfOk result (λ place. place ≡ place_below tables.now.shapes.now path.entry
+            field.now (list_view branch.now)) }
+        ensures steps { OnOk result (IsSelected path.entry (list_view branch.now)
+            self.old.steps.items self.new.steps.items) }
+        ensures frames { self.new.frames.items ≡ self.old.frames.items }
+    {
+        match branch {
+            ListId::Branch(..) => {
+                let place = place_below(tables.alloc, tables.shapes, &path, field, *branch)?;
+                self.select(path, branch)?;
+                Ok(place)
+            }
+            _ => Ok(path),
+        }
+    }
+
+    /// Goes into the list of a branch that is chosen at the path of a field. The variant that it
+    /// selects, if it is one, goes behind the steps. A list that has nothing to tell is passed over.
     fn enter(
         &mut self,
         tables: &'r Tables<'c>,
-        path: &FieldPath<'c>,
+        path: FieldPath<'c>,
         field: &'c str,
         branch: &ListId,
     ) -> Result<(), AllocError>
@@ -187,22 +212,25 @@ impl<'r, 'c> Way<'r, 'c> {
         requires served { ListIsServed tables.now (list_view branch.now) }
         requires chosen { HasChoice (Chooses (rules_at tables.now).lists (list_view branch.now)) }
         ensures entered { OnOk result (IsEntered tables.now (list_view branch.now)
-            (place_below tables.now.shapes.now path.now field.now (list_view branch.now))
+            (place_below tables.now.shapes.now path.entry field.now (list_view branch.now))
             self.old.frames.items self.new.frames.items) }
-        ensures steps { self.new.steps.items ≡ self.old.steps.items }
+        ensures steps { OnOk result (IsSelected path.entry (list_view branch.now)
+            self.old.steps.items self.new.steps.items) }
     {
         let Some(index) = tables.slots.index_of(*branch) else {
             unreachable!()
         };
         let list = &tables.lists[index];
-        if tells(tables, list) {
-            let place = place_below(tables.alloc, tables.shapes, path, field, *branch)?;
-            self.frames.push(Frame {
-                list,
-                next: 0,
-                place,
-            })?;
+        if !tells(tables, list) {
+            self.select(path, branch)?;
+            return Ok(());
         }
+        let place = self.select_above(tables, path, field, branch)?;
+        self.frames.push(Frame {
+            list,
+            next: 0,
+            place,
+        })?;
         Ok(())
     }
 }

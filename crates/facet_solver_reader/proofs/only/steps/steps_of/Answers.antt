@@ -15,9 +15,9 @@ parts-init c =
     let first = first_under_way t nodes o c.requires.tables c.requires.object c.requires.one
     c.empty.result c.empty.ensures in
     let frames : c.push.new.self.items ≡ f ∷ [] =
-    c.in_ok-push.ensures.items ∙ ap (λ (fs : List Frame). fs ++ f ∷ []) c.new-2.ensures.items in
+    c.in_ok-push.ensures.items ∙ ap (λ (fs : List Frame). fs ++ f ∷ []) c.new.ensures.items in
     subst (λ (ss : List code.Step). IsUnderWay t nodes o c.push.new.self.items ss)
-    (sym c.new.ensures.items)
+    (sym c.in_ok-steps.ensures.items)
     (subst (λ (fs : List Frame). IsUnderWay t nodes o fs []) (sym frames) first)
 
 pub returns-in_default : goal.returns-in_default

@@ -4,8 +4,8 @@ use Rattle.facet_solver_reader.specs.Views.{list_view}
 use Rattle.facet_solver_reader.proofs.CountingObjects.{list_at, list_read}
 use Rattle.facet_solver_reader.proofs.only.steps.Way.enter.Goals as goal
 
-pub returns-in_ok-push-clause-entered : goal.returns-in_ok-push-clause-entered
-returns-in_ok-push-clause-entered c =
+pub returns-clause-entered : goal.returns-clause-entered
+returns-clause-entered c =
     let t = c.args.tables.now in
     let id = list_view c.args.branch.now in
     let read = list_read t id c.in-Some.index c.index-list.result.now
@@ -17,12 +17,12 @@ returns-in_ok-push-clause-entered c =
       listed = read.0;
       same = read.1;
       first = refl;
-      place_is = c.in_ok-place.ensures;
-      frames_are = inl c.in_ok-push.ensures.items;
+      place_is = c.in_ok-place.ensures.place;
+      frames_are = inl (rw c.select_above.ensures.frames at c.in_ok-push.ensures.items);
     }
 
-pub returns-else-tells-clause-entered : goal.returns-else-tells-clause-entered
-returns-else-tells-clause-entered c =
+pub returns-then-not-tells-clause-entered : goal.returns-then-not-tells-clause-entered
+returns-then-not-tells-clause-entered c =
     let t = c.args.tables.now in
     let id = list_view c.args.branch.now in
     let read = list_read t id c.in-Some.index c.index-list.result.now
@@ -31,7 +31,7 @@ returns-else-tells-clause-entered c =
       frame = record {
         list = c.index-list.result;
         next = 0;
-        place = place_below t.shapes.now c.args.path.now c.args.field.now id;
+        place = place_below t.shapes.now c.args.path c.args.field.now id;
       };
       index = c.in-Some.index;
       is_at = sym c.in-Some.ensures;
@@ -39,5 +39,5 @@ returns-else-tells-clause-entered c =
       same = read.1;
       first = refl;
       place_is = refl;
-      frames_are = inr (refl, c.tells.ensures.nothing c.if-tells.false);
+      frames_are = inr (c.select.ensures.frames, c.tells.ensures.nothing c.if-not-tells.true);
     }

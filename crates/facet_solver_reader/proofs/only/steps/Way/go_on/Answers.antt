@@ -225,8 +225,8 @@ enter-requires-clause-chosen c =
       chooses = b.chooses;
     })
 
-pub returns-in_ok-select-in-Some-chosen_branch : goal.returns-in_ok-select-in-Some-chosen_branch
-returns-in_ok-select-in-Some-chosen_branch c =
+pub returns-in_ok-enter-in-Some-chosen_branch : goal.returns-in_ok-enter-in-Some-chosen_branch
+returns-in_ok-enter-in-Some-chosen_branch c =
     let t = c.args.tables.now in
     let nodes = c.args.nodes.now in
     let o = c.args.object.now in
@@ -260,15 +260,17 @@ returns-in_ok-select-in-Some-chosen_branch c =
     (subst
     (λ (x : List Frame).
     IsEntered t id
-    (place_below t.shapes.now c.in_ok-path-in-Some-chosen_branch.path c.field_name-name.result.now id) x gs)
+    (place_below t.shapes.now c.in_ok-path-in-Some-chosen_branch.path
+    c.field_name-name.result.now id) x gs)
     c.in_ok-go_behind-in-Some-chosen_branch.ensures.frames
     c.in_ok-enter-in-Some-chosen_branch.ensures.entered) in
-    let new = c.select.new.self.steps.items in
-    let selects = subst (λ (q : Path). IsSelected q id old new) c.in_ok-path-in-Some-chosen_branch.ensures
-    (subst (λ (x : List code.Step). IsSelected c.in_ok-path-in-Some-chosen_branch.path id x new)
-    (c.enter.ensures.steps ∙ c.in_ok-go_behind-in-Some-chosen_branch.ensures.steps)
-    c.in_ok-select-in-Some-chosen_branch.ensures.steps) in
-    moved t nodes o gs c.select.new.self.frames.items new new c.select.ensures.frames refl
-    (branch_taken t nodes o c.requires.tables fs f (selection_view s) old h x k
+    let new = c.enter.new.self.steps.items in
+    let selects = subst (λ (q : Path). IsSelected q id old new)
+    c.in_ok-path-in-Some-chosen_branch.ensures
+    (subst
+    (λ (x : List code.Step). IsSelected c.in_ok-path-in-Some-chosen_branch.path id x new)
+    c.in_ok-go_behind-in-Some-chosen_branch.ensures.steps
+    c.in_ok-enter-in-Some-chosen_branch.ensures.steps) in
+    branch_taken t nodes o c.requires.tables fs f (selection_view s) old h x k
     c.in-Some-chosen_branch.ensures.0 id r at gs new
-    (part_before t nodes o c.requires.tables c.requires.object fs f p h.others x) selects entered)
+    (part_before t nodes o c.requires.tables c.requires.object fs f p h.others x) selects entered
