@@ -2,14 +2,15 @@
 -- configuration.
 use Rattle.std.proofs.Common.{◌≡◌, ℕ, ◌<◌, ◌+◌, Bool, true, false, cond, ◌||◌, ◌&&◌, not, List, [], ◌∷◌, ◌++◌, Option, Bor, All, filter, map, length, get_or, take, refl, ap, sym, ◌∙◌, append-nil}
 use lib.Pointwise.{bytes_decides}
-use Rattle.std.specs.Cmp.Lexicographic.{nat_list_eq_equiv}
+use Rattle.std.specs.Cmp.Lexicographic.{nat_list_eq_equiv, texts_ties}
 use Rattle.std.specs.List.{AllByRecursion, cons_option, filter_map, list_any}
 use Rattle.std.specs.Option.{option_map}
+use Rattle.std.specs.Ordering.{is_eq}
 use Rattle.std.proofs.lemmas.List.{map-append, take_more}
 use Rattle.std.proofs.lemmas.List.Elements.{filter-append, filter_map-append, recursion_from_All}
 use Rattle.std.proofs.lemmas.Map.Views.{any-filter_same}
 use Rattle.facet_solver.specs.Keys.{Key, flat_key}
-use Rattle.facet_solver.specs.Names.{Name, name_eq, names_of}
+use Rattle.facet_solver.specs.Names.{Name, name_eq, name_ref_cmp, names_of}
 use Rattle.facet_solver.specs.schema.Schema.{SchemaView}
 use Rattle.facet_solver.specs.schema.ResolutionHandle.{IsHandleOf, index_of, resolution_of}
 use Rattle.facet_solver.specs.solver.Report.{resolutions_at}
@@ -65,6 +66,14 @@ name_added met names new so_far is_new =
     ∙ sym (each_once-push met new.now
     ∙ ap (λ b. cond b (each_once met) (each_once met ++ new.now ∷ [])) (ap (is_among new.now) (sym so_far) ∙ among_refs names new.now ∙ is_new))
 
+-- a name, by whether it is there
+pub name_told : (met : List Name) (names : List (Bor Name)) (new : Bor Name) (there : Bool)
+    → list_any (λ (other : Bor Name). name_eq other.now new.now) names ≡ there
+    → names_of names ≡ each_once met
+    → names_of (cond there names (names ++ new ∷ [])) ≡ each_once (met ++ new.now ∷ [])
+name_told met names new true is so_far = name_stays met names new.now so_far is
+name_told met names new false is so_far = name_added met names new so_far is
+
 -- the variants that the resolutions of some handles have under a tag
 abbrev pub variants_of_handles : Name → List ResolutionHandle → List Name
 variants_of_handles tag handles = filter_map (λ handle. variant_under tag (resolution_of handle)) handles
@@ -111,3 +120,28 @@ pub names_more : (tag : Name) (handles : List ResolutionHandle) (i : ℕ) (d : R
 names_more tag handles i d found low is =
     ap each_once (handle_more tag handles i d low)
     ∙ ap (λ (o : Option Name). each_once (variants_of_handles tag (take i handles) ++ cons_option o [])) (sym is)
+
+-- whether one of a name and others is known: the name itself, or one of the others
+known_before : (here first others : Bool) → cond here true (first || others) ≡ (first || cond here true others)
+known_before here true others = known_anyway here
+  where
+    known_anyway : (here : Bool) → cond here true true ≡ true
+    known_anyway true = refl
+    known_anyway false = refl
+known_before here false others = refl
+
+known_alone : (here : Bool) → cond here true false ≡ (here || false)
+known_alone true = refl
+known_alone false = refl
+
+-- a name behind some names is known as they are, and is itself known
+pub known_more : (names : List (Bor Name)) (new name : Bor Name)
+    → cond (is_eq (name_ref_cmp new name)) true (list_any (λ (other : Bor Name). name_eq other.now name.now) names)
+    ≡ list_any (λ (other : Bor Name). name_eq other.now name.now) (names ++ new ∷ [])
+known_more [] new name =
+    ap (λ b. cond b true false) (sym (texts_ties new.now name.now))
+    ∙ known_alone (name_eq new.now name.now)
+known_more (first ∷ names) new name =
+    known_before (is_eq (name_ref_cmp new name)) (name_eq first.now name.now)
+    (list_any (λ (other : Bor Name). name_eq other.now name.now) names)
+    ∙ ap (λ b. name_eq first.now name.now || b) (known_more names new name)

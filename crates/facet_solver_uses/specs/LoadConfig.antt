@@ -1,8 +1,10 @@
 -- What a strict loader of configurations answers.
 use Rattle.std.specs.Prelude.{◌≡◌, ◌≢◌, true, List, [], ◌∷◌, Some, None, Result, Ok, Err, ⊤, filter, not}
-use Rattle.std.specs.List.{filter_map}
+use Rattle.std.specs.Borrow.{Bor}
+use Rattle.std.specs.BTreeSet.{BTreeSet, contains}
+use Rattle.std.specs.List.{filter_map, list_any}
 use Rattle.facet_solver.specs.Keys.{Key, key_of, flat_key}
-use Rattle.facet_solver.specs.Names.{Name, name_eq, names_of}
+use Rattle.facet_solver.specs.Names.{Name, name_eq, name_ref_cmp, names_of}
 use Rattle.facet_solver.specs.Resolutions.{has_key}
 use Rattle.facet_solver.specs.schema.Schema.{SchemaView}
 use Rattle.facet_solver.specs.schema.ResolutionHandle.{IsHandleOf, index_of, resolution_of}
@@ -31,6 +33,12 @@ abbrev pub each_once : List Name → List Name
 each_once [] = []
 each_once (name ∷ names) =
     name ∷ filter (λ other. not (name_eq other name)) (each_once names)
+
+-- a set has the names that are some names, and no others
+abbrev pub AreKnown : List (Bor Name) → BTreeSet (Bor Name) → Type 0
+AreKnown names known =
+    (name : Bor Name) → contains name_ref_cmp known name
+    ≡ list_any (λ other. name_eq other.now name.now) names
 
 -- the variants that the candidates have under a tag, each once, in the order of the candidates
 abbrev pub variants_under : Name → State → List Name

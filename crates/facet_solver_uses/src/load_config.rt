@@ -1,12 +1,12 @@
 //! A configuration loader: the text under a tag is the name of the variant, and a key that the
 //! resolution does not take is an error.
-ghost use Rattle.std.specs.Prelude.{◌≡◌, IfOk};
+ghost use Rattle.std.specs.Prelude.{◌≡◌, ◌++◌, ◌∷◌, [], if◌then◌else◌, IfOk, OnOk};
 ghost use Rattle.std.specs.List.{list_any};
 ghost use Rattle.std.specs.Option.{option_map};
 ghost use Rattle.facet_solver.specs.Keys.{key_of};
 ghost use Rattle.facet_solver.specs.Names.{name_eq, names_of};
 ghost use Rattle.facet_solver.specs.solver.Tag.{variant_under};
-ghost use Rattle.facet_solver_uses.specs.LoadConfig.{Loads, variants_under};
+ghost use Rattle.facet_solver_uses.specs.LoadConfig.{AreKnown, Loads, variants_under};
 ghost use Rattle.facet_solver_uses.specs.KeysToChoice.{keys_of};
 ghost use Rattle.facet_solver_uses.specs.Taken.{first_unknown};
 
@@ -15,6 +15,7 @@ use facet_solver::{
     FieldKey, PathSegment, Resolution, ResolutionHandle, Schema, Solver, SolverError,
 };
 use std::alloc::{AllocError, Global};
+use std::collections::BTreeSet;
 
 /// Why a configuration is refused.
 #[derive(Drop)]
@@ -93,11 +94,10 @@ fn variants_under<'c>(
 {
     let handles = solver.candidates(alloc)?;
     let mut names = Vec::new(alloc);
+    let mut known = BTreeSet::new(alloc);
     for handle in &handles {
-        if let Some(variant) = variant_under(handle.resolution(), tag)
-            && !has_name(&names, variant)
-        {
-            names.push(variant)?;
+        if let Some(variant) = variant_under(handle.resolution(), tag) {
+            push_new(&mut names, &mut known, variant)?;
         }
     }
     Ok(names)
@@ -114,11 +114,23 @@ fn variant_under<'c>(resolution: &Resolution<'c>, tag: &str) -> Option<&'c str>
     }
 }
 
-/// Whether a name is one of some names.
-fn has_name(names: &[&str], name: &str) -> bool
-    ensures { result ≡ list_any (λ other. name_eq other.now name.now) names.now }
+/// Adds a name that is not there yet. The names that are there are known as a set too, so that many
+/// are not gone through for each.
+fn push_new<'c>(
+    names: &mut Vec<&'c str>,
+    known: &mut BTreeSet<&'c str>,
+    name: &'c str,
+) -> Result<(), AllocError>
+    requires { AreKnown names.old.items known.old }
+    ensures known { OnOk result (AreKnown names.new.items known.new) }
+    ensures names { OnOk result (names.new.items
+        ≡ (if list_any (λ other. name_eq other.now name.now) names.old.items
+        then names.old.items else names.old.items ++ name.entry ∷ [])) }
 {
-    names.iter().any(|other| *other == name)
+    if known.insert(name)? {
+        names.push(name)?;
+    }
+    Ok(())
 }
 
 /// The first key that a resolution does not take.
