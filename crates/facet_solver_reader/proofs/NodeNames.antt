@@ -1,15 +1,16 @@
 -- Names with numbers, sorted by name.
-use Rattle.std.proofs.Common.{◌≡◌, ℕ, ◌+◌, ◌-◌, ◌<◌, ◌≤◌, true, false, List, [], length, Some, slice_get, get_or, refl, sym, ap, ◌∙◌, arith, Bor, Contains, IsSorted, Ordering, Less, Equal, Greater, is_lt, is_eq, bytes_eq, Err, inl, inr}
+use Rattle.std.proofs.Common.{◌≡◌, ℕ, ◌+◌, ◌-◌, ◌<◌, ◌≤◌, true, false, List, [], length, Some, slice_get, get_or, refl, sym, ap, ◌∙◌, arith, Bor, Contains, IsSorted, Ordering, Less, Equal, Greater, is_lt, is_eq, bytes_eq, inl, inr}
 use Rattle.std.specs.Cmp.{IsTotalOrder}
 use Rattle.std.specs.Cmp.Lexicographic.{nat_list_cmp_total, slice_cmp}
-use Rattle.std.specs.List.Sorted.{IsBinarySearchResult, IsSortedBy, IsSortedByKey}
+use Rattle.std.specs.List.Sorted.{IsSortedBy, IsSortedByKey}
 use Rattle.std.specs.Option.{option_map}
 use Rattle.std.specs.Ordering.{nat_cmp, ordering_reverse}
 use Rattle.std.proofs.lemmas.Bool.{false≢true, cases_lt}
 use Rattle.std.proofs.lemmas.Cmp.{on_total}
 use Rattle.std.proofs.Math.ListN.{get_or-map}
-use Rattle.std.proofs.lemmas.List.{length-map}
-use Rattle.std.proofs.lemmas.List.Sorted.{ranks_by, searchable_from_sorted, sorted_far}
+use Rattle.std.proofs.Common.{◌⊎◌, Option, None, MatchOption, take, drop}
+use Rattle.std.proofs.lemmas.List.{get_or-drop, get_or-take, length-drop, length-map, length-take}
+use Rattle.std.proofs.lemmas.List.Sorted.{ranks_by, sorted_far}
 use Rattle.std.proofs.lemmas.Map.Text.{is_eq-slice_cmp}
 use Rattle.std.proofs.lemmas.Option.{slice_get-map, slice_get-get_or, slice_get_within, get_or_from_slice_get, same_Some, some_pair_parts}
 use Rattle.std.proofs.lemmas.Slice.Eq.{bytes_eq-Decides}
@@ -104,7 +105,7 @@ repeated_here es later d e some within equal =
       name_is = refl;
     }
 
--- ---- what halving finds
+-- ---- names at indices
 
 -- a name with a number stands at an index
 pub contains_at : {X : Type 0} (xs : List X) (k : ℕ) (x : X) → slice_get xs k ≡ Some x → Contains xs x
@@ -118,41 +119,12 @@ entry_at es k d within =
     let entry : Item → Name × ℕ = λ e. (e.0.now, e.1) in
     slice_get-map entry es k ∙ ap (option_map entry) (slice_get-get_or es k d within)
 
-tied : (o : Ordering) (x y : Name) → slice_cmp nat_cmp x y ≡ Equal → x ≡ y
-tied o x y tie = (bytes_eq-Decides x y).0 (sym (is_eq-slice_cmp x y) ∙ ap is_eq tie)
-
-module _ (es : Named) (x : Name) where
-  -- the order of a name beside the one that is sought
-  abbrev pub beside : Item → Ordering
-  beside e = slice_cmp nat_cmp e.0.now x
-
-  -- one that is found
-  pub found_at : (i : ℕ) (d : Item) → i < length es → beside (get_or es i d) ≡ Equal → Contains (entries es) (x, (get_or es i d).1)
-  found_at i d within tie =
-      let same = tied Equal (get_or es i d).0.now x tie in
-      contains_at (entries es) i (x, (get_or es i d).1) (entry_at es i d within ∙ ap (λ n. Some (n, (get_or es i d).1)) same)
-
-  sorted_items : IsSorted name_ref_cmp (names_among es) → IsSortedBy (λ (a b : Item). is_lt (slice_cmp nat_cmp a.0.now b.0.now)) es
-  sorted_items sorted k d low less =
-      let first : Item → Bor Name = λ e. e.0 in
-      ap (λ (n : Bor Name). is_lt (name_ref_cmp n (get_or es k d).0)) (sym (get_or-map first es (k + 1) d))
-      ∙ ap (λ (n : Bor Name). is_lt (name_ref_cmp (get_or (names_among es) (k + 1) d.0) n)) (sym (get_or-map first es k d))
-      ∙ sorted k d.0 low (omega (arith, less, long_names es))
-
-  -- none where halving finds none
-  pub none_found : (i : ℕ) → IsSorted name_ref_cmp (names_among es) → IsBinarySearchResult beside es (Err i) → (n : ℕ) → ¬ Contains (entries es) (x, n)
-  none_found i sorted parted n held =
-      let k = held.0 in
-      let entry : Item → Name × ℕ = λ e. (e.0.now, e.1) in
-      let within : k < length es = omega (arith, held.1, length-map es entry) in
-      let parts = parted (searchable_from_sorted nat_list_cmp_total (λ (e : Item). e.0.now) es x (sorted_items sorted)) in
-      let d : Item = (record { ref_ptr = (0, 0); now = [] }, 0) in
-      let same : (get_or es k d).0.now ≡ x = (some_pair_parts (get_or es k d).0.now x (get_or es k d).1 n (sym (entry_at es k d within) ∙ at_contained (entries es) (x, n) held)).0 in
-      let tie : is_eq (beside (get_or es k d)) ≡ true = is_eq-slice_cmp (get_or es k d).0.now x ∙ (bytes_eq-Decides (get_or es k d).0.now x).1 same in
-      elim (cases_lt k i) [
-        | inl low ↦ false≢true (sym (ap is_eq (parts.0 k d (omega arith) low)) ∙ tie)
-        | inr high ↦ false≢true (sym (ap is_eq (parts.1 k d high within)) ∙ tie)
-      ]
+sorted_items : (es : Named) → IsSorted name_ref_cmp (names_among es) → IsSortedBy (λ (a b : Item). is_lt (slice_cmp nat_cmp a.0.now b.0.now)) es
+sorted_items es sorted k d low less =
+    let first : Item → Bor Name = λ e. e.0 in
+    ap (λ (n : Bor Name). is_lt (name_ref_cmp n (get_or es k d).0)) (sym (get_or-map first es (k + 1) d))
+    ∙ ap (λ (n : Bor Name). is_lt (name_ref_cmp (get_or (names_among es) (k + 1) d.0) n)) (sym (get_or-map first es k d))
+    ∙ sorted k d.0 low (omega (arith, less, long_names es))
 
 -- ---- what a walk finds
 
@@ -192,7 +164,7 @@ module _ (es : Named) (d : Item) (sorted : IsSorted name_ref_cmp (names_among es
   -- a name is not less than one before it
   not_less : (i j : ℕ) → i ≤ j → j < length es → is_lt (slice_cmp nat_cmp (get_or es j d).0.now (get_or es i d).0.now) ≡ false
   not_less i j upto within =
-      sorted_far (λ (a b : Item). is_lt (slice_cmp nat_cmp a.0.now b.0.now)) (ranks_by nat_list_cmp_total (λ (e : Item). e.0.now)) es (sorted_items es [] sorted) i j d upto within
+      sorted_far (λ (a b : Item). is_lt (slice_cmp nat_cmp a.0.now b.0.now)) (ranks_by nat_list_cmp_total (λ (e : Item). e.0.now)) es (sorted_items es sorted) i j d upto within
 
   -- a name that stands at both ends of a stretch stands at its second place too
   same_next : (i j : ℕ) → i < j → j < length es → (get_or es j d).0.now ≡ (get_or es i d).0.now → bytes_eq (get_or es i d).0.now (get_or es (i + 1) d).0.now ≡ true
@@ -218,3 +190,167 @@ module _ (es : Named) (d : Item) (sorted : IsSorted name_ref_cmp (names_among es
             ap (λ (x : Name). is_lt (slice_cmp nat_cmp x (get_or es (later - 1) d).0.now)) (sym (one ∙ repeated.name_is))
             ∙ not_less (later - 1) twice.first (omega (arith, high, some)) early
       ]
+
+-- ---- what halving leaves
+
+-- a name stands with a number
+pub record Stands (es : Named) (x : Name) (n : ℕ) : Type 0 where
+  pub index : ℕ
+  pub within : index < length es
+  pub name_is : (d : Item) → (get_or es index d).0.now ≡ x
+  pub number_is : (d : Item) → (get_or es index d).1 ≡ n
+
+pub stands : (es : Named) (x : Name) (n : ℕ) → Contains (entries es) (x, n) → Stands es x n
+stands es x n held =
+    let k = held.0 in
+    let entry : Item → Name × ℕ = λ e. (e.0.now, e.1) in
+    let within : k < length es = omega (arith, held.1, length-map es entry) in
+    let parts = λ (d : Item). some_pair_parts (get_or es k d).0.now x (get_or es k d).1 n
+    (sym (entry_at es k d within) ∙ at_contained (entries es) (x, n) held) in
+    record {
+      index = k;
+      within = within;
+      name_is = λ d. (parts d).0;
+      number_is = λ d. (parts d).1;
+    }
+
+pub contains_standing : (es : Named) (x : Name) (n : ℕ) → Stands es x n
+    → Contains (entries es) (x, n)
+contains_standing es x n s =
+    let d : Item = (record { ref_ptr = (0, 0); now = [] }, 0) in
+    contains_at (entries es) s.index (x, n)
+    (entry_at es s.index d s.within ∙ (ap (λ y. Some (y, (get_or es s.index d).1)) (s.name_is d)
+    ∙ ap (λ m. Some (x, m)) (s.number_is d)))
+
+-- where a name stands, it does so between two indices
+pub record IsBetween (es : Named) (x : Name) (start end : ℕ) : Type 0 where
+  pub ordered : start ≤ end
+  pub upto : end ≤ length es
+  pub stands_in : (n : ℕ) → Stands es x n
+      → (m : ℕ) × (s : Stands es x m) × (start ≤ s.index) × (s.index < end)
+
+pub between_all : (es : Named) (x : Name) (end : ℕ) → end ≡ length es → IsBetween es x 0 end
+between_all es x end same =
+    record {
+      ordered = omega arith;
+      upto = omega (arith, same);
+      stands_in = λ n s. let inside = s.within in (n, s, omega arith, omega (arith, inside, same));
+    }
+
+module _ (es : Named) (x : Name) (sorted : IsSorted name_ref_cmp (names_among es))
+    (start end middle : ℕ) (d : Item) (before : IsBetween es x start end) (low : start ≤ middle)
+    (high : middle < end) where
+  inside : middle < length es
+  inside = let upto = before.upto in omega (arith, upto, high)
+
+  -- where the name at the middle is greater, the name stands before it
+  pub between_front : is_lt (slice_cmp nat_cmp x (get_or es middle d).0.now) ≡ true
+      → IsBetween es x start middle
+  between_front less =
+      record {
+        ordered = low;
+        upto = omega (arith, inside);
+        stands_in = λ n s.
+            let k = before.stands_in n s in
+            (k.0, k.1, k.2, at k.0 k.1 (cases_lt k.1.index middle));
+      }
+    where
+      at : (m : ℕ) (s : Stands es x m) → (s.index < middle) ⊎ (middle ≤ s.index)
+          → s.index < middle
+      at m s (inl front) = front
+      at m s (inr back) =
+          absurd (false≢true (sym (not_less es d sorted middle s.index back s.within)
+          ∙ (ap (λ (y : Name). is_lt (slice_cmp nat_cmp y (get_or es middle d).0.now)) (s.name_is d)
+          ∙ less)))
+
+  -- else it stands there or behind it
+  pub between_back : is_lt (slice_cmp nat_cmp x (get_or es middle d).0.now) ≡ false
+      → IsBetween es x middle end
+  between_back not_before =
+      record {
+        ordered = omega (arith, high);
+        upto = before.upto;
+        stands_in = λ n s.
+            let k = before.stands_in n s in at k.0 k.1 k.3 (cases_lt k.1.index middle);
+      }
+    where
+      same_name : (m : ℕ) (s : Stands es x m) → s.index < middle
+          → (get_or es middle d).0.now ≡ x
+      same_name m s front =
+          let mid = (get_or es middle d).0.now in
+          let after : is_lt (slice_cmp nat_cmp mid x) ≡ false =
+          ap (λ (y : Name). is_lt (slice_cmp nat_cmp mid y)) (sym (s.name_is d))
+          ∙ not_less es d sorted s.index middle (omega (arith, front)) inside in
+          let tie = neither_less (slice_cmp nat_cmp mid x) (slice_cmp nat_cmp x mid)
+          (nat_list_cmp_total.antisymm mid x) after not_before in
+          (bytes_eq-Decides mid x).0 (sym (is_eq-slice_cmp mid x) ∙ tie)
+
+      here : (e : Item) → get_or es middle e ≡ get_or es middle d
+      here e =
+          same_Some _ _ (sym (slice_get-get_or es middle e inside)
+          ∙ slice_get-get_or es middle d inside)
+
+      at : (m : ℕ) (s : Stands es x m) → s.index < end → (s.index < middle) ⊎ (middle ≤ s.index)
+          → (k : ℕ) × (t : Stands es x k) × (middle ≤ t.index) × (t.index < end)
+      at m s within (inr back) = (m, s, back, within)
+      at m s within (inl front) =
+          let t : Stands es x (get_or es middle d).1 = record {
+            index = middle;
+            within = inside;
+            name_is = λ e. ap (λ (y : Item). y.0.now) (here e) ∙ same_name m s front;
+            number_is = λ e. ap (λ (y : Item). y.1) (here e);
+          } in
+          ((get_or es middle d).1, t, omega arith, high)
+
+module _ (es : Named) (x : Name) (start end : ℕ) (between : IsBetween es x start end) where
+  -- the names between them
+  abbrev pub part_of : Named
+  part_of = take (end - start) (drop start es)
+
+  long_part : length part_of ≡ end - start
+  long_part =
+      let ordered = between.ordered in
+      let upto = between.upto in
+      omega (arith, length-take (end - start) (drop start es), length-drop start es, ordered, upto)
+
+  read_part : (k : ℕ) (d : Item) → k < end - start → get_or part_of k d ≡ get_or es (start + k) d
+  read_part k d within =
+      get_or-take (end - start) (drop start es) k d within ∙ get_or-drop start es k d
+
+  of_part : (n : ℕ) → Stands part_of x n → Stands es x n
+  of_part n s =
+      let low : s.index < end - start = let inside = s.within in omega (arith, inside, long_part) in
+      let same = λ (d : Item). read_part s.index d low in
+      let ordered = between.ordered in
+      let upto = between.upto in
+      record {
+        index = start + s.index;
+        within = omega (arith, low, ordered, upto);
+        name_is = λ d. sym (ap (λ (e : Item). e.0.now) (same d)) ∙ s.name_is d;
+        number_is = λ d. sym (ap (λ (e : Item). e.1) (same d)) ∙ s.number_is d;
+      }
+
+  in_part : (n : ℕ) (s : Stands es x n) → start ≤ s.index → s.index < end → Stands part_of x n
+  in_part n s low high =
+      let there : start + (s.index - start) ≡ s.index = omega (arith, low) in
+      let inside : s.index - start < end - start = omega (arith, low, high) in
+      let same = λ (d : Item). read_part (s.index - start) d inside
+      ∙ ap (λ k. get_or es k d) there in
+      record {
+        index = s.index - start;
+        within = omega (arith, inside, long_part);
+        name_is = λ d. ap (λ (e : Item). e.0.now) (same d) ∙ s.name_is d;
+        number_is = λ d. ap (λ (e : Item). e.1) (same d) ∙ s.number_is d;
+      }
+
+  -- what a walk finds between them is what is to be found
+  pub found_between : (r : Option ℕ)
+      → MatchOption r ((n : ℕ) → ¬ Contains (entries part_of) (x, n))
+      (λ n. Contains (entries part_of) (x, n))
+      → MatchOption r ((n : ℕ) → ¬ Contains (entries es) (x, n))
+      (λ n. Contains (entries es) (x, n))
+  found_between None none = λ n held.
+      let k = between.stands_in n (stands es x n held) in
+      none k.0 (contains_standing part_of x k.0 (in_part k.0 k.1 k.2 k.3))
+  found_between (Some n) held =
+      contains_standing es x n (of_part n (stands part_of x n held))

@@ -92,15 +92,23 @@ fn find_by_walk(named: &[NamedNode<'_>], name: &str) -> Option<usize>
     None
 }
 
-/// The number that stands with a name, by halving.
+/// The number that stands with a name. The names are halved until few are left, and these are gone
+/// through.
 fn find_by_halving(named: &[NamedNode<'_>], name: &str) -> Option<usize>
     requires { AreByName named.now }
     ensures { MatchOption result
         ((number : ℕ) → ¬ Contains (entries named.now) (name.now, number))
         (λ number. Contains (entries named.now) (name.now, number)) }
 {
-    match named.binary_search_by_key(&name, |member| member.0) {
-        Ok(index) => Some(named[index].1),
-        Err(_) => None,
+    let mut start = 0;
+    let mut end = named.len();
+    while end - start > FEW_NAMES {
+        let middle = start + (end - start) / 2;
+        if name < named[middle].0 {
+            end = middle;
+        } else {
+            start = middle;
+        }
     }
+    find_by_walk(&named[start..end], name)
 }
