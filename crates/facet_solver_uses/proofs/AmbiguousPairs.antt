@@ -1,5 +1,5 @@
 -- Pairs of resolutions that some keys leave both viable, and the keys that two resolutions share.
-use Rattle.std.proofs.Common.{◌≡◌, ℕ, zero, suc, ◌<◌, get_or, length, ◌+◌, ◌++◌, ◌⊎◌, inl, inr, Bool, true, false, ◌&&◌, ◌||◌, not, List, [], ◌∷◌, Option, Some, None, refl, ap, sym, subst, ◌∙◌, ⊎_elim, append_assoc, arith}
+use Rattle.std.proofs.Common.{◌≡◌, ◌≢◌, ℕ, cond, zero, suc, ◌<◌, get_or, length, ◌+◌, ◌++◌, ◌⊎◌, inl, inr, Bool, true, false, ◌&&◌, ◌||◌, not, List, [], ◌∷◌, Option, Some, None, find, is_some, refl, ap, sym, subst, ◌∙◌, ⊎_elim, append_assoc, arith}
 use lib.Pointwise.{bytes_decides}
 use Rattle.std.specs.Prelude.{slice_get}
 use Rattle.std.specs.FinMap as finite
@@ -9,11 +9,11 @@ use Rattle.std.proofs.lemmas.Bool.{and_from, and_parts, false≢true, or_cases, 
 use Rattle.std.proofs.lemmas.Bool.Decides.{Decides-eqb}
 use Rattle.std.proofs.lemmas.Option.{none-some, same_Some, slice_get-get_or, slice_get-map}
 use Rattle.facet_solver.specs.solver.Failure.{is_met}
-use Rattle.facet_solver.specs.Fields.{FieldView, category_eq, is_unnamed, matches, means, takes_any_name}
+use Rattle.facet_solver.specs.Fields.{FieldView, category_eq, has_name, is_unnamed, matches, means, takes_any_name}
 use Rattle.facet_solver.specs.Keys.{Key, category_index, dom_key, flat_key, key_of}
 use Rattle.facet_solver.specs.Names.{Name, name_eq}
 use Rattle.facet_solver.specs.solver.Pairs.{CanBothBeViable, HasKeyFor, HasKeysRequiredBy, LeavesBothViable}
-use Rattle.facet_solver.specs.Resolved.{Resolved, nothing}
+use Rattle.facet_solver.specs.Resolved.{Resolved, field_by_name, nothing}
 use Rattle.facet_solver.specs.schema.Schema.{SchemaView}
 use Rattle.facet_solver.specs.Resolutions.{has_key}
 use Rattle.facet_solver.specs.solver.Told.{has_keys}
@@ -194,6 +194,35 @@ one_serves r f h =
 
 pub none_serves : (r : Resolved) (f : FieldView) → list_any (serves r f) (keys_for f.name) ≡ false → ¬ HasKeyFor r f
 none_serves r f none h = false≢true (sym none ∙ one_serves r f h)
+
+-- a key of a name, which is not empty, means no field where none has the name
+no_named : (dom : Option FieldCategory) (name : Name) (fs : List FieldView) → is_unnamed name ≡ false → find (has_name name) fs ≡ None
+    → is_some (find (λ f. means dom name f.category f.name) fs) ≡ false
+no_named dom name [] has none = refl
+no_named dom name (f ∷ fs) has none = go (no_named dom name fs has) (has_name name f) refl (means dom name f.category f.name) refl none
+  where
+    go : (find (has_name name) fs ≡ None → is_some (find (λ f. means dom name f.category f.name) fs) ≡ false) → (b : Bool) → has_name name f ≡ b → (m : Bool) → means dom name f.category f.name ≡ m
+        → cond b (Some f) (find (has_name name) fs) ≡ None → is_some (cond m (Some f) (find (λ f. means dom name f.category f.name) fs)) ≡ false
+    go later true is m of e = absurd (cc)
+    go later false is true of e =
+        ⊎_elim
+        (λ same. absurd (false≢true (sym is ∙ same)))
+        (λ other. absurd (false≢true (sym has ∙ other.3)))
+        (bears dom name f.category f.name of)
+    go later false is false of e = later e
+
+pub is_named : (name : Name) → name ≢ [] → is_unnamed name ≡ false
+is_named [] has = absurd (has refl)
+is_named (b ∷ bs) has = refl
+
+-- a flat field of a name, which is not empty, has no key in a resolution without that name
+pub no_key : (r : Resolved) (f : FieldView) → f.category ≡ Flat → is_unnamed f.name ≡ false → field_by_name f.name r ≡ None → ¬ HasKeyFor r f
+no_key r f flat has none h =
+    let same : h.key.name ≡ f.name = (bytes_decides h.key.name f.name).0 (subst (λ c. means h.key.dom h.key.name c f.name ≡ true) flat h.means) in
+    let lacks = no_named h.key.dom f.name (finite.values r.fields) has none in
+    let there : is_some (find (λ g. means h.key.dom f.name g.category g.name) (finite.values r.fields)) ≡ true =
+    subst (λ (n : Name). is_some (find (λ g. means h.key.dom n g.category g.name) (finite.values r.fields)) ≡ true) same h.has in
+    false≢true (sym lacks ∙ there)
 
 -- ---- pairs, one after another
 module _ (schema : SchemaView) (indices : ℕ × ℕ) where

@@ -52,14 +52,14 @@ among_refs [] name = refl
 among_refs (other ∷ names) name = ap (λ b. name_eq other.now name || b) (among_refs names name)
 
 -- a name that is there already
-pub name_stays : (met : List Name) (names : List (Bor Name)) (name : Name) → names_of names ≡ each_once met → list_any (λ (other : Bor Name). name_eq other.now name) names ≡ true → names_of names ≡ each_once (met ++ name ∷ [])
+name_stays : (met : List Name) (names : List (Bor Name)) (name : Name) → names_of names ≡ each_once met → list_any (λ (other : Bor Name). name_eq other.now name) names ≡ true → names_of names ≡ each_once (met ++ name ∷ [])
 name_stays met names name so_far there =
     so_far
     ∙ sym (each_once-push met name
     ∙ ap (λ b. cond b (each_once met) (each_once met ++ name ∷ [])) (ap (is_among name) (sym so_far) ∙ among_refs names name ∙ there))
 
 -- a name that is new
-pub name_added : (met : List Name) (names : List (Bor Name)) (new : Bor Name) → names_of names ≡ each_once met → list_any (λ (other : Bor Name). name_eq other.now new.now) names ≡ false → names_of (names ++ new ∷ []) ≡ each_once (met ++ new.now ∷ [])
+name_added : (met : List Name) (names : List (Bor Name)) (new : Bor Name) → names_of names ≡ each_once met → list_any (λ (other : Bor Name). name_eq other.now new.now) names ≡ false → names_of (names ++ new ∷ []) ≡ each_once (met ++ new.now ∷ [])
 name_added met names new so_far is_new =
     map-append (λ (n : Bor Name). n.now) names (new ∷ [])
     ∙ ap (λ (ns : List Name). ns ++ new.now ∷ []) so_far

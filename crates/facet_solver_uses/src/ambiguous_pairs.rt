@@ -1,6 +1,7 @@
 //! A checker of types: which resolutions a document may leave both viable, with keys that do so.
-ghost use Rattle.std.specs.Prelude.{◌≡◌, ◌++◌, ◌<◌, ℕ, IfOk, List, OnOk, length};
+ghost use Rattle.std.specs.Prelude.{◌≡◌, ◌++◌, ◌<◌, ℕ, IfOk, IsTrue, List, OnOk, length};
 ghost use Rattle.facet_solver.specs.solver.Failure.{is_met};
+ghost use Rattle.facet_solver.specs.solver.Pairs.{HasKeyFor};
 ghost use Rattle.facet_solver.specs.Keys.{key_of};
 ghost use Rattle.facet_solver.specs.Names.{names_of};
 ghost use Rattle.facet_solver_uses.specs.AmbiguousPairs.{AddsKeys, IsKeyFor, ListsPairs, PairsIfAny, keys_for, names_beside, pairs_below, pairs_with, serves};
@@ -130,10 +131,18 @@ fn is_met(keys: &[FieldKey<'_>], field: &FieldInfo<'_>) -> bool
     !field.required
 }
 
-/// A key that means a field, and that a resolution has.
+/// A key that means a field, and that a resolution has. Most often it is the flat key of the
+/// field's name, or there is none.
 fn key_for<'c>(field: &FieldInfo<'c>, resolution: &Resolution<'c>) -> Option<FieldKey<'c>>
     ensures { IsKeyFor resolution.now field.now result }
 {
+    let flat = FieldKey::flat(field.serialized_name);
+    if serves(&flat, field, resolution) {
+        return Some(flat);
+    }
+    if lacks_flat_name(field, resolution) {
+        return None;
+    }
     let keys = keys_for(field.serialized_name);
     for key in &keys {
         if serves(key, field, resolution) {
@@ -141,6 +150,18 @@ fn key_for<'c>(field: &FieldInfo<'c>, resolution: &Resolution<'c>) -> Option<Fie
         }
     }
     None
+}
+
+/// Whether a field goes by its name alone, and a resolution has no field of that name. Then no key
+/// means the field and one of the resolution.
+fn lacks_flat_name(field: &FieldInfo<'_>, resolution: &Resolution<'_>) -> bool
+    ensures { IsTrue result → ¬ HasKeyFor resolution.now field.now }
+{
+    let name = field.serialized_name;
+    match field.category {
+        FieldCategory::Flat => !name.is_empty() && resolution.field_by_name(name).is_none(),
+        _ => false,
+    }
 }
 
 /// The keys that may mean a field of a name: a key without a name means a text, a tag, or all
