@@ -1,17 +1,21 @@
 -- An index after one more field.
-use Rattle.std.proofs.Common.{◌≡◌, ℕ, zero, suc, ◌<◌, Bool, true, false, ◌||◌, nat_eq, List, [], ◌∷◌, ◌++◌, Option, Some, None, MatchOption, filter, is_some, length, ne_eqb, refl, ap, sym, ◌∙◌, subst, arith}
+use Rattle.std.proofs.Common.{◌≡◌, ℕ, zero, suc, ◌<◌, Bool, true, false, ◌&&◌, ◌||◌, nat_eq, List, [], ◌∷◌, ◌++◌, Bor, Option, Some, None, MatchOption, filter, is_some, length, ne_eqb, refl, ap, sym, ◌∙◌, subst, arith}
 use Rattle.std.specs.Prelude.{if◌then◌else◌}
 use Rattle.std.specs.List.{find}
-use Rattle.std.specs.Option.{option_or}
+use Rattle.std.specs.Option.{option_and_then, option_map, option_map_or, option_or}
+use Rattle.std.proofs.Math.Bool.{or-false}
 use Rattle.std.proofs.lemmas.Bool.{false≢true}
 use Rattle.std.proofs.lemmas.Bool.Decides.{Decides-eqb}
-use Rattle.std.proofs.lemmas.List.Folds.{find-append}
+use Rattle.std.proofs.lemmas.List.Folds.{find-append, list_any-append}
 use Rattle.facet_solver_shape.proofs.Resolved.{or_none}
 use Rattle.facet_solver_shape.specs.Fields.{FieldView}
+use Rattle.facet_solver_shape.specs.Names.{Name}
 use Rattle.facet_solver.specs.set.IndexSet.{IndexSet, has_index, upto}
 use Rattle.facet_solver.specs.schema.IndexEntries.{added, agreed, entry_at, entry_of_one, with_number, with_occurrence}
-use Rattle.facet_solver.specs.schema.Indexed.{Meant, AgreesOn, Differs, IsIndexEntry, IsEntryIfAny, IsIndexOf, first_passing}
+use Rattle.facet_solver.specs.schema.Indexed.{Meant, AgreesOn, AreSelected, Differs, IsIndexEntry, IsEntryIfAny, IsIndexOf, first_passing}
+use Rattle.facet_solver.specs.schema.Selected.{has_selected, selected_by}
 use Rattle.facet_solver.specs.schema.Slots.{Slot, is_at}
+use Rattle.facet_solver.specs.solver.Tag.{last_variant}
 use Rattle.facet_solver.specs.declared.schema.index.entry.Entry.{Entry}
 use Rattle.facet_solver.specs.declared.schema.index.Index.{Index}
 use Rattle.facet_solver.proofs.IndexSet.{filter_same, filter_none, has_inside}
@@ -144,9 +148,47 @@ shape_more meant i f none (Some shape) one = go (nat_eq shape f.shape) refl
       apart = λ e. false≢true (sym other ∙ (Decides-eqb shape f.shape).1 (sym one.same ∙ e));
     }
 
+-- the variant of a resolution, if it is that of an index
+here_selected : (test : Name → Bool) (i k : ℕ) (variant : Option (Bor Name)) → nat_eq i k ≡ true
+    → has_selected test (selected_by i variant) k ≡ option_map_or test (option_map (λ (v : Bor Name). v.now) variant) false
+here_selected test i k None same = refl
+here_selected test i k (Some v) same = ap (λ b. (b && test v.now) || false) same ∙ or-false (test v.now)
+
+elsewhere_selected : (test : Name → Bool) (i k : ℕ) (variant : Option (Bor Name)) → nat_eq i k ≡ false → has_selected test (selected_by i variant) k ≡ false
+elsewhere_selected test i k None other = refl
+elsewhere_selected test i k (Some v) other = ap (λ b. (b && test v.now) || false) other
+
+-- the variants after it
+selected_more : (meant : Meant) (i : ℕ) (f : FieldView) (selected : List (ℕ × Name)) (variant : Option (Bor Name)) → meant i ≡ None
+    → option_map (λ (v : Bor Name). v.now) variant ≡ last_variant f.path → AreSelected meant selected → AreSelected (more meant i true f) (selected ++ selected_by i variant)
+selected_more meant i f selected variant none named before test k =
+    list_any-append (λ (s : ℕ × Name). nat_eq s.0 k && test s.1) selected (selected_by i variant) ∙ go (nat_eq k i) refl
+  where
+    by : Option FieldView → Bool
+    by o = option_map_or test (option_and_then (λ (g : FieldView). last_variant g.path) o) false
+
+    go : (b : Bool) → nat_eq k i ≡ b → (has_selected test selected k || has_selected test (selected_by i variant) k) ≡ by (if b then option_or (meant k) (Some f) else meant k)
+    go true same =
+        let is : k ≡ i = (Decides-eqb k i).0 same in
+        let absent : meant k ≡ None = ap meant is ∙ none in
+        ap (λ b. b || has_selected test (selected_by i variant) k) (before test k ∙ ap by absent)
+        ∙ here_selected test i k variant ((Decides-eqb i k).1 (sym is))
+        ∙ ap (λ o. option_map_or test o false) named
+        ∙ sym (ap (λ o. by (option_or o (Some f))) absent)
+    go false other =
+        let apart : nat_eq i k ≡ false = ne_eqb i k (λ e. false≢true (sym other ∙ (Decides-eqb k i).1 (sym e))) in
+        ap (λ b. has_selected test selected k || b) (elsewhere_selected test i k variant apart)
+        ∙ or-false (has_selected test selected k)
+        ∙ before test k
+
+-- before the first there is none
+pub none_selected : (meant : Meant) → ((k : ℕ) → meant k ≡ None) → AreSelected meant []
+none_selected meant none test k = sym (ap (λ o. option_map_or test (option_and_then (λ (g : FieldView). last_variant g.path) o) false) (none k))
+
 -- the first entry of a slot
-entry_first : (bound : ℕ) (meant : Meant) (i : ℕ) (f : FieldView) → ((k : ℕ) → meant k ≡ None) → IsIndexEntry bound (more meant i true f) (entry_of_one (record { index = i; bound = bound; shape = f.shape }))
-entry_first bound meant i f none = record {
+entry_first : (bound : ℕ) (meant : Meant) (i : ℕ) (f : FieldView) (variant : Option (Bor Name)) → option_map (λ (v : Bor Name). v.now) variant ≡ last_variant f.path → ((k : ℕ) → meant k ≡ None)
+    → IsIndexEntry bound (more meant i true f) (entry_of_one (record { index = i; bound = bound; shape = f.shape; variant = variant }))
+entry_first bound meant i f variant named none = record {
   set = ap (λ s. with_number s i) (sym nothing) ∙ set_more bound meant i f (none i);
   shape = record {
     index = i;
@@ -155,6 +197,7 @@ entry_first bound meant i f none = record {
     same = refl;
     all = λ k g is. more_only meant i f (none i) k g is f.shape refl (λ there. absurd (absent k g there));
   };
+  selected = selected_more meant i f [] variant (none i) named (none_selected meant none);
 }
   where
     absent : (k : ℕ) (g : FieldView) → meant k ≡ Some g → ⊥
@@ -167,14 +210,15 @@ entry_first bound meant i f none = record {
     nothing = ap (below bound) (filter_none (λ k. is_some (meant k)) 0 bound (λ k low high. ap is_some (none k)))
 
 -- an entry with one resolution more
-entry_more : (bound : ℕ) (meant : Meant) (i : ℕ) (f : FieldView) (entry : Entry) → i < bound → IsIndexEntry bound meant entry
-    → IsIndexEntry bound (more meant i true f) (with_occurrence entry (record { index = i; bound = bound; shape = f.shape }))
-entry_more bound meant i f entry within is = go (meant i) refl
+entry_more : (bound : ℕ) (meant : Meant) (i : ℕ) (f : FieldView) (variant : Option (Bor Name)) → option_map (λ (v : Bor Name). v.now) variant ≡ last_variant f.path
+    → (entry : Entry) → i < bound → IsIndexEntry bound meant entry
+    → IsIndexEntry bound (more meant i true f) (with_occurrence entry (record { index = i; bound = bound; shape = f.shape; variant = variant }))
+entry_more bound meant i f variant named entry within is = go (meant i) refl
   where
     known : has_index entry.set.members i ≡ is_some (meant i)
     known = ap (λ (s : IndexSet). has_index s.members i) is.set ∙ has_inside (λ j. is_some (meant j)) 0 bound i (omega arith) (omega arith)
 
-    go : (o : Option FieldView) → meant i ≡ o → IsIndexEntry bound (more meant i true f) (with_occurrence entry (record { index = i; bound = bound; shape = f.shape }))
+    go : (o : Option FieldView) → meant i ≡ o → IsIndexEntry bound (more meant i true f) (with_occurrence entry (record { index = i; bound = bound; shape = f.shape; variant = variant }))
     go (Some g) here =
         let member : has_index entry.set.members i ≡ true = known ∙ ap is_some here in
         rw member (subst (λ m. IsIndexEntry bound m entry) (λ j k. sym (more_known meant i f g here k) j) is)
@@ -183,24 +227,27 @@ entry_more bound meant i f entry within is = go (meant i) refl
         rw absent (record {
           set = ap (λ s. with_number s i) is.set ∙ set_more bound meant i f here;
           shape = shape_more meant i f here entry.shape is.shape;
+          selected = selected_more meant i f entry.selected variant here named is.selected;
         })
 
 -- the entry of a slot after one more field
-pub slot_more : (bound : ℕ) (meant : Meant) (i : ℕ) (f : FieldView) (entry : Option Entry) → i < bound → (passes : Bool) → IsEntryIfAny bound meant entry
-    → IsEntryIfAny bound (more meant i passes f) (if passes then Some (added entry (record { index = i; bound = bound; shape = f.shape })) else entry)
-slot_more bound meant i f entry within false is = subst (λ m. IsEntryIfAny bound m entry) (λ j k. sym (more_failing meant i f k) j) is
-slot_more bound meant i f None within true is = entry_first bound meant i f is
-slot_more bound meant i f (Some e) within true is = entry_more bound meant i f e within is
+pub slot_more : (bound : ℕ) (meant : Meant) (i : ℕ) (f : FieldView) (variant : Option (Bor Name)) → option_map (λ (v : Bor Name). v.now) variant ≡ last_variant f.path
+    → (entry : Option Entry) → i < bound → (passes : Bool) → IsEntryIfAny bound meant entry
+    → IsEntryIfAny bound (more meant i passes f) (if passes then Some (added entry (record { index = i; bound = bound; shape = f.shape; variant = variant })) else entry)
+slot_more bound meant i f variant named entry within false is = subst (λ m. IsEntryIfAny bound m entry) (λ j k. sym (more_failing meant i f k) j) is
+slot_more bound meant i f variant named None within true is = entry_first bound meant i f variant named is
+slot_more bound meant i f variant named (Some e) within true is = entry_more bound meant i f variant named e within is
 
 -- an index after one more field of the last resolution
-pub index_more : (bound : ℕ) (before : List (List FieldView)) (seen : List FieldView) (f : FieldView) (old new : Index) → length before < bound
+pub index_more : (bound : ℕ) (before : List (List FieldView)) (seen : List FieldView) (f : FieldView) (variant : Option (Bor Name)) → option_map (λ (v : Bor Name). v.now) variant ≡ last_variant f.path
+    → (old new : Index) → length before < bound
     → IsIndexOf bound (before ++ seen ∷ []) old
-    → ((slot : Slot) → entry_at new slot ≡ (if is_at slot f then Some (added (entry_at old slot) (record { index = length before; bound = bound; shape = f.shape })) else entry_at old slot))
+    → ((slot : Slot) → entry_at new slot ≡ (if is_at slot f then Some (added (entry_at old slot) (record { index = length before; bound = bound; shape = f.shape; variant = variant })) else entry_at old slot))
     → IsIndexOf bound (before ++ (seen ++ f ∷ []) ∷ []) new
-index_more bound before seen f old new within is step slot =
+index_more bound before seen f variant named old new within is step slot =
     let meant : Meant = first_passing (is_at slot) (before ++ seen ∷ []) in
     let after : IsEntryIfAny bound (more meant (length before) (is_at slot f) f) (entry_at new slot) =
-    rw (step slot) (slot_more bound meant (length before) f (entry_at old slot) within (is_at slot f) (is slot)) in
+    rw (step slot) (slot_more bound meant (length before) f variant named (entry_at old slot) within (is_at slot f) (is slot)) in
     subst (λ m. IsEntryIfAny bound m (entry_at new slot)) (λ j k. sym (passing_more (is_at slot) before seen f k) j) after
 
 -- an index before the fields of one more resolution

@@ -34,6 +34,7 @@ pub mod SharedBits
 pub mod FieldCategories
 pub mod NamedEntries
 pub mod Indexing
+pub mod Selected
 pub mod UnderWay
 pub mod LookUps
 pub mod Kept

@@ -2,7 +2,7 @@
 use Rattle.std.proofs.Common.{◌≡◌, ℕ, zero, suc, ◌≤◌, Bool, true, false, cond, ◌&&◌, ◌||◌, List, [], ◌∷◌, Option, Some, None, MatchOption, Bor, is_some, length, map, refl, ap, sym, ◌∙◌, arith}
 use Rattle.std.specs.FinMap as finite
 use Rattle.std.specs.List.{cons_option, filter_map, find, list_any}
-use Rattle.std.specs.Option.{option_and_then, option_copied}
+use Rattle.std.specs.Option.{option_and_then, option_copied, option_map}
 use Rattle.std.proofs.lemmas.Option.{slice_get_past}
 use Rattle.std.proofs.Math.Bool.{or-true}
 use Rattle.facet_solver_shape.specs.declared.resolution.key.FieldCategory.{FieldCategory}
@@ -12,7 +12,7 @@ use Rattle.facet_solver_shape.specs.Names.{Name, name_eq}
 use Rattle.facet_solver_shape.specs.Resolved.{Resolved, field_by_key}
 use Rattle.facet_solver_shape.proofs.Lists.{list_any-map}
 use Rattle.facet_solver.specs.Resolutions.{field_at, has_field_named, has_key, is_known, passes}
-use Rattle.facet_solver.specs.schema.IndexEntries.{entry_at, holds, is_held}
+use Rattle.facet_solver.specs.schema.IndexEntries.{entry_at, holds, is_held, set_at}
 use Rattle.facet_solver.specs.set.IndexSet.{IndexSet, has_index}
 use Rattle.facet_solver.specs.schema.Indexed.{AgreesOn, Differs, IsEntryIfAny, IsIndexOf, Meant, fields_of_each, first_passing}
 use Rattle.facet_solver.specs.schema.Slots.{categories, is_at, slot_in}
@@ -107,22 +107,26 @@ module _ (name : Name) (rs : List Resolved) (index : Index) (is : IsIndexOf (len
       ap (λ p. list_any p categories) (λ j c. entry_holds rs (first_passing (is_at (slot_in name c)) (fields_of_each rs)) (entry_at index (slot_in name c)) (past (is_at (slot_in name c)) rs) (is (slot_in name c)) i j)
       ∙ found_somewhere name rs i
 
--- one of the entries that there are has a resolution where one of all slots has
-held_by_one : {X : Type 0} (entry : X → Option Entry) (xs : List X) (i : ℕ) → list_any (λ (e : Entry). has_index e.set.members i) (filter_map entry xs) ≡ list_any (λ x. holds (entry x) i) xs
+-- the resolutions of an entry
+abbrev set_of : Option Entry → Option IndexSet
+set_of o = option_map (λ (e : Entry). e.set) o
+
+-- one of the sets that there are has a resolution where one of all slots has
+held_by_one : {X : Type 0} (entry : X → Option Entry) (xs : List X) (i : ℕ) → list_any (λ (s : IndexSet). has_index s.members i) (filter_map (λ x. set_of (entry x)) xs) ≡ list_any (λ x. holds (entry x) i) xs
 held_by_one entry [] i = refl
 held_by_one entry (x ∷ xs) i = go (entry x) (held_by_one entry xs i)
   where
-    go : (o : Option Entry) → list_any (λ (e : Entry). has_index e.set.members i) (filter_map entry xs) ≡ list_any (λ x. holds (entry x) i) xs
-        → list_any (λ (e : Entry). has_index e.set.members i) (cons_option o (filter_map entry xs)) ≡ (holds o i || list_any (λ x. holds (entry x) i) xs)
+    go : (o : Option Entry) → list_any (λ (s : IndexSet). has_index s.members i) (filter_map (λ x. set_of (entry x)) xs) ≡ list_any (λ x. holds (entry x) i) xs
+        → list_any (λ (s : IndexSet). has_index s.members i) (cons_option (set_of o) (filter_map (λ x. set_of (entry x)) xs)) ≡ (holds o i || list_any (λ x. holds (entry x) i) xs)
     go None later = later
     go (Some e) later = ap (λ b. has_index e.set.members i || b) later
 
 -- so those that there are of a name tell who has a field of the name
-pub named_held : (name : Name) (rs : List Resolved) (index : Index) (entries : List (Bor Entry)) → IsIndexOf (length rs) (fields_of_each rs) index
-    → map (λ (e : Bor Entry). e.now) entries ≡ filter_map (λ c. entry_at index (slot_in name c)) categories → (i : ℕ) → is_held entries i ≡ passes (has_field_named name) rs i
-named_held name rs index entries is all i =
-    sym (list_any-map (λ (e : Entry). has_index e.set.members i) (λ (e : Bor Entry). e.now) entries)
-    ∙ ap (list_any (λ (e : Entry). has_index e.set.members i)) all
+pub named_held : (name : Name) (rs : List Resolved) (index : Index) (sets : List (Bor IndexSet)) → IsIndexOf (length rs) (fields_of_each rs) index
+    → map (λ (s : Bor IndexSet). s.now) sets ≡ filter_map (λ c. set_at index (slot_in name c)) categories → (i : ℕ) → is_held sets i ≡ passes (has_field_named name) rs i
+named_held name rs index sets is all i =
+    sym (list_any-map (λ (s : IndexSet). has_index s.members i) (λ (s : Bor IndexSet). s.now) sets)
+    ∙ ap (list_any (λ (s : IndexSet). has_index s.members i)) all
     ∙ held_by_one (λ c. entry_at index (slot_in name c)) categories i
     ∙ name_held name rs index is i
 

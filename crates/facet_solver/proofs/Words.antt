@@ -1,5 +1,5 @@
 -- Sets of indices as bits of words: the bits of words, and the members that they stand for.
-use Rattle.std.proofs.Common.{◌≡◌, ℕ, zero, suc, ◌+◌, ◌-◌, ◌*◌, ◌/◌, ◌%◌, ◌^◌, ◌<◌, ◌≤◌, min, Bool, false, cond, ◌&&◌, inl, inr, nat_eq, List, [], ◌∷◌, length, get_or, set, filter, add-zero, length-append, refl, ap, sym, ◌∙◌, arith, le-ltb, w64, get_or-set_other, get_or-set_same, All}
+use Rattle.std.proofs.Common.{◌≡◌, ℕ, zero, suc, ◌+◌, ◌-◌, ◌*◌, ◌/◌, ◌%◌, ◌^◌, ◌<◌, ◌≤◌, min, Bool, false, cond, ◌&&◌, inl, inr, eq-eqb, ne_eqb, not, nat_eq, List, [], ◌∷◌, length, get_or, set, filter, add-zero, length-append, refl, ap, sym, ◌∙◌, arith, le-ltb, w64, get_or-set_other, get_or-set_same, All}
 use Rattle.std.proofs.lemmas.Bool.{and_left, and_right, cases_eq, cases_lt, eqb-false, lt-ltb}
 use Rattle.std.proofs.lemmas.List.{get_or_past}
 use Rattle.std.proofs.lemmas.Nat.Bits.{bit_at-zero, bit_at-lt, bit_at_clear_same, bit_at_clear_other, bit_at_ones, bit_at_ones_above, bit_at_above, bit_at-trailing_zeros, bit_at-suc, bit_at_lowest, same_from_bits_below}
@@ -11,6 +11,7 @@ use Rattle.std.specs.Int.{bit_at, bit_not, trailing_zeros}
 use Rattle.facet_solver.specs.set.IndexSet.{upto, has_index}
 use Rattle.facet_solver.specs.set.Words.{IsFull, KeepsBits, bit_of, has_bit, HoldBelow, members_from, members_of}
 use Rattle.facet_solver.proofs.IndexSet.{IsNext, filter_split, filter-below, filter-next, filter-rises, filter_all, filter_cut, filter_filter, filter_none, filter_same, has_passing}
+use Rattle.std.proofs.Math.Bool.{and-true}
 use Rattle.std.proofs.Math.Nat.{sub-zero}
 use Rattle.std.specs.List.Sorted.{IsStrictlyIncreasing}
 
@@ -235,6 +236,41 @@ keeps_unmet holds n old new within before unmet =
           ];
       rest = λ bit high small. bit_at_clear_other w64 new n within bit small (omega arith) ∙ before.rest bit (omega arith) small;
     }
+
+-- the bits after that of an index is cleared
+pub clear_has : (words : List ℕ) (index i : ℕ) → index / 64 < length words
+    → has_bit (set words (index / 64) (bit_and (get_or words (index / 64) 0) (bit_not w64 (1 * 2 ^ (index % 64) % 2 ^ 64)))) i ≡ (has_bit words i && not (nat_eq i index))
+unfolding bit_of
+clear_has words index i within =
+    let word : ℕ = get_or words (index / 64) 0 in
+    let less : ℕ = bit_and word (bit_not w64 (1 * 2 ^ (index % 64) % 2 ^ 64)) in
+    elim (cases_eq (i / 64) (index / 64)) [
+      | inl same ↦
+          let at : get_or (set words (index / 64) less) (i / 64) 0 ≡ less = rw same (get_or-set_same words (index / 64) less 0 within) in
+          elim (cases_eq (i % 64) (index % 64)) [
+            | inl bit ↦
+                let is : i ≡ index = omega arith in
+                let none : bit_at less (i % 64) ≡ 0 = rw bit (bit_at_clear_same w64 word (index % 64) (omega arith)) in
+                rw (at, none, eq-eqb i index is) (sym (and_right (nat_eq (bit_at (get_or words (i / 64) 0) (i % 64)) 1) false refl))
+            | inr bit ↦
+                let differs : i ≡ index → ⊥ = λ e. bit (ap (λ n. n % 64) e) in
+                let kept : bit_at less (i % 64) ≡ bit_at word (i % 64) = bit_at_clear_other w64 word (index % 64) (omega arith) (i % 64) (omega arith) bit in
+                rw (at, kept, ne_eqb i index differs) (rw same (sym (and-true (nat_eq (bit_at word (i % 64)) 1))))
+          ]
+      | inr other ↦
+          let differs : i ≡ index → ⊥ = λ e. other (ap (λ n. n / 64) e) in
+          rw (get_or-set_other words (index / 64) (i / 64) less 0 other, ne_eqb i index differs) (sym (and-true (nat_eq (bit_at (get_or words (i / 64) 0) (i % 64)) 1)))
+    ]
+
+-- past the last word there is none
+pub clear_past_has : (words : List ℕ) (index i : ℕ) → length words ≤ index / 64 → has_bit words i ≡ (has_bit words i && not (nat_eq i index))
+clear_past_has words index i past =
+    elim (cases_eq i index) [
+      | inl same ↦
+          let unset : has_bit words i ≡ false = rw same (sym (not_set words index past)) in
+          rw unset refl
+      | inr other ↦ rw (ne_eqb i index other) (sym (and-true (has_bit words i)))
+    ]
 
 -- the bits of one more word
 pub word_kept : (holds : ℕ → Bool) (old now : List ℕ) (k word : ℕ) → k < length now → get_or now k 0 ≡ get_or old k 0

@@ -3,5 +3,6 @@ pub mod Schema
 pub mod SchemaStorage
 pub mod ResolutionHandle
 pub mod Slots
+pub mod Selected
 pub mod IndexEntries
 pub mod Indexed

@@ -22,6 +22,7 @@ use crate::build::format::Format;
 use crate::build::resolve::resolutions;
 use crate::schema::index::Index;
 use crate::schema::index::entry::{Entry, holds};
+use crate::set::ResolutionSet;
 use facet_solver_shape::{EnumRepr, FieldKey, Resolution, SchemaError, ShapeId, Shapes, Steps};
 use std::alloc::{AllocError, Global};
 use std::marker::Model;
@@ -326,7 +327,7 @@ impl<'c> Schema<'c> {
 
     /// The entry of a key: the resolutions that have it, and the shape of the fields that it means,
     /// if they agree on it. There is none where no resolution has it.
-    pub(crate) fn look_up(&self, key: FieldKey<'_>) -> Option<&Entry>
+    pub(crate) fn look_up(&self, key: FieldKey<'_>) -> Option<&Entry<'c>>
         ensures { IsEntryIfAny (length self.now.resolutions)
             (field_at (key_of key.entry) self.now.resolutions) (option_copied result) }
     {
@@ -347,13 +348,17 @@ impl<'c> Schema<'c> {
         self.look_up(key).is_some()
     }
 
-    /// The entries of the fields of a name: a resolution has such a field where one of them has the
-    /// resolution.
-    pub(crate) fn entries_named(&self, alloc: Global, name: &str) -> Result<Vec<&Entry>, AllocError>
-        ensures { IfOk result (λ entries. (index : ℕ) → is_held entries.items index
+    /// The resolutions of the entries of a name: a resolution has a field of the name where one of
+    /// the sets has the resolution.
+    pub(crate) fn sets_named(
+        &self,
+        alloc: Global,
+        name: &str,
+    ) -> Result<Vec<&ResolutionSet>, AllocError>
+        ensures { IfOk result (λ sets. (index : ℕ) → is_held sets.items index
             ≡ passes (has_field_named name.now) self.now.resolutions index) }
     {
-        self.index.entries_named(alloc, name)
+        self.index.sets_named(alloc, name)
     }
 
     /// What kind of document the schema is for.

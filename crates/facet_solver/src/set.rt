@@ -1,5 +1,5 @@
 //! Sets of resolutions, by their indices.
-ghost use Rattle.std.specs.Prelude.{◌≡◌, ◌↔◌, ◌+◌, ◌<◌, ◌≤◌, ◌||◌, [], All, IfOk, IsOk, IsTrue, filter, length, nat_eq, slice_get};
+ghost use Rattle.std.specs.Prelude.{◌≡◌, ◌↔◌, ◌+◌, ◌<◌, ◌≤◌, ◌||◌, [], All, IfOk, IsOk, IsTrue, filter, length, nat_eq, not, slice_get};
 ghost use Rattle.std.specs.List.Sorted.{IsStrictlyIncreasing};
 ghost use Rattle.facet_solver_shape.specs.Steps.{NoCountFalls};
 ghost use Rattle.facet_solver.specs.set.IndexSet.{IsWithin, how_many, matches_view, full, has_index, upto};
@@ -74,6 +74,23 @@ impl ResolutionSet {
         } }
     {
         self.words.insert(index);
+    }
+
+    /// Drops a member, if it is one.
+    pub(crate) fn remove(&mut self, index: usize)
+        ensures { self.new ≡ record self.old {
+          members = filter (λ i. not (nat_eq i index)) self.old.members;
+        } }
+    {
+        self.words.remove(index);
+    }
+
+    /// Whether there are so many members or more.
+    pub(crate) fn has_at_least(&self, count: usize) -> bool
+        ensures number { IsTrue result ↔ (count ≤ length self.now.members) }
+        ensures within { All (λ i. i < self.now.bound) self.now.members }
+    {
+        count <= count_bits(self.words.as_slice())
     }
 
     /// Drops the members that another set lacks.

@@ -1,15 +1,16 @@
 -- The entries of an index.
-use Rattle.std.specs.Prelude.{◌≡◌, ◌||◌, ℕ, Bool, false, if◌then◌else◌, List, [], Option, Some, None, filter, nat_eq}
+use Rattle.std.specs.Prelude.{◌≡◌, ◌||◌, ℕ, Bool, false, if◌then◌else◌, List, [], ◌++◌, Option, Some, None, filter, nat_eq}
 use Rattle.std.specs.BTreeMap.{BTreeMap, get_by}
 use Rattle.std.specs.Cmp.Lexicographic.{slice_cmp}
 use Rattle.std.specs.List.{list_any}
-use Rattle.std.specs.Option.{ForSome, option_map_or}
+use Rattle.std.specs.Option.{ForSome, option_map, option_map_or}
 use Rattle.std.specs.Ordering.{nat_cmp}
 use denote.Bor.{Bor}
 use Rattle.facet_solver_shape.specs.declared.resolution.key.FieldCategory.{FieldCategory}
 use Rattle.facet_solver_shape.specs.declared.resolution.key.FieldCategory.TheVariants.{Flat, Attribute, Element, Text, Tag, Elements}
 use Rattle.facet_solver_shape.specs.Names.{Name}
 use Rattle.facet_solver.specs.set.IndexSet.{IndexSet, has_index, upto}
+use Rattle.facet_solver.specs.schema.Selected.{selected_by}
 use Rattle.facet_solver.specs.schema.Slots.{Slot}
 use Rattle.facet_solver.specs.declared.schema.index.category_index.CategoryIndex.{CategoryIndex}
 use Rattle.facet_solver.specs.declared.schema.index.entry.Entry.{Entry}
@@ -42,9 +43,13 @@ entry_at index slot = entry_in (category_of index slot.category) slot.name
 abbrev pub holds : Option Entry → ℕ → Bool
 holds entry index = option_map_or (λ e. has_index e.set.members index) entry false
 
--- whether one of some entries has a resolution
-abbrev pub is_held : List (Bor Entry) → ℕ → Bool
-is_held entries index = list_any (λ e. has_index e.now.set.members index) entries
+-- the resolutions of the entry of a slot
+abbrev pub set_at : Index → Slot → Option IndexSet
+set_at index slot = option_map (λ e. e.set) (entry_at index slot)
+
+-- whether one of some sets has a resolution
+abbrev pub is_held : List (Bor IndexSet) → ℕ → Bool
+is_held sets index = list_any (λ set. has_index set.now.members index) sets
 
 -- an entry is over the numbers below a bound
 abbrev pub HasBound : ℕ → Option Entry → Type 0
@@ -65,6 +70,7 @@ abbrev pub with_occurrence : Entry → Occurrence → Entry
 with_occurrence e at = if has_index e.set.members at.index then e else record {
   set = with_number e.set at.index;
   shape = agreed e.shape at.shape;
+  selected = e.selected ++ selected_by at.index at.variant;
 }
 
 -- the entry of one resolution
@@ -72,6 +78,7 @@ abbrev pub entry_of_one : Occurrence → Entry
 entry_of_one at = record {
   set = with_number (record { bound = at.bound; members = [] }) at.index;
   shape = Some at.shape;
+  selected = selected_by at.index at.variant;
 }
 
 -- an entry, or none yet, with one more resolution

@@ -1,13 +1,16 @@
 -- What the entries of an index say of the resolutions.
-use Rattle.std.specs.Prelude.{◌≡◌, ◌≢◌, ℕ, Bool, List, Option, Some, None, MatchOption, All, filter, find, is_some, map, slice_get}
+use Rattle.std.specs.Prelude.{◌≡◌, ◌≢◌, ℕ, Bool, List, Option, Some, None, MatchOption, All, false, filter, find, is_some, map, slice_get}
 use Rattle.std.specs.FinMap as finite
-use Rattle.std.specs.Option.{option_and_then}
+use Rattle.std.specs.Option.{option_and_then, option_map_or}
 use Rattle.facet_solver_shape.specs.declared.resolution.key.FieldCategory.{FieldCategory}
 use Rattle.facet_solver_shape.specs.declared.resolution.key.FieldCategory.TheVariants.{Flat as FlatCategory}
 use Rattle.facet_solver_shape.specs.Fields.{FieldView}
+use Rattle.facet_solver_shape.specs.Names.{Name}
 use Rattle.facet_solver_shape.specs.Resolved.{Resolved}
 use Rattle.facet_solver.specs.set.IndexSet.{upto}
+use Rattle.facet_solver.specs.solver.Tag.{last_variant}
 use Rattle.facet_solver.specs.schema.IndexEntries.{entry_at}
+use Rattle.facet_solver.specs.schema.Selected.{has_selected}
 use Rattle.facet_solver.specs.schema.Slots.{Slot, is_at}
 use Rattle.facet_solver.specs.declared.build.format.Format.{Format}
 use Rattle.facet_solver.specs.declared.build.format.Format.TheVariants.{Flat, Dom}
@@ -36,12 +39,22 @@ pub record Differs (meant : Meant) : Type 0 where
   pub other_present : meant second ≡ Some other
   pub apart : one.shape ≢ other.shape
 
--- an entry has the resolutions below a bound in which a field is meant, and the shape of these
--- fields, if they agree on it
+-- the variant that the field that is meant in a resolution selects, if it selects one
+abbrev pub selected_at : Meant → ℕ → Option Name
+selected_at meant index = option_and_then (λ f. last_variant f.path) (meant index)
+
+-- the variants are those that the fields that are meant select
+abbrev pub AreSelected : Meant → List (ℕ × Name) → Type 0
+AreSelected meant selected = (test : Name → Bool) (index : ℕ)
+    → has_selected test selected index ≡ option_map_or test (selected_at meant index) false
+
+-- an entry has the resolutions below a bound in which a field is meant, the shape of these fields,
+-- if they agree on it, and the variants that they select
 pub record IsIndexEntry (bound : ℕ) (meant : Meant) (entry : Entry) : Type 0 where
   pub set : entry.set
       ≡ record { bound = bound; members = filter (λ i. is_some (meant i)) (upto bound) }
   pub shape : MatchOption entry.shape (Differs meant) (λ shape. AgreesOn shape meant)
+  pub selected : AreSelected meant entry.selected
 
 -- there is an entry, or no field is meant
 abbrev pub IsEntryIfAny : ℕ → Meant → Option Entry → Type 0

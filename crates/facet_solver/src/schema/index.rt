@@ -4,17 +4,20 @@ ghost use Rattle.std.specs.List.{filter_map};
 ghost use Rattle.std.specs.Option.{option_copied};
 ghost use Rattle.facet_solver_shape.specs.Keys.{key_of};
 ghost use Rattle.facet_solver_shape.specs.Resolved.{Resolved};
-ghost use Rattle.facet_solver.specs.schema.IndexEntries.{HasBound, added, category_of, entry_at, is_held};
+ghost use Rattle.facet_solver.specs.schema.IndexEntries.{HasBound, added, category_of, entry_at, is_held, set_at};
 ghost use Rattle.facet_solver.specs.schema.Indexed.{AreOfFormat, IsEntryIfAny, IsIndexOf, fields_of_each};
 ghost use Rattle.facet_solver.specs.Resolutions.{field_at, has_field_named, passes};
 ghost use Rattle.facet_solver.specs.schema.Slots.{Slot, categories, is_at, slot_in, slot_of};
 
 pub(crate) mod category_index;
 pub(crate) mod entry;
+pub(crate) mod selected;
 
 use crate::build::format::Format;
 use crate::schema::index::category_index::CategoryIndex;
 use crate::schema::index::entry::{Entry, Occurrence};
+use crate::schema::index::selected::last_variant;
+use crate::set::ResolutionSet;
 use facet_solver_shape::{FieldCategory, FieldInfo, FieldKey, Resolution};
 use std::alloc::{AllocError, Global};
 
@@ -85,6 +88,7 @@ impl<'c> Index<'c> {
                 index,
                 bound,
                 shape: field.value_shape,
+                variant: last_variant(&field.path),
             };
             self.add(alloc, field, &at)?;
         }
@@ -107,7 +111,7 @@ impl<'c> Index<'c> {
 
     /// The entry of a key in a format: the resolutions that have the key, and the shape of the
     /// fields that it means, if they agree on it. There is none where no resolution has the key.
-    pub(crate) fn look_up(&self, format: Format, key: FieldKey<'_>) -> Option<&Entry>
+    pub(crate) fn look_up(&self, format: Format, key: FieldKey<'_>) -> Option<&Entry<'c>>
         ensures { (resolutions : List Resolved) → AreOfFormat format resolutions
             → IsIndexOf (length resolutions) (fields_of_each resolutions) self.now
             → IsEntryIfAny (length resolutions)
@@ -116,33 +120,51 @@ impl<'c> Index<'c> {
         self.entry_at(format, key)
     }
 
-    /// The entries of the fields of a name: a resolution has such a field where one of them has the
-    /// resolution.
-    pub(crate) fn entries_named(&self, alloc: Global, name: &str) -> Result<Vec<&Entry>, AllocError>
-        ensures { IfOk result (λ entries. (resolutions : List Resolved)
+    /// The resolutions of the entries of a name: a resolution has a field of the name where one of
+    /// the sets has the resolution.
+    pub(crate) fn sets_named(
+        &self,
+        alloc: Global,
+        name: &str,
+    ) -> Result<Vec<&ResolutionSet>, AllocError>
+        ensures { IfOk result (λ sets. (resolutions : List Resolved)
             → IsIndexOf (length resolutions) (fields_of_each resolutions) self.now
-            → (index : ℕ) → is_held entries.items index
+            → (index : ℕ) → is_held sets.items index
             ≡ passes (has_field_named name.now) resolutions index) }
     {
-        self.entries_of_each_category(alloc, name)
+        self.sets_of_each_category(alloc, name)
     }
 
-    /// The entries of a name, one for each category that has one.
-    fn entries_of_each_category(&self, alloc: Global, name: &str) -> Result<Vec<&Entry>, AllocError>
-        ensures { IfOk result (λ entries. map (λ e. e.now) entries.items
-            ≡ filter_map (λ c. entry_at self.now (slot_in name.now c)) categories) }
+    /// The resolutions of the entries of a name, one set for each category that has an entry.
+    fn sets_of_each_category(
+        &self,
+        alloc: Global,
+        name: &str,
+    ) -> Result<Vec<&ResolutionSet>, AllocError>
+        ensures { IfOk result (λ sets. map (λ set. set.now) sets.items
+            ≡ filter_map (λ c. set_at self.now (slot_in name.now c)) categories) }
     {
-        let mut entries = Vec::new(alloc);
+        let mut sets = Vec::new(alloc);
         for category in &CATEGORIES {
-            if let Some(entry) = self.of_category(*category).entry_of(name) {
-                entries.push(entry)?;
+            if let Some(set) = self.set_of(*category, name) {
+                sets.push(set)?;
             }
         }
-        Ok(entries)
+        Ok(sets)
+    }
+
+    /// The resolutions of the entry of a category and a name.
+    fn set_of(&self, category: FieldCategory, name: &str) -> Option<&ResolutionSet>
+        ensures { option_copied result ≡ set_at self.now (slot_in name.now category) }
+    {
+        match self.of_category(category).entry_of(name) {
+            Some(entry) => Some(&entry.set),
+            None => None,
+        }
     }
 
     /// The entry of the slot where a key looks.
-    fn entry_at(&self, format: Format, key: FieldKey<'_>) -> Option<&Entry>
+    fn entry_at(&self, format: Format, key: FieldKey<'_>) -> Option<&Entry<'c>>
         ensures { option_copied result ≡ entry_at self.now (slot_of format (key_of key.entry)) }
     {
         match (format, key) {
@@ -164,7 +186,7 @@ impl<'c> Index<'c> {
         &mut self,
         alloc: Global,
         field: &FieldInfo<'c>,
-        at: &Occurrence,
+        at: &Occurrence<'c>,
     ) -> Result<(), AllocError>
         requires index { at.now.index < at.now.bound }
         requires bounds { (slot : Slot) → HasBound at.now.bound (entry_at self.old slot) }

@@ -1,5 +1,5 @@
 //! Indices as bits of words, 64 a word.
-ghost use Rattle.std.specs.Prelude.{◌≡◌, ℕ, ◌∷◌, [], ◌+◌, ◌-◌, ◌*◌, ◌^◌, ◌<◌, ◌≤◌, ◌↔◌, ◌&&◌, IfOk, IfSome, IsTrue, MatchOption, length, nat_eq, replicate, slice_index, vec_len};
+ghost use Rattle.std.specs.Prelude.{◌≡◌, ℕ, ◌∷◌, [], ◌+◌, ◌-◌, ◌*◌, ◌^◌, ◌<◌, ◌≤◌, ◌↔◌, ◌&&◌, IfOk, IfSome, IsTrue, MatchOption, length, nat_eq, not, replicate, slice_index, vec_len};
 ghost use Rattle.std.specs.Int.{bit_at};
 ghost use Rattle.facet_solver_shape.specs.Steps.{NoCountFalls};
 ghost use Rattle.facet_solver.specs.set.IndexSet.{has_index};
@@ -129,6 +129,18 @@ pub(crate) fn retain_bits<C: Condition>(words: &mut [u64], condition: &C)
 {
     for k in 0..words.len() {
         words[k] = kept_bits(words[k], k * 64, condition);
+    }
+}
+
+/// Clears the bit of an index.
+pub(crate) fn clear_bit(words: &mut [u64], index: usize)
+    ensures count { length words.new ≡ length words.old }
+    ensures cleared { (i : ℕ) → has_bit words.new i
+        ≡ (has_bit words.old i && not (nat_eq i index)) }
+{
+    let place = index / 64;
+    if place < words.len() {
+        words[place] &= !(1u64 << (index % 64));
     }
 }
 

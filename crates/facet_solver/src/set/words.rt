@@ -1,10 +1,12 @@
 //! The words of a set. One word takes no memory of its own.
-ghost use Rattle.std.specs.Prelude.{◌≡◌, ℕ, ◌+◌, ◌*◌, ◌/◌, ◌%◌, ◌^◌, ◌<◌, ◌≤◌, ◌&&◌, IfOk, IsOk, bit_or, length, replicate, slice_index, slice_set};
+ghost use Rattle.std.specs.Prelude.{◌≡◌, ℕ, ◌+◌, ◌*◌, ◌/◌, ◌%◌, ◌^◌, ◌<◌, ◌≤◌, ◌&&◌, IfOk, IsOk, bit_or, length, nat_eq, not, replicate, slice_index, slice_set};
 ghost use Rattle.facet_solver_shape.specs.Steps.{NoCountFalls};
 ghost use Rattle.facet_solver.specs.set.SharedBits.{common_word};
 ghost use Rattle.facet_solver.specs.set.Words.{IsFull, has_bit, word_count, words_of};
 
-use crate::set::bits::{empty_words, full_words, keep_words, low_ones, read_word, retain_bits};
+use crate::set::bits::{
+    clear_bit, empty_words, full_words, keep_words, low_ones, read_word, retain_bits,
+};
 use crate::set::condition::Condition;
 use facet_solver_shape::Steps;
 use std::alloc::{AllocError, Global};
@@ -76,6 +78,18 @@ impl Words {
         match self {
             Words::One(word) => *word |= 1u64 << (index % 64),
             Words::Many(words) => words[index / 64] |= 1u64 << (index % 64),
+        }
+    }
+
+    /// Clears the bit of an index.
+    pub(crate) fn remove(&mut self, index: usize)
+        ensures count { length (words_of self.new) ≡ length (words_of self.old) }
+        ensures cleared { (i : ℕ) → has_bit (words_of self.new) i
+            ≡ (has_bit (words_of self.old) i && not (nat_eq i index)) }
+    {
+        match self {
+            Words::One(word) => clear_bit(slice::from_mut(word), index),
+            Words::Many(words) => clear_bit(words.as_mut_slice(), index),
         }
     }
 

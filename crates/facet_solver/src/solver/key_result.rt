@@ -77,7 +77,7 @@ pub(crate) fn key_result<'s, 'c>(
     alloc: Global,
     search: &KeySearch<'s, 'c, '_>,
     candidates: &ResolutionSet,
-    entry: &Entry,
+    entry: &Entry<'_>,
     steps: &mut Steps,
 ) -> Result<KeyResult<'s, 'c>, AllocError>
     requires bound { candidates.now.bound ≡ length search.now.schema.now.resolutions }

@@ -11,6 +11,10 @@ use crate::solver::conditions::variant_under::{HasNoOtherUnder, HasVariantUnder}
 use facet_solver_shape::FieldKey;
 use std::alloc::{AllocError, Global};
 
+/// How many variants of an entry are gone through for each candidate at most. It takes no longer
+/// than to seek the tag among the fields of the candidate.
+const VARIANTS_FOR_A_CANDIDATE: usize = 8;
+
 impl<'a> Solver<'_, '_, 'a> {
     /// Sees a tag of the document, with the text under it, which may name a variant.
     ///
@@ -42,6 +46,23 @@ impl<'a> Solver<'_, '_, 'a> {
     /// Where some candidate has the variant under the tag, only those stay that have no other
     /// there.
     fn keep_variant(&mut self, tag: &str, variant: &str) -> bool
+        ensures named { IsTrue result
+            ↔ (passing (has_variant_under tag.now variant.now) self.old ≢ []) }
+        ensures kept { self.new ≡ state.keep_variant tag.now variant.now self.old }
+    {
+        let Some(entry) = self.schema.look_up(FieldKey::flat(tag)) else {
+            return false;
+        };
+        let enough = entry.selected.len() / VARIANTS_FOR_A_CANDIDATE;
+        if self.candidates.has_at_least(enough) {
+            entry.selected.narrow(variant, &mut self.candidates)
+        } else {
+            self.keep_by_fields(tag, variant)
+        }
+    }
+
+    /// Keeps the variant as [`Solver::keep_variant`] does, by the fields of each candidate.
+    fn keep_by_fields(&mut self, tag: &str, variant: &str) -> bool
         ensures named { IsTrue result
             ↔ (passing (has_variant_under tag.now variant.now) self.old ≢ []) }
         ensures kept { self.new ≡ state.keep_variant tag.now variant.now self.old }

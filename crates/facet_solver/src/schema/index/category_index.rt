@@ -14,9 +14,9 @@ use std::collections::{BTreeMap, btree_map};
 #[derive(Debug, Drop)]
 pub(crate) struct CategoryIndex<'c> {
     /// The entry of each name.
-    pub(crate) named: BTreeMap<&'c str, Entry>,
+    pub(crate) named: BTreeMap<&'c str, Entry<'c>>,
     /// The entry of every name, where a key without a name means all fields of the category.
-    pub(crate) all: Option<Entry>,
+    pub(crate) all: Option<Entry<'c>>,
 }
 
 impl<'c> CategoryIndex<'c> {
@@ -31,28 +31,28 @@ impl<'c> CategoryIndex<'c> {
     }
 
     /// The entry of a name.
-    pub(super) fn entry_of(&self, name: &str) -> Option<&Entry>
+    pub(super) fn entry_of(&self, name: &str) -> Option<&Entry<'c>>
         ensures { option_copied result ≡ entry_in self.now (Some name.now) }
     {
         self.named.get(name)
     }
 
     /// The entry of every name.
-    pub(super) fn entry_of_all(&self) -> Option<&Entry>
+    pub(super) fn entry_of_all(&self) -> Option<&Entry<'c>>
         ensures { option_copied result ≡ entry_in self.now None }
     {
         self.all.as_ref()
     }
 
     /// Adds a resolution to the entry of every name.
-    fn add_to_all(&mut self, alloc: Global, at: &Occurrence) -> Result<(), AllocError>
+    fn add_to_all(&mut self, alloc: Global, at: &Occurrence<'c>) -> Result<(), AllocError>
         requires index { at.now.index < at.now.bound }
         requires bound { HasBound at.now.bound self.old.all }
         ensures { OnOk result
             (self.new ≡ record self.old { all = Some (added self.old.all at.now) }) }
     {
         match &mut self.all {
-            Some(entry) => entry.add(at),
+            Some(entry) => entry.add(at)?,
             None => self.all = Some(Entry::of_one(alloc, at)?),
         }
         Ok(())
@@ -63,7 +63,7 @@ impl<'c> CategoryIndex<'c> {
         &mut self,
         alloc: Global,
         field: &FieldInfo<'c>,
-        at: &Occurrence,
+        at: &Occurrence<'c>,
     ) -> Result<(), AllocError>
         requires index { at.now.index < at.now.bound }
         requires bounds { (name : Option Name) → HasBound at.now.bound (entry_in self.old name) }
@@ -82,10 +82,10 @@ impl<'c> CategoryIndex<'c> {
 
 /// Adds a resolution to the entry of a name.
 fn add_named<'c>(
-    named: &mut BTreeMap<&'c str, Entry>,
+    named: &mut BTreeMap<&'c str, Entry<'c>>,
     alloc: Global,
     name: &'c str,
-    at: &Occurrence,
+    at: &Occurrence<'c>,
 ) -> Result<(), AllocError>
     requires index { at.now.index < at.now.bound }
     requires bounds { (n : Name) → HasBound at.now.bound (named_entry named.old n) }
@@ -95,7 +95,7 @@ fn add_named<'c>(
         else named_entry named.old n)) }
 {
     match named.entry(name)? {
-        btree_map::Entry::Occupied(entry) => entry.into_mut().add(at),
+        btree_map::Entry::Occupied(entry) => entry.into_mut().add(at)?,
         btree_map::Entry::Vacant(place) => {
             place.insert(Entry::of_one(alloc, at)?);
         }

@@ -1,63 +1,83 @@
 //! The resolutions that have a key.
-ghost use Rattle.std.specs.Prelude.{◌≡◌, ◌<◌, IfOk};
+ghost use Rattle.std.specs.Prelude.{◌≡◌, ◌<◌, IfOk, OnOk};
 ghost use Rattle.std.specs.Option.{option_copied};
 ghost use Rattle.facet_solver.specs.schema.IndexEntries.{entry_of_one, holds, with_occurrence};
 
+use crate::schema::index::selected::SelectedVariants;
 use crate::set::ResolutionSet;
 use facet_solver_shape::ShapeId;
 use std::alloc::{AllocError, Global};
+use std::fmt;
 
-/// A field of a resolution: the index of the resolution, how many resolutions there are, and the
-/// shape of the field.
+/// A field of a resolution: the index of the resolution, how many resolutions there are, the shape
+/// of the field, and the variant that it selects, if it selects one.
 #[derive(Clone, Copy)]
-pub(crate) struct Occurrence {
+pub(crate) struct Occurrence<'c> {
     pub(crate) index: usize,
     pub(crate) bound: usize,
     pub(crate) shape: ShapeId,
+    pub(crate) variant: Option<&'c str>,
 }
 
 /// The resolutions that have a key.
-#[derive(Debug, Drop)]
-pub(crate) struct Entry {
+#[derive(Drop)]
+pub(crate) struct Entry<'c> {
     /// Their indices.
     pub(crate) set: ResolutionSet,
     /// The shape of the field that the key means, where they agree on it.
     pub(crate) shape: Option<ShapeId>,
+    /// The variants that these fields select, so that no resolution is asked for its own.
+    pub(crate) selected: SelectedVariants<'c>,
 }
 
-impl Entry {
+/// Printed as a derived impl would, without the variants, which the resolutions have.
+impl fmt::Debug for Entry<'_> {
+    fn fmt<W: fmt::Write>(&self, f: &mut fmt::Formatter<W>) -> fmt::Result {
+        f.debug_struct("Entry")
+            .field("set", &self.set)
+            .field("shape", &self.shape)
+            .finish()
+    }
+}
+
+impl<'c> Entry<'c> {
     /// The entry of one resolution.
-    pub(super) fn of_one(alloc: Global, at: &Occurrence) -> Result<Self, AllocError>
+    pub(super) fn of_one(alloc: Global, at: &Occurrence<'c>) -> Result<Self, AllocError>
         requires { at.now.index < at.now.bound }
         ensures { IfOk result (λ entry. entry ≡ entry_of_one at.now) }
     {
         let mut set = ResolutionSet::empty(alloc, at.bound)?;
         set.insert(at.index);
+        let mut selected = SelectedVariants::new(alloc);
+        selected.add(at.index, at.variant)?;
         Ok(Entry {
             set,
             shape: Some(at.shape),
+            selected,
         })
     }
 
     /// Adds a resolution. Of one that is here the field that came first is meant.
-    pub(super) fn add(&mut self, at: &Occurrence)
+    pub(super) fn add(&mut self, at: &Occurrence<'c>) -> Result<(), AllocError>
         requires { at.now.index < self.old.set.bound }
-        ensures { self.new ≡ with_occurrence self.old at.now }
+        ensures { OnOk result (self.new ≡ with_occurrence self.old at.now) }
     {
         if self.set.contains(at.index) {
-            return;
+            return Ok(());
         }
+        self.selected.add(at.index, at.variant)?;
         self.set.insert(at.index);
         if let Some(shape) = self.shape {
             if shape != at.shape {
                 self.shape = None;
             }
         }
+        Ok(())
     }
 }
 
 /// Whether an entry has a resolution. Where there is no entry, no resolution has the key.
-pub(crate) fn holds(entry: Option<&Entry>, index: usize) -> bool
+pub(crate) fn holds(entry: Option<&Entry<'_>>, index: usize) -> bool
     ensures { result ≡ holds (option_copied entry.entry) index }
 {
     match entry {

@@ -3,8 +3,9 @@ ghost use Rattle.std.specs.Prelude.{◌≡◌};
 ghost use Rattle.std.specs.Option.{option_map};
 ghost use Rattle.facet_solver.specs.solver.Tag.{has_no_other_under, has_variant_under, variant_under};
 
+use crate::schema::index::selected::last_variant;
 use crate::solver::conditions::Test;
-use facet_solver_shape::{FieldKey, PathSegment, Resolution};
+use facet_solver_shape::{FieldKey, Resolution};
 
 /// Whether a resolution has a variant under a tag.
 #[derive(Clone, Copy)]
@@ -47,8 +48,5 @@ fn variant_under<'c>(resolution: &Resolution<'c>, tag: &str) -> Option<&'c str>
     ensures { option_map (λ variant. variant.now) result ≡ variant_under tag.now resolution.now }
 {
     let field = resolution.field_by_key(&FieldKey::flat(tag))?;
-    match field.path.last()? {
-        PathSegment::Variant(_, variant) => Some(*variant),
-        PathSegment::Field(_) => None,
-    }
+    last_variant(&field.path)
 }

@@ -9,8 +9,7 @@ ghost use Rattle.facet_solver.specs.solver.Report as reports;
 ghost use Rattle.facet_solver.specs.solver.Report.{resolution_field_names, resolutions_at, state_of_report, viable};
 
 use crate::schema::Schema;
-use crate::schema::index::entry::Entry;
-use crate::set::Condition;
+use crate::set::{Condition, ResolutionSet};
 use crate::solver::conditions::AtIndex;
 use crate::solver::conditions::viable::IsViable;
 use crate::solver::report::Report;
@@ -89,21 +88,21 @@ fn is_in_all(
     ensures { IfOk result (λ is. is ≡ list_all
         (passes (has_field_named name.now) schema.now.resolutions) indices.now) }
 {
-    let entries = schema.entries_named(alloc, name)?;
-    Ok(are_held(&entries, indices))
+    let sets = schema.sets_named(alloc, name)?;
+    Ok(are_held(&sets, indices))
 }
 
-/// Whether each of some resolutions is in one of some entries.
-fn are_held(entries: &[&Entry], indices: &[usize]) -> bool
-    ensures { result ≡ list_all (is_held entries.now) indices.now }
+/// Whether each of some resolutions is in one of some sets.
+fn are_held(sets: &[&ResolutionSet], indices: &[usize]) -> bool
+    ensures { result ≡ list_all (is_held sets.now) indices.now }
 {
-    indices.iter().all(|index| is_held(entries, *index))
+    indices.iter().all(|index| is_held(sets, *index))
 }
 
-fn is_held(entries: &[&Entry], index: usize) -> bool
-    ensures { result ≡ is_held entries.now index }
+fn is_held(sets: &[&ResolutionSet], index: usize) -> bool
+    ensures { result ≡ is_held sets.now index }
 {
-    entries.iter().any(|entry| entry.set.contains(index))
+    sets.iter().any(|set| set.contains(index))
 }
 
 /// The names of fields of the resolutions at some indices.

@@ -12,14 +12,14 @@ add-requires c =
     let occupied : entry_value c.in_ok-entry.field-0 ≡ Some entry = search rules in
     bound_of c.args.at.now.bound c.args.at.now.index _ entry (sym c.in_ok-entry.ensures.value ∙ occupied) (c.requires.bounds c.args.name.now) c.requires.index
 
-pub returns-in-Occupied : goal.returns-in-Occupied
-returns-in-Occupied c =
+pub returns-in_ok-add-in-Occupied : goal.returns-in_ok-add-in-Occupied
+returns-in_ok-add-in-Occupied c =
     let entry = c.add.new.self in
     let occupied : entry_value c.in_ok-entry.field-0 ≡ Some c.into_mut.result.now = search rules in
     let there = sym c.in_ok-entry.ensures.value ∙ occupied in
     let after = map_with_value c.in_ok-entry.field-0 entry in
     let put : (n : Name) → named_entry after n ≡ (if name_eq n c.args.name.now then Some (added (named_entry c.args.named.now n) c.args.at.now) else named_entry c.args.named.now n) =
-    put_entry c.args.named.now after c.args.name.now c.args.at.now entry (c.add.ensures ∙ ap (λ o. added o c.args.at.now) (sym there)) (c.in_ok-entry.ensures.update.0 entry) in
+    put_entry c.args.named.now after c.args.name.now c.args.at.now entry (c.in_ok-add-in-Occupied.ensures ∙ ap (λ o. added o c.args.at.now) (sym there)) (c.in_ok-entry.ensures.update.0 entry) in
     search rules
 
 pub returns-in_ok-of_one-in-Vacant : goal.returns-in_ok-of_one-in-Vacant
