@@ -16,6 +16,11 @@ module _ (build : Build) (f : Field) (place : Path) where
   unfolding emit_regular regular_field field_and_paths
   regular-part = refl
 
+  -- under its effective name
+  pub regular-name : (regular_field build f place).name ≡ effective_name f
+  unfolding regular_field
+  regular-name = refl
+
   pub catch_all-part : (target : Target) → emit_catch_all build f target place ≡ a_catch_all (catch_all_field build f target place) ∷ []
   unfolding emit_catch_all
   catch_all-part target = refl
@@ -34,6 +39,11 @@ module _ (repr : Repr) (build : Build) (chosen : Chosen) (place : Path) where
       ≡ field_and_paths (selector_field build tag chosen place) no_paths ++ some_key_paths (named content (content_paths build.catalogue chosen.variant)) ∷ []
   unfolding emit_selector_by
   selector-adjacent tag content e = ap (λ (repr : Repr). emit_selector_by repr build chosen place) (sym e)
+
+-- a selector has the name that it is given
+pub selector-name : (build : Build) (chosen : Chosen) (place : Path) (name : Name) → (selector_field build name chosen place).name ≡ name
+unfolding selector_field
+selector-name build chosen place name = refl
 
 -- the selector of a variant whose name holds the content, and then the key paths of the name and
 -- behind it

@@ -10,6 +10,7 @@ pub mod Verdict
 pub mod KeyResultFields
 pub mod State
 pub mod Outcome
+pub mod Draft
 pub mod Walk
 pub mod ChoiceResolutions
 pub mod Work

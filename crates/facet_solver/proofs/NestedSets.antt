@@ -139,7 +139,7 @@ union-insert ps qs p = same_paths _ _
     ])
 
 -- a path that is added to one of two sets is added to both together
-union-insert_last : (ps qs : KeyPaths) (p : KeyPath) → set.union ps (set.insert qs p) ≡ set.insert (set.union ps qs) p
+pub union-insert_last : (ps qs : KeyPaths) (p : KeyPath) → set.union ps (set.insert qs p) ≡ set.insert (set.union ps qs) p
 union-insert_last ps qs p = same_paths _ _
     (λ q h. elim (Has-union ps (set.insert qs p) q h) [
       | inl a ↦ Has-other (set.union ps qs) p q (Has-left ps qs q a)
@@ -252,7 +252,7 @@ named-union name ps qs =
 
 -- a resolution with more key paths
 module _ (r : Resolved) where
-  with_key_paths-none : with_key_paths r no_paths ≡ r
+  pub with_key_paths-none : with_key_paths r no_paths ≡ r
   unfolding with_key_paths
   with_key_paths-none = ap (λ (s : KeyPaths). record r { key_paths = s }) (union-none r.key_paths)
 

@@ -6,13 +6,15 @@ use Rattle.std.proofs.lemmas.Result.{err_from_is_err_and}
 use Rattle.facet_solver_shape.specs.declared.resolution.error.SchemaError as schema
 use Rattle.facet_solver_shape.specs.declared.resolution.error.SchemaError.TheVariants.{DuplicateField, OutOfMemory}
 use Rattle.facet_solver.specs.build.Outcome.{Gives, ErrorOf, duplicate_view, Outcome, Duplicate, resolved, duplicate, next, with_known, take_in, take_all, effect}
-use Rattle.facet_solver.specs.build.Nested.{KeyPaths, with_key_paths}
+use Rattle.facet_solver.specs.build.Nested.{KeyPaths, behind_prefix, named, with_key_paths, with_paths_behind}
 use Rattle.facet_solver.specs.build.Emissions.{Emission, a_field, some_key_paths, a_selection, a_catch_all}
 use Rattle.facet_solver.specs.build.Walk.{Walked, put_before, and_then}
 use Rattle.facet_solver_shape.specs.Fields.{FieldView, key_of_field}
 use Rattle.std.specs.FinSet as set
 use Rattle.facet_solver_shape.proofs.Resolved.{names_kept, names_put, nothing_required}
-use Rattle.facet_solver_shape.specs.Resolved.{AreRequiredNames, Selection, Resolved, IsAdded, with_selection, with_catch_all, IsRefusalOf, nothing, with_field}
+use Rattle.facet_solver_shape.specs.Resolved.{AreRequiredNames, Selection, Resolved, IsAdded, with_selection, with_catch_all, IsRefusalOf, nothing, with_field, with_key_path}
+use Rattle.facet_solver_shape.specs.Names.{Name}
+use Rattle.facet_solver.proofs.NestedSets.{with_key_paths-insert}
 use Rattle.std.specs.List.{fold}
 use Rattle.std.specs.Ordering.{eq_by_cmp}
 use Rattle.std.proofs.lemmas.List.Sums.{fold-append}
@@ -156,6 +158,16 @@ taken-catch_all r s f h = ap resolved (sym h)
 pub taken-field_and_paths : (r s t : Resolved) (f : FieldView) (ps : KeyPaths) → IsAdded r f s → t ≡ with_key_paths s ps → take_all r (a_field f ∷ some_key_paths ps ∷ []) ≡ resolved t
 taken-field_and_paths r s t f ps h k =
     take_all-next r s (a_field f) (some_key_paths ps ∷ []) (taken-field r s f h) ∙ take_all-one s (some_key_paths ps) ∙ taken-paths s t ps k
+
+-- a field with the key path of its name, and then those behind the name
+pub taken-named_field : (r u t : Resolved) (f : FieldView) (name : Name) (ps : KeyPaths) → f.name ≡ name → finite.get r.fields (key_of_field f) ≡ None → u ≡ with_key_path (with_field r f) (f.name ∷ [])
+    → t ≡ with_paths_behind u (name ∷ []) ps → take_all r (a_field f ∷ some_key_paths (named name ps) ∷ []) ≡ resolved t
+taken-named_field r u t f name ps same fresh after behind =
+    let s = with_field r f in
+    taken-field_and_paths r s t f (named name ps) (record { fresh = fresh; after = refl })
+    (behind
+    ∙ ap (λ (v : Resolved). with_paths_behind v (name ∷ []) ps) (after ∙ ap (λ (n : Name). with_key_path s (n ∷ [])) same)
+    ∙ sym (with_key_paths-insert s (behind_prefix (name ∷ []) ps) (name ∷ [])))
 
 -- a field that is refused, before key paths
 pub refused-field_and_paths : {T : Type 0} (result : Result T schema.SchemaError) (new r : Resolved) (f : FieldView) (ps : KeyPaths) (err : schema.SchemaError) → IsErrAnd result (λ e. e ≡ err) → IsRefusalOf r.fields f err

@@ -1,6 +1,6 @@
 -- What tables of nested key paths serve: their entries are the sets that walks emit, and walks ask
 -- for no others.
-use Rattle.std.proofs.Common.{◌≡◌, ◌<◌, ℕ, List, Option, Some, None, Bool, true, false, refl, sym, ap, ◌∙◌, subst, slice_get, length, get_or}
+use Rattle.std.proofs.Common.{◌≡◌, ◌<◌, ℕ, List, [], ◌∷◌, Option, Some, None, Bool, true, false, refl, sym, ap, ◌∙◌, subst, slice_get, length, get_or}
 use Rattle.std.specs.Prelude.{All, IfSome, Vec, nat_lt, ⊤, if◌then◌else◌}
 use Rattle.std.specs.Option.{option_map}
 use Rattle.std.specs.declared.alloc.Global.{Global}
@@ -20,7 +20,7 @@ use Rattle.facet_solver.specs.declared.build.place.Chosen.{Chosen}
 use Rattle.facet_solver_shape.specs.declared.role.Target.{Target}
 use Rattle.facet_solver.specs.build.Build.{Build, Catalogue, kind_at, kind_of, repr_for}
 use Rattle.facet_solver.specs.build.Content.{content_of, content_or, newtype_fields, struct_fields}
-use Rattle.facet_solver.specs.build.Nested.{Entered, KeyPaths, content_paths, every_kind, named, nested_paths, no_paths, structs_alone, under_shape, under_variant, with_key_paths}
+use Rattle.facet_solver.specs.build.Nested.{Entered, KeyPaths, content_paths, every_kind, nested_paths, no_paths, structs_alone, under_shape, under_variant, with_paths_behind}
 use Rattle.facet_solver.specs.build.NestedTable.{AllLeadTo, AreEntries, EntriesStandFor, HasVariants, IsMarked, LeadEarlier, LeadTo, is_filled, paths_by_name, under_at, variant_at, variants_at, variants_of}
 use Rattle.facet_solver.specs.build.Reached.{ContentReachedBy, FieldReached, IsChosen, KindReached, Reach, RoleReached, ServesEnum, ServesField, ServesFields, ServesVariant, ShapeReached, VariantReached}
 use Rattle.facet_solver_shape.specs.Representation.{is_walked}
@@ -81,10 +81,10 @@ variant_entry cat entries id each are at i v found =
 
 -- a chosen variant stands at its index, so the key paths added are those under its content
 pub chosen_paths : (cat : Catalogue) (chosen : Chosen) (name : Name) (old new : Resolved) → IsChosen cat chosen
-    → IfSome (variant_at cat chosen.target.shape chosen.index) (λ v. new ≡ with_key_paths old (named name (content_paths cat v)))
-    → new ≡ with_key_paths old (named name (content_paths cat chosen.variant.now))
+    → IfSome (variant_at cat chosen.target.shape chosen.index) (λ v. new ≡ with_paths_behind old (name ∷ []) (content_paths cat v))
+    → new ≡ with_paths_behind old (name ∷ []) (content_paths cat chosen.variant.now)
 chosen_paths cat chosen name old new is added =
-    subst (λ (o : Option Variant). IfSome o (λ v. new ≡ with_key_paths old (named name (content_paths cat v))))
+    subst (λ (o : Option Variant). IfSome o (λ v. new ≡ with_paths_behind old (name ∷ []) (content_paths cat v)))
     (ap (λ (k : ShapeKind). slice_get (variants_of k) chosen.index) (ap kind_of is.shape ∙ is.kind) ∙ is.variant) added
 
 -- ---- what a walk asks for is served where it goes

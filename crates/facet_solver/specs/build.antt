@@ -16,6 +16,7 @@ pub mod Starts
 pub mod Work
 pub mod ChoiceParts
 pub mod Outcome
+pub mod Draft
 pub mod FieldCount
 pub mod Nested
 pub mod NestedNames

@@ -10,6 +10,7 @@ pub(crate) mod choices;
 pub(crate) mod content;
 pub(crate) mod contribution;
 pub(crate) mod count;
+pub(crate) mod draft;
 pub(crate) mod emit;
 pub(crate) mod field;
 pub mod format;

@@ -11,10 +11,11 @@ ghost use Rattle.facet_solver.specs.build.CatchAlls.{emitted_by, last_catch_all,
 ghost use Rattle.facet_solver.specs.build.Counts.{IsReady};
 ghost use Rattle.facet_solver.specs.build.Outcome.{resolved, take_all};
 
+use crate::build::draft::Draft;
 use crate::build::field::catch_all_field;
 use crate::build::place::Place;
 use crate::build::walker::Walker;
-use facet_solver_shape::{Field, FieldCategory, Resolution, Role, role_of};
+use facet_solver_shape::{Field, FieldCategory, Role, role_of};
 use std::alloc::AllocError;
 
 /// Takes in what fields emit that emit catch-alls alone.
@@ -22,7 +23,7 @@ pub(crate) fn set_catch_alls<'c>(
     walker: &Walker<'c>,
     fields: &'c [Field],
     place: &mut Place<'c>,
-    resolution: &mut Resolution<'c>,
+    resolution: &mut Draft<'c>,
 ) -> Result<(), AllocError>
     requires ready { IsReady walker.now }
     requires below { FieldsBelow (length walker.now.build.shapes.now) fields.now }
@@ -45,7 +46,7 @@ fn set_last<'c>(
     fields: &'c [Field],
     category: FieldCategory,
     place: &mut Place<'c>,
-    resolution: &mut Resolution<'c>,
+    resolution: &mut Draft<'c>,
 ) -> Result<(), AllocError>
     requires ready { IsReady walker.now }
     requires below { FieldsBelow (length walker.now.build.shapes.now) fields.now }

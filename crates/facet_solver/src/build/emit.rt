@@ -12,26 +12,21 @@ ghost use Rattle.facet_solver.specs.build.Counts.{IsReady};
 ghost use Rattle.facet_solver.specs.build.NestedTable.{HasVariants};
 ghost use Rattle.facet_solver.specs.build.Reached.{IsChosen, ServesApart, ServesPlain, ServesRegular};
 
+use crate::build::draft::Draft;
 use crate::build::field::{catch_all_field, leaf_field, regular_field, selector_field};
 use crate::build::nested::paths::one_name_path;
 use crate::build::place::{Chosen, Place};
 use crate::build::walker::Walker;
 use facet_solver_shape::{
-    EnumRepr, Field, FieldInfo, FieldPath, Resolution, Role, SchemaError, Shape, Target, Variant,
+    EnumRepr, Field, FieldInfo, FieldPath, Role, SchemaError, Shape, Target, Variant,
 };
 
 /// Adds a field and the key path of its name.
-fn add_with_path<'c>(
-    walker: &Walker<'c>,
-    info: FieldInfo<'c>,
-    resolution: &mut Resolution<'c>,
-) -> Result<(), SchemaError<'c>>
+fn add_with_path<'c>(info: FieldInfo<'c>, resolution: &mut Draft<'c>) -> Result<(), SchemaError<'c>>
     ensures { let emitted = emissions.field_and_paths info.entry no_paths in
         Gives (take_all resolution.old emitted) result resolution.new }
 {
-    let path = one_name_path(walker.build.alloc, info.serialized_name)?;
     resolution.add_field(info)?;
-    resolution.add_key_path(path)?;
     Ok(())
 }
 
@@ -40,7 +35,7 @@ fn emit_regular<'c>(
     walker: &Walker<'c>,
     field: &'c Field,
     place: &Place<'c>,
-    resolution: &mut Resolution<'c>,
+    resolution: &mut Draft<'c>,
 ) -> Result<(), SchemaError<'c>>
     requires ready { IsReady walker.now }
     requires serves { ServesRegular
@@ -54,7 +49,7 @@ fn emit_regular<'c>(
     let name = field.effective_name();
     walker
         .tables
-        .add_field_paths(walker.build, name, field.shape, resolution)?;
+        .add_paths_behind_field(walker.build, name, field.shape, resolution)?;
     Ok(())
 }
 
@@ -64,7 +59,7 @@ fn emit_catch_all<'c>(
     field: &'c Field,
     target: Target,
     place: &Place<'c>,
-    resolution: &mut Resolution<'c>,
+    resolution: &mut Draft<'c>,
 ) -> Result<(), SchemaError<'c>>
     ensures { let emitted =
         emissions.emit_catch_all (build_of walker.now.build) field.now target place.now in
@@ -82,14 +77,14 @@ fn emit_leaf<'c>(
     field: &'c Field,
     target: Target,
     place: &Place<'c>,
-    resolution: &mut Resolution<'c>,
+    resolution: &mut Draft<'c>,
 ) -> Result<(), SchemaError<'c>>
     ensures { let emitted =
         emissions.emit_leaf (build_of walker.now.build) field.now target place.now in
         Gives (take_all resolution.old emitted) result resolution.new }
 {
     let info = leaf_field(walker.build, field, target, place)?;
-    add_with_path(walker, info, resolution)
+    add_with_path(info, resolution)
 }
 
 /// What a field emits that takes no index and has nothing below it.
@@ -99,7 +94,7 @@ pub(crate) fn emit_plain<'c>(
     role: &Role<'c>,
     field: &'c Field,
     place: &Place<'c>,
-    resolution: &mut Resolution<'c>,
+    resolution: &mut Draft<'c>,
 ) -> Result<(), SchemaError<'c>>
     requires ready { IsReady walker.now }
     requires plain { IsPlain (role_view role.now) }
@@ -122,7 +117,7 @@ pub(crate) fn add_selection<'c>(
     path: FieldPath<'c>,
     shape: &'c Shape,
     variant: &'c Variant,
-    resolution: &mut Resolution<'c>,
+    resolution: &mut Draft<'c>,
 ) -> Result<(), SchemaError<'c>>
     ensures { let selection = emissions.selection_of shape.now variant.now path.entry in
         Gives (take_in resolution.old selection) result resolution.new }
@@ -137,7 +132,7 @@ fn add_selector<'c>(
     name: &'c str,
     chosen: &Chosen<'c>,
     place: &Place<'c>,
-    resolution: &mut Resolution<'c>,
+    resolution: &mut Draft<'c>,
 ) -> Result<(), SchemaError<'c>>
     ensures { let field =
         emissions.selector_field (build_of walker.now.build) name.now
@@ -146,7 +141,7 @@ fn add_selector<'c>(
         Gives (take_all resolution.old emitted) result resolution.new }
 {
     let info = selector_field(walker.build, name, chosen, place)?;
-    add_with_path(walker, info, resolution)
+    add_with_path(info, resolution)
 }
 
 /// Adds the selector of a chosen variant whose name holds the content, and the key paths of the
@@ -155,7 +150,7 @@ fn add_external_selector<'c>(
     walker: &Walker<'c>,
     chosen: &Chosen<'c>,
     place: &Place<'c>,
-    resolution: &mut Resolution<'c>,
+    resolution: &mut Draft<'c>,
 ) -> Result<(), SchemaError<'c>>
     requires ready { IsReady walker.now }
     requires chosen { IsChosen walker.now.build.shapes.now chosen.now }
@@ -171,7 +166,7 @@ fn add_external_selector<'c>(
     let shape = chosen.target.shape;
     walker
         .tables
-        .add_content_paths(walker.build, name, shape, chosen.index, resolution)?;
+        .add_paths_behind_content(walker.build, name, shape, chosen.index, resolution)?;
     Ok(())
 }
 
@@ -180,7 +175,7 @@ fn emit_selector<'c>(
     walker: &Walker<'c>,
     chosen: &Chosen<'c>,
     place: &Place<'c>,
-    resolution: &mut Resolution<'c>,
+    resolution: &mut Draft<'c>,
 ) -> Result<(), SchemaError<'c>>
     requires ready { IsReady walker.now }
     requires chosen { IsChosen walker.now.build.shapes.now chosen.now }
@@ -199,7 +194,8 @@ fn emit_selector<'c>(
             let shape = chosen.target.shape;
             walker
                 .tables
-                .add_content_paths(walker.build, content, shape, chosen.index, resolution)?;
+                .add_paths_behind_content(walker.build, content, shape, chosen.index, resolution)?;
+            resolution.add_key_path(one_name_path(walker.build.alloc, content)?)?;
             Ok(())
         }
     }
@@ -211,7 +207,7 @@ pub(crate) fn emit_variant<'c>(
     walker: &Walker<'c>,
     chosen: &Chosen<'c>,
     place: &Place<'c>,
-    resolution: &mut Resolution<'c>,
+    resolution: &mut Draft<'c>,
 ) -> Result<(), SchemaError<'c>>
     requires ready { IsReady walker.now }
     requires chosen { IsChosen walker.now.build.shapes.now chosen.now }

@@ -15,6 +15,7 @@ use crate::build::Build;
 use crate::build::choices::choice_at;
 use crate::build::contribution::ContributionTable;
 use crate::build::count::Counts;
+use crate::build::draft::Draft;
 use crate::build::emit::add_selection;
 use crate::build::nested::tables::NestedTables;
 use crate::build::starts::Starts;
@@ -83,9 +84,9 @@ fn resolve<'c>(
     ensures resolved { IfOk result (IsResolution (build_of walker.now.build) root choice.now) }
     ensures refused { IfErr result (IsRefusal (build_of walker.now.build) root) }
 {
-    let mut resolution = Resolution::new(walker.build.alloc);
+    let mut resolution = Draft::new(walker.build.alloc);
     walk_root(walker, root, cursor, choice, &mut resolution)?;
-    Ok(resolution)
+    Ok(resolution.finish(walker.build.alloc, &mut cursor.names)?)
 }
 
 /// Walks the root.
@@ -94,7 +95,7 @@ fn walk_root<'c, 'n>(
     root: ShapeId,
     cursor: &mut Cursor<'c>,
     indices: &'n [usize],
-    resolution: &mut Resolution<'c>,
+    resolution: &mut Draft<'c>,
 ) -> Result<&'n [usize], SchemaError<'c>>
     requires ready { IsReady walker.now }
     requires has { root < length walker.now.build.shapes.now }
@@ -106,7 +107,7 @@ fn walk_root<'c, 'n>(
     let shape = walker.build.shape(root);
     match &shape.kind {
         ShapeKind::Struct { fields, .. } => {
-            let Cursor { place, frames } = cursor;
+            let Cursor { place, frames, .. } = cursor;
             place.cut(0);
             walk_fields(walker, fields, place, frames, indices, resolution)
         }
@@ -125,7 +126,7 @@ fn walk_root_variant<'c, 'n>(
     variant: &'c Variant,
     cursor: &mut Cursor<'c>,
     indices: &'n [usize],
-    resolution: &mut Resolution<'c>,
+    resolution: &mut Draft<'c>,
 ) -> Result<&'n [usize], SchemaError<'c>>
     requires ready { IsReady walker.now }
     requires below { FieldsBelow (length walker.now.build.shapes.now) variant.now.fields.items }
@@ -143,7 +144,7 @@ fn walk_root_variant<'c, 'n>(
         variant,
         resolution,
     )?;
-    let Cursor { place, frames } = cursor;
+    let Cursor { place, frames, .. } = cursor;
     place.cut(0);
     place.enter_root_variant(variant)?;
     let fields = enter_content(walker, variant, place)?;

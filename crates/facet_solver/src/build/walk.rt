@@ -16,10 +16,11 @@ ghost use Rattle.facet_solver.specs.build.Work.{work_of_field, work_of_fields, w
 use crate::build::catch_alls::set_catch_alls;
 use crate::build::content::newtype_fields;
 use crate::build::contribution::Contribution;
+use crate::build::draft::Draft;
 use crate::build::emit::{emit_plain, emit_variant};
 use crate::build::place::{Chosen, Place};
 use crate::build::walker::Walker;
-use facet_solver_shape::{Field, Resolution, Role, SchemaError, Variant, role_of};
+use facet_solver_shape::{Field, Role, SchemaError, Variant, role_of};
 use std::alloc::{AllocError, Global};
 
 /// Fields that are still to be walked, and how many segments the path to them has.
@@ -35,6 +36,8 @@ pub(crate) struct Frame<'c> {
 pub(crate) struct Cursor<'c> {
     pub(crate) place: Place<'c>,
     pub(crate) frames: Vec<Frame<'c>>,
+    /// Room for the names of a resolution's fields.
+    pub(crate) names: Vec<&'c str>,
 }
 
 impl<'c> Cursor<'c> {
@@ -43,6 +46,7 @@ impl<'c> Cursor<'c> {
         Cursor {
             place: Place::root(alloc),
             frames: Vec::new(alloc),
+            names: Vec::new(alloc),
         }
     }
 }
@@ -92,7 +96,7 @@ pub(crate) fn walk_fields<'c, 'n>(
     place: &mut Place<'c>,
     frames: &mut Vec<Frame<'c>>,
     indices: &'n [usize],
-    resolution: &mut Resolution<'c>,
+    resolution: &mut Draft<'c>,
 ) -> Result<&'n [usize], SchemaError<'c>>
     requires ready { IsReady walker.now }
     requires below { FieldsBelow (length walker.now.build.shapes.now) fields.now }
@@ -138,7 +142,7 @@ fn walk_field<'c, 'n>(
     field: &'c Field,
     place: &mut Place<'c>,
     indices: &'n [usize],
-    resolution: &mut Resolution<'c>,
+    resolution: &mut Draft<'c>,
 ) -> Result<Further<'c, 'n>, SchemaError<'c>>
     requires ready { IsReady walker.now }
     requires below { field.now.shape < length walker.now.build.shapes.now }
@@ -199,7 +203,7 @@ fn walk_variant<'c, 'n>(
     chosen: &Chosen<'c>,
     place: &mut Place<'c>,
     indices: &'n [usize],
-    resolution: &mut Resolution<'c>,
+    resolution: &mut Draft<'c>,
 ) -> Result<Further<'c, 'n>, SchemaError<'c>>
     requires ready { IsReady walker.now }
     requires chosen { IsChosen walker.now.build.shapes.now chosen.now }

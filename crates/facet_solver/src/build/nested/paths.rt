@@ -2,38 +2,38 @@
 ghost use Rattle.std.specs.Prelude.{◌≡◌, ◌∷◌, [], map, ◌&&◌, ◌<◌, ◌≤◌, ℕ, IfNone, IfOk, IfSome, OnOk, length, nat_lt, true};
 ghost use Rattle.std.specs.List.{AllByRecursion};
 ghost use Rattle.facet_solver_shape.specs.Names.{names_of};
-ghost use Rattle.facet_solver.specs.build.Nested.{Under, named, paths_of_each, with_key_paths, with_paths_behind};
+ghost use Rattle.facet_solver.specs.build.Nested.{Under, paths_of_each, with_paths_behind};
 ghost use Rattle.facet_solver.specs.build.NestedLevels.{names_left};
 ghost use Rattle.facet_solver.specs.build.NestedNames.{AreRising, NamesLead, paths_of_names};
 ghost use Rattle.facet_solver.specs.build.NestedTable.{is_filled, LeadEarlier, LeadTo, EntriesStandFor, paths_by_name};
 
+use crate::build::draft::Draft;
 use crate::build::nested::by_name::{FieldsByName, add_copies};
 use crate::build::nested::names_left::{Level, NamesLeft};
 use crate::build::nested::table::NestedTable;
-use facet_solver_shape::{KeyPath, Resolution, ShapeId};
+use facet_solver_shape::{KeyPath, ShapeId};
 use std::alloc::{AllocError, Global};
 use std::mem;
 
 impl<'c> NestedTable<'c> {
-    /// Adds the key path of a name, and behind it those that fields stand for. After an error some
-    /// of them may have been added.
-    pub(crate) fn add_named(
+    /// Adds the key paths that fields stand for, each behind a name. After an error some of them may
+    /// have been added.
+    pub(crate) fn add_behind(
         &self,
         alloc: Global,
         name: &'c str,
         fields: &FieldsByName<'c>,
-        resolution: &mut Resolution<'c>,
+        resolution: &mut Draft<'c>,
     ) -> Result<(), AllocError>
         requires earlier { LeadEarlier self.now.by_index.items }
         requires filled { LeadTo (is_filled self.now.by_index.items) fields.now }
         ensures { OnOk result ((under : Under) → EntriesStandFor under self.now.by_index.items
-            → resolution.new ≡ with_key_paths resolution.old
-            (named name.now (paths_by_name under fields.now))) }
+            → resolution.new ≡ with_paths_behind resolution.old (name.now ∷ [])
+            (paths_by_name under fields.now)) }
     {
-        let mut path = Vec::with_capacity(alloc, 2)?;
-        path.push(name)?;
-        self.add_paths(alloc, &mut path, fields, resolution)?;
-        resolution.add_key_path(path)
+        let mut prefix = Vec::with_capacity(alloc, 2)?;
+        prefix.push(name)?;
+        self.add_paths(alloc, &mut prefix, fields, resolution)
     }
 
     /// Adds the key paths that fields stand for, each behind a prefix, which stays: the last in
@@ -45,7 +45,7 @@ impl<'c> NestedTable<'c> {
         alloc: Global,
         prefix: &mut KeyPath<'c>,
         fields: &FieldsByName<'c>,
-        resolution: &mut Resolution<'c>,
+        resolution: &mut Draft<'c>,
     ) -> Result<(), AllocError>
         requires earlier { LeadEarlier self.now.by_index.items }
         requires filled { LeadTo (is_filled self.now.by_index.items) fields.now }

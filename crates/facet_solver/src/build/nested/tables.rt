@@ -1,20 +1,20 @@
 //! The two tables from which the walks of a root's choices take nested key paths.
-ghost use Rattle.std.specs.Prelude.{◌≡◌, ◌*◌, ◌+◌, ◌<◌, ◌≤◌, IfOk, IfSome, IsSome, OnOk, Bool, List, length};
+ghost use Rattle.std.specs.Prelude.{◌≡◌, ◌*◌, ◌+◌, ◌<◌, ◌≤◌, ◌∷◌, [], IfOk, IfSome, IsSome, OnOk, Bool, List, length};
 ghost use Rattle.facet_solver_shape.specs.Catalogues.{NamesEarlier};
 ghost use Rattle.facet_solver_shape.specs.Steps.{NoCountFalls};
 ghost use Rattle.facet_solver.specs.build.Build.{build_of, kind_at};
-ghost use Rattle.facet_solver.specs.build.Nested.{content_paths, named, nested_paths, with_key_paths};
+ghost use Rattle.facet_solver.specs.build.Nested.{content_paths, nested_paths, with_paths_behind};
 ghost use Rattle.facet_solver.specs.build.FieldCount.{field_count, fields_of_kind};
 ghost use Rattle.facet_solver.specs.build.NestedTable.{HasVariants, variant_at};
 ghost use Rattle.facet_solver.specs.build.Reached.{AreTables, Asked, HaveOnly, HoldAsked, ServesRegular, ServesRoot};
 
 use crate::build::Build;
+use crate::build::draft::Draft;
 use crate::build::nested::Entered;
 use crate::build::nested::marks::mark_contents;
-use crate::build::nested::paths::one_name_path;
 use crate::build::nested::reached::mark_reached;
 use crate::build::nested::table::NestedTable;
-use facet_solver_shape::{Resolution, ShapeId, Steps};
+use facet_solver_shape::{ShapeId, Steps};
 use std::alloc::AllocError;
 
 /// The nested key paths that the walks of a root's choices ask for.
@@ -62,37 +62,39 @@ impl<'c> NestedTables<'c> {
         })
     }
 
-    /// Adds the key path of a regular field's name, and behind it those under the field's shape.
-    pub(crate) fn add_field_paths(
+    /// Adds the key paths under a regular field's shape, each behind the field's name.
+    pub(crate) fn add_paths_behind_field(
         &self,
         build: Build<'c>,
         name: &'c str,
         shape: ShapeId,
-        resolution: &mut Resolution<'c>,
+        resolution: &mut Draft<'c>,
     ) -> Result<(), AllocError>
         requires checked { NamesEarlier build.shapes.now }
         requires entries { AreTables (build_of build) self.now }
         requires asked { ServesRegular self.now build.shapes.now shape }
         ensures ok { let paths = nested_paths build.entry.shapes.now shape in
-            OnOk result (resolution.new ≡ with_key_paths resolution.old (named name.now paths)) }
+            OnOk result
+            (resolution.new ≡ with_paths_behind resolution.old (name.now ∷ []) paths) }
     {
         if !Entered::StructsAlone.has(build.shapes, shape) {
-            return resolution.add_key_path(one_name_path(build.alloc, name)?);
+            return Ok(());
         }
         let under = self.structs.under(shape);
-        self.structs.add_named(build.alloc, name, under, resolution)
+        self.structs
+            .add_behind(build.alloc, name, under, resolution)
     }
 
-    /// Adds the key path of the name that holds the content of a variant, by the shape of its enum
-    /// and its index there. The content is written apart from the enum's siblings. Behind the name
-    /// it adds the key paths under the content.
-    pub(crate) fn add_content_paths(
+    /// Adds the key paths under the content of a variant, by the shape of its enum and its index
+    /// there, each behind the name that holds the content. That is written apart from the enum's
+    /// siblings.
+    pub(crate) fn add_paths_behind_content(
         &self,
         build: Build<'c>,
         name: &'c str,
         shape: ShapeId,
         index: usize,
-        resolution: &mut Resolution<'c>,
+        resolution: &mut Draft<'c>,
     ) -> Result<(), AllocError>
         requires checked { NamesEarlier build.shapes.now }
         requires entries { AreTables (build_of build) self.now }
@@ -100,10 +102,10 @@ impl<'c> NestedTables<'c> {
         requires apart { HasVariants self.now.contents.by_index.items shape }
         ensures ok { OnOk result (IfSome (variant_at build.entry.shapes.now shape index) (λ variant.
             let paths = content_paths build.entry.shapes.now variant in
-            resolution.new ≡ with_key_paths resolution.old (named name.now paths))) }
+            resolution.new ≡ with_paths_behind resolution.old (name.now ∷ []) paths)) }
     {
         let under = &self.contents.variants(shape)[index];
         self.contents
-            .add_named(build.alloc, name, under, resolution)
+            .add_behind(build.alloc, name, under, resolution)
     }
 }

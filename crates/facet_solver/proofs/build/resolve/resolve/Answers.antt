@@ -4,6 +4,7 @@ use Rattle.facet_solver.specs.build.Walk.{walk_root}
 use Rattle.facet_solver_shape.specs.Resolved.{Resolved}
 use Rattle.facet_solver.specs.build.Outcome.{effect, StopsBy}
 use Rattle.facet_solver.specs.build.Build.{build_of}
+use Rattle.facet_solver.specs.build.Choice.{IsResolution}
 use Rattle.facet_solver.proofs.ChoiceResolutions.{choice-walked, resolution-is, stops-duplicate}
 use Rattle.facet_solver.proofs.build.resolve.resolve.Goals as goal
 
@@ -22,5 +23,6 @@ returns-in_err-walk_root-clause-refused c =
 pub returns-clause-resolved : goal.returns-clause-resolved
 returns-clause-resolved c =
     let build = build_of c.args.walker.now.build in
-    resolution-is build c.args.root c.args.choice.now c.in_ok-walk_root.field-0.now _ c.requires.choice
-    (ap (λ (r : Resolved). effect r (walk_root build c.args.root c.args.choice.now)) (sym c.new-resolution.ensures) ∙ c.in_ok-walk_root.ensures)
+    subst (λ (r : Resolved). IsResolution build c.args.root c.args.choice.now r) (sym c.in_ok-finish.ensures)
+    (resolution-is build c.args.root c.args.choice.now c.in_ok-walk_root.field-0.now _ c.requires.choice
+    (ap (λ (r : Resolved). effect r (walk_root build c.args.root c.args.choice.now)) (sym c.new-resolution.ensures) ∙ c.in_ok-walk_root.ensures))

@@ -1,13 +1,13 @@
-use Rattle.std.proofs.Common.{◌≡◌, ◌∙◌, Option, Some, None, IsSome, ap, refl, subst, sym}
+use Rattle.std.proofs.Common.{◌≡◌, ◌∷◌, [], ◌∙◌, Option, Some, None, IsSome, ap, refl, subst, sym}
 use Rattle.std.specs.Prelude.{IfSome}
 use Rattle.std.proofs.lemmas.Option.{get_or_from_slice_get}
 use Rattle.facet_solver_shape.specs.declared.shape.Variant.{Variant}
-use Rattle.facet_solver.specs.build.Nested.{KeyPaths, content_paths, every_kind, named, under_shape, with_key_paths}
+use Rattle.facet_solver.specs.build.Nested.{KeyPaths, content_paths, every_kind, under_shape, with_paths_behind}
 use Rattle.facet_solver.specs.build.NestedTable.{LeadTo, is_filled, paths_by_name, variant_at}
 use Rattle.facet_solver.proofs.NestedFields.{each_at}
 use Rattle.facet_solver.proofs.NestedTable.{on_ok}
 use Rattle.facet_solver.proofs.Serving.{entries_stand, variant_entry, variants_filled}
-use Rattle.facet_solver.proofs.build.nested.tables.NestedTables.add_content_paths.Goals as goal
+use Rattle.facet_solver.proofs.build.nested.tables.NestedTables.add_paths_behind_content.Goals as goal
 
 -- what holds of the value in hand holds of the value if there is one
 if_some : {X : Type 0} (o : Option X) (P : X → Type 0) → ((x : X) → o ≡ Some x → P x) → IfSome o P
@@ -18,8 +18,8 @@ some_value : {X : Type 0} (o : Option X) → IsSome o → (x : X) × (o ≡ Some
 some_value None h = absurd (cc)
 some_value (Some x) h = (x, refl)
 
-pub add_named-requires-clause-filled : goal.add_named-requires-clause-filled
-add_named-requires-clause-filled c =
+pub add_behind-requires-clause-filled : goal.add_behind-requires-clause-filled
+add_behind-requires-clause-filled c =
     let cat = c.args.build.shapes.now in
     let entries = c.args.self.now.contents.by_index.items in
     let each = c.variants.result.now in
@@ -40,9 +40,9 @@ returns c =
     let at = variant_entry cat entries c.args.shape each c.requires.entries.contents c.variants.ensures c.args.index v found in
     ap stands (c.index-under.ensures ∙ get_or_from_slice_get each.items c.args.index at.0 under at.1) ∙ at.2 in
     record {
-      ok = on_ok c.add_named.result
+      ok = on_ok c.add_behind.result
           (λ added. if_some (variant_at cat c.args.shape c.args.index) _
           (λ v found. added (under_shape every_kind cat) (entries_stand every_kind cat entries c.requires.checked c.requires.entries.contents)
-          ∙ ap (λ (ps : KeyPaths). with_key_paths c.args.resolution.now (named c.args.name.now ps)) (is v found)))
-          c.add_named.ensures;
+          ∙ ap (λ (ps : KeyPaths). with_paths_behind c.args.resolution.now (c.args.name.now ∷ []) ps) (is v found)))
+          c.add_behind.ensures;
     }

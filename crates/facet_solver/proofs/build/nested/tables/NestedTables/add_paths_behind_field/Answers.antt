@@ -1,11 +1,10 @@
-use Rattle.std.proofs.Common.{◌≡◌, ◌∙◌, ap, sym}
-use Rattle.facet_solver_shape.specs.Resolved.{with_key_path}
-use Rattle.facet_solver.specs.build.Nested.{KeyPath, KeyPaths, named, nested_paths, structs_alone, under_shape, with_key_paths}
+use Rattle.std.proofs.Common.{◌≡◌, ◌∷◌, [], ◌∙◌, ap, sym}
+use Rattle.facet_solver.specs.build.Nested.{KeyPaths, nested_paths, structs_alone, under_shape, with_paths_behind}
 use Rattle.facet_solver.specs.build.NestedTable.{paths_by_name}
-use Rattle.facet_solver.proofs.NestedSets.{with-name}
+use Rattle.facet_solver.proofs.NestedSets.{behind-none}
 use Rattle.facet_solver.proofs.NestedTable.{on_ok}
 use Rattle.facet_solver.proofs.Serving.{entries_stand, regular_entry, regular_nothing, under_filled}
-use Rattle.facet_solver.proofs.build.nested.tables.NestedTables.add_field_paths.Goals as goal
+use Rattle.facet_solver.proofs.build.nested.tables.NestedTables.add_paths_behind_field.Goals as goal
 
 pub returns-then-not-has : goal.returns-then-not-has
 returns-then-not-has c =
@@ -14,16 +13,11 @@ returns-then-not-has c =
     let name = c.args.name.now in
     let none = regular_nothing cat c.args.shape (sym c.has.ensures ∙ c.if-not-has.true) in
     record {
-      ok = on_ok c.add_key_path.result
-          (λ added. added
-          ∙ ap (λ (p : KeyPath). with_key_path r p) c.in_ok-one_name_path.ensures
-          ∙ sym (with-name r name)
-          ∙ ap (λ (ps : KeyPaths). with_key_paths r (named name ps)) (sym none))
-          c.add_key_path.ensures.ok;
+      ok = sym (ap (λ (ps : KeyPaths). with_paths_behind r (name ∷ []) ps) none ∙ behind-none r (name ∷ []));
     }
 
-pub add_named-requires-clause-filled : goal.add_named-requires-clause-filled
-add_named-requires-clause-filled c =
+pub add_behind-requires-clause-filled : goal.add_behind-requires-clause-filled
+add_behind-requires-clause-filled c =
     under_filled c.args.self.now.structs.by_index.items c.args.shape c.under-under.result.now c.requires.entries.structs_earlier c.under-under.ensures
 
 pub returns : goal.returns
@@ -35,5 +29,5 @@ returns c =
     regular_entry cat entries id c.under-under.result.now c.requires.checked c.requires.entries.structs c.under-under.ensures (sym c.has.ensures ∙ c.if-not-has.false) in
     record {
       ok = rw (← is)
-          (on_ok c.add_named.result (λ added. added (under_shape structs_alone cat) (entries_stand structs_alone cat entries c.requires.checked c.requires.entries.structs)) c.add_named.ensures);
+          (on_ok c.add_behind.result (λ added. added (under_shape structs_alone cat) (entries_stand structs_alone cat entries c.requires.checked c.requires.entries.structs)) c.add_behind.ensures);
     }
