@@ -10,6 +10,7 @@ mod numbering;
 
 use crate::document::Document;
 use crate::place::{Place, PlaceSegment};
+pub(crate) use by_name::FEW_NAMES;
 use by_name::{NamedNode, find_by_name};
 use std::alloc::{AllocError, Global};
 
@@ -115,7 +116,7 @@ impl<'t, 'd> Nodes<'t, 'd> {
     }
 
     /// The number of the value of an object's member of that name; `None` where it has no such
-    /// member, or is no object. It is found by halving.
+    /// member, or is no object. Many names are halved until few are left, which are gone through.
     pub(crate) fn member(&self, node: usize, name: &str) -> Option<usize>
         requires numbering { IsNumbering self.now }
         requires in_range { node < count self.now }

@@ -19,6 +19,7 @@ mod reached;
 mod slots;
 
 use crate::end::End;
+use crate::nodes::FEW_NAMES;
 use crate::part::{ListId, Part};
 use crate::types::Types;
 use every::EveryList;
@@ -29,9 +30,6 @@ use ranks::{Ranks, first_unranked};
 use reached::{Reached, first_in_circles};
 use slots::Slots;
 use std::alloc::Global;
-
-/// So many names are gone through faster than they are halved.
-const FEW_NAMES: usize = 8;
 
 /// A list of parts that some choice has, and which names its choices have.
 #[derive(Debug, Drop)]

@@ -6,7 +6,7 @@ ghost use Rattle.facet_solver_reader.specs.Places.{IsLeastRepeated};
 ghost use Rattle.facet_solver_reader.specs.Nodes.{AreByName, entries, names_among};
 
 /// So many names are gone through faster than they are halved.
-const FEW_NAMES: usize = 8;
+pub(crate) const FEW_NAMES: usize = 8;
 
 /// The name of a member, and the number of its value.
 pub(super) type NamedNode<'d> = (&'d str, usize);

@@ -35,7 +35,7 @@ impl<'c, 't, 'd> LookedUp<'c, 't, 'd> {
         LookedUp { name, value }
     }
 
-    /// The same, if it is not the one that was looked up last.
+    /// The same. It is not looked up anew where it was looked up last.
     fn again(
         nodes: &Nodes<'t, 'd>,
         node: usize,
@@ -65,8 +65,9 @@ impl<'c, 't, 'd> LookedUp<'c, 't, 'd> {
     }
 }
 
-/// Whether a list begins with a tag, and an object has another text there or nothing. The next list
-/// mostly begins with a tag of the same name, so that it is not looked up again.
+/// Whether a list begins with a tag and an object has any other value there, or lacks it where it is
+/// required. The next list mostly begins with a tag of the same name, so that it is not looked up
+/// again.
 pub(super) fn fails_at_tag<'c, 't, 'd>(
     nodes: &Nodes<'t, 'd>,
     node: usize,
