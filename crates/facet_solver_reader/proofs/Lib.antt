@@ -9,6 +9,7 @@ pub mod Selections
 pub mod CatchAlls
 pub mod Quantifiers
 pub mod Named
+pub mod NameFilters
 pub mod Objects
 pub mod Knowledge
 pub mod Distinct

@@ -27,6 +27,7 @@ pub mod Tables
 pub mod Places
 pub mod Nodes
 pub mod Memo
+pub mod NameFilters
 pub mod Reading
 pub mod EveryList
 pub mod Listing

@@ -18,6 +18,7 @@ use Rattle.facet_solver_reader.specs.declared.document.Document.{Document}
 use Rattle.facet_solver_shape.specs.Names.{Name}
 use Rattle.std.specs.Borrow.{Bor}
 use Rattle.facet_solver_reader.specs.Memo.{IsNoted}
+use Rattle.facet_solver_reader.specs.NameFilters.{HoldsNames}
 use Rattle.facet_solver_reader.specs.Nodes.{count, members_in, value_of, IsNumbering}
 use Rattle.facet_solver_reader.specs.Objects.{find, HasUnknown, Object}
 use Rattle.facet_solver_reader.specs.Parts.{MemberPart, Part, a_member, Target, of_tag}
@@ -50,13 +51,14 @@ object_view nodes o =
       takes = o.takes;
     }
 
--- an object is one of the document, its list is one of the tables, and whether it has a member of no
--- known name is told right
+-- an object is one of the document, its list is one of the tables, whether it has a member of no
+-- known name is told right, and so is which names it lacks
 pub record IsObject (t : Tables) (nodes : Nodes) (o : code.Object) : Type 0 where
   pub inside : o.node < count nodes
   pub index : ℕ
   pub listed : slice_get t.lists.items index ≡ Some o.list.now
   pub unknown : IsTrue o.has_unknown ↔ HasUnknown (rules_at t) (object_view nodes o)
+  pub filter : HoldsNames (members_in (value_of nodes o.node)) o.filter
 
 -- the count of the readings of an object by a list
 abbrev pub IsListCount : Tables → Nodes → code.Object → ListEntry → Count → Type 0

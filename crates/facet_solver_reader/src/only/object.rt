@@ -20,7 +20,7 @@ use super::steps::{Step, steps_of};
 use crate::count::Count;
 use crate::nodes::Nodes;
 use crate::part::ListId;
-use crate::read::{Memo, Object, count_all, has_unknown, list_counts};
+use crate::read::{Memo, Object, count_all, filter_of, has_unknown, list_counts};
 use crate::reading::{ObjectReading, Reading, ReadingKind};
 use crate::tables::{List, Tables};
 use std::alloc::AllocError;
@@ -47,11 +47,13 @@ pub(super) fn read_object<'c, 'v, 'd>(
     };
     let has_unknown = has_unknown(nodes, node, list);
     let takes = is_read_whole(tables, nodes, memo, node, list, has_unknown)?;
+    let filter = filter_of(nodes, node, list);
     let object = Object {
         node,
         list,
         takes,
         has_unknown,
+        filter,
     };
     let steps = plan_of(tables, nodes, memo, &object)?;
     read_steps(tables, nodes, memo, &object, steps)

@@ -2,6 +2,7 @@
 ghost use Rattle.std.specs.Prelude.{◌≡◌, ◌&&◌, ◌<◌, IfOk, IsSorted, length};
 ghost use Rattle.facet_solver_shape.specs.Names.{name_ref_cmp};
 ghost use Rattle.facet_solver_reader.specs.Counted.{Counted};
+ghost use Rattle.facet_solver_reader.specs.NameFilters.{HoldsNames};
 ghost use Rattle.facet_solver_reader.specs.Nodes.{count, members_in, value_of};
 ghost use Rattle.facet_solver_reader.specs.Objects.{ReadsAll, ReadsObject};
 ghost use Rattle.facet_solver_reader.specs.Reading.{AreListCounts, AreSound, IsListCount, IsListed, IsObject};
@@ -13,7 +14,8 @@ ghost use Rattle.facet_solver_reader.specs.Views.{list_view};
 use super::Memo;
 use super::list::count_list;
 use super::members::members_of;
-use super::tag::fails_at_tag;
+use super::name_filter::NameFilter;
+use super::tag::fails_at_first;
 use crate::count::Count;
 use crate::nodes::Nodes;
 use crate::part::ListId;
@@ -29,6 +31,8 @@ pub(crate) struct Object<'r, 'c> {
     pub(crate) takes: bool,
     /// Whether it has a member of no known name.
     pub(crate) has_unknown: bool,
+    /// Which names it lacks, as far as few bits tell.
+    pub(crate) filter: NameFilter,
 }
 
 impl Object<'_, '_> {
@@ -66,11 +70,13 @@ pub(crate) fn count_object(
     if tables.strict || !count.is_none() {
         return Ok(count);
     }
+    let filter = filter_of(nodes, node, list);
     let object = Object {
         node,
         list,
         takes: false,
         has_unknown,
+        filter,
     };
     count_members(tables, nodes, memo, &object)
 }
@@ -98,11 +104,13 @@ pub(crate) fn count_all(
     if has_unknown && !list.takes_rest {
         return Ok(Count::None);
     }
+    let filter = filter_of(nodes, node, list);
     let object = Object {
         node,
         list,
         takes: true,
         has_unknown,
+        filter,
     };
     count_members(tables, nodes, memo, &object)
 }
@@ -119,6 +127,19 @@ pub(crate) fn has_unknown(nodes: &Nodes<'_, '_>, node: usize, list: &List<'_>) -
         }
     }
     false
+}
+
+/// The filter of an object's names. It tells nothing where hardly anything asks for it: where the
+/// object's list goes through no other, or has branches that a tag tells apart.
+pub(crate) fn filter_of(nodes: &Nodes<'_, '_>, node: usize, list: &List<'_>) -> NameFilter
+    requires { node < count nodes.now }
+    ensures { HoldsNames (members_in (value_of nodes.now node)) result }
+{
+    if list.below.len() == 1 || matches!(list.id, ListId::Enum(_)) {
+        NameFilter::any()
+    } else {
+        NameFilter::of(members_of(nodes.value(node)))
+    }
 }
 
 /// How often an object is read by the choices of its list.
@@ -165,7 +186,7 @@ pub(crate) fn list_counts(
     let mut last = None;
     for index in below {
         let list = &tables.lists[*index];
-        if fails_at_tag(nodes, object.node, list, &mut last) {
+        if fails_at_first(nodes, object, list, &mut last) {
             counts.push(Count::None)?;
             continue;
         }

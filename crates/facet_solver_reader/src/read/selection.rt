@@ -6,6 +6,7 @@ ghost use Rattle.std.specs.Ordering.{nat_cmp};
 ghost use Rattle.facet_solver_shape.specs.Names.{name_ref_cmp};
 ghost use Rattle.facet_solver_reader.specs.Branches.{CanBePresent, Fits, KnowsMember, KnowsOther, Misfits, ReadsPart};
 ghost use Rattle.facet_solver_reader.specs.Known.{Chooses, IsKnown, IsKnownIn, named, rest};
+ghost use Rattle.facet_solver_reader.specs.NameFilters.{HoldsNames};
 ghost use Rattle.facet_solver_reader.specs.Nodes.{count, members_in, value_of, IsNumbering};
 ghost use Rattle.facet_solver_reader.specs.Objects.{Touches, has_name};
 ghost use Rattle.facet_solver_reader.specs.Parts.{a_selection};
@@ -124,7 +125,7 @@ pub(crate) fn touches(
         (selection_view selection.now) }
 {
     for branch in &selection.branches {
-        if knows_member(tables, nodes, object.node, *branch) {
+        if knows_member(tables, nodes, object, *branch) {
             return true;
         }
     }
@@ -196,7 +197,7 @@ fn has_other(
         return false;
     }
     for branch in &selection.branches {
-        if knows_other(tables, nodes, object.node, *branch, list) {
+        if knows_other(tables, nodes, object, *branch, list) {
             return true;
         }
     }
@@ -206,21 +207,26 @@ fn has_other(
 /// Whether a choice of a branch has a member that an object has. Of the branch's names and the
 /// object's members the fewer are looked up among the others, so that all selections of a list cost
 /// no more than the names of its choices.
-fn knows_member(tables: &Tables<'_>, nodes: &Nodes<'_, '_>, node: usize, branch: ListId) -> bool
+fn knows_member(
+    tables: &Tables<'_>,
+    nodes: &Nodes<'_, '_>,
+    object: &Object<'_, '_>,
+    branch: ListId,
+) -> bool
     requires tables { AreTables tables.now }
     requires numbering { IsNumbering nodes.now }
-    requires inside { node < count nodes.now }
+    requires object { IsObject tables.now nodes.now object.now }
     requires served { ListIsServed tables.now (list_view branch) }
     ensures { IsTrue result ↔ KnowsMember (rules_at tables.now)
-        (members_in (value_of nodes.now node)) (list_view branch) }
+        (members_in (value_of nodes.now object.now.node)) (list_view branch) }
 {
     match tables.list(branch) {
         Some(known) => {
-            let members = members_of(nodes.value(node));
+            let members = members_of(nodes.value(object.node));
             if members.len() < known.names.len() {
                 some_is_known(members, known)
             } else {
-                has_any(nodes, node, &known.names)
+                has_any(nodes, object, &known.names)
             }
         }
         None => false,
@@ -236,38 +242,41 @@ fn some_is_known(members: &[(&str, Document<'_>)], list: &List<'_>) -> bool
 }
 
 /// Whether an object has a member of one of some names.
-fn has_any(nodes: &Nodes<'_, '_>, node: usize, names: &[&str]) -> bool
+fn has_any(nodes: &Nodes<'_, '_>, object: &Object<'_, '_>, names: &[&str]) -> bool
     requires numbering { IsNumbering nodes.now }
-    requires inside { node < count nodes.now }
+    requires inside { object.now.node < count nodes.now }
+    requires filter { HoldsNames (members_in (value_of nodes.now object.now.node))
+        object.now.filter }
     ensures { result ≡ list_any
-        (λ name. has_name (members_in (value_of nodes.now node)) name.now) names.now }
+        (λ name. has_name (members_in (value_of nodes.now object.now.node)) name.now) names.now }
 {
-    names.iter().any(|name| has_name(nodes, node, name))
+    names.iter().any(|name| has_name(nodes, object, name))
 }
 
 /// Whether a choice of a branch has a member that an object has, and no choice of another list has.
 fn knows_other(
     tables: &Tables<'_>,
     nodes: &Nodes<'_, '_>,
-    node: usize,
+    object: &Object<'_, '_>,
     branch: ListId,
     other: &List<'_>,
 ) -> bool
     requires tables { AreTables tables.now }
     requires numbering { IsNumbering nodes.now }
-    requires inside { node < count nodes.now }
+    requires object { IsObject tables.now nodes.now object.now }
     requires served { ListIsServed tables.now (list_view branch) }
     requires listed { IsListed tables.now other.now }
     ensures { IsTrue result ↔ KnowsOther (rules_at tables.now)
-        (members_in (value_of nodes.now node)) (list_view branch) (list_view other.now.id) }
+        (members_in (value_of nodes.now object.now.node)) (list_view branch)
+        (list_view other.now.id) }
 {
     match tables.list(branch) {
         Some(known) => {
-            let members = members_of(nodes.value(node));
+            let members = members_of(nodes.value(object.node));
             if members.len() < known.names.len() {
                 some_is_other(members, known, other)
             } else {
-                has_any_but(nodes, node, &known.names, other)
+                has_any_but(nodes, object, &known.names, other)
             }
         }
         None => false,
@@ -285,24 +294,36 @@ fn some_is_other(members: &[(&str, Document<'_>)], list: &List<'_>, other: &List
 }
 
 /// Whether an object has a member of one of some names that a list lacks.
-fn has_any_but(nodes: &Nodes<'_, '_>, node: usize, names: &[&str], other: &List<'_>) -> bool
+fn has_any_but(
+    nodes: &Nodes<'_, '_>,
+    object: &Object<'_, '_>,
+    names: &[&str],
+    other: &List<'_>,
+) -> bool
     requires numbering { IsNumbering nodes.now }
-    requires inside { node < count nodes.now }
+    requires inside { object.now.node < count nodes.now }
+    requires filter { HoldsNames (members_in (value_of nodes.now object.now.node))
+        object.now.filter }
     requires sorted { IsSorted name_ref_cmp other.now.names.items }
     ensures { result ≡ list_any
         (λ name. not (knows other.now (named name.now))
-        && has_name (members_in (value_of nodes.now node)) name.now) names.now }
+        && has_name (members_in (value_of nodes.now object.now.node)) name.now) names.now }
 {
-    names.iter().any(|name| !other.has_name(name) && has_name(nodes, node, name))
+    names.iter().any(|name| !other.has_name(name) && has_name(nodes, object, name))
 }
 
-/// Whether an object has a member of the name.
-fn has_name(nodes: &Nodes<'_, '_>, node: usize, name: &str) -> bool
+/// Whether an object has a member of the name. Most that it lacks are not looked up.
+fn has_name(nodes: &Nodes<'_, '_>, object: &Object<'_, '_>, name: &str) -> bool
     requires numbering { IsNumbering nodes.now }
-    requires inside { node < count nodes.now }
-    ensures { result ≡ has_name (members_in (value_of nodes.now node)) name.now }
+    requires inside { object.now.node < count nodes.now }
+    requires filter { HoldsNames (members_in (value_of nodes.now object.now.node))
+        object.now.filter }
+    ensures { result ≡ has_name (members_in (value_of nodes.now object.now.node)) name.now }
 {
-    nodes.member(node, name).is_some()
+    if !object.filter.may_have(name) {
+        return false;
+    }
+    nodes.member(object.node, name).is_some()
 }
 
 /// Whether a choice of a branch has a catch-all.

@@ -1,13 +1,17 @@
-//! The tag of an object, for which many lists of parts ask.
+//! The first members of lists of parts, by which most lists of a large type are refused: tags, and
+//! members that are required.
 ghost use Rattle.std.specs.Prelude.{◌≡◌, ◌<◌, IfSome, IsTrue, Some, slice_get};
 ghost use Rattle.std.specs.List.{list_any};
 ghost use Rattle.facet_solver_reader.specs.LookedUp.{IsLast, IsLookedUp, value_in};
+ghost use Rattle.facet_solver_reader.specs.NameFilters.{HoldsNames};
 ghost use Rattle.facet_solver_reader.specs.Nodes.{IsNumbering, count, members_in, value_of};
+ghost use Rattle.facet_solver_reader.specs.Objects.{find};
 ghost use Rattle.facet_solver_reader.specs.Parts.{a_member};
 ghost use Rattle.facet_solver_reader.specs.Reading.{fails_at_once, fails_for};
 ghost use Rattle.facet_solver_reader.specs.Views.{member_view, part_view, parts_view};
 
 use super::list::is_other_tag;
+use super::object::Object;
 use crate::document::Document;
 use crate::nodes::Nodes;
 use crate::part::{MemberPart, Part, Target};
@@ -65,38 +69,60 @@ impl<'c, 't, 'd> LookedUp<'c, 't, 'd> {
     }
 }
 
-/// Whether a list begins with a tag and an object has any other value there, or lacks it where it is
-/// required. The next list mostly begins with a tag of the same name, so that it is not looked up
-/// again.
-pub(super) fn fails_at_tag<'c, 't, 'd>(
+/// Whether the member that a list begins with leaves no reading of an object: it is a tag and the
+/// object has any other value there, or it is required and the object is known to lack it. The next
+/// list mostly begins with a tag of the same name, so that it is not looked up again.
+pub(super) fn fails_at_first<'c, 't, 'd>(
     nodes: &Nodes<'t, 'd>,
-    node: usize,
+    object: &Object<'_, '_>,
     list: &List<'c>,
     last: &mut Option<LookedUp<'c, 't, 'd>>,
 ) -> bool
     requires numbering { IsNumbering nodes.now }
-    requires inside { node < count nodes.now }
-    requires last { IsLast (members_in (value_of nodes.now node)) last.old }
-    ensures last { IsLast (members_in (value_of nodes.now node)) last.new }
+    requires inside { object.now.node < count nodes.now }
+    requires filter { HoldsNames (members_in (value_of nodes.now object.now.node))
+        object.now.filter }
+    requires last { IsLast (members_in (value_of nodes.now object.now.node)) last.old }
+    ensures last { IsLast (members_in (value_of nodes.now object.now.node)) last.new }
     ensures fails { IsTrue result → IsTrue (list_any
-        (λ part. fails_at_once (members_in (value_of nodes.now node)) (part_view part))
+        (λ part. fails_at_once (members_in (value_of nodes.now object.now.node)) (part_view part))
         list.now.parts.items) }
 {
-    let Some(tag) = first_tag(list) else {
+    let Some(first) = first_member(list) else {
         return false;
     };
-    let member = LookedUp::again(nodes, node, tag.name, last);
+    if !is_tag(first) {
+        return lacks(nodes, object, first);
+    }
+    let member = LookedUp::again(nodes, object.node, first.name, last);
     *last = Some(member);
-    member.fails(tag)
+    member.fails(first)
 }
 
-/// The tag that a list begins with, if it does.
-fn first_tag<'r, 'c>(list: &'r List<'c>) -> Option<&'r MemberPart<'c>>
-    ensures { IfSome result (λ tag. slice_get (parts_view list.now.parts.items) 0
-        ≡ Some (a_member (member_view tag.now))) }
+/// The member that a list begins with, if it does.
+fn first_member<'r, 'c>(list: &'r List<'c>) -> Option<&'r MemberPart<'c>>
+    ensures { IfSome result (λ first. slice_get (parts_view list.now.parts.items) 0
+        ≡ Some (a_member (member_view first.now))) }
 {
     match list.parts.first()? {
-        Part::Member(member) if matches!(member.target, Target::Tag(_)) => Some(member),
+        Part::Member(member) => Some(member),
         _ => None,
     }
+}
+
+/// Whether a member is a tag.
+fn is_tag(member: &MemberPart<'_>) -> bool {
+    matches!(member.target, Target::Tag(_))
+}
+
+/// Whether a member is required and an object is known to lack it.
+fn lacks(nodes: &Nodes<'_, '_>, object: &Object<'_, '_>, member: &MemberPart<'_>) -> bool
+    requires { HoldsNames (members_in (value_of nodes.now object.now.node)) object.now.filter }
+    ensures { IsTrue result → IsTrue (fails_for (member_view member.now)
+        (find (members_in (value_of nodes.now object.now.node)) (member_view member.now).name)) }
+{
+    if !member.required {
+        return false;
+    }
+    !object.filter.may_have(member.name)
 }

@@ -17,7 +17,7 @@ use crate::count::Count;
 use crate::document::Document;
 use crate::nodes::Nodes;
 use crate::part::{CatchAll, ListId, MemberPart, Part};
-use crate::read::{Memo, Object, has_unknown, members_of};
+use crate::read::{Memo, Object, filter_of, has_unknown, members_of};
 use crate::read_error::Obstacle;
 use crate::tables::{List, Tables};
 use std::alloc::AllocError;
@@ -47,11 +47,13 @@ pub(super) fn object_by<'r, 'c>(
 {
     let list = tables.list(id)?;
     let has_unknown = has_unknown(nodes, node, list);
+    let filter = filter_of(nodes, node, list);
     Some(Object {
         node,
         list,
         takes: list.takes_rest || !has_unknown,
         has_unknown,
+        filter,
     })
 }
 

@@ -980,6 +980,7 @@ object::read_object-plan_of-requires-clause-object t c =
       index = of.index;
       listed = of.listed;
       unknown = unknown;
+      filter = c.filter_of-filter.ensures;
     }
 
 pub object::read_object-plan_of-requires-clause-one :
@@ -1015,6 +1016,7 @@ object::read_object-read_steps-requires t c =
             index = of.index;
             listed = of.listed;
             unknown = unknown;
+            filter = c.filter_of-filter.ensures;
           },
           (c.in_ok-steps.ensures.plan, λ a r. (c.in_ok-takes.ensures.by_list a).0 r),
         ),

@@ -543,6 +543,7 @@ object::count_all-count_members-requires t c =
               (taking (members_in (value_of c.args.nodes.now c.args.node))
               (list_view c.args.list.now.id))
               c.args.has_unknown refl c.requires.unknown;
+          filter = c.filter_of-filter.ensures;
         },
       ),
     )
@@ -615,9 +616,9 @@ object::list_counts-count_list-requires t c =
       ),
     )
 
-pub object::list_counts-loop-index-preserved-then-fails_at_tag :
-    goal.object::list_counts-loop-index-preserved-then-fails_at_tag
-object::list_counts-loop-index-preserved-then-fails_at_tag t c =
+pub object::list_counts-loop-index-preserved-then-fails_at_first :
+    goal.object::list_counts-loop-index-preserved-then-fails_at_first
+object::list_counts-loop-index-preserved-then-fails_at_first t c =
     let tb = c.args.tables.now in
     let o = c.args.object.now in
     let rules = rules_at tb in
@@ -634,7 +635,7 @@ object::list_counts-loop-index-preserved-then-fails_at_tag t c =
     let ps = parts_view l.parts.items in
     let is = tables.lists index l at in
     let distinct = distinct_parts rules.lists (list_view l.id) ps is.same is.chosen is.distinct in
-    let some = c.fails_at_tag.ensures.fails c.if-fails_at_tag.true in
+    let some = c.fails_at_first.ensures.fails c.if-fails_at_first.true in
     let none = count_of_list rules (ReadsValue rules) object (list_view l.id) ps NoReading is.same
     (none_where_fails rules object l.parts.items some distinct) in
     let done : length c.loop-index.counts.items ≡ position = c.loop-index.invariant.so_far in
@@ -647,7 +648,7 @@ object::list_counts-loop-index-preserved-then-fails_at_tag t c =
       sound = c.loop-index.invariant.sound;
       counts = subst (AreListCounts tb c.args.nodes.now o) (sym items) more;
       so_far = omega (arith, ap length items, length-append counts (NoReading ∷ []));
-      last = c.fails_at_tag.ensures.last;
+      last = c.fails_at_first.ensures.last;
     }
 
 pub object::list_counts-loop-index-preserved : goal.object::list_counts-loop-index-preserved
@@ -672,7 +673,7 @@ object::list_counts-loop-index-preserved t c =
       sound = c.count_list.ensures.sound;
       counts = subst (AreListCounts tb c.args.nodes.now o) (sym items) more;
       so_far = omega (arith, ap length items, length-append counts (c.in_ok-count.count ∷ []));
-      last = c.fails_at_tag.ensures.last;
+      last = c.fails_at_first.ensures.last;
     }
 
 -- the counts of no lists
@@ -778,6 +779,7 @@ object::count_object-count_members-requires t c =
           unknown =
               unknown_by_list tb c.requires.sound.tables l listed (ignoring ms (list_view l.id))
               c.has_unknown-has_unknown.result refl c.has_unknown-has_unknown.ensures;
+          filter = c.filter_of-filter.ensures;
         },
       ),
     )

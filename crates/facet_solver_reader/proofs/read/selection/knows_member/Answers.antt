@@ -22,7 +22,7 @@ pub returns-then-members-len : goal.returns-then-members-len
 returns-then-members-len c =
     let known = c.in-Some.known.now in
     let test = λ (m : Member). knows known (named m.name) in
-    knows_some c.args.tables.now c.requires.tables (members_in (value_of c.args.nodes.now c.args.node))
+    knows_some c.args.tables.now c.requires.tables (members_in (value_of c.args.nodes.now c.args.object.now.node))
     (list_view c.args.branch) known c.in-Some.ensures c.some_is_known.result
     (c.some_is_known.ensures
     ∙ (sym (list_any-map test member_view c.members_of-members.result.now)
@@ -30,7 +30,7 @@ returns-then-members-len c =
 
 pub returns-else-members-len : goal.returns-else-members-len
 returns-else-members-len c =
-    let ms = members_in (value_of c.args.nodes.now c.args.node) in
+    let ms = members_in (value_of c.args.nodes.now c.args.object.now.node) in
     knows_member c.args.tables.now c.requires.tables ms (list_view c.args.branch)
     c.in-Some.known.now c.in-Some.ensures c.has_any.result
     (c.has_any.ensures

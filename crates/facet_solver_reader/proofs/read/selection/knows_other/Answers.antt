@@ -27,7 +27,8 @@ has_any_but-requires c =
     let of = c.requires.listed in
     record {
       numbering = c.requires.numbering;
-      inside = c.requires.inside;
+      inside = c.requires.object.inside;
+      filter = c.requires.object.filter;
       sorted = (c.requires.tables.lists of.index c.args.other.now of.listed).sorted;
     }
 
@@ -37,7 +38,7 @@ returns-then-members-len c =
     let other = c.args.other.now in
     let test = λ (m : Member). knows known (named m.name) && not (knows other (named m.name)) in
     knows_some_other c.args.tables.now c.requires.tables
-    (members_in (value_of c.args.nodes.now c.args.node)) (list_view c.args.branch) known
+    (members_in (value_of c.args.nodes.now c.args.object.now.node)) (list_view c.args.branch) known
     c.in-Some.ensures other c.requires.listed c.some_is_other.result
     (c.some_is_other.ensures
     ∙ (sym (list_any-map test member_view c.members_of-members.result.now)
@@ -45,7 +46,7 @@ returns-then-members-len c =
 
 pub returns-else-members-len : goal.returns-else-members-len
 returns-else-members-len c =
-    let ms = members_in (value_of c.args.nodes.now c.args.node) in
+    let ms = members_in (value_of c.args.nodes.now c.args.object.now.node) in
     let other = c.args.other.now in
     knows_other c.args.tables.now c.requires.tables ms (list_view c.args.branch)
     c.in-Some.known.now c.in-Some.ensures other c.requires.listed c.has_any_but.result

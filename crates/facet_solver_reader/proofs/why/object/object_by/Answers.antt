@@ -29,4 +29,5 @@ returns-clause-object c =
             takes = c.if-list.result;
           })
           c.has_unknown-has_unknown.result refl c.has_unknown-has_unknown.ensures;
+      filter = c.filter_of-filter.ensures;
     }

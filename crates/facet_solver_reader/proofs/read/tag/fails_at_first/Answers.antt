@@ -11,7 +11,7 @@ use Rattle.facet_solver_reader.specs.Parts.{MemberPart, a_member}
 use Rattle.facet_solver_reader.specs.Reading.{fails_at_once, fails_for}
 use Rattle.facet_solver_reader.specs.Views.{member_view, part_view, parts_view}
 use Rattle.facet_solver_reader.proofs.Quantifiers.{any_at}
-use Rattle.facet_solver_reader.proofs.read.tag.fails_at_tag.Goals as goal
+use Rattle.facet_solver_reader.proofs.read.tag.fails_at_first.Goals as goal
 
 -- where the first part fails at once, some part does
 first_fails : (ms : List Member) (ps : List code_part.Part) (m : MemberPart)
@@ -25,11 +25,18 @@ first_fails ms (p ∷ ps) m e h =
     (any_at (λ (q : code_part.Part). fails_at_once ms (part_view q) ≡ true) (p ∷ ps) 0 p refl
     (subst (λ q. fails_at_once ms q ≡ true) (sym same) h))
 
+pub returns-then-not-is_tag-clause-fails : goal.returns-then-not-is_tag-clause-fails
+returns-then-not-is_tag-clause-fails c =
+    λ h.
+    let ms = members_in (value_of c.args.nodes.now c.args.object.now.node) in
+    first_fails ms c.args.list.now.parts.items (member_view c.in-Some.first.now) c.in-Some.ensures
+    (c.lacks.ensures h)
+
 pub returns-clause-fails : goal.returns-clause-fails
 returns-clause-fails c =
     λ h.
-    let ms = members_in (value_of c.args.nodes.now c.args.node) in
-    let tag = member_view c.in-Some.tag.now in
+    let ms = members_in (value_of c.args.nodes.now c.args.object.now.node) in
+    let tag = member_view c.in-Some.first.now in
     let found : find ms tag.name ≡ _ =
     ap (find ms) (sym c.again-member.ensures.name) ∙ c.again-member.ensures.found.same in
     first_fails ms c.args.list.now.parts.items tag c.in-Some.ensures
