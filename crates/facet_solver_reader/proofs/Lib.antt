@@ -98,3 +98,4 @@ pub mod ToldObject
 pub mod FirstRest
 pub mod Lacking
 pub mod Blaming
+pub mod Quoted

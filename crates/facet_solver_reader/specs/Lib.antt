@@ -54,3 +54,4 @@ pub mod UnderWay
 pub mod Tells
 pub mod Why
 pub mod Blaming
+pub mod Quoted

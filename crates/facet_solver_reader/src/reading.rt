@@ -2,6 +2,7 @@
 ghost use Rattle.std.specs.Prelude.{◌≡◌, []};
 ghost use Rattle.facet_solver_reader.specs.declared.reading.ReadingKind.TheVariants as kinds;
 
+mod quoted;
 mod text;
 
 use crate::document::Document;

@@ -1,6 +1,7 @@
 //! Readings as texts for people.
 ghost use Rattle.std.specs.Prelude.{◌++◌, Some, codes};
 
+use super::quoted::write_quoted;
 use super::{FieldPlace, Reading, ReadingKind, VariantName};
 use crate::document::Document;
 use facet_solver_shape::{PathSegment, VariantSelection};
@@ -104,8 +105,8 @@ fn write_items<W: fmt::Write>(
     Ok(())
 }
 
-/// Writes values with names of the document, a line each behind a word, and tells whether the next line is
-/// the first of the text.
+/// Writes values with names of the document, a line each behind a word, and tells whether the next
+/// line is the first of the text.
 #[cycle(text)]
 fn write_entries<W: fmt::Write>(
     values: &[Reading<'_, '_, '_>],
@@ -118,7 +119,9 @@ fn write_entries<W: fmt::Write>(
     for (value, name) in values.iter().zip(names) {
         begin_line(level, is_first, f)?;
         is_first = false;
-        write!(f, "{word}{name:?}:")?;
+        f.write_str(word)?;
+        write_quoted(name, f)?;
+        f.write_str(":")?;
         write_reading(value, level.saturating_add(1), false, f)?;
     }
     Ok(is_first)
@@ -187,7 +190,8 @@ fn write_ignored<W: fmt::Write>(
     for name in names {
         begin_line(level, is_first, f)?;
         is_first = false;
-        write!(f, "ignored {name:?}")?;
+        f.write_str("ignored ")?;
+        write_quoted(name, f)?;
     }
     Ok(())
 }
@@ -218,7 +222,7 @@ fn write_value<W: fmt::Write>(value: &Document<'_>, f: &mut fmt::Formatter<W>) -
         Document::Null => f.write_str("null"),
         Document::Bool(is_true) => write!(f, "{is_true}"),
         Document::Number(number) => f.write_str(number.text()),
-        Document::Text(text) => write!(f, "{text:?}"),
+        Document::Text(text) => write_quoted(text, f),
         Document::List(items) => {
             f.write_str("[")?;
             for (index, item) in items.iter().enumerate() {
@@ -231,7 +235,8 @@ fn write_value<W: fmt::Write>(value: &Document<'_>, f: &mut fmt::Formatter<W>) -
             f.write_str("{")?;
             for (index, (name, member)) in members.iter().enumerate() {
                 write_comma(index, f)?;
-                write!(f, "{name:?}: ")?;
+                write_quoted(name, f)?;
+                f.write_str(": ")?;
                 write_value(member, f)?;
             }
             f.write_str("}")
