@@ -99,3 +99,4 @@ pub mod FirstRest
 pub mod Lacking
 pub mod Blaming
 pub mod Quoted
+pub mod Alone

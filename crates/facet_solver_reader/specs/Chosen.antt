@@ -1,5 +1,5 @@
 -- The branch by which an object is read.
-use Rattle.std.specs.Prelude.{ℕ, Option, Some, None}
+use Rattle.std.specs.Prelude.{◌≡◌, ℕ, Option, Some, None}
 use Rattle.facet_solver_reader.specs.declared.nodes.Nodes.{Nodes}
 use Rattle.facet_solver_reader.specs.declared.read.object.Object as read
 use Rattle.facet_solver_reader.specs.declared.tables.Tables.{Tables}
@@ -19,3 +19,7 @@ ReadsChosen t nodes o s a =
 abbrev pub IsChosen : Tables → Nodes → read.Object → Selection → Option ℕ → Type 0
 IsChosen t nodes o s None = ReadsChosen t nodes o s without
 IsChosen t nodes o s (Some k) = (c : Choice) × ReadsChosen t nodes o s (choosing k c)
+
+-- an object is read by no branch of a selection but the one of an index
+abbrev pub IsAlone : Tables → Nodes → read.Object → Selection → ℕ → Type 0
+IsAlone t nodes o s k = (j : ℕ) (c : Choice) → ReadsChosen t nodes o s (choosing j c) → j ≡ k

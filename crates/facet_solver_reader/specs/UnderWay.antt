@@ -1,5 +1,8 @@
 -- The steps of the only reading of an object, as they are found one after another.
-use Rattle.std.specs.Prelude.{◌≡◌, ◌⊎◌, ℕ, All, List, [], ◌∷◌, ◌++◌, drop, map, Some, slice_get}
+use Rattle.std.specs.Prelude.{◌≡◌, ◌⊎◌, ⊤, ℕ, All, List, [], ◌∷◌, ◌++◌, drop, length, map, None, Option}
+use Rattle.std.specs.Prelude.{Some, Vec, slice_get}
+use Rattle.std.specs.Global.{Global}
+use Rattle.facet_solver_reader.specs.declared.count.Count.{Count}
 use Rattle.facet_solver_reader.specs.declared.nodes.Nodes.{Nodes}
 use Rattle.facet_solver_reader.specs.declared.only.steps.Frame.{Frame}
 use Rattle.facet_solver_reader.specs.declared.only.steps.Step as code
@@ -13,7 +16,7 @@ use Rattle.facet_solver_reader.specs.FieldPlaces.{Path}
 use Rattle.facet_solver_reader.specs.Parts.{ListId, Part}
 use Rattle.facet_solver_reader.specs.Planned.{IsOnlyStep, StepIsServed, planned_of, step_view}
 use Rattle.facet_solver_reader.specs.Planned.{walk_at}
-use Rattle.facet_solver_reader.specs.Reading.{object_view}
+use Rattle.facet_solver_reader.specs.Reading.{AreListCounts, object_view}
 use Rattle.facet_solver_reader.specs.Readings.{ReadsValue}
 use Rattle.facet_solver_reader.specs.Slots.{index_of}
 use Rattle.facet_solver_reader.specs.Steps.{Placed, Step, placed_from, selected}
@@ -61,6 +64,17 @@ AreLeft t nodes o [] steps = steps ≡ []
 AreLeft t nodes o (f ∷ fs) steps =
     AreBothSteps (AreLeft t nodes o fs) (AreLeftIn t nodes o f) steps
 
+-- the counts of the lists that the choices of an object's list go through, where they are known
+abbrev pub AreKnownCounts : Tables → Nodes → read.Object → Option (Vec Count Global) → Type 0
+AreKnownCounts t nodes o None = ⊤
+AreKnownCounts t nodes o (Some counts) =
+    AreListCounts t nodes o counts.items × (length counts.items ≡ length o.list.now.below.items)
+
+-- some lists, and one inside them, if there is one
+abbrev pub with_inner : List Frame → Option Frame → List Frame
+with_inner outer None = outer
+with_inner outer (Some inner) = outer ++ inner ∷ []
+
 -- steps in memory are the first ones of a reading of an object by its list, and at each the object
 -- has one reading; the others are those of lists that are under way
 pub record IsUnderWay (t : Tables) (nodes : Nodes) (o : read.Object) (frames : List Frame)
@@ -93,3 +107,8 @@ pub record IsEntered (t : Tables) (id : ListId) (place : Path) (old new : List F
   pub first : frame.next ≡ 0
   pub place_is : frame.place ≡ place
   pub frames_are : (new ≡ old ++ frame ∷ []) ⊎ ((new ≡ old) × TellsNothing t frame.list.now)
+
+-- the list of a branch at a place comes inside whichever are under way, unless it tells nothing
+abbrev pub IsInnermost : Tables → ListId → Path → Option Frame → Type 0
+IsInnermost t id place inner =
+    (outer : List Frame) → IsEntered t id place outer (with_inner outer inner)

@@ -18,7 +18,7 @@ mod target;
 mod untagged;
 mod variant;
 
-pub(crate) use chosen::chosen_branch;
+pub(crate) use chosen::{chosen_branch, lone_branch};
 pub(crate) use list::{count_list, fails_at_once};
 pub(crate) use members::members_of;
 pub(crate) use memo::{Asked, Memo};

@@ -7,7 +7,7 @@ ghost use Rattle.facet_solver_reader.specs.Counted.{Counted};
 ghost use Rattle.facet_solver_reader.specs.Nodes.{count, members_in, value_of};
 ghost use Rattle.facet_solver_reader.specs.Objects.{ReadsObject};
 ghost use Rattle.facet_solver_reader.specs.Planned.{IsPlan};
-ghost use Rattle.facet_solver_reader.specs.Reading.{AreSound, IsListCount, IsListed, IsObject, object_view};
+ghost use Rattle.facet_solver_reader.specs.Reading.{AreSound, IsListed, IsObject, object_view};
 ghost use Rattle.facet_solver_reader.specs.Readings.{ReadsValue};
 ghost use Rattle.facet_solver_reader.specs.Tables as spec;
 ghost use Rattle.facet_solver_reader.specs.Tables.{ListIsServed, rules_at};
@@ -17,10 +17,9 @@ ghost use Rattle.facet_solver_reader.specs.Views.{list_view};
 use super::found::{Found, catch_all_in};
 use super::members::{ignored_names, read_fields, read_rest};
 use super::steps::{Step, steps_of};
-use crate::count::Count;
 use crate::nodes::Nodes;
 use crate::part::ListId;
-use crate::read::{Memo, Object, count_all, filter_of, has_unknown, list_counts};
+use crate::read::{Memo, Object, count_all, filter_of, has_unknown};
 use crate::reading::{ObjectReading, Reading, ReadingKind};
 use crate::tables::{List, Tables};
 use std::alloc::AllocError;
@@ -55,7 +54,7 @@ pub(super) fn read_object<'c, 'v, 'd>(
         has_unknown,
         filter,
     };
-    let steps = plan_of(tables, nodes, memo, &object)?;
+    let steps = steps_of(tables, nodes, memo, &object)?;
     read_steps(tables, nodes, memo, &object, steps)
 }
 
@@ -89,27 +88,6 @@ fn is_read_whole(
     }
     let all = count_all(tables, nodes, memo, node, list, has_unknown)?;
     Ok(!all.is_none())
-}
-
-/// What the only reading of an object by its list goes through. Where its choices go through no other
-/// list, nothing has to be counted.
-fn plan_of<'r, 'c>(
-    tables: &'r Tables<'c>,
-    nodes: &Nodes<'_, '_>,
-    memo: &mut Memo,
-    object: &Object<'r, 'c>,
-) -> Result<Vec<Step<'r, 'c>>, AllocError>
-    requires sound { AreSound tables.now nodes.now memo.old.entries.items }
-    requires object { IsObject tables.now nodes.now object.now }
-    requires one { IsListCount tables.now nodes.now object.now object.now.list.now One }
-    ensures sound { AreSound tables.now nodes.now memo.new.entries.items }
-    ensures plan { IfOk result (λ steps. IsPlan tables.now nodes.now object.now steps.items) }
-{
-    if object.list.below.len() == 1 {
-        return steps_of(tables, nodes, object, &[Count::One]);
-    }
-    let counts = list_counts(tables, nodes, memo, object)?;
-    steps_of(tables, nodes, object, &counts)
 }
 
 /// The reading that goes through steps.

@@ -1,22 +1,23 @@
 //! What the only reading of an object goes through.
-ghost use Rattle.std.specs.Prelude.{◌≡◌, ◌+◌, ◌<◌, ◌^◌, ◌++◌, ◌∷◌, [], IfOk, OnOk, length};
+ghost use Rattle.std.specs.Prelude.{◌≡◌, ◌+◌, ◌<◌, ◌^◌, ◌++◌, ◌∷◌, [], All, IfOk, IsNone, OnOk, length};
 ghost use Rattle.facet_solver_reader.specs.declared.count.Count.TheVariants.{One};
+ghost use Rattle.facet_solver_reader.specs.Chosen.{IsChosen};
 ghost use Rattle.facet_solver_reader.specs.FieldPlaces.{path_at};
 ghost use Rattle.facet_solver_reader.specs.Known.{Chooses, HasChoice};
-ghost use Rattle.facet_solver_reader.specs.Nodes.{IsNumbering};
+ghost use Rattle.facet_solver_reader.specs.Parts.{a_selection};
 ghost use Rattle.facet_solver_reader.specs.Planned.{IsPlan};
-ghost use Rattle.facet_solver_reader.specs.Reading.{AreListCounts, IsListCount, IsObject};
+ghost use Rattle.facet_solver_reader.specs.Reading.{AreSound, IsListCount, IsObject, IsPartCount};
 ghost use Rattle.facet_solver_reader.specs.Steps.{place_below};
-ghost use Rattle.facet_solver_reader.specs.Tables.{AreTables, ListIsServed, rules_at};
-ghost use Rattle.facet_solver_reader.specs.UnderWay.{IsEntered, IsSelected, IsUnderWay};
-ghost use Rattle.facet_solver_reader.specs.Views.{list_view};
+ghost use Rattle.facet_solver_reader.specs.Tables.{AreTables, ListIsServed, PartIsBefore, rules_at};
+ghost use Rattle.facet_solver_reader.specs.UnderWay.{AreKnownCounts, IsInnermost, IsSelected, IsUnderWay, with_inner};
+ghost use Rattle.facet_solver_reader.specs.Views.{list_view, selection_view};
 
 use super::tells::tells;
 use crate::count::Count;
 use crate::field_at::{field_name, path_at, place_below};
 use crate::nodes::Nodes;
-use crate::part::{CatchAll, ListId, MemberPart, Part};
-use crate::read::{Object, chosen_branch};
+use crate::part::{CatchAll, ListId, MemberPart, Part, Selection};
+use crate::read::{Memo, Object, chosen_branch, list_counts, lone_branch, touches};
 use crate::tables::{List, Tables};
 use facet_solver_shape::{FieldPath, ShapeId};
 use std::alloc::AllocError;
@@ -40,47 +41,87 @@ struct Frame<'r, 'c> {
     place: FieldPath<'c>,
 }
 
-/// The steps so far, and the lists that are under way: the innermost is the last.
+/// The steps so far, and the lists that are under way around the innermost one, the last next to
+/// it. The innermost lies beside them, so that a list without selections takes no memory.
+///
+/// The counts of the lists that the choices go through are found where one is first asked for.
 #[derive(Drop)]
 struct Way<'r, 'c> {
     steps: Vec<Step<'r, 'c>>,
     frames: Vec<Frame<'r, 'c>>,
+    counts: Option<Vec<Count>>,
 }
 
-/// What the only reading of an object by its list goes through, by the counts of the lists that its
-/// choices go through.
+/// What the only reading of an object by its list goes through.
 pub(super) fn steps_of<'r, 'c>(
     tables: &'r Tables<'c>,
     nodes: &Nodes<'_, '_>,
+    memo: &mut Memo,
     object: &Object<'r, 'c>,
-    counts: &[Count],
 ) -> Result<Vec<Step<'r, 'c>>, AllocError>
-    requires tables { AreTables tables.now }
-    requires numbering { IsNumbering nodes.now }
+    requires sound { AreSound tables.now nodes.now memo.old.entries.items }
     requires object { IsObject tables.now nodes.now object.now }
-    requires counts { AreListCounts tables.now nodes.now object.now counts.now }
-    requires all { length counts.now ≡ length object.now.list.now.below.items }
     requires one { IsListCount tables.now nodes.now object.now object.now.list.now One }
-    ensures { IfOk result (λ steps. IsPlan tables.now nodes.now object.now steps.items) }
+    ensures sound { AreSound tables.now nodes.now memo.new.entries.items }
+    ensures plan { IfOk result (λ steps. IsPlan tables.now nodes.now object.now steps.items) }
 {
     let steps = Vec::with_capacity(tables.alloc, object.list.parts.len())?;
     let mut way = Way {
         steps,
         frames: Vec::new(tables.alloc),
+        counts: None,
     };
-    way.frames.push(Frame {
+    let mut frame = Frame {
         list: object.list,
         next: 0,
         place: FieldPath::empty(tables.alloc),
-    })?;
+    };
     // Far fewer parts are gone through, so that the loop ends by its first way out.
     'parts: for _ in 0..u64::MAX {
-        let Some(frame) = way.frames.pop() else {
-            return Ok(way.steps);
-        };
-        way.go_on(tables, nodes, object, counts, frame)?;
+        match way.go_on(tables, nodes, memo, object, frame)? {
+            Some(next) => frame = next,
+            None => return Ok(way.steps),
+        }
     }
     Err(AllocError)
+}
+
+/// The branch, by its index, by which an object is read that has one reading by a selection; `None`
+/// where the selection is absent. Readings are counted only where several branches could read it.
+fn choose(
+    tables: &Tables<'_>,
+    nodes: &Nodes<'_, '_>,
+    memo: &mut Memo,
+    object: &Object<'_, '_>,
+    selection: &Selection,
+    counts: &mut Option<Vec<Count>>,
+) -> Result<Option<usize>, AllocError>
+    requires sound { AreSound tables.now nodes.now memo.old.entries.items }
+    requires object { IsObject tables.now nodes.now object.now }
+    requires counts { AreKnownCounts tables.now nodes.now object.now counts.old }
+    requires served { All (ListIsServed tables.now) (selection_view selection.now).branches }
+    requires before { PartIsBefore tables.now object.now.list.now.below.items
+        (length object.now.list.now.below.items) (a_selection (selection_view selection.now)) }
+    requires one { IsPartCount tables.now nodes.now object.now
+        (a_selection (selection_view selection.now)) One }
+    ensures sound { AreSound tables.now nodes.now memo.new.entries.items }
+    ensures counts { OnOk result (AreKnownCounts tables.now nodes.now object.now counts.new) }
+    ensures chosen { IfOk result
+        (IsChosen tables.now nodes.now object.now (selection_view selection.now)) }
+{
+    if selection.optional && !touches(tables, nodes, object, selection) {
+        return Ok(None);
+    }
+    if let Some(k) = lone_branch(tables, nodes, object, selection) {
+        return Ok(Some(k));
+    }
+    let known = match counts.take() {
+        Some(known) => known,
+        None => list_counts(tables, nodes, memo, object)?,
+    };
+    let chosen = chosen_branch(tables, nodes, object, selection, &known);
+    *counts = Some(known);
+    Ok(chosen)
 }
 
 impl<'c> Frame<'_, 'c> {
@@ -97,69 +138,73 @@ impl<'c> Frame<'_, 'c> {
             self.next,
         )
     }
+
+    /// The same list, one part further.
+    fn behind(self) -> Self
+        requires { self.next + 1 < 2 ^ 64 }
+        ensures { result ≡ record self.entry { next = self.entry.next + 1 } }
+    {
+        Frame {
+            list: self.list,
+            next: self.next + 1,
+            place: self.place,
+        }
+    }
 }
 
 impl<'r, 'c> Way<'r, 'c> {
-    /// Takes the next part of the innermost list. What it is goes behind the steps, and a list that
-    /// is chosen there behind the others.
+    /// Takes the next part of the innermost list. What it is goes behind the steps. It tells which
+    /// list is the innermost then; `None` where no list is left.
     fn go_on(
         &mut self,
         tables: &'r Tables<'c>,
         nodes: &Nodes<'_, '_>,
+        memo: &mut Memo,
         object: &Object<'r, 'c>,
-        counts: &[Count],
         frame: Frame<'r, 'c>,
-    ) -> Result<(), AllocError>
-        requires tables { AreTables tables.now }
-        requires numbering { IsNumbering nodes.now }
+    ) -> Result<Option<Frame<'r, 'c>>, AllocError>
+        requires sound { AreSound tables.now nodes.now memo.old.entries.items }
         requires object { IsObject tables.now nodes.now object.now }
-        requires counts { AreListCounts tables.now nodes.now object.now counts.now }
-        requires all { length counts.now ≡ length object.now.list.now.below.items }
+        requires counts { AreKnownCounts tables.now nodes.now object.now self.old.counts }
         requires under_way { IsUnderWay tables.now nodes.now object.now
             (self.old.frames.items ++ frame ∷ []) self.old.steps.items }
-        ensures { OnOk result (IsUnderWay tables.now nodes.now object.now self.new.frames.items
-            self.new.steps.items) }
+        ensures sound { AreSound tables.now nodes.now memo.new.entries.items }
+        ensures counts { OnOk result
+            (AreKnownCounts tables.now nodes.now object.now self.new.counts) }
+        ensures under_way { IfOk result (λ inner. IsUnderWay tables.now nodes.now object.now
+            (with_inner self.new.frames.items inner) self.new.steps.items) }
+        ensures none { IfOk result (λ inner. IsNone inner → self.new.frames.items ≡ []) }
     {
         let list = frame.list;
         let Some(part) = list.parts.get(frame.next) else {
-            return Ok(());
+            return Ok(self.frames.pop());
         };
         match part {
             Part::Member(member) => {
                 let path = frame.path(tables)?;
-                self.go_behind(frame)?;
                 self.steps.push(Step::Field(path, member))?;
+                Ok(Some(frame.behind()))
             }
             Part::CatchAll(catch_all) => {
-                self.go_behind(frame)?;
                 self.steps.push(Step::Rest(catch_all))?;
+                Ok(Some(frame.behind()))
             }
             Part::Selection(selection) => {
-                match chosen_branch(tables, nodes, object, selection, counts) {
-                    Some(k) => {
-                        let branch = &selection.branches[k];
-                        let path = frame.path(tables)?;
-                        let name = field_name(tables.shapes, list.id, frame.next);
-                        self.go_behind(frame)?;
-                        self.enter(tables, path, name, branch)?;
+                let counts = &mut self.counts;
+                let Some(k) = choose(tables, nodes, memo, object, selection, counts)? else {
+                    return Ok(Some(frame.behind()));
+                };
+                let path = frame.path(tables)?;
+                let name = field_name(tables.shapes, list.id, frame.next);
+                match self.enter(tables, path, name, &selection.branches[k])? {
+                    Some(inner) => {
+                        self.frames.push(frame.behind())?;
+                        Ok(Some(inner))
                     }
-                    None => self.go_behind(frame)?,
+                    None => Ok(Some(frame.behind())),
                 }
             }
         }
-        Ok(())
-    }
-
-    /// Puts a list behind the others, one part further.
-    fn go_behind(&mut self, mut frame: Frame<'r, 'c>) -> Result<(), AllocError>
-        requires { frame.next + 1 < 2 ^ 64 }
-        ensures frames { OnOk result (self.new.frames.items
-            ≡ self.old.frames.items ++ record frame.entry { next = frame.entry.next + 1 } ∷ []) }
-        ensures steps { self.new.steps.items ≡ self.old.steps.items }
-    {
-        frame.next += 1;
-        self.frames.push(frame)?;
-        Ok(())
     }
 
     /// The variant that a branch at a path selects, if it is one, goes behind the steps.
@@ -167,6 +212,7 @@ impl<'r, 'c> Way<'r, 'c> {
         ensures steps { OnOk result (IsSelected path.entry (list_view branch.now)
             self.old.steps.items self.new.steps.items) }
         ensures frames { self.new.frames.items ≡ self.old.frames.items }
+        ensures counts { self.new.counts ≡ self.old.counts }
     {
         if let ListId::Branch(id, k) = branch {
             self.steps.push(Step::Variant(path, *id, *k))?;
@@ -188,6 +234,7 @@ impl<'r, 'c> Way<'r, 'c> {
         ensures steps { OnOk result (IsSelected path.entry (list_view branch.now)
             self.old.steps.items self.new.steps.items) }
         ensures frames { self.new.frames.items ≡ self.old.frames.items }
+        ensures counts { self.new.counts ≡ self.old.counts }
     {
         match branch {
             ListId::Branch(..) => {
@@ -199,23 +246,25 @@ impl<'r, 'c> Way<'r, 'c> {
         }
     }
 
-    /// Goes into the list of a branch that is chosen at the path of a field. The variant that it
-    /// selects, if it is one, goes behind the steps. A list that has nothing to tell is passed over.
+    /// Where the list of a branch begins that is chosen at the path of a field; `None` where the
+    /// list has nothing to tell, so that it is passed over. The variant that the branch selects, if
+    /// it is one, goes behind the steps.
     fn enter(
         &mut self,
         tables: &'r Tables<'c>,
         path: FieldPath<'c>,
         field: &'c str,
         branch: &ListId,
-    ) -> Result<(), AllocError>
+    ) -> Result<Option<Frame<'r, 'c>>, AllocError>
         requires tables { AreTables tables.now }
         requires served { ListIsServed tables.now (list_view branch.now) }
         requires chosen { HasChoice (Chooses (rules_at tables.now).lists (list_view branch.now)) }
-        ensures entered { OnOk result (IsEntered tables.now (list_view branch.now)
-            (place_below tables.now.shapes.now path.entry field.now (list_view branch.now))
-            self.old.frames.items self.new.frames.items) }
+        ensures counts { self.new.counts ≡ self.old.counts }
+        ensures entered { IfOk result (IsInnermost tables.now (list_view branch.now)
+            (place_below tables.now.shapes.now path.entry field.now (list_view branch.now))) }
         ensures steps { OnOk result (IsSelected path.entry (list_view branch.now)
             self.old.steps.items self.new.steps.items) }
+        ensures frames { self.new.frames.items ≡ self.old.frames.items }
     {
         let Some(index) = tables.slots.index_of(*branch) else {
             unreachable!()
@@ -223,14 +272,13 @@ impl<'r, 'c> Way<'r, 'c> {
         let list = &tables.lists[index];
         if !tells(tables, list) {
             self.select(path, branch)?;
-            return Ok(());
+            return Ok(None);
         }
         let place = self.select_above(tables, path, field, branch)?;
-        self.frames.push(Frame {
+        Ok(Some(Frame {
             list,
             next: 0,
             place,
-        })?;
-        Ok(())
+        }))
     }
 }

@@ -1,18 +1,24 @@
 //! The branch by which an object is read, where it is read by a selection in one way.
-ghost use Rattle.std.specs.Prelude.{All, length};
+ghost use Rattle.std.specs.Prelude.{All, IfSome, IsTrue, length};
 ghost use Rattle.facet_solver_reader.specs.declared.count.Count.TheVariants.{One};
-ghost use Rattle.facet_solver_reader.specs.Chosen.{IsChosen};
-ghost use Rattle.facet_solver_reader.specs.Nodes.{IsNumbering};
+ghost use Rattle.facet_solver_reader.specs.Branches.{ReadsList};
+ghost use Rattle.facet_solver_reader.specs.Choices.{Choice};
+ghost use Rattle.facet_solver_reader.specs.Chosen.{IsAlone, IsChosen};
+ghost use Rattle.facet_solver_reader.specs.LookedUp.{IsLast};
+ghost use Rattle.facet_solver_reader.specs.Nodes.{IsNumbering, members_in, value_of};
 ghost use Rattle.facet_solver_reader.specs.Parts.{a_selection};
-ghost use Rattle.facet_solver_reader.specs.Reading.{AreListCounts, IsObject, IsPartCount};
-ghost use Rattle.facet_solver_reader.specs.Tables.{AreTables, ListIsServed, PartIsBefore};
-ghost use Rattle.facet_solver_reader.specs.Views.{selection_view};
+ghost use Rattle.facet_solver_reader.specs.Reading.{AreListCounts, IsObject, IsPartCount, object_view};
+ghost use Rattle.facet_solver_reader.specs.Readings.{ReadsValue};
+ghost use Rattle.facet_solver_reader.specs.Tables.{AreTables, ListIsServed, PartIsBefore, rules_at};
+ghost use Rattle.facet_solver_reader.specs.Views.{list_view, selection_view};
 
+use super::list::some_fails_at_once;
 use super::object::Object;
 use super::selection::{count_branch, touches};
+use super::tag::{LookedUp, fails_at_first};
 use crate::count::Count;
 use crate::nodes::Nodes;
-use crate::part::Selection;
+use crate::part::{ListId, Selection};
 use crate::tables::Tables;
 
 /// The branch, by its index, by which an object is read that has one reading by a selection; `None`
@@ -46,4 +52,64 @@ pub(crate) fn chosen_branch(
         }
     }
     unreachable!()
+}
+
+/// The branch, by its index, that alone may read an object by a selection: the only one, or else
+/// the one that is left, where for each other the object lacks a required member or has another
+/// tag. `None` where several are left, or none of several.
+pub(crate) fn lone_branch(
+    tables: &Tables<'_>,
+    nodes: &Nodes<'_, '_>,
+    object: &Object<'_, '_>,
+    selection: &Selection,
+) -> Option<usize>
+    requires tables { AreTables tables.now }
+    requires numbering { IsNumbering nodes.now }
+    requires object { IsObject tables.now nodes.now object.now }
+    requires served { All (ListIsServed tables.now) (selection_view selection.now).branches }
+    ensures { IfSome result
+        (IsAlone tables.now nodes.now object.now (selection_view selection.now)) }
+{
+    if selection.branches.len() == 1 {
+        return Some(0);
+    }
+    let mut found = None;
+    let mut last = None;
+    for (k, branch) in selection.branches.iter().enumerate() {
+        if fails_by_branch(tables, nodes, object, *branch, &mut last) {
+            continue;
+        }
+        if found.is_some() {
+            return None;
+        }
+        found = Some(k);
+    }
+    found
+}
+
+/// Whether an object cannot be read by a branch, whatever its values are.
+fn fails_by_branch<'c, 't, 'd>(
+    tables: &Tables<'c>,
+    nodes: &Nodes<'t, 'd>,
+    object: &Object<'_, '_>,
+    branch: ListId,
+    last: &mut Option<LookedUp<'c, 't, 'd>>,
+) -> bool
+    requires tables { AreTables tables.now }
+    requires numbering { IsNumbering nodes.now }
+    requires object { IsObject tables.now nodes.now object.now }
+    requires served { ListIsServed tables.now (list_view branch) }
+    requires last { IsLast (members_in (value_of nodes.now object.now.node)) last.old }
+    ensures last { IsLast (members_in (value_of nodes.now object.now.node)) last.new }
+    ensures fails { IsTrue result → (c : Choice) → ReadsList (rules_at tables.now)
+        (ReadsValue (rules_at tables.now)) (object_view nodes.now object.now) (list_view branch) c
+        → ⊥ }
+{
+    let Some(list) = tables.list(branch) else {
+        return true;
+    };
+    if fails_at_first(nodes, object, list, last) {
+        return true;
+    }
+    some_fails_at_once(nodes, object.node, &list.parts)
 }

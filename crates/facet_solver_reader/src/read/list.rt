@@ -53,7 +53,7 @@ pub(crate) fn count_list(
 }
 
 /// Whether an object cannot be read by some part, whatever its values are.
-fn some_fails_at_once(nodes: &Nodes<'_, '_>, node: usize, parts: &[Part<'_>]) -> bool
+pub(super) fn some_fails_at_once(nodes: &Nodes<'_, '_>, node: usize, parts: &[Part<'_>]) -> bool
     requires numbering { IsNumbering nodes.now }
     requires inside { node < count nodes.now }
     ensures { result ≡ list_any

@@ -963,9 +963,9 @@ object::read_object-is_read_whole-requires t c =
           c.requires.one;
     }
 
-pub object::read_object-plan_of-requires-clause-object :
-    goal.object::read_object-plan_of-requires-clause-object
-object::read_object-plan_of-requires-clause-object t c =
+pub object::read_object-steps_of-requires-clause-object :
+    goal.object::read_object-steps_of-requires-clause-object
+object::read_object-steps_of-requires-clause-object t c =
     let tb = c.args.tables.now in
     let rules = rules_at tb in
     let ms = members_in (value_of c.args.nodes.now c.args.node) in
@@ -983,9 +983,9 @@ object::read_object-plan_of-requires-clause-object t c =
       filter = c.filter_of-filter.ensures;
     }
 
-pub object::read_object-plan_of-requires-clause-one :
-    goal.object::read_object-plan_of-requires-clause-one
-object::read_object-plan_of-requires-clause-one t c =
+pub object::read_object-steps_of-requires-clause-one :
+    goal.object::read_object-steps_of-requires-clause-one
+object::read_object-steps_of-requires-clause-one t c =
     let tb = c.args.tables.now in
     let rules = rules_at tb in
     let ms = members_in (value_of c.args.nodes.now c.args.node) in
@@ -1009,7 +1009,7 @@ object::read_object-read_steps-requires t c =
     c.has_unknown-has_unknown.result refl c.has_unknown-has_unknown.ensures in (
       omega arith,
       (
-        c.plan_of.ensures.sound,
+        c.steps_of.ensures.sound,
         (
           record {
             inside = c.requires.inside;

@@ -5,7 +5,7 @@ use Rattle.facet_solver_reader.proofs.CountingObjects.{list_at, list_read}
 use Rattle.facet_solver_reader.proofs.only.steps.Way.enter.Goals as goal
 
 pub returns-clause-entered : goal.returns-clause-entered
-returns-clause-entered c =
+returns-clause-entered c outer =
     let t = c.args.tables.now in
     let id = list_view c.args.branch.now in
     let read = list_read t id c.in-Some.index c.index-list.result.now
@@ -18,11 +18,11 @@ returns-clause-entered c =
       same = read.1;
       first = refl;
       place_is = c.in_ok-place.ensures.place;
-      frames_are = inl (rw c.select_above.ensures.frames at c.in_ok-push.ensures.items);
+      frames_are = inl refl;
     }
 
 pub returns-then-not-tells-clause-entered : goal.returns-then-not-tells-clause-entered
-returns-then-not-tells-clause-entered c =
+returns-then-not-tells-clause-entered c outer =
     let t = c.args.tables.now in
     let id = list_view c.args.branch.now in
     let read = list_read t id c.in-Some.index c.index-list.result.now
@@ -39,5 +39,5 @@ returns-then-not-tells-clause-entered c =
       same = read.1;
       first = refl;
       place_is = refl;
-      frames_are = inr (c.select.ensures.frames, c.tells.ensures.nothing c.if-not-tells.true);
+      frames_are = inr (refl, c.tells.ensures.nothing c.if-not-tells.true);
     }

@@ -1,6 +1,8 @@
 use Rattle.std.proofs.Common.{◌≡◌, ◌∙◌, sym, ap, subst, refl, ℕ, ◌<◌, List, [], ◌∷◌, ◌++◌, Some}
+use Rattle.std.proofs.Common.{None, Option}
+use Rattle.std.specs.Option.{option_to_list}
 use Rattle.std.proofs.Common.{get_or, length, map, slice_get, arith, ◌≤◌}
-use Rattle.std.proofs.lemmas.List.{length-map}
+use Rattle.std.proofs.lemmas.List.{append-nil, length-map}
 use Rattle.std.proofs.lemmas.Option.{slice_get_within}
 use Rattle.facet_solver_reader.specs.declared.only.steps.Frame.{Frame}
 use Rattle.facet_solver_reader.specs.declared.only.steps.Step as code
@@ -12,12 +14,16 @@ use Rattle.facet_solver_reader.specs.declared.tables.Tables.{Tables}
 use Rattle.facet_solver_shape.specs.Names.{Name}
 use Rattle.facet_solver_reader.specs.FieldPlaces as spec
 use Rattle.facet_solver_reader.specs.FieldPlaces.{Path}
+use Rattle.facet_solver_reader.specs.Choices.{Choice, choosing}
+use Rattle.facet_solver_reader.specs.Chosen.{IsChosen, ReadsChosen}
 use Rattle.facet_solver_reader.specs.Known.{Chooses, HasChoice}
-use Rattle.facet_solver_reader.specs.Parts.{ListId, a_member, a_selection, a_catch_all}
+use Rattle.facet_solver_reader.specs.Parts.{ListId, Selection, a_member, a_selection, a_catch_all}
 use Rattle.facet_solver_reader.specs.Planned as planned
-use Rattle.facet_solver_reader.specs.Tables.{AreTables, ListIsServed, PartIsBefore, rules_at}
+use Rattle.facet_solver_reader.specs.Reading.{IsObject}
+use Rattle.facet_solver_reader.specs.Tables.{AreTables, ListIsServed, rules_at}
 use Rattle.facet_solver_reader.specs.Steps.{place_below}
-use Rattle.facet_solver_reader.specs.UnderWay.{IsEntered, IsSelected, IsUnderWay}
+use Rattle.facet_solver_reader.specs.UnderWay.{IsEntered, IsInnermost, IsSelected, IsUnderWay}
+use Rattle.facet_solver_reader.specs.UnderWay.{with_inner}
 use Rattle.facet_solver_reader.specs.Views.{catch_all_view, list_view, member_view, part_view}
 use Rattle.facet_solver_reader.specs.Views.{parts_view, selection_view}
 use Rattle.facet_solver_reader.proofs.CountingObjects.{seen_read}
@@ -41,6 +47,15 @@ taken_at t nodes o tables fs f old h xs p q same within is seen =
     within is
     ∙ ap (λ r. Some (part_view r)) seen)
 
+-- what is left when the last of some lists, if there is one, is taken from them
+popped : (t : Tables) (nodes : Nodes) (o : read.Object) (old new : List Frame)
+    (last : Option Frame) (steps : List code.Step) → old ≡ new ++ option_to_list last
+    → IsUnderWay t nodes o old steps → IsUnderWay t nodes o (with_inner new last) steps
+popped t nodes o old new None steps e h =
+    subst (λ (x : List Frame). IsUnderWay t nodes o x steps) (e ∙ append-nil new) h
+popped t nodes o old new (Some f) steps e h =
+    subst (λ (x : List Frame). IsUnderWay t nodes o x steps) e h
+
 -- what is under way in lists that are equal
 moved : (t : Tables) (nodes : Nodes) (o : read.Object) (fs gs : List Frame)
     (old new : List code.Step) → gs ≡ fs → new ≡ old → IsUnderWay t nodes o fs old
@@ -61,17 +76,48 @@ branch_at : (ids : List code_list.ListId) (k : ℕ) (id : code_list.ListId) → 
     → id ≡ get_or ids k id → slice_get (map list_view ids) k ≡ Some (list_view id)
 branch_at ids k id within is = seen_read list_view ids (map list_view ids) k id refl within is
 
-pub returns-in_default : goal.returns-in_default
-returns-in_default c =
+-- a selection that is read by a branch, of which the list, if it tells anything, is under way
+inner_taken : (t : Tables) (nodes : Nodes) (o : read.Object) → AreTables t → IsObject t nodes o
+    → (fs : List Frame) (f : Frame) (s : Selection) (old : List code.Step)
+    (h : IsUnderWay t nodes o (fs ++ f ∷ []) old)
+    → IsTaken t nodes o fs f (a_selection s) h.others
+    → (k : ℕ) (d : Choice) (id : ListId) → ReadsChosen t nodes o s (choosing k d)
+    → slice_get s.branches k ≡ Some id
+    → (path : Path) → path ≡ spec.path_at t.shapes.now f.place (list_view f.list.now.id) f.next
+    → (field : Name) → field ≡ spec.field_name t.shapes.now (list_view f.list.now.id) f.next
+    → (inner : Option Frame) (new : List code.Step) → IsSelected path id old new
+    → IsInnermost t id (place_below t.shapes.now path field id) inner
+    → IsUnderWay t nodes o (with_inner (fs ++ behind_next f ∷ []) inner) new
+inner_taken t nodes o tables listed fs f s old h x k d id r at path path_is field field_is inner new selects is =
+    let here = spec.path_at t.shapes.now f.place (list_view f.list.now.id) f.next in
+    let name = spec.field_name t.shapes.now (list_view f.list.now.id) f.next in
+    let outer : List Frame = fs ++ behind_next f ∷ [] in
+    let place_is : place_below t.shapes.now path field id ≡ place_below t.shapes.now here name id =
+    ap (λ (q : Path). place_below t.shapes.now q field id) path_is
+    ∙ ap (λ (n : Name). place_below t.shapes.now here n id) field_is in
+    branch_taken t nodes o tables fs f s old h x k d id r at (with_inner outer inner) new
+    (part_before t nodes o tables listed fs f (a_selection s) h.others x)
+    (subst (λ (q : Path). IsSelected q id old new) path_is selects)
+    (subst (λ (q : Path). IsEntered t id q outer (with_inner outer inner)) place_is (is outer))
+
+pub returns-in_default-clause-under_way : goal.returns-in_default-clause-under_way
+returns-in_default-clause-under_way c =
+    let t = c.args.tables.now in
+    let nodes = c.args.nodes.now in
+    let o = c.args.object.now in
     let f = c.args.frame in
+    let fs = c.args.self.now.frames.items in
+    let old = c.args.self.now.steps.items in
+    let h = c.requires.under_way in
     let items = f.list.now.parts.items in
     let past : length c.deref.result.now ≤ f.next = c.in_default.ensures.lookup.3 in
-    none_more c.args.tables.now c.args.nodes.now c.args.object.now c.args.self.now.frames.items f
-    c.args.self.now.steps.items c.requires.under_way
-    (omega (arith, past, length-map items part_view, ap length c.deref.ensures.value))
+    popped t nodes o fs c.pop.new.self.items c.pop.result old c.pop.ensures.items
+    (none_more t nodes o fs f old h
+    (omega (arith, past, length-map items part_view, ap length c.deref.ensures.value)))
 
-pub returns-in_ok-push-in-Member : goal.returns-in_ok-push-in-Member
-returns-in_ok-push-in-Member c =
+pub returns-in_ok-push-in-Member-clause-under_way :
+    goal.returns-in_ok-push-in-Member-clause-under_way
+returns-in_ok-push-in-Member-clause-under_way c =
     let t = c.args.tables.now in
     let nodes = c.args.nodes.now in
     let o = c.args.object.now in
@@ -82,17 +128,18 @@ returns-in_ok-push-in-Member c =
     let m = c.in-Member.member in
     let p = a_member (member_view m) in
     let look = c.in-Some.ensures.lookup in
-    let x = taken_at t nodes o c.requires.tables fs f old h c.deref.result.now c.in-Some.part.now
-    (code_part.TheVariants.Member m) c.deref.ensures.value look.3.0 look.1 c.in-Member.is in
-    moved t nodes o (fs ++ behind_next f ∷ []) c.go_behind.new.self.frames.items _
-    c.push.new.self.items c.in_ok-go_behind-in-Member.ensures.frames
-    (rw c.in_ok-go_behind-in-Member.ensures.steps at c.in_ok-push-in-Member.ensures.items)
+    let x = taken_at t nodes o c.requires.sound.tables fs f old h c.deref.result.now
+    c.in-Some.part.now (code_part.TheVariants.Member m) c.deref.ensures.value look.3.0 look.1
+    c.in-Member.is in
+    moved t nodes o (fs ++ behind_next f ∷ []) (fs ++ c.behind.result ∷ []) _ c.push.new.self.items
+    (ap (λ (g : Frame). fs ++ g ∷ []) c.behind.ensures) c.in_ok-push-in-Member.ensures.items
     (member_taken t nodes o fs f (member_view m) old _ h x
     (ap (λ path. planned.a_field path (member_view m)) c.in_ok-path-in-Member.ensures)
-    (part_served t nodes o c.requires.tables fs f p h.others x))
+    (part_served t nodes o c.requires.sound.tables fs f p h.others x))
 
-pub returns-in_ok-push-in-CatchAll : goal.returns-in_ok-push-in-CatchAll
-returns-in_ok-push-in-CatchAll c =
+pub returns-in_ok-push-in-CatchAll-clause-under_way :
+    goal.returns-in_ok-push-in-CatchAll-clause-under_way
+returns-in_ok-push-in-CatchAll-clause-under_way c =
     let t = c.args.tables.now in
     let nodes = c.args.nodes.now in
     let o = c.args.object.now in
@@ -103,16 +150,18 @@ returns-in_ok-push-in-CatchAll c =
     let k = c.in-CatchAll.catch_all in
     let p = a_catch_all (catch_all_view k) in
     let look = c.in-Some.ensures.lookup in
-    let x = taken_at t nodes o c.requires.tables fs f old h c.deref.result.now c.in-Some.part.now
-    (code_part.TheVariants.CatchAll k) c.deref.ensures.value look.3.0 look.1 c.in-CatchAll.is in
-    moved t nodes o (fs ++ behind_next f ∷ []) c.go_behind-in-CatchAll.new.self.frames.items _
-    c.push-in-CatchAll.new.self.items c.in_ok-go_behind-in-CatchAll.ensures.frames
-    (rw c.in_ok-go_behind-in-CatchAll.ensures.steps at c.in_ok-push-in-CatchAll.ensures.items)
+    let x = taken_at t nodes o c.requires.sound.tables fs f old h c.deref.result.now
+    c.in-Some.part.now (code_part.TheVariants.CatchAll k) c.deref.ensures.value look.3.0 look.1
+    c.in-CatchAll.is in
+    moved t nodes o (fs ++ behind_next f ∷ []) (fs ++ c.behind-in-CatchAll.result ∷ []) _
+    c.push-in-CatchAll.new.self.items
+    (ap (λ (g : Frame). fs ++ g ∷ []) c.behind-in-CatchAll.ensures)
+    c.in_ok-push-in-CatchAll.ensures.items
     (catch_all_taken t nodes o fs f (catch_all_view k) old _ h x refl
-    (part_served t nodes o c.requires.tables fs f p h.others x))
+    (part_served t nodes o c.requires.sound.tables fs f p h.others x))
 
-pub chosen_branch-requires-clause-served : goal.chosen_branch-requires-clause-served
-chosen_branch-requires-clause-served c =
+pub choose-requires-clause-served : goal.choose-requires-clause-served
+choose-requires-clause-served c =
     let t = c.args.tables.now in
     let nodes = c.args.nodes.now in
     let o = c.args.object.now in
@@ -123,12 +172,13 @@ chosen_branch-requires-clause-served c =
     let s = c.in-Selection.selection in
     let p = a_selection (selection_view s) in
     let look = c.in-Some.ensures.lookup in
-    let x = taken_at t nodes o c.requires.tables fs f old h c.deref.result.now c.in-Some.part.now
-    (code_part.TheVariants.Selection s) c.deref.ensures.value look.3.0 look.1 c.in-Selection.is in
-    part_served t nodes o c.requires.tables fs f p h.others x
+    let x = taken_at t nodes o c.requires.sound.tables fs f old h c.deref.result.now
+    c.in-Some.part.now (code_part.TheVariants.Selection s) c.deref.ensures.value look.3.0 look.1
+    c.in-Selection.is in
+    part_served t nodes o c.requires.sound.tables fs f p h.others x
 
-pub chosen_branch-requires-clause-before : goal.chosen_branch-requires-clause-before
-chosen_branch-requires-clause-before c =
+pub choose-requires-clause-before : goal.choose-requires-clause-before
+choose-requires-clause-before c =
     let t = c.args.tables.now in
     let nodes = c.args.nodes.now in
     let o = c.args.object.now in
@@ -139,13 +189,13 @@ chosen_branch-requires-clause-before c =
     let s = c.in-Selection.selection in
     let p = a_selection (selection_view s) in
     let look = c.in-Some.ensures.lookup in
-    let x = taken_at t nodes o c.requires.tables fs f old h c.deref.result.now c.in-Some.part.now
-    (code_part.TheVariants.Selection s) c.deref.ensures.value look.3.0 look.1 c.in-Selection.is in
-    subst (λ n. PartIsBefore t o.list.now.below.items n p) (sym c.requires.all)
-    (part_before t nodes o c.requires.tables c.requires.object fs f p h.others x)
+    let x = taken_at t nodes o c.requires.sound.tables fs f old h c.deref.result.now
+    c.in-Some.part.now (code_part.TheVariants.Selection s) c.deref.ensures.value look.3.0 look.1
+    c.in-Selection.is in
+    part_before t nodes o c.requires.sound.tables c.requires.object fs f p h.others x
 
-pub chosen_branch-requires-clause-one : goal.chosen_branch-requires-clause-one
-chosen_branch-requires-clause-one c =
+pub choose-requires-clause-one : goal.choose-requires-clause-one
+choose-requires-clause-one c =
     let t = c.args.tables.now in
     let nodes = c.args.nodes.now in
     let o = c.args.object.now in
@@ -156,12 +206,13 @@ chosen_branch-requires-clause-one c =
     let s = c.in-Selection.selection in
     let p = a_selection (selection_view s) in
     let look = c.in-Some.ensures.lookup in
-    let x = taken_at t nodes o c.requires.tables fs f old h c.deref.result.now c.in-Some.part.now
-    (code_part.TheVariants.Selection s) c.deref.ensures.value look.3.0 look.1 c.in-Selection.is in
+    let x = taken_at t nodes o c.requires.sound.tables fs f old h c.deref.result.now
+    c.in-Some.part.now (code_part.TheVariants.Selection s) c.deref.ensures.value look.3.0 look.1
+    c.in-Selection.is in
     record { value = x.choice; has = x.only.0; only = x.only.1 }
 
-pub returns-in_ok-go_behind-in-None : goal.returns-in_ok-go_behind-in-None
-returns-in_ok-go_behind-in-None c =
+pub returns-in_default-2-clause-under_way : goal.returns-in_default-2-clause-under_way
+returns-in_default-2-clause-under_way c =
     let t = c.args.tables.now in
     let nodes = c.args.nodes.now in
     let o = c.args.object.now in
@@ -172,18 +223,22 @@ returns-in_ok-go_behind-in-None c =
     let s = c.in-Selection.selection in
     let p = a_selection (selection_view s) in
     let look = c.in-Some.ensures.lookup in
-    let x = taken_at t nodes o c.requires.tables fs f old h c.deref.result.now c.in-Some.part.now
-    (code_part.TheVariants.Selection s) c.deref.ensures.value look.3.0 look.1 c.in-Selection.is in
-    moved t nodes o (fs ++ behind_next f ∷ []) c.go_behind-in-None.new.self.frames.items old
-    c.go_behind-in-None.new.self.steps.items c.in_ok-go_behind-in-None.ensures.frames
-    c.in_ok-go_behind-in-None.ensures.steps
-    (absent_taken t nodes o fs f (selection_view s) old h x c.in-None.ensures)
+    let x = taken_at t nodes o c.requires.sound.tables fs f old h c.deref.result.now
+    c.in-Some.part.now (code_part.TheVariants.Selection s) c.deref.ensures.value look.3.0 look.1
+    c.in-Selection.is in
+    moved t nodes o (fs ++ behind_next f ∷ []) (fs ++ c.behind-in_default-2.result ∷ []) old old
+    (ap (λ (g : Frame). fs ++ g ∷ []) c.behind-in_default-2.ensures) refl
+    (absent_taken t nodes o fs f (selection_view s) old h x
+    (subst (IsChosen t nodes o (selection_view s)) c.in_default-2.is
+    c.in_ok-k-in-Selection.ensures.chosen))
 
-pub index-branch-requires : goal.index-branch-requires
-index-branch-requires c =
-    let b = c.in-Some-chosen_branch.ensures.1.chooses.chooses in
-    let ids = c.in-Selection.selection.branches in
-    omega (arith, branch_within ids.items c.in-Some-chosen_branch.k b.list b.branch_is)
+pub index-requires : goal.index-requires
+index-requires c =
+    let s = c.in-Selection.selection in
+    let r = subst (IsChosen c.args.tables.now c.args.nodes.now c.args.object.now (selection_view s))
+    c.in-Some-2.is c.in_ok-k-in-Selection.ensures.chosen in
+    let b = r.1.chooses.chooses in
+    omega (arith, branch_within s.branches.items c.in-Some-2.k b.list b.branch_is)
 
 pub enter-requires-clause-served : goal.enter-requires-clause-served
 enter-requires-clause-served c =
@@ -197,36 +252,39 @@ enter-requires-clause-served c =
     let s = c.in-Selection.selection in
     let p = a_selection (selection_view s) in
     let look = c.in-Some.ensures.lookup in
-    let x = taken_at t nodes o c.requires.tables fs f old h c.deref.result.now c.in-Some.part.now
-    (code_part.TheVariants.Selection s) c.deref.ensures.value look.3.0 look.1 c.in-Selection.is in
+    let x = taken_at t nodes o c.requires.sound.tables fs f old h c.deref.result.now
+    c.in-Some.part.now (code_part.TheVariants.Selection s) c.deref.ensures.value look.3.0 look.1
+    c.in-Selection.is in
+    let r = subst (IsChosen t nodes o (selection_view s)) c.in-Some-2.is
+    c.in_ok-k-in-Selection.ensures.chosen in
     let ids = s.branches.items in
-    let k = c.in-Some-chosen_branch.k in
-    let b = c.in-Some-chosen_branch.ensures.1.chooses.chooses in
-    all_at (ListIsServed t) (map list_view ids) k (list_view c.index-branch.result.now)
-    (part_served t nodes o c.requires.tables fs f p h.others x)
-    (branch_at ids k c.index-branch.result.now (branch_within ids k b.list b.branch_is)
-    c.index-branch.ensures)
+    let k = c.in-Some-2.k in
+    let b = r.1.chooses.chooses in
+    let branch = c.index.result.now in
+    let id = list_view branch in
+    let at = branch_at ids k branch (branch_within ids k b.list b.branch_is) c.index.ensures in
+    all_at (ListIsServed t) (map list_view ids) k id
+    (part_served t nodes o c.requires.sound.tables fs f p h.others x) at
 
 pub enter-requires-clause-chosen : goal.enter-requires-clause-chosen
 enter-requires-clause-chosen c =
-    let ids = c.in-Selection.selection.branches.items in
-    let k = c.in-Some-chosen_branch.k in
-    let b = c.in-Some-chosen_branch.ensures.1.chooses.chooses in
-    let both : Some b.list ≡ Some (list_view c.index-branch.result.now) =
-    sym b.branch_is
-    ∙ branch_at ids k c.index-branch.result.now (branch_within ids k b.list b.branch_is)
-    c.index-branch.ensures
-    in
-    let same : b.list ≡ list_view c.index-branch.result.now = cc in
-    subst (λ id. HasChoice (Chooses (rules_at c.args.tables.now).lists id)) same
-    (record {
-      choice = c.in-Some-chosen_branch.ensures.0;
-      items = c.in-Some-chosen_branch.ensures.1.chooses.of_branch;
-      chooses = b.chooses;
-    })
+    let s = c.in-Selection.selection in
+    let r = subst (IsChosen c.args.tables.now c.args.nodes.now c.args.object.now (selection_view s))
+    c.in-Some-2.is c.in_ok-k-in-Selection.ensures.chosen in
+    let ids = s.branches.items in
+    let k = c.in-Some-2.k in
+    let b = r.1.chooses.chooses in
+    let branch = c.index.result.now in
+    let id = list_view branch in
+    let at = branch_at ids k branch (branch_within ids k b.list b.branch_is) c.index.ensures in
+    let both : Some b.list ≡ Some id = sym b.branch_is ∙ at in
+    let same : b.list ≡ id = cc in
+    subst (λ i. HasChoice (Chooses (rules_at c.args.tables.now).lists i)) same
+    (record { choice = r.0; items = r.1.chooses.of_branch; chooses = b.chooses })
 
-pub returns-in_ok-enter-in-Some-chosen_branch : goal.returns-in_ok-enter-in-Some-chosen_branch
-returns-in_ok-enter-in-Some-chosen_branch c =
+pub returns-in_ok-push-in-Some-3-clause-under_way :
+    goal.returns-in_ok-push-in-Some-3-clause-under_way
+returns-in_ok-push-in-Some-3-clause-under_way c =
     let t = c.args.tables.now in
     let nodes = c.args.nodes.now in
     let o = c.args.object.now in
@@ -237,40 +295,69 @@ returns-in_ok-enter-in-Some-chosen_branch c =
     let s = c.in-Selection.selection in
     let p = a_selection (selection_view s) in
     let look = c.in-Some.ensures.lookup in
-    let x = taken_at t nodes o c.requires.tables fs f old h c.deref.result.now c.in-Some.part.now
-    (code_part.TheVariants.Selection s) c.deref.ensures.value look.3.0 look.1 c.in-Selection.is in
+    let x = taken_at t nodes o c.requires.sound.tables fs f old h c.deref.result.now
+    c.in-Some.part.now (code_part.TheVariants.Selection s) c.deref.ensures.value look.3.0 look.1
+    c.in-Selection.is in
+    let r = subst (IsChosen t nodes o (selection_view s)) c.in-Some-2.is
+    c.in_ok-k-in-Selection.ensures.chosen in
     let ids = s.branches.items in
-    let k = c.in-Some-chosen_branch.k in
-    let r = c.in-Some-chosen_branch.ensures.1 in
-    let b = r.chooses.chooses in
-    let branch = c.index-branch.result.now in
+    let k = c.in-Some-2.k in
+    let b = r.1.chooses.chooses in
+    let branch = c.index.result.now in
     let id = list_view branch in
-    let at = branch_at ids k branch (branch_within ids k b.list b.branch_is) c.index-branch.ensures
-    in
-    let path = spec.path_at t.shapes.now f.place (list_view f.list.now.id) f.next in
-    let field = spec.field_name t.shapes.now (list_view f.list.now.id) f.next in
-    let place = place_below t.shapes.now path field id in
-    let place_is : place_below t.shapes.now c.in_ok-path-in-Some-chosen_branch.path c.field_name-name.result.now id
-    ≡ place =
-    ap (λ (q : Path). place_below t.shapes.now q c.field_name-name.result.now id)
-    c.in_ok-path-in-Some-chosen_branch.ensures
-    ∙ ap (λ (n : Name). place_below t.shapes.now path n id) c.field_name-name.ensures in
-    let gs = c.enter.new.self.frames.items in
-    let entered = subst (λ (q : Path). IsEntered t id q (fs ++ behind_next f ∷ []) gs) place_is
-    (subst
-    (λ (x : List Frame).
-    IsEntered t id
-    (place_below t.shapes.now c.in_ok-path-in-Some-chosen_branch.path
-    c.field_name-name.result.now id) x gs)
-    c.in_ok-go_behind-in-Some-chosen_branch.ensures.frames
-    c.in_ok-enter-in-Some-chosen_branch.ensures.entered) in
+    let at = branch_at ids k branch (branch_within ids k b.list b.branch_is) c.index.ensures in
+    let inner = c.in-Some-3.inner in
     let new = c.enter.new.self.steps.items in
-    let selects = subst (λ (q : Path). IsSelected q id old new)
-    c.in_ok-path-in-Some-chosen_branch.ensures
-    (subst
-    (λ (x : List code.Step). IsSelected c.in_ok-path-in-Some-chosen_branch.path id x new)
-    c.in_ok-go_behind-in-Some-chosen_branch.ensures.steps
-    c.in_ok-enter-in-Some-chosen_branch.ensures.steps) in
-    branch_taken t nodes o c.requires.tables fs f (selection_view s) old h x k
-    c.in-Some-chosen_branch.ensures.0 id r at gs new
-    (part_before t nodes o c.requires.tables c.requires.object fs f p h.others x) selects entered
+    let place = place_below t.shapes.now c.in_ok-path-in-Selection.path
+    c.field_name-name.result.now id in
+    moved t nodes o ((fs ++ behind_next f ∷ []) ++ inner ∷ [])
+    (c.push-in-Some-3.new.self.items ++ inner ∷ []) new new
+    (ap (λ (gs : List Frame). gs ++ inner ∷ [])
+    (c.in_ok-push-in-Some-3.ensures.items
+    ∙ ap (λ (gs : List Frame). gs ++ c.behind-in-Some-3.result ∷ [])
+    c.in_ok-inner-in-Selection.ensures.frames
+    ∙ ap (λ (g : Frame). fs ++ g ∷ []) c.behind-in-Some-3.ensures))
+    refl
+    (inner_taken t nodes o c.requires.sound.tables c.requires.object fs f (selection_view s) old h x
+    k r.0 id r.1 at c.in_ok-path-in-Selection.path c.in_ok-path-in-Selection.ensures
+    c.field_name-name.result.now c.field_name-name.ensures (Some inner) new
+    c.in_ok-inner-in-Selection.ensures.steps
+    (subst (IsInnermost t id place) c.in-Some-3.is c.in_ok-inner-in-Selection.ensures.entered))
+
+pub returns-in-None-clause-under_way : goal.returns-in-None-clause-under_way
+returns-in-None-clause-under_way c =
+    let t = c.args.tables.now in
+    let nodes = c.args.nodes.now in
+    let o = c.args.object.now in
+    let f = c.args.frame in
+    let fs = c.args.self.now.frames.items in
+    let old = c.args.self.now.steps.items in
+    let h = c.requires.under_way in
+    let s = c.in-Selection.selection in
+    let p = a_selection (selection_view s) in
+    let look = c.in-Some.ensures.lookup in
+    let x = taken_at t nodes o c.requires.sound.tables fs f old h c.deref.result.now
+    c.in-Some.part.now (code_part.TheVariants.Selection s) c.deref.ensures.value look.3.0 look.1
+    c.in-Selection.is in
+    let r = subst (IsChosen t nodes o (selection_view s)) c.in-Some-2.is
+    c.in_ok-k-in-Selection.ensures.chosen in
+    let ids = s.branches.items in
+    let k = c.in-Some-2.k in
+    let b = r.1.chooses.chooses in
+    let branch = c.index.result.now in
+    let id = list_view branch in
+    let at = branch_at ids k branch (branch_within ids k b.list b.branch_is) c.index.ensures in
+    let new = c.enter.new.self.steps.items in
+    let place = place_below t.shapes.now c.in_ok-path-in-Selection.path
+    c.field_name-name.result.now id in
+    moved t nodes o (fs ++ behind_next f ∷ [])
+    (c.enter.new.self.frames.items ++ c.behind-in-None.result ∷ []) new new
+    (ap (λ (gs : List Frame). gs ++ c.behind-in-None.result ∷ [])
+    c.in_ok-inner-in-Selection.ensures.frames
+    ∙ ap (λ (g : Frame). fs ++ g ∷ []) c.behind-in-None.ensures)
+    refl
+    (inner_taken t nodes o c.requires.sound.tables c.requires.object fs f (selection_view s) old h x
+    k r.0 id r.1 at c.in_ok-path-in-Selection.path c.in_ok-path-in-Selection.ensures
+    c.field_name-name.result.now c.field_name-name.ensures None new
+    c.in_ok-inner-in-Selection.ensures.steps
+    (subst (IsInnermost t id place) c.in-None.is c.in_ok-inner-in-Selection.ensures.entered))
