@@ -1,5 +1,5 @@
 -- An index after one more field.
-use Rattle.std.proofs.Common.{◌≡◌, ℕ, zero, suc, ◌<◌, Bool, true, false, ◌&&◌, ◌||◌, nat_eq, List, [], ◌∷◌, ◌++◌, Bor, Option, Some, None, MatchOption, filter, is_some, length, ne_eqb, refl, ap, sym, ◌∙◌, subst, arith}
+use Rattle.std.proofs.Common.{◌≡◌, ℕ, zero, suc, ◌<◌, ◌≤◌, Bool, true, false, ◌&&◌, ◌||◌, nat_eq, List, [], ◌∷◌, ◌++◌, Bor, Option, Some, None, MatchOption, filter, is_some, length, ne_eqb, refl, ap, sym, ◌∙◌, subst, arith}
 use Rattle.std.specs.Prelude.{if◌then◌else◌}
 use Rattle.std.specs.List.{find}
 use Rattle.std.specs.Option.{option_and_then, option_map, option_map_or, option_or}
@@ -11,13 +11,15 @@ use Rattle.facet_solver_shape.proofs.Resolved.{or_none}
 use Rattle.facet_solver_shape.specs.Fields.{FieldView}
 use Rattle.facet_solver_shape.specs.Names.{Name}
 use Rattle.facet_solver.specs.set.IndexSet.{IndexSet, has_index, upto}
-use Rattle.facet_solver.specs.schema.IndexEntries.{added, agreed, entry_at, entry_of_one, with_number, with_occurrence}
-use Rattle.facet_solver.specs.schema.Indexed.{Meant, AgreesOn, AreSelected, Differs, IsIndexEntry, IsEntryIfAny, IsIndexOf, first_passing}
+use Rattle.facet_solver.specs.schema.FewShapes.{few_shapes_with, has_shape, most_shapes}
+use Rattle.facet_solver.specs.schema.IndexEntries.{added, agreed, entry_at, entry_of_one, shapes_with, with_number, with_occurrence}
+use Rattle.facet_solver.specs.schema.Indexed.{Meant, AgreesOn, AreSelected, AreShapesOf, Differs, IsIndexEntry, IsEntryIfAny, IsIndexOf, first_passing}
 use Rattle.facet_solver.specs.schema.Selected.{has_selected, selected_by}
 use Rattle.facet_solver.specs.schema.Slots.{Slot, is_at}
 use Rattle.facet_solver.specs.solver.Tag.{last_variant}
 use Rattle.facet_solver.specs.declared.schema.index.entry.Entry.{Entry}
 use Rattle.facet_solver.specs.declared.schema.index.Index.{Index}
+use Rattle.facet_solver.proofs.FewShapes.{few_before, few_has, few_keeps}
 use Rattle.facet_solver.proofs.IndexSet.{filter_same, filter_none, has_inside}
 
 -- what is meant after one more field of a resolution, which passes or does not
@@ -95,6 +97,17 @@ more_only meant i f none k g is shape here there = go (nat_eq k i) refl is
         ap (λ (x : FieldView). x.shape) (sym is_f) ∙ here
     go false other found = there found
 
+-- what holds of the fields that were meant and of the new one holds of each
+more_for : (Holds : FieldView → Type 0) (meant : Meant) (i : ℕ) (f : FieldView) → meant i ≡ None → Holds f → (k : ℕ) (g : FieldView) → (meant k ≡ Some g → Holds g) → more meant i true f k ≡ Some g → Holds g
+more_for Holds meant i f none here k g there is = go (nat_eq k i) refl is
+  where
+    go : (b : Bool) → nat_eq k i ≡ b → (if b then option_or (meant k) (Some f) else meant k) ≡ Some g → Holds g
+    go true same found =
+        let absent : meant k ≡ None = ap meant ((Decides-eqb k i).0 same) ∙ none in
+        let is_f : f ≡ g = some_same f g (ap (λ o. option_or o (Some f)) (sym absent) ∙ found) in
+        subst Holds is_f here
+    go false other found = there found
+
 more_members : (meant : Meant) (i : ℕ) (f : FieldView) → meant i ≡ None → (k : ℕ) → (nat_eq k i || is_some (meant k)) ≡ is_some (more meant i true f k)
 more_members meant i f none k = go (nat_eq k i) refl
   where
@@ -148,6 +161,27 @@ shape_more meant i f none (Some shape) one = go (nat_eq shape f.shape) refl
       apart = λ e. false≢true (sym other ∙ (Decides-eqb shape f.shape).1 (sym one.same ∙ e));
     }
 
+-- the shapes after it, where they do not agree
+shapes_more : (meant : Meant) (i : ℕ) (f : FieldView) → meant i ≡ None → (known : Option ℕ) (shapes : List ℕ) → MatchOption known (Differs meant) (λ shape. AgreesOn shape meant)
+    → (known ≡ None → length shapes ≤ most_shapes → AreShapesOf meant shapes)
+    → agreed known f.shape ≡ None → length (shapes_with known shapes f.shape) ≤ most_shapes → AreShapesOf (more meant i true f) (shapes_with known shapes f.shape)
+shapes_more meant i f none None shapes two before apart few k g =
+    more_for (λ h. has_shape (few_shapes_with shapes f.shape) h.shape ≡ true) meant i f none (few_has shapes f.shape few) k g
+    (λ there. few_keeps shapes f.shape g.shape (before refl (few_before shapes f.shape few) k g there))
+shapes_more meant i f none (Some shape) shapes one before apart few k g = go (nat_eq shape f.shape) apart few k g
+  where
+    go : (b : Bool) → (if b then Some shape else None) ≡ None → length (if b then shapes else few_shapes_with (few_shapes_with shapes shape) f.shape) ≤ most_shapes
+        → AreShapesOf (more meant i true f) (if b then shapes else few_shapes_with (few_shapes_with shapes shape) f.shape)
+    go true some low = absurd (some_is_none some)
+      where
+        some_is_none : Some shape ≡ None → ⊥
+        some_is_none e = cc
+    go false is_none low = λ j h.
+        let first : List ℕ = few_shapes_with shapes shape in
+        let has : has_shape first shape ≡ true = few_has shapes shape (few_before first f.shape low) in
+        more_for (λ e. has_shape (few_shapes_with first f.shape) e.shape ≡ true) meant i f none (few_has first f.shape low) j h
+        (λ there. few_keeps first f.shape h.shape (ap (has_shape first) (one.all j h there) ∙ has))
+
 -- the variant of a resolution, if it is that of an index
 here_selected : (test : Name → Bool) (i k : ℕ) (variant : Option (Bor Name)) → nat_eq i k ≡ true
     → has_selected test (selected_by i variant) k ≡ option_map_or test (option_map (λ (v : Bor Name). v.now) variant) false
@@ -197,9 +231,13 @@ entry_first bound meant i f variant named none = record {
     same = refl;
     all = λ k g is. more_only meant i f (none i) k g is f.shape refl (λ there. absurd (absent k g there));
   };
+  shapes = λ apart. absurd (some_is_none apart);
   selected = selected_more meant i f [] variant (none i) named (none_selected meant none);
 }
   where
+    some_is_none : Some f.shape ≡ None → ⊥
+    some_is_none e = cc
+
     absent : (k : ℕ) (g : FieldView) → meant k ≡ Some g → ⊥
     absent k g there = none_is_some (sym (none k) ∙ there)
       where
@@ -227,6 +265,7 @@ entry_more bound meant i f variant named entry within is = go (meant i) refl
         rw absent (record {
           set = ap (λ s. with_number s i) is.set ∙ set_more bound meant i f here;
           shape = shape_more meant i f here entry.shape is.shape;
+          shapes = shapes_more meant i f here entry.shape entry.shapes is.shape is.shapes;
           selected = selected_more meant i f entry.selected variant here named is.selected;
         })
 

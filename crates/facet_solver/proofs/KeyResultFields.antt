@@ -1,12 +1,16 @@
 -- The fields that a key means: the first of each shape.
-use Rattle.std.proofs.Common.{◌≡◌, ℕ, Bool, true, false, List, [], ◌∷◌, ◌++◌, map, nat_eq, refl, ap, sym, ◌∙◌, Bor, Option, Some, None, append-nil}
-use Rattle.std.specs.List.{list_any, filter_map}
+use Rattle.std.proofs.Common.{◌≡◌, ℕ, Bool, true, false, List, [], ◌∷◌, ◌++◌, map, nat_eq, refl, ap, sym, ◌∙◌, Bor, Option, Some, None, append-nil, append_assoc}
+use Rattle.std.specs.List.{list_all, list_any, filter_map}
+use Rattle.std.specs.Prelude.{IfSome, IsSome}
+use Rattle.std.proofs.lemmas.Bool.{false≢true}
 use Rattle.std.proofs.lemmas.List.{map-append}
 use Rattle.std.proofs.lemmas.List.Elements.{filter_map-append}
 use Rattle.facet_solver_shape.specs.Fields.{FieldView}
 use Rattle.facet_solver_shape.proofs.Lists.{list_any-map}
+use Rattle.facet_solver.specs.schema.Indexed.{AreShapesOf}
 use Rattle.facet_solver.specs.solver.FirstOfEach.{first_of_each, is_among}
 use Rattle.facet_solver.specs.solver.KeyResult.{score_at, scored_view, with_score}
+use Rattle.facet_solver.proofs.FewShapes.{of_one}
 use Rattle.facet_solver.proofs.FirstOfEach.{first_of_each-told}
 use Rattle.facet_solver.specs.build.Build.{Catalogue}
 
@@ -56,3 +60,26 @@ module _ (cat : Catalogue) (h : ℕ → Option FieldView) (ys : List ℕ) (i : �
   -- a number without a field
   pub firsts_none : h i ≡ None → map scored_view items ≡ map (with_score cat) (first_of_each shape_of (filter_map h (ys ++ i ∷ [])))
   firsts_none none = so_far ∙ ap (λ fs. map (with_score cat) (first_of_each shape_of fs)) (sym (filter_map_none h ys i none))
+
+-- numbers whose fields are all of shapes that stand there already
+pub firsts_all : (cat : Catalogue) (h : ℕ → Option FieldView) (ys zs : List ℕ) (items : List (Bor FieldView × ℕ))
+    → ((i : ℕ) (g : FieldView) → h i ≡ Some g → list_any (λ (d : Bor FieldView × ℕ). nat_eq d.0.now.shape g.shape) items ≡ true)
+    → map scored_view items ≡ map (with_score cat) (first_of_each shape_of (filter_map h ys))
+    → map scored_view items ≡ map (with_score cat) (first_of_each shape_of (filter_map h (ys ++ zs)))
+firsts_all cat h ys [] items old so_far = so_far ∙ ap (λ is. map (with_score cat) (first_of_each shape_of (filter_map h is))) (sym (append-nil ys))
+firsts_all cat h ys (i ∷ zs) items old so_far =
+    firsts_all cat h (ys ++ i ∷ []) zs items old (go (h i) refl) ∙ ap (λ is. map (with_score cat) (first_of_each shape_of (filter_map h is))) (append_assoc ys (i ∷ []) zs)
+  where
+    go : (o : Option FieldView) → h i ≡ o → map scored_view items ≡ map (with_score cat) (first_of_each shape_of (filter_map h (ys ++ i ∷ [])))
+    go None none = firsts_none cat h ys i items so_far none
+    go (Some g) found = firsts_old cat h ys i items so_far g found (old i g found)
+
+-- where all shapes are known and stand there already, no numbers that follow have a new one
+pub all_shown : (cat : Catalogue) (h : ℕ → Option FieldView) (ys zs : List ℕ) (items : List (Bor FieldView × ℕ)) (known : Option (Bor (List ℕ)))
+    → IfSome known (λ shapes. AreShapesOf h shapes.now) → IsSome known
+    → IfSome known (λ shapes. list_all (λ shape. list_any (λ (d : Bor FieldView × ℕ). nat_eq d.0.now.shape shape) items) shapes.now ≡ true)
+    → map scored_view items ≡ map (with_score cat) (first_of_each shape_of (filter_map h ys))
+    → map scored_view items ≡ map (with_score cat) (first_of_each shape_of (filter_map h (ys ++ zs)))
+all_shown cat h ys zs items None shapes some all so_far = absurd (false≢true some)
+all_shown cat h ys zs items (Some s) shapes some all so_far =
+    firsts_all cat h ys zs items (λ i g found. of_one (λ shape. list_any (λ (d : Bor FieldView × ℕ). nat_eq d.0.now.shape shape) items) s.now g.shape all (shapes i g found)) so_far

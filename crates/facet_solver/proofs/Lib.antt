@@ -46,6 +46,7 @@ pub mod Probed
 pub mod Told
 pub mod Pairs
 pub mod Run
+pub mod FewShapes
 pub mod FirstOfEach
 pub mod NameEntries
 pub mod ByteOrder

@@ -4,5 +4,6 @@ pub mod SchemaStorage
 pub mod ResolutionHandle
 pub mod Slots
 pub mod Selected
+pub mod FewShapes
 pub mod IndexEntries
 pub mod Indexed

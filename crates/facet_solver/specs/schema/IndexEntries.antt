@@ -10,6 +10,7 @@ use Rattle.facet_solver_shape.specs.declared.resolution.key.FieldCategory.{Field
 use Rattle.facet_solver_shape.specs.declared.resolution.key.FieldCategory.TheVariants.{Flat, Attribute, Element, Text, Tag, Elements}
 use Rattle.facet_solver_shape.specs.Names.{Name}
 use Rattle.facet_solver.specs.set.IndexSet.{IndexSet, has_index, upto}
+use Rattle.facet_solver.specs.schema.FewShapes.{few_shapes_with}
 use Rattle.facet_solver.specs.schema.Selected.{selected_by}
 use Rattle.facet_solver.specs.schema.Slots.{Slot}
 use Rattle.facet_solver.specs.declared.schema.index.category_index.CategoryIndex.{CategoryIndex}
@@ -65,11 +66,19 @@ abbrev pub agreed : Option ℕ → ℕ → Option ℕ
 agreed None shape = None
 agreed (Some known) shape = if nat_eq known shape then Some known else None
 
+-- the shapes after one more, where they do not agree
+abbrev pub shapes_with : Option ℕ → List ℕ → ℕ → List ℕ
+shapes_with None shapes shape = few_shapes_with shapes shape
+shapes_with (Some known) shapes shape =
+    if nat_eq known shape then shapes
+    else few_shapes_with (few_shapes_with shapes known) shape
+
 -- an entry with one more resolution. Of a resolution that it has the field that came first is meant
 abbrev pub with_occurrence : Entry → Occurrence → Entry
 with_occurrence e at = if has_index e.set.members at.index then e else record {
   set = with_number e.set at.index;
   shape = agreed e.shape at.shape;
+  shapes = shapes_with e.shape e.shapes at.shape;
   selected = e.selected ++ selected_by at.index at.variant;
 }
 
@@ -78,6 +87,7 @@ abbrev pub entry_of_one : Occurrence → Entry
 entry_of_one at = record {
   set = with_number (record { bound = at.bound; members = [] }) at.index;
   shape = Some at.shape;
+  shapes = [];
   selected = selected_by at.index at.variant;
 }
 

@@ -1,5 +1,5 @@
 -- What the entries of an index say of the resolutions.
-use Rattle.std.specs.Prelude.{◌≡◌, ◌≢◌, ℕ, Bool, List, Option, Some, None, MatchOption, All, false, filter, find, is_some, map, slice_get}
+use Rattle.std.specs.Prelude.{◌≡◌, ◌≢◌, ◌≤◌, ℕ, Bool, List, Option, Some, None, MatchOption, All, false, IsTrue, filter, find, is_some, length, map, slice_get}
 use Rattle.std.specs.FinMap as finite
 use Rattle.std.specs.Option.{option_and_then, option_map_or}
 use Rattle.facet_solver_shape.specs.declared.resolution.key.FieldCategory.{FieldCategory}
@@ -10,6 +10,7 @@ use Rattle.facet_solver_shape.specs.Resolved.{Resolved}
 use Rattle.facet_solver.specs.set.IndexSet.{upto}
 use Rattle.facet_solver.specs.solver.Tag.{last_variant}
 use Rattle.facet_solver.specs.schema.IndexEntries.{entry_at}
+use Rattle.facet_solver.specs.schema.FewShapes.{has_shape, most_shapes}
 use Rattle.facet_solver.specs.schema.Selected.{has_selected}
 use Rattle.facet_solver.specs.schema.Slots.{Slot, is_at}
 use Rattle.facet_solver.specs.declared.build.format.Format.{Format}
@@ -48,12 +49,23 @@ abbrev pub AreSelected : Meant → List (ℕ × Name) → Type 0
 AreSelected meant selected = (test : Name → Bool) (index : ℕ)
     → has_selected test selected index ≡ option_map_or test (selected_at meant index) false
 
+-- some shapes have that of each field that is meant
+abbrev pub AreShapesOf : Meant → List ℕ → Type 0
+AreShapesOf meant shapes =
+    (index : ℕ) (f : FieldView) → meant index ≡ Some f → IsTrue (has_shape shapes f.shape)
+
+-- where the fields that are meant have different shapes, and few, an entry has these
+abbrev pub HasFewShapes : Meant → Entry → Type 0
+HasFewShapes meant entry = entry.shape ≡ None → length entry.shapes ≤ most_shapes
+    → AreShapesOf meant entry.shapes
+
 -- an entry has the resolutions below a bound in which a field is meant, the shape of these fields,
--- if they agree on it, and the variants that they select
+-- if they agree on it, or few shapes of theirs, and the variants that they select
 pub record IsIndexEntry (bound : ℕ) (meant : Meant) (entry : Entry) : Type 0 where
   pub set : entry.set
       ≡ record { bound = bound; members = filter (λ i. is_some (meant i)) (upto bound) }
   pub shape : MatchOption entry.shape (Differs meant) (λ shape. AgreesOn shape meant)
+  pub shapes : HasFewShapes meant entry
   pub selected : AreSelected meant entry.selected
 
 -- there is an entry, or no field is meant

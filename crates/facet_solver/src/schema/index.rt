@@ -11,6 +11,7 @@ ghost use Rattle.facet_solver.specs.schema.Slots.{Slot, categories, is_at, slot_
 
 pub(crate) mod category_index;
 pub(crate) mod entry;
+pub(crate) mod few_shapes;
 pub(crate) mod selected;
 
 use crate::build::format::Format;

@@ -1,8 +1,11 @@
 //! The fields that a key means in the candidates of a solver.
-ghost use Rattle.std.specs.Prelude.{◌≡◌, ◌+◌, ◌++◌, ◌∷◌, [], ◌≤◌, ℕ, IfOk, List, OnOk, length, map};
+ghost use Rattle.std.specs.Prelude.{◌≡◌, ◌+◌, ◌++◌, ◌∷◌, [], ◌≤◌, ℕ, IfOk, IfSome, IsSome, IsTrue, List, OnOk, length, map};
+ghost use Rattle.std.specs.List.{list_all};
 ghost use Rattle.std.specs.Option.{option_copied};
 ghost use Rattle.facet_solver_shape.specs.Keys.{key_of};
 ghost use Rattle.facet_solver_shape.specs.Steps.{NoCountFalls};
+ghost use Rattle.facet_solver.specs.schema.Indexed.{AreShapesOf};
+ghost use Rattle.facet_solver.specs.solver.FirstOfEach.{is_among};
 ghost use Rattle.facet_solver.specs.solver.KeyResult as key_result;
 ghost use Rattle.facet_solver.specs.solver.KeyResult.{scored_view};
 ghost use Rattle.facet_solver.specs.Resolutions.{field_at};
@@ -36,15 +39,19 @@ impl<'s, 'c> KeySearch<'s, 'c, '_> {
 }
 
 /// Of the fields that a key means at two indices and those after them, the first of each shape,
-/// with the score of the shape.
+/// with the score of the shape. It may be known which shapes there are: once all of these are there,
+/// no more indices are asked.
 pub(crate) fn distinct_fields<'s, 'c>(
     alloc: Global,
     search: &KeySearch<'s, 'c, '_>,
     first: usize,
     second: usize,
     mut rest: CommonIter<'_>,
+    known: Option<&[ShapeId]>,
     steps: &mut Steps,
 ) -> Result<Vec<(&'s FieldInfo<'c>, u64)>, AllocError>
+    requires { IfSome known (λ shapes. AreShapesOf (field_at (key_of search.now.key)
+        search.now.schema.now.resolutions) shapes.now) }
     ensures fields { IfOk result (λ fields. map scored_view fields.items
         ≡ key_result.distinct_fields (key_of search.now.key) search.now.schema.now
         (first ∷ second ∷ rest.entry.items)) }
@@ -57,9 +64,32 @@ pub(crate) fn distinct_fields<'s, 'c>(
     add_if_new(&mut fields, search, first, steps)?;
     add_if_new(&mut fields, search, second, steps)?;
     while let Some(index) = rest.next(steps) {
+        if has_all(&fields, known) {
+            return Ok(fields);
+        }
         add_if_new(&mut fields, search, index, steps)?;
     }
     Ok(fields)
+}
+
+/// Whether it is known which shapes there are, and all of them are among those of some fields.
+fn has_all(fields: &[(&FieldInfo<'_>, u64)], known: Option<&[ShapeId]>) -> bool
+    ensures known { IsTrue result → IsSome known.entry }
+    ensures all { IsTrue result → IfSome known.entry (λ shapes. IsTrue (list_all
+        (λ shape. is_among (λ e. e.0.now.shape) fields.now shape) shapes.now)) }
+{
+    match known {
+        Some(shapes) => shapes.len() <= fields.len() && has_each(fields, shapes),
+        None => false,
+    }
+}
+
+/// Whether each of some shapes is among those of some fields.
+fn has_each(fields: &[(&FieldInfo<'_>, u64)], shapes: &[ShapeId]) -> bool
+    ensures { result
+        ≡ list_all (λ shape. is_among (λ e. e.0.now.shape) fields.now shape) shapes.now }
+{
+    shapes.iter().all(|shape| is_among(fields, *shape))
 }
 
 /// Adds the field that a key means at an index, if it is the first of its shape.

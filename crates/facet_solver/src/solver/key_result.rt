@@ -108,7 +108,8 @@ pub(crate) fn key_result<'s, 'c>(
     if let Some(shape) = entry.shape {
         return Ok(KeyResult::Unambiguous { shape });
     }
-    let fields = distinct_fields(alloc, search, first, second, holders, steps)?;
+    let known = entry.shapes.all();
+    let fields = distinct_fields(alloc, search, first, second, holders, known, steps)?;
     Ok(KeyResult::of_fields(fields))
 }
 

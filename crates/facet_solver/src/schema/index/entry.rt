@@ -1,8 +1,9 @@
 //! The resolutions that have a key.
 ghost use Rattle.std.specs.Prelude.{◌≡◌, ◌<◌, IfOk, OnOk};
 ghost use Rattle.std.specs.Option.{option_copied};
-ghost use Rattle.facet_solver.specs.schema.IndexEntries.{entry_of_one, holds, with_occurrence};
+ghost use Rattle.facet_solver.specs.schema.IndexEntries.{agreed, entry_of_one, holds, shapes_with, with_occurrence};
 
+use crate::schema::index::few_shapes::FewShapes;
 use crate::schema::index::selected::SelectedVariants;
 use crate::set::ResolutionSet;
 use facet_solver_shape::ShapeId;
@@ -26,11 +27,13 @@ pub(crate) struct Entry<'c> {
     pub(crate) set: ResolutionSet,
     /// The shape of the field that the key means, where they agree on it.
     pub(crate) shape: Option<ShapeId>,
+    /// The shapes of these fields where they do not agree, as long as they are few.
+    pub(crate) shapes: FewShapes,
     /// The variants that these fields select, so that no resolution is asked for its own.
     pub(crate) selected: SelectedVariants<'c>,
 }
 
-/// Printed as a derived impl would, without the variants, which the resolutions have.
+/// Printed as a derived impl would, without what the resolutions have: the shapes and the variants.
 impl fmt::Debug for Entry<'_> {
     fn fmt<W: fmt::Write>(&self, f: &mut fmt::Formatter<W>) -> fmt::Result {
         f.debug_struct("Entry")
@@ -53,6 +56,7 @@ impl<'c> Entry<'c> {
         Ok(Entry {
             set,
             shape: Some(at.shape),
+            shapes: FewShapes::new(alloc),
             selected,
         })
     }
@@ -66,11 +70,25 @@ impl<'c> Entry<'c> {
             return Ok(());
         }
         self.selected.add(at.index, at.variant)?;
+        self.add_shape(at.shape)?;
         self.set.insert(at.index);
-        if let Some(shape) = self.shape {
-            if shape != at.shape {
-                self.shape = None;
-            }
+        Ok(())
+    }
+
+    /// Adds the shape of a field.
+    fn add_shape(&mut self, shape: ShapeId) -> Result<(), AllocError>
+        ensures { OnOk result (self.new ≡ record self.old {
+          shape = agreed self.old.shape shape;
+          shapes = shapes_with self.old.shape self.old.shapes shape;
+        }) }
+    {
+        let Some(agreed) = self.shape else {
+            return self.shapes.add(shape);
+        };
+        if agreed != shape {
+            self.shapes.add(agreed)?;
+            self.shapes.add(shape)?;
+            self.shape = None;
         }
         Ok(())
     }

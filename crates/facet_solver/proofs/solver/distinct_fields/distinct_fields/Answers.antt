@@ -1,7 +1,10 @@
-use Rattle.std.proofs.Common.{◌∷◌, ◌++◌, [], length, map, ap, refl, arith}
+use Rattle.std.proofs.Common.{ℕ, List, ◌∷◌, ◌++◌, [], length, map, ap, refl, ◌∙◌, arith}
 use Rattle.facet_solver_shape.specs.Steps.{StepCounts}
-use Rattle.facet_solver.specs.solver.KeyResult.{scored_view}
+use Rattle.facet_solver_shape.specs.Keys.{key_of}
+use Rattle.facet_solver.specs.Resolutions.{field_at}
+use Rattle.facet_solver.specs.solver.KeyResult.{distinct_fields, scored_view}
 use Rattle.facet_solver.proofs.IndexSet.{rest_more}
+use Rattle.facet_solver.proofs.KeyResultFields.{all_shown}
 use Rattle.facet_solver.proofs.Counted.{no_fall-trans, searched}
 use Rattle.facet_solver.proofs.solver.distinct_fields.distinct_fields.Goals as goal
 
@@ -35,3 +38,13 @@ loop-index-preserved c =
       searches = omega (arith, searches, shorter, c.in-Some.ensures.searches, before.searches);
       no_fall = no_fall-trans _ _ _ (no_fall-trans _ _ _ before.no_fall c.in-Some.ensures.no_fall) (searched _ _ c.in_ok-add_if_new-3.ensures.steps);
     }
+
+pub returns-then-has_all-clause-fields : goal.returns-then-has_all-clause-fields
+returns-then-has_all-clause-fields c =
+    let before = c.loop-index.invariant in
+    let search = c.args.search.now in
+    let key = key_of search.key in
+    let indices : List ℕ = c.args.first ∷ c.args.second ∷ before.shown.0 in
+    all_shown search.schema.now.build.catalogue (field_at key search.schema.now.resolutions) indices c.loop-index.rest.items c.loop-index.fields.items c.args.known c.requires
+    (c.if-has_all.ensures.known refl) (rw c.deref.ensures.value at (c.if-has_all.ensures.all refl)) before.shown.2
+    ∙ ap (λ is. distinct_fields key search.schema.now (c.args.first ∷ c.args.second ∷ is)) before.shown.1
