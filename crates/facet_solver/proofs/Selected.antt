@@ -34,26 +34,6 @@ keep_all k (j ∷ members) =
     ap (λ b. cond (not b) (j ∷ filter (λ i. not (nat_eq i k && false)) members) (filter (λ i. not (nat_eq i k && false)) members)) (and_right (nat_eq j k) false refl)
     ∙ ap (λ xs. j ∷ xs) (keep_all k members)
 
-keep_absent : (k : ℕ) (other : Bool) (members : List ℕ) → has_index members k ≡ false → filter (λ i. not (nat_eq i k && other)) members ≡ members
-keep_absent k other [] absent = refl
-keep_absent k other (j ∷ members) absent =
-    let parts = or_parts (nat_eq j k) (has_index members k) absent in
-    ap (λ b. cond (not (b && other)) (j ∷ filter (λ i. not (nat_eq i k && other)) members) (filter (λ i. not (nat_eq i k && other)) members)) parts.0
-    ∙ ap (λ xs. j ∷ xs) (keep_absent k other members parts.1)
-
--- one that no member has, or that is not another, drops none
-stays : (k : ℕ) (other : Bool) (members : List ℕ) → (has_index members k && other) ≡ false → members ≡ filter (λ i. not (nat_eq i k && other)) members
-stays k other members none = elim (and_cases (has_index members k) other none) [
-  | inl absent ↦ sym (keep_absent k other members absent)
-  | inr same ↦ sym (rw same (keep_all k members))
-]
-
--- and another drops the member that has it
-leaves : (k : ℕ) (other : Bool) (members : List ℕ) → (has_index members k && other) ≡ true → filter (λ i. not (nat_eq i k)) members ≡ filter (λ i. not (nat_eq i k && other)) members
-leaves k other members is =
-    let same : other ≡ true = (and_parts (has_index members k) other is).1 in
-    ap (λ p. filter p members) (λ j i. not ((sym (and-true (nat_eq i k)) ∙ ap (λ b. nat_eq i k && b) (sym same)) j))
-
 not_or : (a b : Bool) → not (a || b) ≡ (not a && not b)
 not_or true b = refl
 not_or false b = refl
@@ -76,17 +56,18 @@ others_more variant members seen s =
         ∙ ap (λ b. not (has_other variant seen i || b)) (sym (or-false (nat_eq s.0 i && other)))
         ∙ ap not (sym (list_any-append (λ (t : ℕ × Name). nat_eq t.0 i && not (name_eq t.1 variant)) seen (s ∷ [])))
 
-pub others_left : (variant : Name) (members : List ℕ) (seen : List (ℕ × Name)) (s : ℕ × Name)
-    → (has_index (filter (λ i. not (has_other variant seen i)) members) s.0 && not (name_eq s.1 variant)) ≡ true
+pub others_left : (variant : Name) (members : List ℕ) (seen : List (ℕ × Name)) (s : ℕ × Name) → name_eq s.1 variant ≡ false
     → filter (λ i. not (nat_eq i s.0)) (filter (λ i. not (has_other variant seen i)) members) ≡ filter (λ i. not (has_other variant (seen ++ s ∷ []) i)) members
-others_left variant members seen s is =
-    leaves s.0 (not (name_eq s.1 variant)) (filter (λ i. not (has_other variant seen i)) members) is ∙ others_more variant members seen s
+others_left variant members seen s other =
+    ap (λ p. filter p (filter (λ i. not (has_other variant seen i)) members)) (λ j i. not ((sym (and-true (nat_eq i s.0)) ∙ ap (λ b. nat_eq i s.0 && not b) (sym other)) j))
+    ∙ others_more variant members seen s
 
-pub others_same : (variant : Name) (members : List ℕ) (seen : List (ℕ × Name)) (s : ℕ × Name)
-    → (has_index (filter (λ i. not (has_other variant seen i)) members) s.0 && not (name_eq s.1 variant)) ≡ false
+pub others_same : (variant : Name) (members : List ℕ) (seen : List (ℕ × Name)) (s : ℕ × Name) → name_eq s.1 variant ≡ true
     → filter (λ i. not (has_other variant seen i)) members ≡ filter (λ i. not (has_other variant (seen ++ s ∷ []) i)) members
-others_same variant members seen s none =
-    stays s.0 (not (name_eq s.1 variant)) (filter (λ i. not (has_other variant seen i)) members) none ∙ others_more variant members seen s
+others_same variant members seen s same =
+    sym (keep_all s.0 (filter (λ i. not (has_other variant seen i)) members))
+    ∙ ap (λ b. filter (λ i. not (nat_eq i s.0 && not b)) (filter (λ i. not (has_other variant seen i)) members)) (sym same)
+    ∙ others_more variant members seen s
 
 -- before the first variant all are left
 pub others_none : (variant : Name) (members : List ℕ) → filter (λ i. not (has_other variant [] i)) members ≡ members
@@ -130,11 +111,11 @@ any_swapped test members (s ∷ selected) =
 
 -- what a search of the variants told
 pub any_named : (variant : Name) (members : List ℕ) (read variants : List SelectedVariant) (selected : List (ℕ × Name)) (result answer : Bool)
-    → result ≡ list_any (λ (s : SelectedVariant). has_index members s.index && name_eq s.name.now variant) read → read ≡ variants → map selected_of variants ≡ selected
+    → result ≡ list_any (λ (s : SelectedVariant). has_index members s.index && name_eq s.name variant) read → read ≡ variants → map selected_of variants ≡ selected
     → result ≡ answer → answer ≡ list_any (has_named variant selected) members
 any_named variant members read variants selected result answer told same all is =
     sym is ∙ told
-    ∙ ap (list_any (λ (s : SelectedVariant). has_index members s.index && name_eq s.name.now variant)) same
+    ∙ ap (list_any (λ (s : SelectedVariant). has_index members s.index && name_eq s.name variant)) same
     ∙ sym (list_any-map (λ (t : ℕ × Name). has_index members t.0 && name_eq t.1 variant) selected_of variants)
     ∙ any_swapped (λ name. name_eq name variant) members (map selected_of variants)
     ∙ ap (λ (ts : List (ℕ × Name)). list_any (has_named variant ts) members) all
@@ -224,35 +205,28 @@ left_in variant set seen = record set { members = filter (λ i. not (has_other v
 pub left_first : (variant : Name) (set : IndexSet) → set ≡ left_in variant set []
 left_first variant set = (λ j. record set { members = sym (others_none variant set.members) j })
 
-module _ (variant : Name) (old now : IndexSet) (variants : List SelectedVariant) (k : ℕ) (d : SelectedVariant) (within : k < length variants)
+module _ (variant : Name) (old now : IndexSet) (variants : List SelectedVariant) (k : ℕ) (d s : SelectedVariant) (is : s ≡ get_or variants k d) (within : k < length variants)
     (before : now ≡ left_in variant old (take k variants)) where
-  abbrev s : SelectedVariant
-  s = get_or variants k d
-
   abbrev seen : List (ℕ × Name)
   seen = map selected_of (take k variants)
 
   -- one more
   one_more : seen ++ selected_of s ∷ [] ≡ map selected_of (take (k + 1) variants)
-  one_more = sym (map_more selected_of variants k d within)
+  one_more = ap (λ (t : SelectedVariant). seen ++ selected_of t ∷ []) is ∙ sym (map_more selected_of variants k d within)
 
   left_more : filter (λ i. not (has_other variant (seen ++ selected_of s ∷ []) i)) old.members ≡ filter (λ i. not (has_other variant (map selected_of (take (k + 1) variants)) i)) old.members
   left_more = ap (λ (ts : List (ℕ × Name)). filter (λ i. not (has_other variant ts i)) old.members) one_more
 
-  asked : (b : Bool) → (has_index now.members s.index && not (name_eq s.name.now variant)) ≡ b
-      → (has_index (filter (λ i. not (has_other variant seen i)) old.members) s.index && not (name_eq s.name.now variant)) ≡ b
-  asked b answer = ap (λ (set : IndexSet). has_index set.members s.index && not (name_eq s.name.now variant)) (sym before) ∙ answer
-
   -- which is another
-  pub drops : (has_index now.members s.index && not (name_eq s.name.now variant)) ≡ true
+  pub drops : name_eq s.name variant ≡ false
       → record now { members = filter (λ i. not (nat_eq i s.index)) now.members } ≡ left_in variant old (take (k + 1) variants)
-  drops answer =
+  drops other =
       ap (λ (set : IndexSet). record set { members = filter (λ i. not (nat_eq i s.index)) set.members }) before
-      ∙ ap (λ (ms : List ℕ). record old { members = ms }) (others_left variant old.members seen (selected_of s) (asked true answer) ∙ left_more)
+      ∙ ap (λ (ms : List ℕ). record old { members = ms }) (others_left variant old.members seen (selected_of s) other ∙ left_more)
 
   -- or is not
-  pub keeps : (has_index now.members s.index && not (name_eq s.name.now variant)) ≡ false → now ≡ left_in variant old (take (k + 1) variants)
-  keeps answer = before ∙ ap (λ (ms : List ℕ). record old { members = ms }) (others_same variant old.members seen (selected_of s) (asked false answer) ∙ left_more)
+  pub keeps : name_eq s.name variant ≡ true → now ≡ left_in variant old (take (k + 1) variants)
+  keeps same = before ∙ ap (λ (ms : List ℕ). record old { members = ms }) (others_same variant old.members seen (selected_of s) same ∙ left_more)
 
 -- ---- a solver by the entry of the tag
 -- where a candidate has the variant, those are left that have no other

@@ -6,9 +6,9 @@ use denote.Bor.{Bor}
 use Rattle.facet_solver_shape.specs.Names.{Name, name_eq}
 use Rattle.facet_solver.specs.declared.schema.index.selected.SelectedVariant.{SelectedVariant}
 
--- an index and the name of a variant, wherever the name lies
+-- an index and the name of a variant
 abbrev pub selected_of : SelectedVariant → ℕ × Name
-selected_of s = (s.index, s.name.now)
+selected_of s = (s.index, s.name)
 
 -- the variant of the resolution at an index, if there is one
 abbrev pub selected_by : ℕ → Option (Bor Name) → List (ℕ × Name)

@@ -7,6 +7,7 @@ ghost use Rattle.facet_solver.specs.schema.Selected.{has_named, has_other, selec
 ghost use Rattle.facet_solver.specs.set.IndexSet.{has_index};
 ghost use Rattle.facet_solver.specs.solver.Tag.{last_variant};
 
+use crate::schema::index::quick_name::QuickName;
 use crate::set::ResolutionSet;
 use facet_solver_shape::{FieldPath, PathSegment};
 use std::alloc::{AllocError, Global};
@@ -23,27 +24,19 @@ pub(crate) fn last_variant<'c>(path: &FieldPath<'c>) -> Option<&'c str>
 }
 
 /// A variant that a field of a resolution selects: the index of the resolution, and its name.
-#[derive(Clone, Copy)]
+#[derive(Drop)]
 struct SelectedVariant<'c> {
     index: usize,
-    name: &'c str,
+    name: QuickName<'c>,
 }
 
 impl SelectedVariant<'_> {
     /// Whether it is that of a name, and its resolution is in a set.
-    fn is_named(&self, variant: &str, set: &ResolutionSet) -> bool
+    fn is_named(&self, variant: &QuickName<'_>, set: &ResolutionSet) -> bool
         ensures { result
-            ≡ (has_index set.now.members self.now.index && name_eq self.now.name.now variant.now) }
+            ≡ (has_index set.now.members self.now.index && name_eq self.now.name variant.now) }
     {
-        set.contains(self.index) && self.name == variant
-    }
-
-    /// Whether it is that of another name, and its resolution is in a set.
-    fn is_other(&self, variant: &str, set: &ResolutionSet) -> bool
-        ensures { result ≡ (has_index set.now.members self.now.index
-            && not (name_eq self.now.name.now variant.now)) }
-    {
-        set.contains(self.index) && self.name != variant
+        self.name.is(variant) && set.contains(self.index)
     }
 }
 
@@ -80,6 +73,7 @@ impl<'c> SelectedVariants<'c> {
         let Some(name) = variant else {
             return Ok(());
         };
+        let name = QuickName::new(name);
         self.variants.push(SelectedVariant { index, name })?;
         Ok(())
     }
@@ -99,8 +93,9 @@ impl<'c> SelectedVariants<'c> {
           members = filter (λ i. not (has_other variant.now self.now i)) set.old.members;
         } else set.old) }
     {
-        if is_any_named(&self.variants, variant, set) {
-            drop_others(&self.variants, variant, set);
+        let variant = QuickName::new(variant);
+        if is_any_named(&self.variants, &variant, set) {
+            drop_others(&self.variants, &variant, set);
             true
         } else {
             false
@@ -109,9 +104,13 @@ impl<'c> SelectedVariants<'c> {
 }
 
 /// Whether a resolution of a set has a variant.
-fn is_any_named(variants: &[SelectedVariant<'_>], variant: &str, set: &ResolutionSet) -> bool
+fn is_any_named(
+    variants: &[SelectedVariant<'_>],
+    variant: &QuickName<'_>,
+    set: &ResolutionSet,
+) -> bool
     ensures { result ≡ list_any
-        (λ s. has_index set.now.members s.index && name_eq s.name.now variant.now) variants.now }
+        (λ s. has_index set.now.members s.index && name_eq s.name variant.now) variants.now }
 {
     variants
         .iter()
@@ -119,14 +118,14 @@ fn is_any_named(variants: &[SelectedVariant<'_>], variant: &str, set: &Resolutio
 }
 
 /// The resolutions of a set leave it that have another variant.
-fn drop_others(variants: &[SelectedVariant<'_>], variant: &str, set: &mut ResolutionSet)
+fn drop_others(variants: &[SelectedVariant<'_>], variant: &QuickName<'_>, set: &mut ResolutionSet)
     ensures { set.new ≡ record set.old {
       members = filter (λ i. not (has_other variant.now (map selected_of variants.now) i))
           set.old.members;
     } }
 {
     for selected in variants {
-        if selected.is_other(variant, set) {
+        if !selected.name.is(variant) {
             set.remove(selected.index);
         }
     }
