@@ -53,6 +53,7 @@ pub mod NameEntries
 pub mod ByteOrder
 pub mod NameSets
 pub mod Left
+pub mod SeenEntries
 pub mod SeenNames
 pub mod CategoryNames
 pub mod Cursor

@@ -9,6 +9,7 @@ pub mod Probe
 pub mod Run
 pub mod ByName
 pub mod SeenNames
+pub mod SeenEntries
 pub mod Failure
 pub mod Report
 pub mod Found

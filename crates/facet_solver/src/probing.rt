@@ -38,7 +38,6 @@ impl<'s, 'c> Model for ProbingSolver<'s, 'c> {
     ghost use Rattle.std.specs.Coded.{coded_list};
     ghost use Rattle.facet_solver_shape.specs.Resolved.{Resolved};
     ghost use Rattle.facet_solver_shape.specs.ResolvedCode.{resolved_code};
-    ghost use Rattle.facet_solver.specs.KeyPath.{has_key_path, whole_path};
     ghost use Rattle.facet_solver.specs.Probing.{resolutions_of};
 
     ghost Value = { List Resolved };

@@ -8,7 +8,7 @@ ghost use Rattle.facet_solver.specs.build.Choice.{Enumerates, IsRefusal};
 ghost use Rattle.facet_solver.specs.build.Count.{IsCountOf, count_of_root};
 ghost use Rattle.facet_solver.specs.schema.IndexEntries.{is_held};
 ghost use Rattle.facet_solver.specs.schema.Indexed.{IsEntryIfAny};
-ghost use Rattle.facet_solver.specs.Resolutions.{field_at, has_field_named, has_key, is_known, passes};
+ghost use Rattle.facet_solver.specs.Resolutions.{field_at, has_field_named, is_known, passes};
 ghost use Rattle.facet_solver.specs.build.FieldCount.{field_count, fields_of_kind};
 ghost use Rattle.facet_solver_shape.specs.Representation.{asked_view, externally_tagged, flattened, repr_view};
 ghost use Rattle.facet_solver.specs.schema.Schema.{IsBuilt, IsOwnBuild, flat_build};
@@ -21,7 +21,7 @@ use crate::build::count::count_of_root;
 use crate::build::format::Format;
 use crate::build::resolve::resolutions;
 use crate::schema::index::Index;
-use crate::schema::index::entry::{Entry, holds};
+use crate::schema::index::entry::Entry;
 use crate::set::ResolutionSet;
 use facet_solver_shape::{EnumRepr, FieldKey, Resolution, SchemaError, ShapeId, Shapes, Steps};
 use std::alloc::{AllocError, Global};
@@ -332,13 +332,6 @@ impl<'c> Schema<'c> {
             (field_at (key_of key.entry) self.now.resolutions) (option_copied result) }
     {
         self.index.look_up(self.format, key)
-    }
-
-    /// Whether the resolution at an index has a field that a key means.
-    pub(crate) fn resolution_has_key(&self, key: FieldKey<'_>, index: usize) -> bool
-        ensures { result ≡ passes (has_key (key_of key.entry)) self.now.resolutions index }
-    {
-        holds(self.look_up(key), index)
     }
 
     /// Whether some resolution has a field that a key means.

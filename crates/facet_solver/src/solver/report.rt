@@ -12,6 +12,7 @@ ghost use Rattle.facet_solver.specs.solver.Report.{ambiguity_of, no_match_of, st
 pub(crate) mod failure;
 pub(crate) mod names;
 pub(crate) mod seen;
+pub(crate) mod seen_entries;
 pub(crate) mod viable;
 
 use crate::error::{CandidateFailure, MissingFieldInfo, SolverError};

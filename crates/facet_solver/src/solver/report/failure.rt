@@ -5,14 +5,15 @@ ghost use Rattle.facet_solver.specs.solver.Failure as spec;
 ghost use Rattle.facet_solver.specs.build.Build.{type_identifier};
 ghost use Rattle.facet_solver.specs.solver.Failure.{failure_of};
 ghost use Rattle.facet_solver.specs.error.ErrorView.{failure_view, missing_view};
+ghost use Rattle.facet_solver.specs.solver.SeenEntries.{AreSeenEntries};
 ghost use Rattle.facet_solver.specs.solver.SeenNames.{AreSeenNames};
 ghost use Rattle.facet_solver.specs.solver.Report.{resolutions_at, state_of_report};
 
 use crate::error::{CandidateFailure, MissingFieldInfo};
 use crate::set::ResolutionSet;
 use crate::solver::report::Report;
-use crate::solver::report::names::{IsUnknownAt, names_where};
 use crate::solver::report::seen::SeenNames;
+use crate::solver::report::seen_entries::{SeenEntry, names_without, seen_entries};
 use facet_solver_shape::{FieldInfo, Resolution, ShapeId, Shapes};
 use std::alloc::{AllocError, Global};
 
@@ -29,10 +30,11 @@ pub(crate) fn failures_at<'c>(
         (resolutions_at state.schema.resolutions indices.now.members)) }
 {
     let resolutions = report.schema.resolutions();
+    let entries = seen_entries(report.alloc, report.schema, report.seen)?;
     let mut failures = Vec::new(report.alloc);
     for index in indices.iter() {
         if let Some(resolution) = resolutions.get(index) {
-            failures.push(failure(report, names, index, resolution)?)?;
+            failures.push(failure(report, names, &entries, index, resolution)?)?;
         }
     }
     Ok(failures)
@@ -42,10 +44,13 @@ pub(crate) fn failures_at<'c>(
 fn failure<'c>(
     report: &Report<'_, 'c, '_>,
     names: &SeenNames<'_>,
+    entries: &[SeenEntry<'_, '_, '_>],
     index: usize,
     resolution: &Resolution<'c>,
 ) -> Result<CandidateFailure<'c>, AllocError>
     requires names { AreSeenNames (state_of_report report.now).seen names.now }
+    requires entries { let state = state_of_report report.now in
+        AreSeenEntries state.schema state.seen entries.now }
     requires place { let state = state_of_report report.now in
         slice_get state.schema.resolutions index ≡ Some resolution.now }
     ensures { let state = state_of_report report.now in
@@ -53,11 +58,11 @@ fn failure<'c>(
         ≡ failure_of state.schema.build.catalogue state.seen resolution.now) }
 {
     let alloc = report.alloc;
-    let schema = report.schema;
+    let shapes = report.schema.shapes();
     Ok(CandidateFailure {
         variant_name: resolution.describe(alloc)?,
-        missing_fields: missing_fields(alloc, schema.shapes(), names, resolution)?,
-        unknown_fields: names_where(alloc, report.seen, IsUnknownAt { schema, index })?,
+        missing_fields: missing_fields(alloc, shapes, names, resolution)?,
+        unknown_fields: names_without(alloc, entries, index)?,
         suggestion_matches: 0,
     })
 }

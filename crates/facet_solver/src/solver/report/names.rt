@@ -2,7 +2,7 @@
 ghost use Rattle.std.specs.Prelude.{◌≡◌, IfOk, map, not, string_bytes};
 ghost use Rattle.facet_solver_shape.specs.Keys.{key_of};
 ghost use Rattle.facet_solver.specs.solver.Failure as spec;
-ghost use Rattle.facet_solver.specs.Resolutions.{has_key, is_known, passes};
+ghost use Rattle.facet_solver.specs.Resolutions.{is_known};
 
 use crate::schema::Schema;
 use facet_solver_shape::FieldKey;
@@ -45,21 +45,6 @@ impl KeyTest for IsUnknown<'_, '_> {
 
     fn is_passed(&self, key: FieldKey<'_>) -> bool {
         !self.schema.is_known(key)
-    }
-}
-
-/// Whether a key means no field of the resolution at an index.
-#[derive(Clone, Copy)]
-pub(crate) struct IsUnknownAt<'s, 'c> {
-    pub(crate) schema: &'s Schema<'c>,
-    pub(crate) index: usize,
-}
-
-impl KeyTest for IsUnknownAt<'_, '_> {
-    ghost is_passed = { λ t key. not (passes (has_key key) t.schema.now.resolutions t.index) };
-
-    fn is_passed(&self, key: FieldKey<'_>) -> bool {
-        !self.schema.resolution_has_key(key, self.index)
     }
 }
 
