@@ -16,9 +16,10 @@ HasEntry resolutions e =
     IsEntryIfAny (length resolutions) (field_at (key_of e.key) resolutions) (option_copied e.entry)
 
 -- they are the seen keys, and each has its entry
-pub record AreSeenEntries (schema : SchemaView) (seen : List Key) (es : List SeenEntry) : Type 0 where
-  pub keys : map (λ e. key_of e.key) es ≡ seen
-  pub each : All (HasEntry schema.resolutions) es
+pub record AreSeenEntries (schema : SchemaView) (seen : List Key) (entries : List SeenEntry)
+    : Type 0 where
+  pub keys : map (λ e. key_of e.key) entries ≡ seen
+  pub each : All (HasEntry schema.resolutions) entries
 
 -- the names of the keys whose entry lacks a resolution
 abbrev pub names_without : ℕ → List SeenEntry → List Name

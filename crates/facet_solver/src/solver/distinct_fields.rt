@@ -39,8 +39,8 @@ impl<'s, 'c> KeySearch<'s, 'c, '_> {
 }
 
 /// Of the fields that a key means at two indices and those after them, the first of each shape,
-/// with the score of the shape. It may be known which shapes there are: once all of these are there,
-/// no more indices are asked.
+/// with the score of the shape. It may be known which shapes there are: then no more indices are
+/// asked once there is a field of each.
 pub(crate) fn distinct_fields<'s, 'c>(
     alloc: Global,
     search: &KeySearch<'s, 'c, '_>,

@@ -11,8 +11,8 @@ use crate::solver::conditions::variant_under::{HasNoOtherUnder, HasVariantUnder}
 use facet_solver_shape::FieldKey;
 use std::alloc::{AllocError, Global};
 
-/// How many variants of an entry are gone through for each candidate at most. It takes about as long
-/// as to seek the tag among the fields of the candidate, or less.
+/// How many variants of an entry are gone through for each candidate at most. It takes about as
+/// long as to seek the tag among the fields of the candidate.
 const VARIANTS_FOR_A_CANDIDATE: usize = 8;
 
 impl<'a> Solver<'_, '_, 'a> {
