@@ -1,6 +1,5 @@
 -- Names that are told apart by a number.
 use Rattle.std.proofs.Common.{◌≡◌, ◌≢◌, Bool, true, false, ap, refl}
-use Rattle.std.specs.Str.{bytes_eq}
 use Rattle.std.proofs.lemmas.Slice.Eq.{bytes_eq-Decides}
 use Rattle.facet_solver_shape.specs.Names.{Name, name_eq}
 use Rattle.facet_solver.specs.schema.QuickNames.{fingerprint}

@@ -1,10 +1,10 @@
 -- The variants that an entry selects, and the members of a set that have one of them.
-use Rattle.std.proofs.Common.{◌≡◌, ℕ, zero, suc, ◌+◌, ◌<◌, Bool, true, false, cond, ◌&&◌, ◌||◌, inl, inr, not, nat_eq, List, [], ◌∷◌, ◌++◌, Option, Some, None, All, filter, get_or, length, map, take, refl, ap, sym, ◌∙◌, arith}
+use Rattle.std.proofs.Common.{◌≡◌, ℕ, zero, suc, ◌+◌, ◌<◌, Bool, true, false, cond, ◌&&◌, ◌||◌, not, nat_eq, List, [], ◌∷◌, ◌++◌, Option, Some, None, All, filter, get_or, length, map, take, refl, ap, sym, ◌∙◌, arith}
 use Rattle.std.specs.List.{list_any}
 use Rattle.std.specs.Option.{option_and_then, option_map_or}
 use Rattle.std.specs.Prelude.{◌≢◌, ◌↔◌, IsTrue, if◌then◌else◌, slice_get}
 use Rattle.std.proofs.Math.Bool.{and-true, or-false, or-true}
-use Rattle.std.proofs.lemmas.Bool.{and_cases, and_parts, and_right, false≢true, or_parts}
+use Rattle.std.proofs.lemmas.Bool.{and_right, false≢true}
 use Rattle.std.proofs.lemmas.Cmp.{nat_eq_equiv}
 use Rattle.std.proofs.lemmas.List.{map_more}
 use Rattle.std.proofs.lemmas.List.Folds.{list_any-append}
