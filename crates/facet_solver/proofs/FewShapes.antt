@@ -1,8 +1,6 @@
 -- Shapes as long as they are few.
-use Rattle.std.proofs.Common.{◌≡◌, ◌≤◌, ℕ, Bool, true, false, ◌||◌, ◌&&◌, List, [], ◌∷◌, ◌++◌, length, length-append, nat_eq, refl, ap, sym, ◌∙◌, arith}
+use Rattle.std.proofs.Common.{◌≡◌, ◌≤◌, ℕ, Bool, true, false, ◌||◌, List, [], ◌∷◌, ◌++◌, length, length-append, nat_eq, refl, ap, ◌∙◌, arith}
 use Rattle.std.specs.Prelude.{if◌then◌else◌, nat_lt}
-use Rattle.std.specs.List.{list_all}
-use Rattle.std.proofs.lemmas.Bool.{false≢true}
 use Rattle.std.proofs.lemmas.Bool.Decides.{Decides-eqb, Decides-ltb}
 use Rattle.std.proofs.lemmas.List.Folds.{list_any-append}
 use Rattle.facet_solver.specs.schema.FewShapes.{few_shapes_with, has_shape, most_shapes}
@@ -48,20 +46,3 @@ few_has shapes s few = go (has_shape shapes s) refl
         old true = has
         old false = has
     go false absent = new (nat_lt most_shapes (length shapes)) refl
-
--- what holds of all shapes holds of one that is there
-pub of_one : (test : ℕ → Bool) (shapes : List ℕ) (x : ℕ) → list_all test shapes ≡ true → has_shape shapes x ≡ true → test x ≡ true
-of_one test [] x all has = absurd (false≢true has)
-of_one test (s ∷ shapes) x all has = go (nat_eq s x) refl has (λ is. of_one test shapes x (later (test s) (list_all test shapes) all) is)
-  where
-    first : (a b : Bool) → (a && b) ≡ true → a ≡ true
-    first true b e = refl
-    first false b e = e
-
-    later : (a b : Bool) → (a && b) ≡ true → b ≡ true
-    later true b e = e
-    later false b e = absurd (false≢true e)
-
-    go : (b : Bool) → nat_eq s x ≡ b → (b || has_shape shapes x) ≡ true → (has_shape shapes x ≡ true → test x ≡ true) → test x ≡ true
-    go true same is rest = ap test (sym ((Decides-eqb s x).0 same)) ∙ first (test s) (list_all test shapes) all
-    go false other is rest = rest is

@@ -13,7 +13,7 @@ use Rattle.facet_solver_shape.specs.Names.{Name}
 use Rattle.facet_solver.specs.set.IndexSet.{IndexSet, has_index, upto}
 use Rattle.facet_solver.specs.schema.FewShapes.{few_shapes_with, has_shape, most_shapes}
 use Rattle.facet_solver.specs.schema.IndexEntries.{added, agreed, entry_at, entry_of_one, shapes_with, with_number, with_occurrence}
-use Rattle.facet_solver.specs.schema.Indexed.{Meant, AgreesOn, AreSelected, AreShapesOf, Differs, IsIndexEntry, IsEntryIfAny, IsIndexOf, first_passing}
+use Rattle.facet_solver.specs.schema.Indexed.{Meant, AgreesOn, AreSelected, HaveShapesOf, Differs, IsIndexEntry, IsEntryIfAny, IsIndexOf, first_passing}
 use Rattle.facet_solver.specs.schema.Selected.{has_selected, selected_by}
 use Rattle.facet_solver.specs.schema.Slots.{Slot, is_at}
 use Rattle.facet_solver.specs.solver.Tag.{last_variant}
@@ -163,15 +163,15 @@ shape_more meant i f none (Some shape) one = go (nat_eq shape f.shape) refl
 
 -- the shapes after it, where they do not agree
 shapes_more : (meant : Meant) (i : ℕ) (f : FieldView) → meant i ≡ None → (known : Option ℕ) (shapes : List ℕ) → MatchOption known (Differs meant) (λ shape. AgreesOn shape meant)
-    → (known ≡ None → length shapes ≤ most_shapes → AreShapesOf meant shapes)
-    → agreed known f.shape ≡ None → length (shapes_with known shapes f.shape) ≤ most_shapes → AreShapesOf (more meant i true f) (shapes_with known shapes f.shape)
+    → (known ≡ None → length shapes ≤ most_shapes → HaveShapesOf meant shapes)
+    → agreed known f.shape ≡ None → length (shapes_with known shapes f.shape) ≤ most_shapes → HaveShapesOf (more meant i true f) (shapes_with known shapes f.shape)
 shapes_more meant i f none None shapes two before apart few k g =
     more_for (λ h. has_shape (few_shapes_with shapes f.shape) h.shape ≡ true) meant i f none (few_has shapes f.shape few) k g
     (λ there. few_keeps shapes f.shape g.shape (before refl (few_before shapes f.shape few) k g there))
 shapes_more meant i f none (Some shape) shapes one before apart few k g = go (nat_eq shape f.shape) apart few k g
   where
     go : (b : Bool) → (if b then Some shape else None) ≡ None → length (if b then shapes else few_shapes_with (few_shapes_with shapes shape) f.shape) ≤ most_shapes
-        → AreShapesOf (more meant i true f) (if b then shapes else few_shapes_with (few_shapes_with shapes shape) f.shape)
+        → HaveShapesOf (more meant i true f) (if b then shapes else few_shapes_with (few_shapes_with shapes shape) f.shape)
     go true some low = absurd (some_is_none some)
       where
         some_is_none : Some shape ≡ None → ⊥

@@ -1,17 +1,18 @@
 -- The fields that a key means: the first of each shape.
-use Rattle.std.proofs.Common.{◌≡◌, ℕ, Bool, true, false, List, [], ◌∷◌, ◌++◌, map, nat_eq, refl, ap, sym, ◌∙◌, Bor, Option, Some, None, append-nil, append_assoc}
-use Rattle.std.specs.List.{list_all, list_any, filter_map}
+use Rattle.std.proofs.Common.{◌≡◌, ◌≤◌, ℕ, Bool, ◌||◌, true, false, List, [], ◌∷◌, ◌++◌, map, nat_eq, refl, ap, sym, ◌∙◌, Bor, Option, Some, None, append-nil, append_assoc, length, length-append, arith}
+use Rattle.std.specs.List.{cons_option, list_any, filter_map}
 use Rattle.std.specs.Prelude.{IfSome, IsSome}
 use Rattle.std.proofs.lemmas.Bool.{false≢true}
-use Rattle.std.proofs.lemmas.List.{map-append}
+use Rattle.std.proofs.lemmas.Bool.Decides.{Decides-eqb}
+use Rattle.std.proofs.lemmas.List.{length-map, map-append}
 use Rattle.std.proofs.lemmas.List.Elements.{filter_map-append}
 use Rattle.facet_solver_shape.specs.Fields.{FieldView}
 use Rattle.facet_solver_shape.proofs.Lists.{list_any-map}
-use Rattle.facet_solver.specs.schema.Indexed.{AreShapesOf}
+use Rattle.facet_solver.specs.schema.FewShapes.{has_shape}
+use Rattle.facet_solver.specs.schema.Indexed.{HaveShapesOf}
 use Rattle.facet_solver.specs.solver.FirstOfEach.{first_of_each, is_among}
 use Rattle.facet_solver.specs.solver.KeyResult.{score_at, scored_view, with_score}
-use Rattle.facet_solver.proofs.FewShapes.{of_one}
-use Rattle.facet_solver.proofs.FirstOfEach.{first_of_each-told}
+use Rattle.facet_solver.proofs.FirstOfEach.{count_firsts, first_of_each-told}
 use Rattle.facet_solver.specs.build.Build.{Catalogue}
 
 -- the shape of a field
@@ -74,12 +75,52 @@ firsts_all cat h ys (i ∷ zs) items old so_far =
     go None none = firsts_none cat h ys i items so_far none
     go (Some g) found = firsts_old cat h ys i items so_far g found (old i g found)
 
--- where all shapes are known and stand there already, no numbers that follow have a new one
+-- a shape of a field is among shapes that have each
+among_known : (h : ℕ → Option FieldView) (shapes : List ℕ) → HaveShapesOf h shapes → (ys : List ℕ) (id : ℕ) → is_among shape_of (filter_map h ys) id ≡ true → has_shape shapes id ≡ true
+among_known h shapes have [] id among = absurd (false≢true among)
+among_known h shapes have (y ∷ ys) id among = go (h y) refl among (among_known h shapes have ys id)
+  where
+    one : (g : FieldView) (b : Bool) → h y ≡ Some g → nat_eq g.shape id ≡ b → (b || is_among shape_of (filter_map h ys) id) ≡ true
+        → (is_among shape_of (filter_map h ys) id ≡ true → has_shape shapes id ≡ true) → has_shape shapes id ≡ true
+    one g true found same is later = ap (has_shape shapes) (sym ((Decides-eqb g.shape id).0 same)) ∙ have y g found
+    one g false found other is later = later is
+
+    go : (o : Option FieldView) → h y ≡ o → is_among shape_of (cons_option o (filter_map h ys)) id ≡ true
+        → (is_among shape_of (filter_map h ys) id ≡ true → has_shape shapes id ≡ true) → has_shape shapes id ≡ true
+    go None none is later = later is
+    go (Some g) found is later = one g (nat_eq g.shape id) found refl is later
+
+module _ (cat : Catalogue) (h : ℕ → Option FieldView) (ys : List ℕ) (items : List (Bor FieldView × ℕ)) (shapes : List ℕ) (have : HaveShapesOf h shapes)
+    (all : length shapes ≤ length items) (so_far : map scored_view items ≡ map (with_score cat) (first_of_each shape_of (filter_map h ys))) where
+  -- as many fields of different shapes as there are shapes have all of these
+  all_there : (i : ℕ) (g : FieldView) → h i ≡ Some g → list_any (λ (d : Bor FieldView × ℕ). nat_eq d.0.now.shape g.shape) items ≡ true
+  all_there i g found = go (list_any (λ (d : Bor FieldView × ℕ). nat_eq d.0.now.shape g.shape) items) refl
+    where
+      seen : List FieldView
+      seen = filter_map h ys
+
+      known : (id : ℕ) → is_among shape_of (seen ++ g ∷ []) id ≡ true → has_shape shapes id ≡ true
+      known id among = among_known h shapes have (ys ++ i ∷ []) id (ap (λ fs. is_among shape_of fs id) (filter_map_found h ys i g found) ∙ among)
+
+      new : list_any (λ (d : Bor FieldView × ℕ). nat_eq d.0.now.shape g.shape) items ≡ false → ⊥
+      new absent =
+          let more = first_of_each-told shape_of seen g false (sym (among_scored cat items (first_of_each shape_of seen) g.shape so_far) ∙ absent) in
+          let counted = count_firsts shape_of (seen ++ g ∷ []) shapes known in
+          let same = sym (length-map items scored_view) ∙ ap length so_far ∙ length-map (first_of_each shape_of seen) (with_score cat) in
+          omega (arith, ap length more, length-append (first_of_each shape_of seen) (g ∷ []), counted, all, same)
+
+      go : (b : Bool) → list_any (λ (d : Bor FieldView × ℕ). nat_eq d.0.now.shape g.shape) items ≡ b → b ≡ true
+      go true is = refl
+      go false absent = absurd (new absent)
+
+  -- so no numbers that follow have a new one
+  all_here : (zs : List ℕ) → map scored_view items ≡ map (with_score cat) (first_of_each shape_of (filter_map h (ys ++ zs)))
+  all_here zs = firsts_all cat h ys zs items all_there so_far
+
+-- where all shapes are known, and fields of as many stand there already
 pub all_shown : (cat : Catalogue) (h : ℕ → Option FieldView) (ys zs : List ℕ) (items : List (Bor FieldView × ℕ)) (known : Option (Bor (List ℕ)))
-    → IfSome known (λ shapes. AreShapesOf h shapes.now) → IsSome known
-    → IfSome known (λ shapes. list_all (λ shape. list_any (λ (d : Bor FieldView × ℕ). nat_eq d.0.now.shape shape) items) shapes.now ≡ true)
+    → IfSome known (λ shapes. HaveShapesOf h shapes.now) → IsSome known → IfSome known (λ shapes. length shapes.now ≤ length items)
     → map scored_view items ≡ map (with_score cat) (first_of_each shape_of (filter_map h ys))
     → map scored_view items ≡ map (with_score cat) (first_of_each shape_of (filter_map h (ys ++ zs)))
-all_shown cat h ys zs items None shapes some all so_far = absurd (false≢true some)
-all_shown cat h ys zs items (Some s) shapes some all so_far =
-    firsts_all cat h ys zs items (λ i g found. of_one (λ shape. list_any (λ (d : Bor FieldView × ℕ). nat_eq d.0.now.shape shape) items) s.now g.shape all (shapes i g found)) so_far
+all_shown cat h ys zs items None have some all so_far = absurd (false≢true some)
+all_shown cat h ys zs items (Some s) have some all so_far = all_here cat h ys items s.now have all so_far zs

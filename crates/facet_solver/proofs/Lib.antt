@@ -39,7 +39,7 @@ pub mod Selected
 pub mod UnderWay
 pub mod LookUps
 pub mod Kept
-pub mod QuickNames
+pub mod Fingerprints
 pub mod QuotedNames
 pub mod ErrorTexts
 pub mod KeyPath

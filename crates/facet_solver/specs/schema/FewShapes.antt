@@ -2,9 +2,9 @@
 use Rattle.std.specs.Prelude.{ℕ, Bool, List, [], ◌∷◌, ◌++◌, ◌||◌, Option, None, Some, if◌then◌else◌, length, nat_lt}
 use Rattle.facet_solver.specs.solver.FirstOfEach.{is_among}
 
--- with more shapes than these, no more are kept
+-- so many shapes are few
 abbrev pub most_shapes : ℕ
-most_shapes = 8
+most_shapes = 7
 
 -- whether a shape is among some
 abbrev pub has_shape : List ℕ → ℕ → Bool

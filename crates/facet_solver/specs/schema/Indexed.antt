@@ -50,17 +50,17 @@ AreSelected meant selected = (test : Name → Bool) (index : ℕ)
     → has_selected test selected index ≡ option_map_or test (selected_at meant index) false
 
 -- some shapes have that of each field that is meant
-abbrev pub AreShapesOf : Meant → List ℕ → Type 0
-AreShapesOf meant shapes =
+abbrev pub HaveShapesOf : Meant → List ℕ → Type 0
+HaveShapesOf meant shapes =
     (index : ℕ) (f : FieldView) → meant index ≡ Some f → IsTrue (has_shape shapes f.shape)
 
 -- where the fields that are meant have different shapes, and few, an entry has these
 abbrev pub HasFewShapes : Meant → Entry → Type 0
 HasFewShapes meant entry = entry.shape ≡ None → length entry.shapes ≤ most_shapes
-    → AreShapesOf meant entry.shapes
+    → HaveShapesOf meant entry.shapes
 
 -- an entry has the resolutions below a bound in which a field is meant, the shape of these fields,
--- if they agree on it, or few shapes of theirs, and the variants that they select
+-- if they agree on it, or all their shapes, if these are few, and the variants that they select
 pub record IsIndexEntry (bound : ℕ) (meant : Meant) (entry : Entry) : Type 0 where
   pub set : entry.set
       ≡ record { bound = bound; members = filter (λ i. is_some (meant i)) (upto bound) }

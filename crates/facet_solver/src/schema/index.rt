@@ -12,7 +12,7 @@ ghost use Rattle.facet_solver.specs.schema.Slots.{Slot, categories, is_at, slot_
 pub(crate) mod category_index;
 pub(crate) mod entry;
 pub(crate) mod few_shapes;
-mod quick_name;
+mod fingerprinted_name;
 pub(crate) mod selected;
 
 use crate::build::format::Format;

@@ -1,11 +1,9 @@
 //! The fields that a key means in the candidates of a solver.
 ghost use Rattle.std.specs.Prelude.{◌≡◌, ◌+◌, ◌++◌, ◌∷◌, [], ◌≤◌, ℕ, IfOk, IfSome, IsSome, IsTrue, List, OnOk, length, map};
-ghost use Rattle.std.specs.List.{list_all};
 ghost use Rattle.std.specs.Option.{option_copied};
 ghost use Rattle.facet_solver_shape.specs.Keys.{key_of};
 ghost use Rattle.facet_solver_shape.specs.Steps.{NoCountFalls};
-ghost use Rattle.facet_solver.specs.schema.Indexed.{AreShapesOf};
-ghost use Rattle.facet_solver.specs.solver.FirstOfEach.{is_among};
+ghost use Rattle.facet_solver.specs.schema.Indexed.{HaveShapesOf};
 ghost use Rattle.facet_solver.specs.solver.KeyResult as key_result;
 ghost use Rattle.facet_solver.specs.solver.KeyResult.{scored_view};
 ghost use Rattle.facet_solver.specs.Resolutions.{field_at};
@@ -50,7 +48,7 @@ pub(crate) fn distinct_fields<'s, 'c>(
     known: Option<&[ShapeId]>,
     steps: &mut Steps,
 ) -> Result<Vec<(&'s FieldInfo<'c>, u64)>, AllocError>
-    requires { IfSome known (λ shapes. AreShapesOf (field_at (key_of search.now.key)
+    requires { IfSome known (λ shapes. HaveShapesOf (field_at (key_of search.now.key)
         search.now.schema.now.resolutions) shapes.now) }
     ensures fields { IfOk result (λ fields. map scored_view fields.items
         ≡ key_result.distinct_fields (key_of search.now.key) search.now.schema.now
@@ -72,24 +70,17 @@ pub(crate) fn distinct_fields<'s, 'c>(
     Ok(fields)
 }
 
-/// Whether it is known which shapes there are, and all of them are among those of some fields.
+/// Whether it is known which shapes there are, and some fields, each of a shape of its own, are as
+/// many.
 fn has_all(fields: &[(&FieldInfo<'_>, u64)], known: Option<&[ShapeId]>) -> bool
     ensures known { IsTrue result → IsSome known.entry }
-    ensures all { IsTrue result → IfSome known.entry (λ shapes. IsTrue (list_all
-        (λ shape. is_among (λ e. e.0.now.shape) fields.now shape) shapes.now)) }
+    ensures all { IsTrue result
+        → IfSome known.entry (λ shapes. length shapes.now ≤ length fields.now) }
 {
     match known {
-        Some(shapes) => shapes.len() <= fields.len() && has_each(fields, shapes),
+        Some(shapes) => shapes.len() <= fields.len(),
         None => false,
     }
-}
-
-/// Whether each of some shapes is among those of some fields.
-fn has_each(fields: &[(&FieldInfo<'_>, u64)], shapes: &[ShapeId]) -> bool
-    ensures { result
-        ≡ list_all (λ shape. is_among (λ e. e.0.now.shape) fields.now shape) shapes.now }
-{
-    shapes.iter().all(|shape| is_among(fields, *shape))
 }
 
 /// Adds the field that a key means at an index, if it is the first of its shape.

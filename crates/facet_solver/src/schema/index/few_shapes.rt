@@ -7,10 +7,10 @@ use facet_solver_shape::ShapeId;
 use std::alloc::{AllocError, Global};
 use std::marker::Model;
 
-/// With more shapes than these, no more are kept.
-const MOST_SHAPES: usize = 8;
+/// So many shapes are few.
+const MOST_SHAPES: usize = 7;
 
-/// Some shapes, each once. One more than `MOST_SHAPES` stands for any number of them.
+/// Some shapes, each once. One more than are few stands for any number of them.
 #[derive(Drop)]
 pub(crate) struct FewShapes {
     shapes: Vec<ShapeId>,

@@ -7,7 +7,7 @@ ghost use Rattle.facet_solver.specs.schema.Selected.{has_named, has_other, selec
 ghost use Rattle.facet_solver.specs.set.IndexSet.{has_index};
 ghost use Rattle.facet_solver.specs.solver.Tag.{last_variant};
 
-use crate::schema::index::quick_name::QuickName;
+use crate::schema::index::fingerprinted_name::FingerprintedName;
 use crate::set::ResolutionSet;
 use facet_solver_shape::{FieldPath, PathSegment};
 use std::alloc::{AllocError, Global};
@@ -27,12 +27,12 @@ pub(crate) fn last_variant<'c>(path: &FieldPath<'c>) -> Option<&'c str>
 #[derive(Drop)]
 struct SelectedVariant<'c> {
     index: usize,
-    name: QuickName<'c>,
+    name: FingerprintedName<'c>,
 }
 
 impl SelectedVariant<'_> {
     /// Whether it is that of a name, and its resolution is in a set.
-    fn is_named(&self, variant: &QuickName<'_>, set: &ResolutionSet) -> bool
+    fn is_named(&self, variant: &FingerprintedName<'_>, set: &ResolutionSet) -> bool
         ensures { result
             ≡ (has_index set.now.members self.now.index && name_eq self.now.name variant.now) }
     {
@@ -73,7 +73,7 @@ impl<'c> SelectedVariants<'c> {
         let Some(name) = variant else {
             return Ok(());
         };
-        let name = QuickName::new(name);
+        let name = FingerprintedName::new(name);
         self.variants.push(SelectedVariant { index, name })?;
         Ok(())
     }
@@ -93,7 +93,7 @@ impl<'c> SelectedVariants<'c> {
           members = filter (λ i. not (has_other variant.now self.now i)) set.old.members;
         } else set.old) }
     {
-        let variant = QuickName::new(variant);
+        let variant = FingerprintedName::new(variant);
         if is_any_named(&self.variants, &variant, set) {
             drop_others(&self.variants, &variant, set);
             true
@@ -106,7 +106,7 @@ impl<'c> SelectedVariants<'c> {
 /// Whether a resolution of a set has a variant.
 fn is_any_named(
     variants: &[SelectedVariant<'_>],
-    variant: &QuickName<'_>,
+    variant: &FingerprintedName<'_>,
     set: &ResolutionSet,
 ) -> bool
     ensures { result ≡ list_any
@@ -118,7 +118,11 @@ fn is_any_named(
 }
 
 /// The resolutions of a set leave it that have another variant.
-fn drop_others(variants: &[SelectedVariant<'_>], variant: &QuickName<'_>, set: &mut ResolutionSet)
+fn drop_others(
+    variants: &[SelectedVariant<'_>],
+    variant: &FingerprintedName<'_>,
+    set: &mut ResolutionSet,
+)
     ensures { set.new ≡ record set.old {
       members = filter (λ i. not (has_other variant.now (map selected_of variants.now) i))
           set.old.members;

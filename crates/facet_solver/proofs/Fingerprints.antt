@@ -2,7 +2,7 @@
 use Rattle.std.proofs.Common.{◌≡◌, ◌≢◌, Bool, true, false, ap, refl}
 use Rattle.std.proofs.lemmas.Slice.Eq.{bytes_eq-Decides}
 use Rattle.facet_solver_shape.specs.Names.{Name, name_eq}
-use Rattle.facet_solver.specs.schema.QuickNames.{fingerprint}
+use Rattle.facet_solver.specs.schema.Fingerprints.{fingerprint}
 
 -- names of different numbers differ
 pub apart : (a b : Name) → fingerprint a ≢ fingerprint b → name_eq a b ≡ false

@@ -1,51 +1,51 @@
 //! Names that are told apart quickly.
 ghost use Rattle.std.specs.Prelude.{◌≡◌};
 ghost use Rattle.facet_solver_shape.specs.Names.{name_eq};
-ghost use Rattle.facet_solver.specs.schema.QuickNames.{fingerprint};
+ghost use Rattle.facet_solver.specs.schema.Fingerprints.{fingerprint};
 
 use std::marker::Model;
 
 /// A name with a fingerprint: where those of two names differ, the names are not compared.
 #[derive(Drop)]
-pub(super) struct QuickName<'c> {
+pub(super) struct FingerprintedName<'c> {
     text: &'c str,
-    number: u64,
+    fingerprint: u64,
 }
 
-impl<'c> Model for QuickName<'c> {
+impl<'c> Model for FingerprintedName<'c> {
     ghost use Rattle.std.specs.Prelude.{◌≡◌};
     ghost use Rattle.facet_solver_shape.specs.Names.{Name};
-    ghost use Rattle.facet_solver.specs.schema.QuickNames.{fingerprint};
+    ghost use Rattle.facet_solver.specs.schema.Fingerprints as spec;
 
     ghost Value = { Name };
 
     ghost view = { λ n. n.text.now };
 
-    ghost invariant = { λ n. n.number ≡ fingerprint n.text.now };
+    ghost invariant = { λ n. n.fingerprint ≡ spec.fingerprint n.text.now };
 }
 
-impl<'c> QuickName<'c> {
+impl<'c> FingerprintedName<'c> {
     /// A name.
     pub(super) fn new(text: &'c str) -> Self
         ensures { result ≡ text.now }
     {
-        QuickName {
+        FingerprintedName {
             text,
-            number: fingerprint(text),
+            fingerprint: fingerprint(text),
         }
     }
 
-    /// Whether it is another name.
-    #[tactic(auto, using(crate::proofs::QuickNames::apart))]
-    pub(super) fn is(&self, other: &QuickName<'_>) -> bool
+    /// Whether it is the same name.
+    #[tactic(auto, using(crate::proofs::Fingerprints::apart))]
+    pub(super) fn is(&self, other: &FingerprintedName<'_>) -> bool
         ensures { result ≡ name_eq self.now other.now }
     {
-        self.number == other.number && self.text == other.text
+        self.fingerprint == other.fingerprint && self.text == other.text
     }
 }
 
 /// The length of a name and a few of its bytes. Names of one enum mostly differ there.
-#[tactic(auto, unfolding(crate::specs::schema::QuickNames::fingerprint))]
+#[tactic(auto, unfolding(crate::specs::schema::Fingerprints::fingerprint))]
 fn fingerprint(name: &str) -> u64
     ensures { result ≡ fingerprint name.now }
 {
