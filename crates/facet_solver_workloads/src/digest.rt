@@ -8,8 +8,13 @@ const START: u64 = 0xcbf2_9ce4_8422_2325;
 
 const PRIME: u64 = 0x0000_0100_0000_01b3;
 
-/// The FNV-1a hash of all that is written to it, and how many calls had a result, and how many an
-/// error.
+/// By what a number is multiplied, so that each of its bits changes the higher ones.
+const SPREAD: u64 = 0x9e37_79b9_7f4a_7c15;
+
+/// A hash of all that is added to it, and how many calls had a result, and how many an error.
+///
+/// What is printed is added byte by byte (FNV-1a), in whatever pieces it comes. Numbers and names
+/// are added by words of eight bytes, which costs a tenth of that.
 #[derive(Clone, Copy)]
 pub struct Digest {
     hash: u64,
@@ -50,7 +55,19 @@ impl Digest {
 
     /// Adds a number.
     pub fn number(&mut self, number: usize) {
-        self.hash = (self.hash ^ number as u64).wrapping_mul(PRIME);
+        self.word(number as u64);
+    }
+
+    fn word(&mut self, word: u64) {
+        self.hash = (self.hash.rotate_left(5) ^ word).wrapping_mul(SPREAD);
+    }
+
+    /// Adds a name: its length, and its bytes.
+    pub fn name(&mut self, name: &str) {
+        self.number(name.len());
+        for part in name.as_bytes().chunks(8) {
+            self.word(word_of(part));
+        }
     }
 
     /// Adds a text.
@@ -63,6 +80,11 @@ impl Digest {
         self.answered = self.answered.wrapping_add(1);
     }
 
+    /// Counts a call that had an error.
+    pub fn count_refusal(&mut self) {
+        self.refused = self.refused.wrapping_add(1);
+    }
+
     /// Adds the result of a call.
     pub fn answer<D: Display>(&mut self, result_text: &D) -> Result<(), Fault> {
         self.count_answer();
@@ -71,7 +93,21 @@ impl Digest {
 
     /// Adds the error of a call.
     pub fn refusal<D: Display>(&mut self, error: &D) -> Result<(), Fault> {
-        self.refused = self.refused.wrapping_add(1);
+        self.count_refusal();
         self.text(error)
+    }
+}
+
+/// Up to eight bytes as one word.
+fn word_of(part: &[u8]) -> u64 {
+    match <[u8; 8]>::try_from(part) {
+        Ok(bytes) => u64::from_le_bytes(bytes),
+        Err(_) => {
+            let mut word = 0;
+            for byte in part {
+                word = (word << 8) | u64::from(*byte);
+            }
+            word
+        }
     }
 }

@@ -7,6 +7,7 @@ use crate::job::Job;
 use crate::nested_keys::tell_nested;
 use crate::random::Random;
 use crate::records::{Flaw, Look, some_record};
+use crate::results::add_key;
 use crate::types::Tagging;
 use facet_solver::{FieldKey, Resolution, Schema, Solver};
 use facet_solver_uses::choice_to_values::{Mismatch, choice_to_values};
@@ -111,12 +112,27 @@ fn add_values(
     match choice_to_values(alloc, resolution, keys) {
         Ok(values) => {
             for value in &values.fields {
+                digest.name(value.field.serialized_name);
                 digest.number(value.member.unwrap_or(keys.len()));
             }
+            for member in values.contents.iter().chain(&values.rest) {
+                digest.number(*member);
+            }
         }
-        Err(Mismatch::Unknown { member, .. }) => digest.number(member),
-        Err(Mismatch::Repeated { second, .. }) => digest.number(second),
-        Err(Mismatch::Missing(_)) => digest.number(keys.len()),
+        Err(Mismatch::Unknown { member, key }) => {
+            digest.number(member);
+            add_key(digest, &key);
+        }
+        Err(Mismatch::Repeated {
+            field,
+            first,
+            second,
+        }) => {
+            digest.name(field.serialized_name);
+            digest.number(first);
+            digest.number(second);
+        }
+        Err(Mismatch::Missing(field)) => digest.name(field.serialized_name),
         Err(Mismatch::OutOfMemory) => return Err(Fault::OutOfMemory),
     }
     Ok(())
@@ -167,7 +183,13 @@ fn load(
             digest.count_answer();
             Ok(())
         }
-        Err(Refused::UnknownVariant(names)) => digest.refusal(&names.len()),
+        Err(Refused::UnknownVariant(names)) => {
+            digest.count_refusal();
+            for name in &names {
+                digest.name(name);
+            }
+            Ok(())
+        }
         Err(Refused::UnknownKey(key)) => digest.refusal(&key.name()),
         Err(Refused::Solver(error)) => digest.refusal(&error),
     }

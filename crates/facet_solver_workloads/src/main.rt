@@ -20,6 +20,7 @@ mod nested_keys;
 mod random;
 mod reads;
 mod records;
+mod results;
 mod services;
 mod start;
 mod types;

@@ -5,14 +5,15 @@ use crate::digest::Digest;
 use crate::fault::Fault;
 use crate::job::Job;
 use crate::reads::Readable;
-use facet_solver::{Format, Resolution, Schema, SchemaError};
+use crate::results::{add_key, add_resolution};
+use facet_solver::{Format, Schema, SchemaError};
 use facet_solver_reader::{Reader, Unknown};
 use facet_solver_uses::ambiguity_table::{NoTable, ambiguity_table};
 use facet_solver_uses::ambiguous_pairs::ambiguous_pairs;
 use std::alloc::Global;
 
-/// How many resolutions of a schema are told at most.
-const TOLD: usize = 16;
+/// How many resolutions of a schema are described at most.
+const DESCRIBED: usize = 16;
 
 /// Makes schemas and readers of some types of each kind, and tables of some.
 pub fn run(job: &mut Job) -> Result<(), Fault> {
@@ -66,34 +67,19 @@ fn add_schema(
             digest.count_answer();
             let resolutions = schema.resolutions();
             digest.number(resolutions.len());
-            let stride = resolutions.len() / TOLD;
+            let stride = resolutions.len() / DESCRIBED;
             let mut next = 0;
             for (index, resolution) in resolutions.iter().enumerate() {
+                add_resolution(digest, resolution);
                 if index == next {
                     next = next.wrapping_add(stride).wrapping_add(1);
-                    add_resolution(alloc, resolution, digest)?;
+                    digest.name(&resolution.describe(alloc)?);
                 }
             }
             Ok(())
         }
         Err(error) => digest.refusal(error),
     }
-}
-
-fn add_resolution(
-    alloc: Global,
-    resolution: &Resolution<'_>,
-    digest: &mut Digest,
-) -> Result<(), Fault> {
-    digest.text(&resolution.describe(alloc)?)?;
-    for (_, field) in resolution.fields() {
-        digest.text(&field.path)?;
-    }
-    for name in resolution.required_field_names() {
-        digest.text(name)?;
-    }
-    digest.number(resolution.known_paths().len());
-    Ok(())
 }
 
 /// Compares the choices of some types, pair by pair.
@@ -118,7 +104,12 @@ fn compare(alloc: Global, readable: &Readable, digest: &mut Digest) -> Result<()
             for pair in &ambiguous_pairs(alloc, &schema)? {
                 digest.number(pair.first);
                 digest.number(pair.second);
-                digest.number(pair.keys.len());
+                for key in &pair.keys {
+                    add_key(digest, key);
+                }
+                for name in pair.only_first.iter().chain(&pair.only_second) {
+                    digest.name(name);
+                }
             }
             digest.count_answer();
             Ok(())

@@ -1,0 +1,64 @@
+//! What the libraries answer, added to a digest by its names and numbers.
+
+use crate::digest::Digest;
+use facet_solver::{FieldInfo, FieldKey, FieldPath, KeyPath, PathSegment, Resolution};
+
+/// Adds a key: its category and its name.
+pub fn add_key(digest: &mut Digest, key: &FieldKey<'_>) {
+    match key {
+        FieldKey::Flat(name) => digest.name(name),
+        FieldKey::Dom(category, name) => {
+            digest.number(*category as usize);
+            digest.name(name);
+        }
+    }
+}
+
+/// Adds each field and variant of a path.
+fn add_path(digest: &mut Digest, path: &FieldPath<'_>) {
+    for segment in path.segments() {
+        match segment {
+            PathSegment::Field(name) => digest.name(name),
+            PathSegment::Variant(field, variant) => {
+                digest.name(field);
+                digest.name(variant);
+            }
+        }
+    }
+}
+
+/// Adds each name of a key path.
+fn add_key_path(digest: &mut Digest, path: &KeyPath<'_>) {
+    digest.number(path.len());
+    for name in path {
+        digest.name(name);
+    }
+}
+
+/// Adds a field: its name, its path, its shape, and whether it is required.
+fn add_field(digest: &mut Digest, field: &FieldInfo<'_>) {
+    digest.name(field.serialized_name);
+    add_path(digest, &field.path);
+    digest.number(field.value_shape.index());
+    digest.number(usize::from(field.required));
+}
+
+/// Adds all of a resolution: its variants, its fields by their keys, the names that it requires,
+/// and each name of its key paths.
+pub fn add_resolution(digest: &mut Digest, resolution: &Resolution<'_>) {
+    for selection in resolution.variant_selections() {
+        add_path(digest, &selection.path);
+        digest.name(selection.enum_name);
+        digest.name(selection.variant_name);
+    }
+    for (key, field) in resolution.fields() {
+        add_key(digest, key);
+        add_field(digest, field);
+    }
+    for name in resolution.required_field_names() {
+        digest.name(name);
+    }
+    for path in resolution.known_paths() {
+        add_key_path(digest, path);
+    }
+}
