@@ -39,6 +39,7 @@ fn solve_unnarrowed(job: &mut Job, part: &str, members: u64) -> Result<(), Fault
             least: members,
             spread: 1,
             kinds: 3,
+            sparse: 0,
         };
         let salt = job.random.below(1_000_000);
         let many = job.scaled(12).max(2);

@@ -51,6 +51,7 @@ pub fn make_catalogue(job: &mut Job, of: Catalogue) -> Result<Readable, Fault> {
         least: 2,
         spread: 3,
         kinds: 7,
+        sparse: 0,
     };
     Ok(make_choices(job.alloc, salt, many, look, Tagging::Untagged)?.readable)
 }

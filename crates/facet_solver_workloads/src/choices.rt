@@ -3,7 +3,10 @@
 use crate::fault::Fault;
 use crate::random::Random;
 use crate::reads::Readable;
-use crate::records::{Contents, Flaw, Look, Record, add_enum, records, some_record, twin};
+use crate::records::{
+    Contents, Flaw, Look, Member, Record, add_enum, add_fields, records, some_record,
+    sparse_members, twin,
+};
 use crate::types::{Tagging, Types};
 use crate::words::numbered;
 use facet_solver::{FieldKey, Schema};
@@ -12,11 +15,17 @@ use std::alloc::Global;
 /// The key of a struct that each of its documents has.
 const ID: &str = "id";
 
-/// A struct, and the variants of each enum that it flattens.
+/// How many names there are that no resolution has.
+const STRANGE: u64 = 200;
+
+/// A struct, the members of its own that documents may lack, and the variants of each enum that it
+/// flattens. Names that it lacks stand beside.
 #[derive(Drop)]
 pub struct Choices {
     pub readable: Readable,
+    pub sparse: Vec<Member>,
     pub enums: Vec<Vec<Record>>,
+    pub strange: Vec<String>,
 }
 
 /// Which builder makes a schema.
@@ -37,7 +46,9 @@ pub fn make_choices(
 ) -> Result<Choices, Fault> {
     let mut types = Types::new(alloc);
     let contents = Contents::new(&mut types)?;
+    let sparse = sparse_members(alloc, "common", 0, 0, look.sparse)?;
     let mut fields = types.fields(&[(ID, contents.text)])?;
+    add_fields(&mut fields, &types, &contents, &sparse)?;
     let mut enums = Vec::new(alloc);
     for index in 0..many {
         let name = numbered(alloc, "choice", salt.wrapping_add(index))?;
@@ -55,8 +66,21 @@ pub fn make_choices(
     }
     let root = types.structure("Choices", fields)?;
     let shapes = types.catalogue()?;
-    let readable = Readable { shapes, root };
-    Ok(Choices { readable, enums })
+    Ok(Choices {
+        readable: Readable { shapes, root },
+        sparse,
+        enums,
+        strange: strange_names(alloc)?,
+    })
+}
+
+/// Names that no type has.
+pub fn strange_names(alloc: Global) -> Result<Vec<String>, Fault> {
+    let mut names = Vec::new(alloc);
+    for number in 0..STRANGE {
+        names.push(numbered(alloc, "trace_context", number)?)?;
+    }
+    Ok(names)
 }
 
 /// The schema of a type.
@@ -80,54 +104,102 @@ pub fn schema<'c>(
     }
 }
 
-/// Puts the keys of some choice in place of others. With a flaw in its tag it may be two choices.
+/// Puts the keys of some choice in place of others, in some order. A flaw is one of its last enum.
 pub fn choose<'r>(
     keys: &mut Vec<FieldKey<'r>>,
     random: &mut Random,
-    enums: &'r [Vec<Record>],
+    of: &'r Choices,
     tagging: Tagging,
     flaw: Flaw,
 ) -> Result<(), Fault> {
     keys.clear();
     keys.push(FieldKey::flat(ID))?;
-    for records in enums {
-        let record = match flaw {
-            Flaw::Tag => twin(records),
-            _ => some_record(records, random),
-        };
-        if let Some(record) = record {
-            add_keys(keys, record, tagging)?;
-        }
+    add_some(keys, random, &of.sparse)?;
+    for (index, records) in of.enums.iter().enumerate() {
+        let is_last = index.wrapping_add(1) == of.enums.len();
+        let flaw = if is_last { flaw } else { Flaw::None };
+        choose_record(keys, random, records, tagging, flaw)?;
     }
-    match flaw {
-        Flaw::Missing => drop(keys.pop()),
-        Flaw::Unknown => keys.push(FieldKey::flat("trace_context"))?,
-        _ => {}
+    if flaw == Flaw::Unknown
+        && let Some(name) = some_name(random, &of.strange)
+    {
+        keys.push(FieldKey::flat(name))?;
     }
     random.shuffle(keys);
     Ok(())
 }
 
-/// Adds the keys of a variant.
+/// Adds the keys of some variant. With a flaw in its tag its name is none, or where it has no name
+/// in the document, it may be two variants.
+fn choose_record<'r>(
+    keys: &mut Vec<FieldKey<'r>>,
+    random: &mut Random,
+    records: &'r [Record],
+    tagging: Tagging,
+    flaw: Flaw,
+) -> Result<(), Fault> {
+    match (flaw, tagging) {
+        (Flaw::Tag, Tagging::External) => Ok(keys.push(FieldKey::flat("vanished"))?),
+        (Flaw::Tag, _) if records.len() > 2 => match twin(records) {
+            Some(record) => add_keys(keys, random, record, tagging, flaw),
+            None => Ok(()),
+        },
+        (Flaw::Tag, _) => {
+            for record in records {
+                add_keys(keys, random, record, tagging, flaw)?;
+            }
+            Ok(())
+        }
+        _ => match some_record(records, random) {
+            Some(record) => add_keys(keys, random, record, tagging, flaw),
+            None => Ok(()),
+        },
+    }
+}
+
+/// Adds the keys of a variant. The last one that each document has may be missing.
 pub fn add_keys<'r>(
     keys: &mut Vec<FieldKey<'r>>,
+    random: &mut Random,
     record: &'r Record,
     tagging: Tagging,
+    flaw: Flaw,
 ) -> Result<(), Fault> {
-    match tagging {
-        Tagging::External => keys.push(FieldKey::flat(record.name.as_str()))?,
-        Tagging::Internal(tag) => {
-            keys.push(FieldKey::flat(tag))?;
-            add_names(keys, record)?;
+    if let Tagging::Internal(tag) = tagging {
+        keys.push(FieldKey::flat(tag))?;
+    }
+    if let Tagging::External = tagging {
+        keys.push(FieldKey::flat(record.name.as_str()))?;
+    } else {
+        for member in &record.members {
+            keys.push(FieldKey::flat(member.name.as_str()))?;
         }
-        _ => add_names(keys, record)?,
+    }
+    if flaw == Flaw::Missing {
+        drop(keys.pop());
+    }
+    match tagging {
+        Tagging::External => Ok(()),
+        _ => add_some(keys, random, &record.sparse),
+    }
+}
+
+/// Adds the keys of about half of some members.
+fn add_some<'r>(
+    keys: &mut Vec<FieldKey<'r>>,
+    random: &mut Random,
+    members: &'r [Member],
+) -> Result<(), Fault> {
+    for member in members {
+        if random.one_in(2) {
+            keys.push(FieldKey::flat(member.name.as_str()))?;
+        }
     }
     Ok(())
 }
 
-fn add_names<'r>(keys: &mut Vec<FieldKey<'r>>, record: &'r Record) -> Result<(), Fault> {
-    for member in &record.members {
-        keys.push(FieldKey::flat(member.name.as_str()))?;
-    }
-    Ok(())
+/// One of some names.
+pub fn some_name<'r>(random: &mut Random, names: &'r [String]) -> Option<&'r str> {
+    let index = random.index(names.len());
+    names.get(index).map(|name| name.as_str())
 }

@@ -53,6 +53,11 @@ impl Digest {
         }
     }
 
+    /// The hash so far.
+    pub fn hash(&self) -> u64 {
+        self.hash
+    }
+
     /// Adds a number.
     pub fn number(&mut self, number: usize) {
         self.word(number as u64);

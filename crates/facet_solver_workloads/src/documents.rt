@@ -19,6 +19,7 @@ const EVENTS: Look = Look {
     least: 2,
     spread: 5,
     kinds: 5,
+    sparse: 0,
 };
 
 /// Reads some documents of each kind.

@@ -28,6 +28,7 @@ fn read_events(job: &mut Job, part: &str, tagging: Tagging, variants: u64) -> Re
         least: 6,
         spread: 12,
         kinds: 7,
+        sparse: 0,
     };
     let records = records(job.alloc, "event", look)?;
     let readable = event_type(job.alloc, &records, tagging)?;

@@ -10,6 +10,8 @@ pub enum Fault {
     OutOfMemory,
     /// A type of the workload is refused, which is a mistake in the workload.
     Type,
+    /// No input was found that had not come before.
+    Repeated,
 }
 
 impl From<AllocError> for Fault {

@@ -1,56 +1,49 @@
 //! Small objects of which the keys tell the choice.
 
-use crate::choices::{Builder, Choices, add_keys, choose, make_choices, schema};
+use crate::choices::{Builder, Choices, choose, make_choices, schema};
+use crate::configurations::{TAG, load_configurations};
 use crate::digest::Digest;
 use crate::fault::Fault;
+use crate::inputs::{DRAWS, Inputs};
 use crate::job::Job;
 use crate::nested_keys::tell_nested;
 use crate::random::Random;
-use crate::records::{Flaw, Look, some_record};
+use crate::records::{Flaw, Look};
 use crate::results::add_key;
 use crate::types::Tagging;
 use facet_solver::{FieldKey, Resolution, Schema, Solver};
 use facet_solver_uses::choice_to_values::{Mismatch, choice_to_values};
-use facet_solver_uses::load_config::{Refused, load_config};
 use std::alloc::Global;
 
-/// The tag of a configuration.
-const TAG: &str = "type";
-
-fn look(variants: u64) -> Look {
+fn look(variants: u64, sparse: u64) -> Look {
     Look {
         variants,
         least: 2,
         spread: 4,
         kinds: 3,
+        sparse,
     }
 }
 
 /// Tells the keys of some objects to solvers of each of some schemas.
 pub fn run(job: &mut Job) -> Result<(), Fault> {
+    let alloc = job.alloc;
     let untagged = Tagging::Untagged;
-    let of_two = make_choices(job.alloc, 0, 1, look(2), untagged)?;
-    tell_keys(job, "2 variants", &of_two, untagged, Builder::Auto)?;
-    let of_four = make_choices(job.alloc, 0, 3, look(4), untagged)?;
-    tell_keys(job, "3 enums of 4", &of_four, untagged, Builder::Auto)?;
-    let (external, builder) = (Tagging::External, Builder::ExternallyTagged);
-    let by_name = make_choices(job.alloc, 0, 3, look(4), external)?;
-    tell_keys(job, "3 enums of 4 by name", &by_name, external, builder)?;
-    let of_many = make_choices(
-        job.alloc,
-        0,
-        1,
-        look(job.scaled(1_000)),
-        Tagging::Internal(TAG),
-    )?;
-    tell_keys(
-        job,
-        "1,000 variants",
-        &of_many,
-        Tagging::Internal(TAG),
-        Builder::Auto,
-    )?;
-    load_configs(job, &of_many)?;
+    let of_two = make_choices(alloc, 0, 1, look(2, 4), untagged)?;
+    let by_two = schema(alloc, &of_two.readable, Builder::Auto)?;
+    tell_keys(job, "2 variants", &by_two, &of_two, untagged)?;
+    let of_four = make_choices(alloc, 0, 3, look(4, 2), untagged)?;
+    let by_four = schema(alloc, &of_four.readable, Builder::Auto)?;
+    tell_keys(job, "3 enums of 4", &by_four, &of_four, untagged)?;
+    let external = Tagging::External;
+    let of_names = make_choices(alloc, 0, 3, look(4, 6), external)?;
+    let by_names = schema(alloc, &of_names.readable, Builder::ExternallyTagged)?;
+    tell_keys(job, "3 enums of 4 by name", &by_names, &of_names, external)?;
+    let tagged = Tagging::Internal(TAG);
+    let of_many = make_choices(alloc, 0, 1, look(job.scaled(1_000), 2), tagged)?;
+    let by_many = schema(alloc, &of_many.readable, Builder::Auto)?;
+    tell_keys(job, "1,000 variants", &by_many, &of_many, tagged)?;
+    load_configurations(job, &by_many, &of_many)?;
     tell_nested(job)
 }
 
@@ -67,19 +60,45 @@ pub fn some_flaw(random: &mut Random) -> Flaw {
 fn tell_keys(
     job: &mut Job,
     part: &str,
+    schema: &Schema<'_>,
     of: &Choices,
     tagging: Tagging,
-    builder: Builder,
 ) -> Result<(), Fault> {
-    let schema = schema(job.alloc, &of.readable, builder)?;
     let mut digest = Digest::new();
+    let mut inputs = Inputs::new(job.alloc)?;
     let mut keys = Vec::new(job.alloc);
     for _ in 0..job.count {
-        let flaw = some_flaw(&mut job.random);
-        choose(&mut keys, &mut job.random, &of.enums, tagging, flaw)?;
-        tell(job.alloc, &schema, &keys, &mut digest)?;
+        choose_new(&mut keys, &mut job.random, &mut inputs, of, tagging)?;
+        tell(job.alloc, schema, &keys, &mut digest)?;
     }
     job.tell(part, digest)
+}
+
+/// Chooses keys as no object before had them.
+fn choose_new<'r>(
+    keys: &mut Vec<FieldKey<'r>>,
+    random: &mut Random,
+    inputs: &mut Inputs,
+    of: &'r Choices,
+    tagging: Tagging,
+) -> Result<(), Fault> {
+    for _ in 0..DRAWS {
+        let flaw = some_flaw(random);
+        choose(keys, random, of, tagging, flaw)?;
+        if inputs.is_new(&keys_digest(keys)) {
+            return Ok(());
+        }
+    }
+    Err(Fault::Repeated)
+}
+
+/// The digest of keys.
+pub fn keys_digest(keys: &[FieldKey<'_>]) -> Digest {
+    let mut digest = Digest::new();
+    for key in keys {
+        add_key(&mut digest, key);
+    }
+    digest
 }
 
 /// Tells keys to a new solver, and adds its answer and what each member stands for.
@@ -123,11 +142,13 @@ fn add_values(
             digest.number(member);
             add_key(digest, &key);
         }
-        Err(Mismatch::Repeated {
-            field,
-            first,
-            second,
-        }) => {
+        Err(
+            Mismatch::Repeated {
+                field,
+                first,
+                second,
+            },
+        ) => {
             digest.name(field.serialized_name);
             digest.number(first);
             digest.number(second);
@@ -136,61 +157,4 @@ fn add_values(
         Err(Mismatch::OutOfMemory) => return Err(Fault::OutOfMemory),
     }
     Ok(())
-}
-
-fn load_configs(job: &mut Job, of: &Choices) -> Result<(), Fault> {
-    let schema = schema(job.alloc, &of.readable, Builder::Auto)?;
-    let mut digest = Digest::new();
-    let mut keys = Vec::new(job.alloc);
-    for _ in 0..job.count {
-        let flaw = some_flaw(&mut job.random);
-        let Some(record) = of
-            .enums
-            .first()
-            .and_then(|all| some_record(all, &mut job.random))
-        else {
-            return Err(Fault::Type);
-        };
-        keys.clear();
-        keys.push(FieldKey::flat("id"))?;
-        add_keys(&mut keys, record, Tagging::Internal(TAG))?;
-        match flaw {
-            Flaw::Missing => drop(keys.pop()),
-            Flaw::Unknown => keys.push(FieldKey::flat("trace_context"))?,
-            _ => {}
-        }
-        job.random.shuffle(&mut keys);
-        let variant = if flaw == Flaw::Tag {
-            "vanished"
-        } else {
-            record.name.as_str()
-        };
-        load(job.alloc, &schema, variant, &keys, &mut digest)?;
-    }
-    job.tell("configurations", digest)
-}
-
-fn load(
-    alloc: Global,
-    schema: &Schema<'_>,
-    variant: &str,
-    keys: &[FieldKey<'_>],
-    digest: &mut Digest,
-) -> Result<(), Fault> {
-    match load_config(alloc, schema, TAG, variant, keys) {
-        Ok(handle) => {
-            digest.number(handle.index());
-            digest.count_answer();
-            Ok(())
-        }
-        Err(Refused::UnknownVariant(names)) => {
-            digest.count_refusal();
-            for name in &names {
-                digest.name(name);
-            }
-            Ok(())
-        }
-        Err(Refused::UnknownKey(key)) => digest.refusal(&key.name()),
-        Err(Refused::Solver(error)) => digest.refusal(&error),
-    }
 }

@@ -7,12 +7,14 @@
 mod awkward;
 mod catalogues;
 mod choices;
+mod configurations;
 mod deep;
 mod digest;
 mod documents;
 mod events;
 mod fault;
 mod features;
+mod inputs;
 mod job;
 mod json_text;
 mod keys;

@@ -1,14 +1,18 @@
 //! Small objects of which the nested keys tell the choice, event by event.
 
-use crate::choices::{Builder, schema};
+use crate::choices::{Builder, schema, some_name, strange_names};
 use crate::digest::Digest;
 use crate::fault::Fault;
+use crate::inputs::{DRAWS, Inputs};
 use crate::job::Job;
 use crate::keys::some_flaw;
 use crate::random::Random;
 use crate::reads::Readable;
-use crate::records::{Content, Contents, Flaw, Look, Record, fields, records, some_record};
+use crate::records::{
+    Content, Contents, Flaw, Look, Member, Record, fields, records, some_record, twin,
+};
 use crate::types::{Tagging, Types};
+use crate::words::numbered;
 use facet_solver::{Schema, ShapeId};
 use facet_solver_uses::stream::{Event, Unread, stream};
 use std::alloc::Global;
@@ -18,14 +22,37 @@ const LOOK: Look = Look {
     least: 3,
     spread: 4,
     kinds: 3,
+    sparse: 2,
 };
 
-/// The shapes that values fit.
+/// How many texts there are that members hold.
+const TEXTS: u64 = 1_000;
+
+/// The shapes that values fit. A text also fits an option of one.
 #[derive(Clone, Copy)]
 struct Fits {
-    text: [ShapeId; 1],
+    text: [ShapeId; 2],
     whole: [ShapeId; 1],
     truth: [ShapeId; 1],
+}
+
+/// What objects are made of: variants with their settings, names that none has, texts, and the
+/// shapes that values fit.
+#[derive(Drop)]
+struct Parts {
+    alloc: Global,
+    records: Vec<Record>,
+    strange: Vec<String>,
+    texts: Vec<String>,
+    fits: Fits,
+}
+
+/// A place in an object.
+#[derive(Clone, Copy)]
+enum Place {
+    Id,
+    Settings,
+    Region,
 }
 
 /// Reads the events of some objects.
@@ -37,17 +64,32 @@ pub fn tell_nested(job: &mut Job) -> Result<(), Fault> {
     let shapes = types.catalogue()?;
     let readable = Readable { shapes, root };
     let schema = schema(job.alloc, &readable, Builder::Auto)?;
-    let fits = Fits {
-        text: [contents.text],
-        whole: [contents.whole],
-        truth: [contents.truth],
+    let parts = Parts {
+        alloc: job.alloc,
+        records,
+        strange: strange_names(job.alloc)?,
+        texts: texts(job.alloc)?,
+        fits: Fits {
+            text: [contents.text, contents.optional],
+            whole: [contents.whole],
+            truth: [contents.truth],
+        },
     };
     let mut digest = Digest::new();
+    let mut inputs = Inputs::new(job.alloc)?;
     for _ in 0..job.count {
-        let events = target_events(job.alloc, &mut job.random, &records, &fits)?;
+        let events = new_events(&mut job.random, &mut inputs, &parts)?;
         read_events(job.alloc, &schema, &events, &mut digest)?;
     }
     job.tell("nested keys", digest)
+}
+
+fn texts(alloc: Global) -> Result<Vec<String>, Fault> {
+    let mut texts = Vec::new(alloc);
+    for number in 0..TEXTS {
+        texts.push(numbered(alloc, "text", number)?)?;
+    }
+    Ok(texts)
 }
 
 /// A struct with an enum of which each variant has its settings under the same name.
@@ -70,29 +112,96 @@ fn add_targets(
     types.structure("Deployment", fields)
 }
 
-fn target_events<'d>(
-    alloc: Global,
+/// Events as no object before had them.
+fn new_events<'d>(
     random: &mut Random,
-    records: &'d [Record],
-    fits: &'d Fits,
+    inputs: &mut Inputs,
+    parts: &'d Parts,
 ) -> Result<Vec<Event<'d, 'd>>, Fault> {
+    for _ in 0..DRAWS {
+        let events = target_events(random, parts)?;
+        if inputs.is_new(&events_digest(&events)) {
+            return Ok(events);
+        }
+    }
+    Err(Fault::Repeated)
+}
+
+fn events_digest(events: &[Event<'_, '_>]) -> Digest {
+    let mut digest = Digest::new();
+    for event in events {
+        match event {
+            Event::Key(name) => digest.name(name),
+            Event::Text(text, _) => digest.name(text),
+            Event::Object | Event::List => digest.number(1),
+            Event::Scalar(_) => digest.number(2),
+            Event::End => digest.number(3),
+        }
+    }
+    digest
+}
+
+fn target_events<'d>(random: &mut Random, parts: &'d Parts) -> Result<Vec<Event<'d, 'd>>, Fault> {
     let flaw = some_flaw(random);
-    let mut events: Vec<Event<'d, 'd>> = Vec::new(alloc);
+    let mut places = [Place::Id, Place::Settings, Place::Region];
+    random.shuffle(&mut places);
+    let mut events: Vec<Event<'d, 'd>> = Vec::new(parts.alloc);
     add(&mut events, Event::Object)?;
-    add_member(&mut events, "id", Content::Text, fits)?;
-    add(&mut events, Event::Key("settings"))?;
-    add(&mut events, Event::Object)?;
-    if let Some(record) = some_record(records, random) {
-        for member in &record.members {
-            add_member(&mut events, member.name.as_str(), member.content, fits)?;
+    for place in places {
+        match place {
+            Place::Id => add_member(&mut events, random, "id", Content::Text, parts)?,
+            Place::Settings => add_settings(&mut events, random, flaw, parts)?,
+            Place::Region if flaw == Flaw::Missing => {}
+            Place::Region => add_member(&mut events, random, "region", Content::Text, parts)?,
         }
     }
     add(&mut events, Event::End)?;
-    if flaw != Flaw::Missing {
-        add_member(&mut events, "region", Content::Text, fits)?;
-    }
-    add(&mut events, Event::End)?;
     Ok(events)
+}
+
+/// Adds the settings of some variant, or where the flaw is in its tag, settings that two have.
+fn add_settings<'d>(
+    events: &mut Vec<Event<'d, 'd>>,
+    random: &mut Random,
+    flaw: Flaw,
+    parts: &'d Parts,
+) -> Result<(), Fault> {
+    let record = match flaw {
+        Flaw::Tag => twin(&parts.records),
+        _ => some_record(&parts.records, random),
+    };
+    add(events, Event::Key("settings"))?;
+    add(events, Event::Object)?;
+    if flaw == Flaw::Unknown
+        && let Some(name) = some_name(random, &parts.strange)
+    {
+        add_member(events, random, name, Content::Text, parts)?;
+    }
+    if let Some(record) = record {
+        for member in &some_members(parts.alloc, random, record)? {
+            add_member(events, random, member.name.as_str(), member.content, parts)?;
+        }
+    }
+    add(events, Event::End)
+}
+
+/// The members of a record, about half of those that documents may lack among them, in some order.
+fn some_members<'d>(
+    alloc: Global,
+    random: &mut Random,
+    record: &'d Record,
+) -> Result<Vec<&'d Member>, Fault> {
+    let mut members = Vec::new(alloc);
+    for member in &record.members {
+        members.push(member)?;
+    }
+    for member in &record.sparse {
+        if random.one_in(2) {
+            members.push(member)?;
+        }
+    }
+    random.shuffle(&mut members);
+    Ok(members)
 }
 
 fn add<'d>(events: &mut Vec<Event<'d, 'd>>, event: Event<'d, 'd>) -> Result<(), Fault> {
@@ -101,15 +210,17 @@ fn add<'d>(events: &mut Vec<Event<'d, 'd>>, event: Event<'d, 'd>) -> Result<(), 
 
 fn add_member<'d>(
     events: &mut Vec<Event<'d, 'd>>,
+    random: &mut Random,
     name: &'d str,
     content: Content,
-    fits: &'d Fits,
+    parts: &'d Parts,
 ) -> Result<(), Fault> {
     add(events, Event::Key(name))?;
+    let text = some_name(random, &parts.texts).unwrap_or(name);
     let value = match content {
-        Content::Whole => Event::Scalar(&fits.whole),
-        Content::Truth => Event::Scalar(&fits.truth),
-        _ => Event::Text(name, &fits.text),
+        Content::Whole => Event::Scalar(&parts.fits.whole),
+        Content::Truth => Event::Scalar(&parts.fits.truth),
+        _ => Event::Text(text, &parts.fits.text),
     };
     add(events, value)
 }

@@ -36,7 +36,7 @@ impl Random {
     /// Puts items into another order.
     pub fn shuffle<T>(&mut self, items: &mut [T]) {
         for index in 1..items.len() {
-            let other = self.index(index);
+            let other = self.index(index.wrapping_add(1));
             if index < items.len() && other < items.len() {
                 items.swap(index, other);
             }

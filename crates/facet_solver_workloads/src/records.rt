@@ -26,8 +26,8 @@ pub struct Contents {
     pub text: ShapeId,
     pub whole: ShapeId,
     pub truth: ShapeId,
+    pub optional: ShapeId,
     decimal: ShapeId,
-    optional: ShapeId,
     texts: ShapeId,
     person: ShapeId,
 }
@@ -44,16 +44,20 @@ pub struct Member {
 pub struct Record {
     pub name: String,
     pub members: Vec<Member>,
+    /// Members that some documents lack.
+    pub sparse: Vec<Member>,
 }
 
 /// How records look: how many there are, how many members each has at least, by how many it may
-/// have more, and how many kinds of contents there are.
+/// have more, how many kinds of contents there are, and how many members each has that documents
+/// may lack.
 #[derive(Clone, Copy)]
 pub struct Look {
     pub variants: u64,
     pub least: u64,
     pub spread: u64,
     pub kinds: u64,
+    pub sparse: u64,
 }
 
 /// What is wrong with the document of a record.
@@ -115,8 +119,9 @@ pub fn records(alloc: Global, enum_name: &str, look: Look) -> Result<Vec<Record>
             variant
         };
         let more = like.checked_rem(look.spread).unwrap_or(0);
+        let count = look.least.wrapping_add(more);
         let mut members = Vec::new(alloc);
-        for index in 0..look.least.wrapping_add(more) {
+        for index in 0..count {
             members.push(make_member(alloc, enum_name, like, index, look.kinds)?)?;
         }
         if is_twin {
@@ -126,9 +131,31 @@ pub fn records(alloc: Global, enum_name: &str, look: Look) -> Result<Vec<Record>
             })?;
         }
         let name = format!(in alloc; "{enum_name}.{}.{variant}", word(variant))?;
-        records.push(Record { name, members })?;
+        let sparse = sparse_members(alloc, enum_name, like, count, look.sparse)?;
+        records.push(Record {
+            name,
+            members,
+            sparse,
+        })?;
     }
     Ok(records)
+}
+
+/// So many members that documents may lack, behind others.
+pub fn sparse_members(
+    alloc: Global,
+    enum_name: &str,
+    variant: u64,
+    first: u64,
+    count: u64,
+) -> Result<Vec<Member>, Fault> {
+    let mut members = Vec::new(alloc);
+    for index in first..first.wrapping_add(count) {
+        let mut member = make_member(alloc, enum_name, variant, index, 1)?;
+        member.content = Content::Optional;
+        members.push(member)?;
+    }
+    Ok(members)
 }
 
 /// Some variant, but not the one that is like the last.
@@ -184,10 +211,22 @@ pub fn fields(
     record: &Record,
 ) -> Result<Vec<Field>, Fault> {
     let mut fields = Vec::new(alloc);
-    for member in &record.members {
+    add_fields(&mut fields, types, contents, &record.members)?;
+    add_fields(&mut fields, types, contents, &record.sparse)?;
+    Ok(fields)
+}
+
+/// Adds a field for each member.
+pub fn add_fields(
+    fields: &mut Vec<Field>,
+    types: &Types,
+    contents: &Contents,
+    members: &[Member],
+) -> Result<(), Fault> {
+    for member in members {
         fields.push(types.field(member.name.as_str(), contents.of(member.content))?)?;
     }
-    Ok(fields)
+    Ok(())
 }
 
 /// Adds the type of some records.

@@ -60,6 +60,7 @@ pub fn services(alloc: Global) -> Result<(Readable, Vec<Record>), Fault> {
         least: 2,
         spread: 3,
         kinds: 3,
+        sparse: 0,
     };
     let sources = records(alloc, "source", look)?;
     let source = add_enum(
