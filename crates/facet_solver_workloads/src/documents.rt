@@ -52,7 +52,7 @@ fn read_services(job: &mut Job) -> Result<(), Fault> {
     let reader = readable.reader(job.alloc, Unknown::Refused)?;
     let mut digest = Digest::new();
     for _ in 0..job.count {
-        let mut text = JsonText::new(job.alloc);
+        let mut text = JsonText::indented(job.alloc);
         let count = job.scaled(3_000);
         write_services(&mut text, &mut job.random, &sources, count)?;
         read(job.alloc, &reader, text.as_str(), &mut digest)?;

@@ -5,7 +5,6 @@ use crate::json_text::JsonText;
 use crate::random::Random;
 use crate::reads::Readable;
 use crate::types::{Tagging, Types};
-use crate::words::word;
 use facet_solver::{ShapeId, ShapeKind};
 use std::alloc::Global;
 
@@ -80,7 +79,7 @@ fn write_feature(text: &mut JsonText, random: &mut Random) -> Result<(), Fault> 
     }
     text.name("properties")?;
     text.open("{")?;
-    text.string_member("name", word(random.next()))?;
+    text.word_member("name", random)?;
     text.whole_member("population", random.below(1_000_000))?;
     text.name("capital")?;
     text.truth(random.one_in(50))?;
@@ -88,10 +87,10 @@ fn write_feature(text: &mut JsonText, random: &mut Random) -> Result<(), Fault> 
         text.name("tags")?;
         text.word_list(random, 3)?;
         text.name("elevation")?;
-        text.decimal(random.below(30_000_000))?;
+        text.signed_decimal(random, 30_000_000)?;
         text.name("source")?;
         text.open("{")?;
-        text.string_member("survey", word(random.next()))?;
+        text.word_member("survey", random)?;
         text.close("}")?;
     }
     text.close("}")?;
@@ -156,7 +155,7 @@ fn write_line(text: &mut JsonText, random: &mut Random) -> Result<(), Fault> {
 
 fn write_position(text: &mut JsonText, random: &mut Random) -> Result<(), Fault> {
     text.open("[")?;
-    text.decimal(random.below(1_800_000))?;
-    text.decimal(random.below(900_000))?;
+    text.signed_decimal(random, 1_800_000)?;
+    text.signed_decimal(random, 900_000)?;
     Ok(text.close("]")?)
 }

@@ -4,7 +4,7 @@ use crate::fault::Fault;
 use crate::json_text::JsonText;
 use crate::random::Random;
 use crate::types::{Tagging, Types};
-use crate::words::{numbered, word};
+use crate::words::{numbered, text_word, word};
 use facet_solver::{Field, ShapeId};
 use std::alloc::Global;
 
@@ -326,16 +326,16 @@ fn write_value(text: &mut JsonText, random: &mut Random, content: Content) -> Re
         }
         Content::Whole => text.whole(random.below(10_000_000))?,
         Content::Truth => text.truth(random.one_in(2))?,
-        Content::Decimal => text.decimal(random.below(10_000_000))?,
+        Content::Decimal => text.signed_decimal(random, 10_000_000)?,
         Content::Optional if random.one_in(8) => text.raw("null")?,
-        Content::Optional => text.string(word(random.next()))?,
+        Content::Optional => text.string(text_word(random.next()))?,
         Content::Texts => {
             let count = random.below(10);
             text.word_list(random, count)?;
         }
         Content::Person => {
             text.open("{")?;
-            text.string_member("login", word(random.next()))?;
+            text.word_member("login", random)?;
             text.name("site_admin")?;
             text.truth(random.one_in(9))?;
             text.whole_member("number", random.below(1_000_000))?;

@@ -116,7 +116,7 @@ pub fn write_services(
 
 fn write_plain(text: &mut JsonText, random: &mut Random, number: u64) -> Result<(), Fault> {
     text.string_member("name", word(number))?;
-    text.string_member("image", word(random.next()))?;
+    text.word_member("image", random)?;
     text.whole_member("replicas", random.below(9))?;
     text.name("ports")?;
     text.open("[")?;
@@ -130,7 +130,7 @@ fn write_plain(text: &mut JsonText, random: &mut Random, number: u64) -> Result<
     text.open("{")?;
     let first = random.next();
     for place in 0..random.below(8) {
-        text.string_member(word(first.wrapping_add(place)), word(random.next()))?;
+        text.word_member(word(first.wrapping_add(place)), random)?;
     }
     Ok(text.close("}")?)
 }
@@ -138,9 +138,9 @@ fn write_plain(text: &mut JsonText, random: &mut Random, number: u64) -> Result<
 fn write_block(text: &mut JsonText, random: &mut Random, block: &[&str; 4]) -> Result<(), Fault> {
     let [_, number, required, optional] = *block;
     text.whole_member(number, random.below(10_000))?;
-    text.string_member(required, word(random.next()))?;
+    text.word_member(required, random)?;
     if random.one_in(2) {
-        text.string_member(optional, word(random.next()))?;
+        text.word_member(optional, random)?;
     }
     Ok(())
 }
