@@ -26,12 +26,10 @@ const EVENTS: Look = Look {
 pub fn run(job: &mut Job) -> Result<(), Fault> {
     read_features(job)?;
     read_services(job)?;
-    read_log(job, "log by a tag", Tagging::Internal("kind"))?;
-    read_log(
-        job,
-        "log by a tag and content",
-        Tagging::Adjacent("kind", "data"),
-    )
+    let count = job.scaled(25_000);
+    read_log(job, "log by a tag", Tagging::Internal("kind"), count)?;
+    let adjacent = Tagging::Adjacent("kind", "data");
+    read_log(job, "log by a tag and content", adjacent, count)
 }
 
 fn read_features(job: &mut Job) -> Result<(), Fault> {
@@ -60,14 +58,14 @@ fn read_services(job: &mut Job) -> Result<(), Fault> {
     job.tell("services", digest)
 }
 
-fn read_log(job: &mut Job, part: &str, tagging: Tagging) -> Result<(), Fault> {
+/// Reads some logs of so many events.
+pub fn read_log(job: &mut Job, part: &str, tagging: Tagging, count: u64) -> Result<(), Fault> {
     let events = records(job.alloc, "log", EVENTS)?;
     let readable = log(job.alloc, &events, tagging)?;
     let reader = readable.reader(job.alloc, Unknown::Ignored)?;
     let mut digest = Digest::new();
     for _ in 0..job.count {
         let mut text = JsonText::new(job.alloc);
-        let count = job.scaled(25_000);
         write_log(&mut text, &mut job.random, &events, tagging, count)?;
         read(job.alloc, &reader, text.as_str(), &mut digest)?;
     }

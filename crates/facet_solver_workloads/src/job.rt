@@ -28,6 +28,11 @@ impl Job {
         }
     }
 
+    /// The size as it was given, for what takes it as a number.
+    pub fn size(&self) -> u64 {
+        self.size
+    }
+
     /// So much of a number as the size asks for.
     pub fn scaled(&self, number: u64) -> u64 {
         number.wrapping_mul(self.size) / 100

@@ -1,16 +1,20 @@
 //! Runs workloads over the libraries, and prints a digest of all that they answer.
 //!
 //! Each workload is asked for by four words: its name, a number that its inputs follow from, how
-//! many inputs of a kind there are, and how large they are, in hundredths of the usual size.
+//! many inputs of a kind there are, and how large they are, in hundredths of the usual size. To a
+//! sample the last two say something else, which stands at its function.
 #![tactic(auto)]
 
 mod awkward;
+mod branches;
 mod catalogues;
+mod chains;
 mod choices;
 mod configurations;
 mod deep;
 mod digest;
 mod documents;
+mod elements;
 mod events;
 mod fault;
 mod features;
@@ -18,7 +22,12 @@ mod inputs;
 mod job;
 mod json_text;
 mod keys;
+mod levels;
+mod narrowed_tags;
 mod nested_keys;
+mod notes;
+mod paths;
+mod payloads;
 mod random;
 mod reads;
 mod records;
@@ -26,6 +35,7 @@ mod results;
 mod services;
 mod start;
 mod types;
+mod wide;
 mod words;
 
 use fault::Fault;
@@ -71,6 +81,12 @@ fn run(name: &str, job: &mut Job) -> Result<(), Fault> {
         "keys" => keys::run(job),
         "start" => start::run(job),
         "awkward" => awkward::run(job),
+        "wide" => wide::run(job),
+        "parts" => levels::sample_parts(job),
+        "levels" => levels::sample_levels(job),
+        "branches" => branches::sample(job),
+        "paths" => paths::sample(job),
+        "payloads" => payloads::sample(job),
         _ => Err(Fault::Type),
     }
 }

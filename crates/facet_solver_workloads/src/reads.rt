@@ -32,7 +32,18 @@ pub fn read(
     digest: &mut Digest,
 ) -> Result<(), Fault> {
     let mut scratch = Scratch::new(alloc);
-    match parse(alloc, text, &mut scratch) {
+    read_with(alloc, reader, text, &mut scratch, digest)
+}
+
+/// Reads a text by room that was there before, and adds its reading or the error, as text.
+pub fn read_with(
+    alloc: Global,
+    reader: &Reader<'_>,
+    text: &str,
+    scratch: &mut Scratch,
+    digest: &mut Digest,
+) -> Result<(), Fault> {
+    match parse(alloc, text, scratch) {
         Ok(document) => match reader.read(alloc, &document) {
             Ok(reading) => digest.answer(&reading),
             Err(error) => digest.refusal(&error),

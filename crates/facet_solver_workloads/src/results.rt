@@ -1,7 +1,9 @@
 //! What the libraries answer, added to a digest by its names and numbers.
 
 use crate::digest::Digest;
-use facet_solver::{FieldInfo, FieldKey, FieldPath, KeyPath, PathSegment, Resolution};
+use facet_solver::{
+    FieldInfo, FieldKey, FieldPath, KeyPath, KeyResult, PathSegment, ProbeResult, Resolution,
+};
 
 /// Adds a key: its category and its name.
 pub fn add_key(digest: &mut Digest, key: &FieldKey<'_>) {
@@ -60,5 +62,33 @@ pub fn add_resolution(digest: &mut Digest, resolution: &Resolution<'_>) {
     }
     for path in resolution.known_paths() {
         add_key_path(digest, path);
+    }
+}
+
+/// Adds the answer to a key: the shape, or that of each field with its score, or the resolution.
+pub fn add_key_result(digest: &mut Digest, result_of_key: &KeyResult<'_, '_>) {
+    match result_of_key {
+        KeyResult::Unambiguous { shape } => digest.number(shape.index()),
+        KeyResult::Ambiguous { fields } => {
+            for (field, score) in fields {
+                digest.number(field.value_shape.index());
+                digest.number(*score as usize);
+            }
+        }
+        KeyResult::Solved(handle) => digest.number(handle.index()),
+        KeyResult::Unknown => digest.name("unknown"),
+    }
+}
+
+/// Adds the answer to a key at a path: the variants of the resolution, where there is one.
+pub fn add_probe_result(digest: &mut Digest, result_of_probe: &ProbeResult<'_, '_>) {
+    match result_of_probe {
+        ProbeResult::KeepGoing => digest.name("several"),
+        ProbeResult::Solved(resolution) => {
+            for selection in resolution.variant_selections() {
+                digest.name(selection.variant_name);
+            }
+        }
+        ProbeResult::NoMatch => digest.name("none"),
     }
 }
