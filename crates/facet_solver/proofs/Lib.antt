@@ -64,3 +64,4 @@ pub mod AtIndices
 pub mod Reported
 pub mod Missing
 pub mod Probe
+pub mod FirstPassing

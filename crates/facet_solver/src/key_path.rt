@@ -29,7 +29,30 @@ pub(crate) fn known_path<'s, 'c>(
 }
 
 /// Whether a resolution has a path that it or another has.
+///
+/// A look-up compares the names that paths share again and again, and a walk mostly the last name
+/// of each path alone. So the path is looked up only where that is sure to be less.
 pub(crate) fn has_known_path<'c>(resolution: &Resolution<'c>, known: &KeyPath<'c>) -> bool
+    ensures { result ≡ has_key_path (names_of known.now.items) resolution.now }
+{
+    match known.split_last() {
+        Some((key, path)) if !is_found_sooner(resolution.known_paths().len(), known.len()) => {
+            known_path(resolution, path, key).is_some()
+        }
+        _ => is_found(resolution, known),
+    }
+}
+
+/// Whether a look-up of a path of so many names among so many paths is sure to be less than a walk.
+///
+/// It compares at most four paths for each time that their number can be halved.
+fn is_found_sooner(paths: usize, names: usize) -> bool {
+    let compared = 4 * (usize::BITS - paths.leading_zeros()) as usize;
+    names.saturating_mul(compared) <= paths
+}
+
+/// Whether a path is found among those of a resolution by a look-up.
+fn is_found<'c>(resolution: &Resolution<'c>, known: &KeyPath<'c>) -> bool
     ensures { result ≡ has_key_path (names_of known.now.items) resolution.now }
 {
     resolution.known_paths().contains(known)

@@ -1,9 +1,9 @@
 //! A solver that goes by key paths alone: it narrows resolutions by the nested keys of a document,
 //! and records none.
-ghost use Rattle.std.specs.Prelude.{◌≡◌, [], IfOk, IfSome, filter};
-ghost use Rattle.std.specs.Option.{IfNone};
+ghost use Rattle.std.specs.Prelude.{◌≡◌, IfOk, IfSome, is_some};
+ghost use Rattle.std.specs.Option.{ForSome};
 ghost use Rattle.facet_solver_shape.specs.Names.{names_of};
-ghost use Rattle.facet_solver.specs.KeyPath.{has_key_path, whole_path};
+ghost use Rattle.facet_solver.specs.KeyPath.{has_key_at, whole_path};
 ghost use Rattle.facet_solver.specs.Probing.{probe_key, probe_result, probe_result_view, resolutions_of};
 
 use crate::key_path::{has_known_path, known_path};
@@ -102,51 +102,66 @@ impl<'s, 'c> ProbingSolver<'s, 'c> {
 }
 
 /// Only the resolutions stay that have the key at the path, in their order.
+///
+/// The checker has no rule for a closure of `retain` that changes a search.
 fn retain_with_key<'s, 'c>(resolutions: &mut Vec<&'s Resolution<'c>>, path: &[&str], key: &str)
     ensures { resolutions_of resolutions.new.items
         ≡ probe_key (names_of path.now) key.now (resolutions_of resolutions.old.items) }
 {
-    match first_known_path(resolutions, path, key) {
-        Some(known) => retain_with_path(resolutions, known),
-        None => resolutions.clear(),
-    }
-}
-
-/// The whole path of a key that stands at a path, as the first resolution has it that does.
-fn first_known_path<'s, 'c>(
-    resolutions: &[&'s Resolution<'c>],
-    path: &[&str],
-    key: &str,
-) -> Option<&'s KeyPath<'c>>
-    ensures none { IfNone result
-        (probe_key (names_of path.now) key.now (resolutions_of resolutions.now) ≡ []) }
-    ensures whole { IfSome result
-        (λ known. names_of known.now.items ≡ whole_path (names_of path.now) key.now) }
-{
-    for resolution in resolutions {
-        if let Some(known) = known_path(resolution, path, key) {
-            return Some(known);
-        }
-    }
-    None
-}
-
-/// Only the resolutions stay that have a path, in their order.
-///
-/// The checker has no rule for a closure of `retain` that looks up the path.
-fn retain_with_path<'s, 'c>(resolutions: &mut Vec<&'s Resolution<'c>>, known: &KeyPath<'c>)
-    ensures { resolutions_of resolutions.new.items
-        ≡ filter (has_key_path (names_of known.now.items)) (resolutions_of resolutions.old.items) }
-{
+    let mut search = KeyPathSearch::new(path, key);
     let mut kept = 0;
     for index in 0..resolutions.len() {
         let resolution = resolutions[index];
-        if has_known_path(resolution, known) {
+        if search.find(resolution).is_some() {
             resolutions[kept] = resolution;
             kept += 1;
         }
     }
     resolutions.truncate(kept);
+}
+
+/// A key at a path, sought in one resolution after another.
+///
+/// The first resolution that has it gives the whole path, by which it is sought from then on.
+#[derive(Drop)]
+struct KeyPathSearch<'p, 'n, 'k, 's, 'c> {
+    path: &'p [&'n str],
+    key: &'k str,
+    known: Option<&'s KeyPath<'c>>,
+    ghost is_whole: { ForSome known
+        (λ known. names_of known.now.items ≡ whole_path (names_of path.now) key.now) },
+}
+
+impl<'p, 'n, 'k, 's, 'c> KeyPathSearch<'p, 'n, 'k, 's, 'c> {
+    fn new(path: &'p [&'n str], key: &'k str) -> Self
+        ensures path { result.path.now ≡ path.now }
+        ensures key { result.key.now ≡ key.now }
+    {
+        KeyPathSearch {
+            path,
+            key,
+            known: None,
+        }
+    }
+
+    /// The whole path, as the first of the resolutions has it, if this one has it too.
+    fn find(&mut self, resolution: &'s Resolution<'c>) -> Option<&'s KeyPath<'c>>
+        ensures known { is_some result
+            ≡ has_key_at (names_of self.old.path.now) self.old.key.now resolution.now }
+        ensures whole { IfSome result (λ known. names_of known.now.items
+            ≡ whole_path (names_of self.old.path.now) self.old.key.now) }
+        ensures path { self.new.path ≡ self.old.path }
+        ensures key { self.new.key ≡ self.old.key }
+    {
+        match self.known {
+            Some(known) if has_known_path(resolution, known) => Some(known),
+            Some(_) => None,
+            None => {
+                self.known = known_path(resolution, self.path, self.key);
+                self.known
+            }
+        }
+    }
 }
 
 /// Printed as a derived impl would. The derive gets no proof where references lie in a vector, so

@@ -13,7 +13,7 @@ mod words;
 
 use bits::{count_bits, is_clear, is_set};
 pub(crate) use common::CommonIter;
-pub(crate) use condition::{Condition, Never};
+pub(crate) use condition::{Condition, Never, Only};
 use facet_solver_shape::Steps;
 pub use iter::ResolutionSetIter;
 use std::alloc::{AllocError, Global};

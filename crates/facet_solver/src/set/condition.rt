@@ -1,5 +1,5 @@
 //! Conditions on indices.
-ghost use Rattle.std.specs.Prelude.{◌≡◌, false};
+ghost use Rattle.std.specs.Prelude.{◌≡◌, false, nat_eq};
 
 /// A condition on indices.
 pub(crate) trait Condition {
@@ -19,5 +19,19 @@ impl Condition for Never {
 
     fn holds(&self, _: usize) -> bool {
         false
+    }
+}
+
+/// What one index alone meets.
+#[derive(Drop)]
+pub(crate) struct Only {
+    pub(crate) index: usize,
+}
+
+impl Condition for Only {
+    ghost holds = { λ t i. nat_eq i t.index };
+
+    fn holds(&self, index: usize) -> bool {
+        index == self.index
     }
 }

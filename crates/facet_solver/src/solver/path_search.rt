@@ -1,5 +1,6 @@
 //! A key path, sought in the resolutions of a schema.
-ghost use Rattle.std.specs.Prelude.{◌≡◌, ◌∷◌, ◌++◌, [], IfOk, IfSome, OnOk, List, ℕ, Some, filter, is_some, map};
+ghost use Rattle.std.specs.Prelude.{◌≡◌, ◌∷◌, ◌++◌, ◌<◌, [], IfOk, IfSome, OnOk, List, ℕ, Some, filter, is_some, length, map};
+ghost use Rattle.std.specs.List.{list_any};
 ghost use Rattle.std.specs.Option.{IfNone};
 ghost use Rattle.facet_solver_shape.specs.Names.{names_of};
 ghost use Rattle.facet_solver.specs.solver.KeyResult.{IsKeyResultOf, key_result_view, scored_view};
@@ -9,7 +10,7 @@ ghost use Rattle.facet_solver.specs.Resolutions.{passes};
 
 use crate::key_path::{has_known_path, known_path};
 use crate::schema::Schema;
-use crate::set::{Condition, ResolutionSet};
+use crate::set::{Condition, ResolutionSet, ResolutionSetIter};
 use crate::solver::distinct_fields::score_at;
 use crate::solver::key_result::KeyResult;
 use crate::solver::path_ends::PathEnds;
@@ -17,22 +18,26 @@ use crate::solver::shaped::is_among;
 use facet_solver_shape::{FieldInfo, KeyPath, ShapeId};
 use std::alloc::{AllocError, Global};
 
-/// The whole path of a key that stands at a path, as the first resolution of a set has it that
-/// does.
-pub(crate) fn first_known_path<'s, 'c>(
+/// The first of the resolutions at some indices that has a key at a path, with the whole path as it
+/// has it. The indices behind it are then still to come.
+pub(crate) fn first_with_path<'s, 'c>(
     schema: &'s Schema<'c>,
-    set: &ResolutionSet,
+    indices: &mut ResolutionSetIter<'_>,
     path: &[&str],
     key: &str,
-) -> Option<&'s KeyPath<'c>>
+) -> Option<(usize, &'s KeyPath<'c>)>
     ensures none { let test = has_key_at (names_of path.now) key.now in
-        IfNone result (filter (passes test schema.now.resolutions) set.now.members ≡ []) }
+        IfNone result (filter (passes test schema.now.resolutions) indices.old ≡ []) }
+    ensures first { let passes = passes (has_key_at (names_of path.now) key.now) in
+        let passing = filter (passes schema.now.resolutions) in
+        IfSome result (λ found. passing indices.old ≡ found.0 ∷ passing indices.new) }
     ensures whole { IfSome result
-        (λ known. names_of known.now.items ≡ whole_path (names_of path.now) key.now) }
+        (λ found. names_of found.1.now.items ≡ whole_path (names_of path.now) key.now) }
+    ensures within { IfSome result (λ found. found.0 < length schema.now.resolutions) }
 {
-    for index in set.iter() {
+    while let Some(index) = indices.next() {
         if let Some(known) = known_path_at(schema, index, path, key) {
-            return Some(known);
+            return Some((index, known));
         }
     }
     None
@@ -49,6 +54,7 @@ fn known_path_at<'s, 'c>(
         is_some result ≡ passes test schema.now.resolutions index }
     ensures whole { IfSome result
         (λ known. names_of known.now.items ≡ whole_path (names_of path.now) key.now) }
+    ensures within { IfSome result (λ _. index < length schema.now.resolutions) }
 {
     known_path(schema.resolutions().get(index)?, path, key)
 }
@@ -73,6 +79,20 @@ impl Condition for PathSearch<'_, '_> {
 }
 
 impl<'s, 'c> PathSearch<'s, 'c> {
+    /// Whether the resolution at any of some indices has the path.
+    pub(crate) fn is_at_any(&self, mut indices: ResolutionSetIter<'_>) -> bool
+        ensures { let whole = names_of self.now.path.now.items in
+            let test = passes (has_key_path whole) self.now.schema.now.resolutions in
+            result ≡ list_any test indices.entry }
+    {
+        while let Some(index) = indices.next() {
+            if self.holds(index) {
+                return true;
+            }
+        }
+        false
+    }
+
     /// The answer by the shapes at the path, of the resolutions of a set that have it.
     pub(crate) fn by_shapes(
         &self,

@@ -6,10 +6,10 @@ ghost use Rattle.facet_solver.specs.solver.Probe as probe;
 ghost use Rattle.facet_solver.specs.solver.Probe.{key_path_result};
 
 use crate::schema::handle::ResolutionHandle;
-use crate::set::{Matches, Never};
+use crate::set::{Never, Only};
 use crate::solver::Solver;
 use crate::solver::key_result::KeyResult;
-use crate::solver::path_search::{PathSearch, first_known_path};
+use crate::solver::path_search::{PathSearch, first_with_path};
 use std::alloc::{AllocError, Global};
 
 impl<'s, 'c> Solver<'s, 'c, '_> {
@@ -37,16 +37,17 @@ impl<'s, 'c> Solver<'s, 'c, '_> {
         ensures err { OnErr result (self.new ≡ self.old) }
     {
         let schema = self.schema;
-        let Some(path) = first_known_path(schema, &self.candidates, path, key) else {
+        let mut indices = self.candidates.iter();
+        let Some((first, path)) = first_with_path(schema, &mut indices, path, key) else {
             self.candidates.retain(&Never);
             return Ok(KeyResult::Unknown);
         };
         let search = PathSearch { schema, path };
-        let answer = match self.candidates.matching(&search) {
-            Matches::None => KeyResult::Unknown,
-            Matches::One(index) => KeyResult::Solved(ResolutionHandle::new(schema, index)),
-            Matches::Several => search.by_shapes(alloc, &self.candidates)?,
-        };
+        if !search.is_at_any(indices) {
+            self.candidates.retain(&Only { index: first });
+            return Ok(KeyResult::Solved(ResolutionHandle::new(schema, first)));
+        }
+        let answer = search.by_shapes(alloc, &self.candidates)?;
         self.candidates.retain(&search);
         Ok(answer)
     }

@@ -1,16 +1,35 @@
-use Rattle.std.proofs.Common.{filter, ap, sym, ◌∙◌}
+use Rattle.std.proofs.Common.{◌≡◌, ◌<◌, ◌≤◌, length, ap, sym, ◌∙◌, arith}
+use Rattle.std.proofs.lemmas.List.Filters.{FiltersInPlace-all, FiltersInPlace-more_no, FiltersInPlace-more_set}
 use Rattle.facet_solver_shape.specs.Names.{names_of}
-use Rattle.facet_solver.specs.KeyPath.{has_key_path}
-use Rattle.facet_solver.specs.Probing.{probe_key, resolutions_of}
+use Rattle.facet_solver.specs.KeyPath.{has_key_at}
+use Rattle.facet_solver.specs.Probing.{resolutions_of}
+use Rattle.facet_solver.proofs.Probed.{kept}
 use Rattle.facet_solver.proofs.probing.retain_with_key.Goals as goal
+use Rattle.facet_solver.proofs.probing.retain_with_key.Goals.{then-is_some, else-is_some}
 
-pub returns-in-Some : goal.returns-in-Some
-returns-in-Some c =
-    c.retain_with_path.ensures
-    ∙ ap (λ whole. filter (has_key_path whole) (resolutions_of c.args.resolutions.now.items)) c.in-Some.ensures.whole
+pub loop-index-preserved : goal.loop-index-preserved
+loop-index-preserved c =
+    let before = c.loop-index.invariant in
+    let within : c.loop-index.index < length c.loop-index.resolutions.items = omega (arith, before.kept.long) in
+    let told : has_key_at (names_of c.args.path.now) c.args.key.now c.index-resolution.result.now.now ≡ c.is_some.result =
+    (λ i. has_key_at (names_of (sym before.path i)) (sym before.key i) c.index-resolution.result.now.now)
+    ∙ sym c.find.ensures.known
+    ∙ sym c.is_some.ensures in
+    record {
+      path = ap (λ p. p.now) c.find.ensures.path ∙ before.path;
+      key = ap (λ k. k.now) c.find.ensures.key ∙ before.key;
+      kept = elim c.if-is_some.branch [
+        | then-is_some w ↦
+            rw (w.resolutions-is, w.kept-is)
+            (FiltersInPlace-more_set before.kept within (told ∙ w.if-is_some.true) c.index-resolution.ensures)
+        | else-is_some w ↦
+            rw (w.resolutions-is, w.kept-is)
+            (FiltersInPlace-more_no before.kept within (told ∙ w.if-is_some.false) c.index-resolution.ensures)
+      ];
+    }
 
-pub returns-in-None : goal.returns-in-None
-returns-in-None c =
-    ap resolutions_of c.clear.ensures.items
-    ∙ sym c.in-None.ensures.none
-    ∙ ap (λ rs. probe_key (names_of c.args.path.now) c.args.key.now (resolutions_of rs)) c.deref.ensures.value
+pub returns : goal.returns
+returns c =
+    let all : length c.args.resolutions.now.items ≤ c.loop-index.index = omega arith in
+    ap resolutions_of (c.truncate.ensures.items ∙ FiltersInPlace-all c.loop-index.invariant.kept all)
+    ∙ kept (has_key_at (names_of c.args.path.now) c.args.key.now) c.args.resolutions.now.items

@@ -5,7 +5,7 @@ use Rattle.std.specs.Cmp.Lexicographic.{slice_cmp}
 use Rattle.facet_solver_shape.specs.Names.{names_of}
 use Rattle.facet_solver_shape.proofs.Keys.{path_cmp_total, path_cmp_same}
 use Rattle.facet_solver_shape.proofs.Viewed.{contains_viewed, slice_cmp-map}
-use Rattle.facet_solver.proofs.key_path.has_known_path.Goals as goal
+use Rattle.facet_solver.proofs.key_path.is_found.Goals as goal
 
 pub returns : goal.returns
 returns c =
