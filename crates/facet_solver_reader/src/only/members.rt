@@ -1,5 +1,5 @@
 //! The only readings of an object's members: those of a choice, and those of no known name.
-ghost use Rattle.std.specs.Prelude.{◌≡◌, ◌<◌, All, IfOk, IsSorted, Some, length, map, slice_get};
+ghost use Rattle.std.specs.Prelude.{◌≡◌, ◌<◌, ◌≤◌, All, IfOk, IsSorted, Some, length, map, slice_get};
 ghost use Rattle.facet_solver_reader.specs.declared.count.Count.TheVariants.{One};
 ghost use Rattle.facet_solver_shape.specs.Names.{name_ref_cmp};
 ghost use Rattle.facet_solver_reader.specs.Counted.{Counted};
@@ -45,7 +45,7 @@ pub(super) fn read_fields<'c, 'v, 'd>(
     ensures told { IfOk result (λ values. AreToldFields tables.now nodes.now object.now
         (found.members_in (map step_view steps.now)) values.items) }
 {
-    let mut values = Vec::with_capacity(tables.alloc, steps.len())?;
+    let mut values = Vec::with_capacity(tables.alloc, members_among(steps))?;
     for step in steps {
         if let Step::Field(_, member) = step {
             let reading = read_field(tables, nodes, memo, object, member)?;
@@ -53,6 +53,16 @@ pub(super) fn read_fields<'c, 'v, 'd>(
         }
     }
     Ok(values)
+}
+
+/// How many members are among steps.
+fn members_among(steps: &[Step<'_, '_>]) -> usize
+    ensures { result ≤ length steps.now }
+{
+    steps
+        .iter()
+        .filter(|step| matches!(step, Step::Field(..)))
+        .count()
 }
 
 /// The only reading of a member, or its absence.

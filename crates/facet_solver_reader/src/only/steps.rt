@@ -1,5 +1,5 @@
 //! What the only reading of an object goes through.
-ghost use Rattle.std.specs.Prelude.{◌≡◌, ◌+◌, ◌<◌, ◌^◌, ◌++◌, ◌∷◌, [], All, IfOk, IsNone, OnOk, length};
+ghost use Rattle.std.specs.Prelude.{◌≡◌, ◌+◌, ◌*◌, ◌<◌, ◌≤◌, ◌^◌, ◌++◌, ◌∷◌, [], All, IfOk, IsNone, OnOk, length, max};
 ghost use Rattle.facet_solver_reader.specs.declared.count.Count.TheVariants.{One};
 ghost use Rattle.facet_solver_reader.specs.Chosen.{IsChosen};
 ghost use Rattle.facet_solver_reader.specs.FieldPlaces.{path_at};
@@ -21,6 +21,9 @@ use crate::read::{Memo, Object, chosen_branch, list_counts, lone_branch, touches
 use crate::tables::{List, Tables};
 use facet_solver_shape::{FieldPath, ShapeId};
 use std::alloc::AllocError;
+
+/// The room of a vector that has grown once.
+const LEAST_ROOM: usize = 4;
 
 /// One step of the choice by which an object is read.
 #[derive(Debug, Drop)]
@@ -65,7 +68,7 @@ pub(super) fn steps_of<'r, 'c>(
     ensures sound { AreSound tables.now nodes.now memo.new.entries.items }
     ensures plan { IfOk result (λ steps. IsPlan tables.now nodes.now object.now steps.items) }
 {
-    let steps = Vec::with_capacity(tables.alloc, object.list.parts.len())?;
+    let steps = Vec::with_capacity(tables.alloc, room_for(&object.list.parts))?;
     let mut way = Way {
         steps,
         frames: Vec::new(tables.alloc),
@@ -84,6 +87,25 @@ pub(super) fn steps_of<'r, 'c>(
         }
     }
     Err(AllocError)
+}
+
+/// For how many steps of a list there is room at first. It is held while the members of an object
+/// are read, so it is for the parts that are a step each. Where selections may add more it is what
+/// a vector of so many has that grows.
+fn room_for(parts: &[Part<'_>]) -> usize
+    ensures { result ≤ max LEAST_ROOM (2 * length parts.now) }
+{
+    let sure = parts.iter().filter(|part| !is_selection(part)).count();
+    if sure == parts.len() {
+        sure
+    } else {
+        sure.next_power_of_two().max(LEAST_ROOM)
+    }
+}
+
+/// Whether a part is a selection.
+fn is_selection(part: &Part<'_>) -> bool {
+    matches!(part, Part::Selection(_))
 }
 
 /// The branch, by its index, by which an object is read that has one reading by a selection; `None`

@@ -5,11 +5,12 @@ ghost use Rattle.facet_solver_reader.specs.Quoted.{is_unescaped, is_unescaped_by
 
 use std::fmt;
 
-/// Writes a text as `{:?}` does. Most texts have nothing to escape, and are written as they are.
+/// Writes a text as `{:?}` does, in the same pieces. Most texts have nothing to escape, and are
+/// written as they are. Of an empty one `{:?}` writes the quotes alone.
 pub(super) fn write_quoted<W: fmt::Write>(text: &str, f: &mut fmt::Formatter<W>) -> fmt::Result
     ensures { DisplaysOnOk W.write_str_gives f.old result (debug_str text.now) f.new }
 {
-    if is_unescaped(text) {
+    if !text.is_empty() && is_unescaped(text) {
         write!(f, "\"{text}\"")
     } else {
         write!(f, "{text:?}")
