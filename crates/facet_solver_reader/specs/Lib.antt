@@ -44,6 +44,7 @@ pub mod Ranked
 pub mod NoTables
 pub mod FieldPlaces
 pub mod Steps
+pub mod SureSteps
 pub mod Told
 pub mod Planned
 pub mod Chosen

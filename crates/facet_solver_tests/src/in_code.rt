@@ -1,6 +1,7 @@
 //! What only code can show: names, derives, and errors that no transcript meets.
 
 mod errors;
+mod pieces;
 
 use crate::answer::{Answer, Line};
 use crate::public_names::public_types_have_their_derives;
@@ -13,6 +14,7 @@ use facet_solver::{
     FieldKey, FieldPath, PathSegment, ResolutionHandle, Schema, Shape, ShapeId, ShapeKind, Shapes,
     Solver, specificity_score,
 };
+use pieces::texts_of_readings_are_written_in_few_pieces;
 use std::alloc::AllocError;
 
 /// One check.
@@ -27,11 +29,12 @@ pub enum Check {
     Escapes,
     SecondField,
     PathSegments,
+    Pieces,
     Readme,
 }
 
 /// The checks, by name.
-pub const CHECKS: [(&str, Check); 10] = [
+pub const CHECKS: [(&str, Check); 11] = [
     ("public_types_have_their_derives", Check::PublicTypes),
     ("keys_have_names_and_an_order", Check::Keys),
     ("a_catalogue_gives_its_shapes", Check::Catalogue),
@@ -44,6 +47,7 @@ pub const CHECKS: [(&str, Check); 10] = [
     ("names_in_lists_are_escaped", Check::Escapes),
     ("a_second_field_is_an_error_of_a_schema", Check::SecondField),
     ("a_path_gives_its_segments", Check::PathSegments),
+    ("texts_of_readings_are_written_in_few_pieces", Check::Pieces),
     ("the_sample_of_the_readme_holds", Check::Readme),
 ];
 
@@ -60,6 +64,7 @@ impl Check {
             Check::Escapes => names_in_lists_are_escaped(answer),
             Check::SecondField => a_second_field_is_an_error_of_a_schema(answer),
             Check::PathSegments => a_path_gives_its_segments(answer),
+            Check::Pieces => texts_of_readings_are_written_in_few_pieces(answer),
             Check::Readme => keys_tell_the_payload(answer),
         }
     }

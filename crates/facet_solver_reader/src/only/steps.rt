@@ -8,6 +8,7 @@ ghost use Rattle.facet_solver_reader.specs.Parts.{a_selection};
 ghost use Rattle.facet_solver_reader.specs.Planned.{IsPlan};
 ghost use Rattle.facet_solver_reader.specs.Reading.{AreSound, IsListCount, IsObject, IsPartCount};
 ghost use Rattle.facet_solver_reader.specs.Steps.{place_below};
+ghost use Rattle.facet_solver_reader.specs.SureSteps.{is_selection, sure_steps};
 ghost use Rattle.facet_solver_reader.specs.Tables.{AreTables, ListIsServed, PartIsBefore, rules_at};
 ghost use Rattle.facet_solver_reader.specs.UnderWay.{AreKnownCounts, IsInnermost, IsSelected, IsUnderWay, with_inner};
 ghost use Rattle.facet_solver_reader.specs.Views.{list_view, selection_view};
@@ -93,7 +94,7 @@ pub(super) fn steps_of<'r, 'c>(
 /// are read, so it is for the parts that are a step each. Where selections may add more it is what
 /// a vector of so many has that grows.
 fn room_for(parts: &[Part<'_>]) -> usize
-    ensures { result ≤ max LEAST_ROOM (2 * length parts.now) }
+    ensures { result ≤ max LEAST_ROOM (2 * sure_steps parts.now) }
 {
     let sure = parts.iter().filter(|part| !is_selection(part)).count();
     if sure == parts.len() {
@@ -104,7 +105,9 @@ fn room_for(parts: &[Part<'_>]) -> usize
 }
 
 /// Whether a part is a selection.
-fn is_selection(part: &Part<'_>) -> bool {
+fn is_selection(part: &Part<'_>) -> bool
+    ensures { result ≡ is_selection part.now }
+{
     matches!(part, Part::Selection(_))
 }
 
