@@ -3,7 +3,7 @@ use Rattle.std.proofs.Common.{◌≡◌, ◌∙◌, ap, subst, refl, ℕ, ◌<�
 use Rattle.std.proofs.Common.{true, false, nat_eq, max, arith}
 use Rattle.std.proofs.lemmas.Nat.{mod_below}
 use Rattle.std.proofs.lemmas.Nat.Bits.{bit_at_or, bit_at-lt}
-use Rattle.std.specs.Prelude.{bit_or}
+use Rattle.std.specs.Prelude.{bit_or, IsTrue}
 use Rattle.std.specs.Int.{bit_at}
 use Rattle.std.specs.List.{All}
 use Rattle.facet_solver_shape.specs.Names.{Name}
@@ -11,6 +11,8 @@ use Rattle.facet_solver_reader.specs.declared.read.name_filter.NameFilter.{NameF
 use Rattle.facet_solver_reader.specs.Documents.{Member, Tree}
 use Rattle.facet_solver_reader.specs.NameFilters.{HoldsNames, bit_of, may_have}
 use Rattle.facet_solver_reader.specs.Objects.{HasNamed, find}
+use Rattle.facet_solver_reader.specs.Parts.{MemberPart}
+use Rattle.facet_solver_reader.specs.Reading.{fails_for}
 use Rattle.facet_solver_reader.proofs.Named.{has_named}
 
 -- the bit that stands for a name is one of 64
@@ -51,3 +53,10 @@ not_found ms filter x holds isnt = go (find ms x) refl
         let has : HasNamed ms x = record { value = v; found = e } in
         let is : may_have filter x ≡ true = holds.holds x has in
         absurd (cc)
+
+-- a member fails that is required and whose bit is not set
+pub lacking_fails : (ms : List Member) (filter : NameFilter) (m : MemberPart)
+    → HoldsNames ms filter → m.required ≡ true → may_have filter m.name ≡ false
+    → IsTrue (fails_for m (find ms m.name))
+lacking_fails ms filter m holds required isnt =
+    ap (fails_for m) (not_found ms filter m.name holds isnt) ∙ required

@@ -37,10 +37,10 @@ unknown_names-append l (m ∷ ms) ns =
     at e false = ap (λ xs. m.name ∷ xs) e
 
 -- there are none, where the list has each name
-pub unknown_names-none : (l : ListEntry) (ms : List Member) → has_unknown l ms ≡ false
+pub none_unknown : (l : ListEntry) (ms : List Member) → has_unknown l ms ≡ false
     → unknown_names l ms ≡ []
-unknown_names-none l [] e = refl
-unknown_names-none l (m ∷ ms) e = at (unknown_names-none l ms) (knows l (named m.name)) e
+none_unknown l [] e = refl
+none_unknown l (m ∷ ms) e = at (none_unknown l ms) (knows l (named m.name)) e
   where
     at : (has_unknown l ms ≡ false → unknown_names l ms ≡ []) → (b : Bool)
         → (not b || has_unknown l ms) ≡ false

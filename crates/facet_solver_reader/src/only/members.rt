@@ -155,6 +155,7 @@ fn read_taken<'c, 'v, 'd>(
 }
 
 /// The names of an object's members that no choice of its list has, in order.
+#[tactic(auto, using(crate::proofs::UnknownNames::none_unknown))]
 pub(super) fn ignored_names<'d>(
     alloc: Global,
     nodes: &Nodes<'_, 'd>,

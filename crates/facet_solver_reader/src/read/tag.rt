@@ -116,6 +116,7 @@ fn is_tag(member: &MemberPart<'_>) -> bool {
 }
 
 /// Whether a member is required and an object is known to lack it.
+#[tactic(auto, using(crate::proofs::NameFilters::lacking_fails))]
 fn lacks(nodes: &Nodes<'_, '_>, object: &Object<'_, '_>, member: &MemberPart<'_>) -> bool
     requires { HoldsNames (members_in (value_of nodes.now object.now.node)) object.now.filter }
     ensures { IsTrue result → IsTrue (fails_for (member_view member.now)

@@ -3,20 +3,13 @@ use Rattle.std.proofs.Common.{◌∙◌, ap, sym}
 use Rattle.std.proofs.lemmas.List.{map-append}
 use Rattle.facet_solver_reader.specs.Reading.{member_view}
 use Rattle.facet_solver_reader.specs.Told.{texts}
-use Rattle.facet_solver_reader.proofs.UnknownNames.{unknown_more, unknown_names-none, unknown_same}
+use Rattle.facet_solver_reader.proofs.UnknownNames.{unknown_more, unknown_same}
 use Rattle.facet_solver_reader.specs.Nodes.{members_in, value_of}
 use Rattle.facet_solver_reader.proofs.only.members.ignored_names.Goals as goal
 use Rattle.facet_solver_reader.proofs.only.members.ignored_names.Goals.{
   then-not-has_name+in_ok-push,
   else-not-has_name,
 }
-
-pub returns-then-not-object : goal.returns-then-not-object
-returns-then-not-object c =
-    ap texts c.new-names.ensures.items
-    ∙ sym (unknown_names-none c.args.object.now.list.now
-    (members_in (value_of c.args.nodes.now c.args.object.now.node))
-    (sym c.requires.unknown ∙ c.if-not-object.true))
 
 pub loop-member-preserved : goal.loop-member-preserved
 loop-member-preserved c =
