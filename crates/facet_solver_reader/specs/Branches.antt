@@ -43,12 +43,21 @@ abbrev pub Fits : Rules → Object → Selection → ListId → Type 0
 Fits rules object s id =
     (x : Key) → Has rules object x → IsKnownIn rules.lists s x → IsKnown (Chooses rules.lists id) x
 
+-- the object has a key, and the selection knows it
+abbrev pub HasKnown : Rules → Object → Selection → Key → Type 0
+HasKnown rules object s x = Has rules object x × IsKnownIn rules.lists s x
+
 -- the object has a key that the selection knows and a list doesn't
 pub record Misfits (rules : Rules) (object : Object) (s : Selection) (id : ListId) : Type 0 where
   pub key : Key
   pub has : Has rules object key
   pub known : IsKnownIn rules.lists s key
   pub unknown : IsKnown (Chooses rules.lists id) key → ⊥
+
+-- by this key
+abbrev pub MisfitsBy : Rules → Object → Selection → ListId → Key → Type 0
+MisfitsBy rules object s id x =
+    HasKnown rules object s x × (IsKnown (Chooses rules.lists id) x → ⊥)
 
 -- a selection that is not optional, or of which the object has a key
 abbrev pub CanBePresent : Rules → Object → Selection → Type 0
@@ -66,3 +75,9 @@ pub record KnowsOther (rules : Rules) (members : List Member) (id other : ListId
   pub has : HasNamed members name
   pub known : IsKnown (Chooses rules.lists id) (named name)
   pub unknown : IsKnown (Chooses rules.lists other) (named name) → ⊥
+
+-- it is the member of this name
+abbrev pub IsOther : Rules → List Member → ListId → ListId → Name → Type 0
+IsOther rules members id other x =
+    HasNamed members x × IsKnown (Chooses rules.lists id) (named x)
+    × (IsKnown (Chooses rules.lists other) (named x) → ⊥)

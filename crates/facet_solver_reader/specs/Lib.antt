@@ -32,6 +32,7 @@ pub mod Reading
 pub mod EveryList
 pub mod Listing
 pub mod LookedUp
+pub mod Passed
 pub mod OrderedLists
 pub mod Readers
 pub mod Placing

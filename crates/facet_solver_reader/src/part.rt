@@ -17,7 +17,7 @@ pub(crate) enum Target<'c> {
 }
 
 /// The name of a list of parts.
-#[derive(Clone, Copy, Debug)]
+#[derive(Clone, Copy, PartialEq, Eq, Debug)]
 pub(crate) enum ListId {
     /// The fields of a struct.
     Struct(ShapeId),

@@ -14,7 +14,7 @@ ghost use Rattle.facet_solver_reader.specs.Views.{list_view, selection_view};
 
 use super::list::some_fails_at_once;
 use super::object::Object;
-use super::selection::{count_branch, touches};
+use super::selection::{Passed, count_branch, touches};
 use super::tag::{LookedUp, fails_at_first};
 use crate::count::Count;
 use crate::nodes::Nodes;
@@ -23,9 +23,9 @@ use crate::tables::Tables;
 
 /// The branch, by its index, by which an object is read that has one reading by a selection; `None`
 /// where the selection is absent.
-pub(crate) fn chosen_branch(
-    tables: &Tables<'_>,
-    nodes: &Nodes<'_, '_>,
+pub(crate) fn chosen_branch<'r>(
+    tables: &'r Tables<'_>,
+    nodes: &'r Nodes<'_, '_>,
     object: &Object<'_, '_>,
     selection: &Selection,
     counts: &[Count],
@@ -44,9 +44,17 @@ pub(crate) fn chosen_branch(
     if selection.optional && !touches(tables, nodes, object, selection) {
         return None;
     }
-    let mut near = 0;
+    let mut passed = Passed::none();
     for (k, branch) in selection.branches.iter().enumerate() {
-        let count = count_branch(tables, nodes, object, selection, *branch, counts, &mut near);
+        let count = count_branch(
+            tables,
+            nodes,
+            object,
+            selection,
+            *branch,
+            counts,
+            &mut passed,
+        );
         if !count.is_none() {
             return Some(k);
         }

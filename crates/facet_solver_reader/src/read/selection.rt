@@ -1,15 +1,18 @@
 //! The readings of an object by a selection.
-ghost use Rattle.std.specs.Prelude.{◌≡◌, ◌↔◌, ◌&&◌, ◌<◌, ℕ, All, IsSorted, IsTrue, Some, false, length, not, slice_get};
-ghost use Rattle.std.specs.List.{list_any};
+ghost use Rattle.std.specs.Borrow.{Bor};
+ghost use Rattle.std.specs.Prelude.{◌≡◌, ◌↔◌, ◌&&◌, ◌<◌, ℕ, All, IsSorted, IsTrue, MatchOption, None, Some, false, length, not, slice_get};
+ghost use Rattle.std.specs.List.{find, list_any};
 ghost use Rattle.std.specs.List.Sorted.{IsBinarySearchResult};
+ghost use Rattle.std.specs.Option.{option_map};
 ghost use Rattle.std.specs.Ordering.{nat_cmp};
-ghost use Rattle.facet_solver_shape.specs.Names.{name_ref_cmp};
-ghost use Rattle.facet_solver_reader.specs.Branches.{CanBePresent, Fits, KnowsMember, KnowsOther, Misfits, ReadsPart};
+ghost use Rattle.facet_solver_shape.specs.Names.{Name, name_ref_cmp};
+ghost use Rattle.facet_solver_reader.specs.Branches.{CanBePresent, Fits, IsOther, KnowsMember, KnowsOther, Misfits, MisfitsBy, ReadsPart};
 ghost use Rattle.facet_solver_reader.specs.Known.{Chooses, IsKnown, IsKnownIn, named, rest};
 ghost use Rattle.facet_solver_reader.specs.NameFilters.{HoldsNames};
 ghost use Rattle.facet_solver_reader.specs.Nodes.{count, members_in, value_of, IsNumbering};
 ghost use Rattle.facet_solver_reader.specs.Objects.{Touches, has_name};
 ghost use Rattle.facet_solver_reader.specs.Parts.{a_selection};
+ghost use Rattle.facet_solver_reader.specs.Passed.{IsPassed};
 ghost use Rattle.facet_solver_reader.specs.Reading.{AreListCounts, IsBranchCount, IsListed, IsObject, IsPartCount, object_view};
 ghost use Rattle.facet_solver_reader.specs.Readings.{ReadsValue};
 ghost use Rattle.facet_solver_reader.specs.Tables.{AreTables, BranchIsBefore, ListIsServed, PartIsBefore, knows, rules_at};
@@ -23,12 +26,46 @@ use crate::nodes::Nodes;
 use crate::part::{ListId, Selection};
 use crate::tables::{List, Tables};
 
+/// What is kept from branch to branch while those of a selection are gone through.
+#[derive(Clone, Copy)]
+pub(crate) struct Passed<'r> {
+    /// The position at which the next branch mostly stands.
+    next: usize,
+    /// The name of a member that the selection knows: it refused a branch, and mostly refuses the
+    /// next.
+    other: Option<&'r str>,
+}
+
+impl Passed<'_> {
+    /// What is known before the first branch.
+    pub(crate) fn none() -> Self
+        ensures { result.other ≡ None }
+    {
+        Passed {
+            next: 0,
+            other: None,
+        }
+    }
+
+    /// Whether a list lacks the member that refused a branch.
+    fn refuses(&self, list: &List<'_>) -> bool
+        requires { IsSorted name_ref_cmp list.now.names.items }
+        ensures { IsTrue result → (name : Bor Name) × (self.now.other ≡ Some name)
+            × (knows list.now (named name.now) ≡ false) }
+    {
+        match self.other {
+            Some(name) => !list.has_name(name),
+            None => false,
+        }
+    }
+}
+
 /// How often an object is read by a selection, by the counts of its branches: it is absent where it
 /// may be and the object has no member of it, else it is the sum over the branches that have all
 /// members which it has.
-pub(crate) fn count_selection(
-    tables: &Tables<'_>,
-    nodes: &Nodes<'_, '_>,
+pub(crate) fn count_selection<'r>(
+    tables: &'r Tables<'_>,
+    nodes: &'r Nodes<'_, '_>,
     object: &Object<'_, '_>,
     selection: &Selection,
     counts: &[Count],
@@ -47,23 +84,32 @@ pub(crate) fn count_selection(
         return Count::One;
     }
     let mut count = Count::None;
-    let mut near = 0;
+    let mut passed = Passed::none();
     for branch in &selection.branches {
-        let next = count_branch(tables, nodes, object, selection, *branch, counts, &mut near);
+        let next = count_branch(
+            tables,
+            nodes,
+            object,
+            selection,
+            *branch,
+            counts,
+            &mut passed,
+        );
         count = count.plus(next);
     }
     count
 }
 
-/// How often an object is read by a branch. The branch is looked for near the one before it.
-pub(crate) fn count_branch(
-    tables: &Tables<'_>,
-    nodes: &Nodes<'_, '_>,
+/// How often an object is read by a branch. The branch is looked for near the one before it, and
+/// what refused one before it is tried first.
+pub(crate) fn count_branch<'r>(
+    tables: &'r Tables<'_>,
+    nodes: &'r Nodes<'_, '_>,
     object: &Object<'_, '_>,
     selection: &Selection,
     branch: ListId,
     counts: &[Count],
-    near: &mut usize,
+    passed: &mut Passed<'r>,
 ) -> Count
     requires tables { AreTables tables.now }
     requires numbering { IsNumbering nodes.now }
@@ -75,7 +121,11 @@ pub(crate) fn count_branch(
         (length counts.now) (list_view branch) }
     requires present { CanBePresent (rules_at tables.now) (object_view nodes.now object.now)
         (selection_view selection.now) }
-    ensures { (k : ℕ)
+    requires passed { IsPassed (rules_at tables.now) (object_view nodes.now object.now)
+        (selection_view selection.now) passed.old }
+    ensures passed { IsPassed (rules_at tables.now) (object_view nodes.now object.now)
+        (selection_view selection.now) passed.new }
+    ensures count { (k : ℕ)
         → slice_get (selection_view selection.now).branches k ≡ Some (list_view branch)
         → IsBranchCount (ReadsPart (rules_at tables.now) (ReadsValue (rules_at tables.now))
         (object_view nodes.now object.now) (a_selection (selection_view selection.now))) k result }
@@ -83,16 +133,23 @@ pub(crate) fn count_branch(
     let Some(index) = tables.slots.index_of(branch) else {
         return Count::None;
     };
-    let Ok(position) = search_near(&object.list.below, index, *near) else {
+    let Ok(position) = search_near(&object.list.below, index, passed.next) else {
         return Count::None;
     };
-    *near = position.saturating_add(1);
+    passed.next = position.saturating_add(1);
     let count = counts[position];
     // Names are compared only where the branch reads the object, and another may have more.
     if count.is_none() || selection.branches.len() == 1 {
         return count;
     }
-    if fits(tables, nodes, object, selection, &tables.lists[index]) {
+    if fits(
+        tables,
+        nodes,
+        object,
+        selection,
+        &tables.lists[index],
+        passed,
+    ) {
         count
     } else {
         Count::None
@@ -148,60 +205,70 @@ pub(crate) fn touches_rest(
 }
 
 /// Whether a list has each member of an object that a selection knows.
-pub(crate) fn fits(
-    tables: &Tables<'_>,
-    nodes: &Nodes<'_, '_>,
+pub(crate) fn fits<'r>(
+    tables: &'r Tables<'_>,
+    nodes: &'r Nodes<'_, '_>,
     object: &Object<'_, '_>,
     selection: &Selection,
     list: &List<'_>,
+    passed: &mut Passed<'r>,
 ) -> bool
     requires tables { AreTables tables.now }
     requires numbering { IsNumbering nodes.now }
     requires object { IsObject tables.now nodes.now object.now }
     requires served { All (ListIsServed tables.now) (selection_view selection.now).branches }
     requires listed { IsListed tables.now list.now }
+    requires passed { IsPassed (rules_at tables.now) (object_view nodes.now object.now)
+        (selection_view selection.now) passed.old }
+    ensures passed { IsPassed (rules_at tables.now) (object_view nodes.now object.now)
+        (selection_view selection.now) passed.new }
     ensures yes { IsTrue result → Fits (rules_at tables.now) (object_view nodes.now object.now)
         (selection_view selection.now) (list_view list.now.id) }
     ensures no { result ≡ false → Misfits (rules_at tables.now) (object_view nodes.now object.now)
         (selection_view selection.now) (list_view list.now.id) }
 {
-    if has_other(tables, nodes, object, selection, list) {
+    if passed.refuses(list) {
+        return false;
+    }
+    if let Some(name) = other_member(tables, nodes, object, selection, list) {
+        passed.other = Some(name);
         return false;
     }
     list.takes_rest || !touches_rest(tables, object, selection)
 }
 
-/// Whether an object has a member that a branch of a selection knows and a list lacks.
-fn has_other(
-    tables: &Tables<'_>,
-    nodes: &Nodes<'_, '_>,
+/// The name of a member of an object that a branch of a selection knows and a list lacks.
+fn other_member<'r>(
+    tables: &'r Tables<'_>,
+    nodes: &'r Nodes<'_, '_>,
     object: &Object<'_, '_>,
     selection: &Selection,
     list: &List<'_>,
-) -> bool
+) -> Option<&'r str>
     requires tables { AreTables tables.now }
     requires numbering { IsNumbering nodes.now }
     requires object { IsObject tables.now nodes.now object.now }
     requires served { All (ListIsServed tables.now) (selection_view selection.now).branches }
     requires listed { IsListed tables.now list.now }
-    ensures yes { IsTrue result → Misfits (rules_at tables.now) (object_view nodes.now object.now)
-        (selection_view selection.now) (list_view list.now.id) }
-    ensures no { result ≡ false → All (λ m. IsKnownIn (rules_at tables.now).lists
+    ensures { MatchOption result
+        (All (λ m. IsKnownIn (rules_at tables.now).lists
         (selection_view selection.now) (named m.name)
         → IsKnown (Chooses (rules_at tables.now).lists (list_view list.now.id)) (named m.name))
-        (members_in (value_of nodes.now object.now.node)) }
+        (members_in (value_of nodes.now object.now.node)))
+        (λ name. MisfitsBy (rules_at tables.now) (object_view nodes.now object.now)
+        (selection_view selection.now) (list_view list.now.id) (named name.now)) }
 {
     // Where the list has all of few members, no names of the branches are gone through.
     let members = members_of(nodes.value(object.node));
     if members.len() <= list.names.len() && !has_unknown(nodes, object.node, list) {
-        return false;
+        return None;
     }
     for branch in &selection.branches {
-        if knows_other(tables, nodes, object, *branch, list) {
-            return true;
+        if let Some(name) = other_of_branch(tables, nodes, object, *branch, list) {
+            return Some(name);
         }
     }
-    false
+    None
 }
 
 /// Whether a choice of a branch has a member that an object has. Of the branch's names and the
@@ -253,63 +320,77 @@ fn has_any(nodes: &Nodes<'_, '_>, object: &Object<'_, '_>, names: &[&str]) -> bo
     names.iter().any(|name| has_name(nodes, object, name))
 }
 
-/// Whether a choice of a branch has a member that an object has, and no choice of another list has.
-fn knows_other(
-    tables: &Tables<'_>,
-    nodes: &Nodes<'_, '_>,
+/// The name of a member of an object that a choice of a branch has, and no choice of another list.
+/// Only where the members are far fewer than the branch's names, they are gone through: often one
+/// of the first of its names is found.
+fn other_of_branch<'r>(
+    tables: &'r Tables<'_>,
+    nodes: &'r Nodes<'_, '_>,
     object: &Object<'_, '_>,
     branch: ListId,
     other: &List<'_>,
-) -> bool
+) -> Option<&'r str>
     requires tables { AreTables tables.now }
     requires numbering { IsNumbering nodes.now }
     requires object { IsObject tables.now nodes.now object.now }
     requires served { ListIsServed tables.now (list_view branch) }
     requires listed { IsListed tables.now other.now }
-    ensures { IsTrue result ↔ KnowsOther (rules_at tables.now)
-        (members_in (value_of nodes.now object.now.node)) (list_view branch)
-        (list_view other.now.id) }
+    ensures { MatchOption result
+        (KnowsOther (rules_at tables.now) (members_in (value_of nodes.now object.now.node))
+        (list_view branch) (list_view other.now.id) → ⊥)
+        (λ name. IsOther (rules_at tables.now) (members_in (value_of nodes.now object.now.node))
+        (list_view branch) (list_view other.now.id) name.now) }
 {
-    match tables.list(branch) {
-        Some(known) => {
-            let members = members_of(nodes.value(object.node));
-            if members.len() < known.names.len() {
-                some_is_other(members, known, other)
-            } else {
-                has_any_but(nodes, object, &known.names, other)
-            }
-        }
-        None => false,
+    // A list lacks none of its own names.
+    if branch == other.id {
+        return None;
+    }
+    let Some(known) = tables.list(branch) else {
+        return None;
+    };
+    let members = members_of(nodes.value(object.node));
+    if members.len() < known.names.len() / 2 {
+        other_of_members(members, known, other)
+    } else {
+        other_of_names(nodes, object, &known.names, other)
     }
 }
 
-/// Whether a list has the name of one of some members that another list lacks.
-fn some_is_other(members: &[(&str, Document<'_>)], list: &List<'_>, other: &List<'_>) -> bool
+/// The first of some members that a list has and another list lacks, by its name.
+fn other_of_members<'r>(
+    members: &'r [(&str, Document<'_>)],
+    list: &List<'_>,
+    other: &List<'_>,
+) -> Option<&'r str>
     requires sorted { IsSorted name_ref_cmp list.now.names.items }
     requires other_sorted { IsSorted name_ref_cmp other.now.names.items }
-    ensures { result ≡ list_any (λ m. knows list.now (named m.0.now)
-        && not (knows other.now (named m.0.now))) members.now }
+    ensures { option_map (λ n. n.now) result ≡ option_map (λ m. m.0.now)
+        (find (λ m. knows list.now (named m.0.now)
+        && not (knows other.now (named m.0.now))) members.now) }
 {
-    members.iter().any(|member| list.has_name(member.0) && !other.has_name(member.0))
+    let member = members.iter().find(|member| list.has_name(member.0)
+        && !other.has_name(member.0))?;
+    Some(member.0)
 }
 
-/// Whether an object has a member of one of some names that a list lacks.
-fn has_any_but(
+/// The first of some names that a list lacks and of which an object has a member.
+fn other_of_names<'r>(
     nodes: &Nodes<'_, '_>,
     object: &Object<'_, '_>,
-    names: &[&str],
+    names: &'r [&str],
     other: &List<'_>,
-) -> bool
+) -> Option<&'r str>
     requires numbering { IsNumbering nodes.now }
     requires inside { object.now.node < count nodes.now }
     requires filter { HoldsNames (members_in (value_of nodes.now object.now.node))
         object.now.filter }
     requires sorted { IsSorted name_ref_cmp other.now.names.items }
-    ensures { result ≡ list_any
-        (λ name. not (knows other.now (named name.now))
-        && has_name (members_in (value_of nodes.now object.now.node)) name.now) names.now }
+    ensures { option_map (λ n. n.now) result ≡ option_map (λ n. n.now)
+        (find (λ name. not (knows other.now (named name.now))
+        && has_name (members_in (value_of nodes.now object.now.node)) name.now) names.now) }
 {
-    names.iter().any(|name| !other.has_name(name) && has_name(nodes, object, name))
+    let name = names.iter().find(|name| !other.has_name(name) && has_name(nodes, object, name))?;
+    Some(name)
 }
 
 /// Whether an object has a member of the name. Most that it lacks are not looked up.

@@ -55,7 +55,7 @@ returns-then-not-is_none c =
     let is : c.is_none.result ≡ true = c.is_none.ensures.1 none in
     let isnt : c.is_none.result ≡ false = c.if-not-is_none.true in
     absurd (cc))
-    (c.count_branch-count.ensures c.loop-k.k at)
+    (c.count_branch-count.ensures.count c.loop-k.k at)
 
 pub loop-k-preserved : goal.loop-k-preserved
 loop-k-preserved c =
@@ -66,13 +66,14 @@ loop-k-preserved c =
     c.branch-item.result (ap (map list_view) c.deref-branch-items.ensures.value)
     c.loop-k-test.true c.branch-item.is in
     record {
+      passed = c.count_branch-count.ensures.passed;
       present = c.loop-k.invariant.present;
       none =
           count_below_more rules (ReadsValue rules) object s c.loop-k.k None None
           c.loop-k.invariant.none
           (subst (Counted (ReadsAt (ReadsPart rules (ReadsValue rules) object (a_selection s))
           c.loop-k.k))
-          (c.is_none.ensures.0 c.if-not-is_none.false) (c.count_branch-count.ensures c.loop-k.k at));
+          (c.is_none.ensures.0 c.if-not-is_none.false) (c.count_branch-count.ensures.count c.loop-k.k at));
     }
 
 pub unreachable-requires : goal.unreachable-requires

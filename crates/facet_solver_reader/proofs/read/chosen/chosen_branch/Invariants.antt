@@ -1,6 +1,7 @@
 use Rattle.facet_solver_reader.specs.declared.count.Count.TheVariants.{None}
 use Rattle.facet_solver_reader.specs.Branches.{CanBePresent, ReadsBelow, ReadsPart}
 use Rattle.facet_solver_reader.specs.Counted.{Counted}
+use Rattle.facet_solver_reader.specs.Passed.{IsPassed}
 use Rattle.facet_solver_reader.specs.Parts.{a_selection}
 use Rattle.facet_solver_reader.specs.Reading.{object_view}
 use Rattle.facet_solver_reader.specs.Readings.{ReadsValue}
@@ -12,6 +13,9 @@ use Rattle.facet_solver_reader.proofs.read.chosen.chosen_branch.Given as goal
 abbrev pub invariant-loop-k : goal.invariant-loop-k
 invariant-loop-k l =
     record {
+      passed :
+          IsPassed (rules_at l.tables) (object_view l.nodes l.object) (selection_view l.selection)
+          l.passed;
       present :
           CanBePresent (rules_at l.tables) (object_view l.nodes l.object)
           (selection_view l.selection);

@@ -1,22 +1,24 @@
-use Rattle.std.proofs.Common.{◌≡◌, ◌∙◌, ap, sym, subst, ◌<◌, length, get_or, arith}
+use Rattle.std.proofs.Common.{◌≡◌, ◌∙◌, ap, sym, subst, ◌<◌, length, get_or, arith, MatchOption}
 use Rattle.std.proofs.lemmas.List.{length-map}
-use Rattle.std.proofs.lemmas.Option.{slice_get-get_or}
+use Rattle.std.proofs.lemmas.Option.{slice_get-get_or, slice_get_within}
 use Rattle.facet_solver_reader.specs.declared.count.Count.TheVariants.{None as NoReading}
 use Rattle.facet_solver_reader.specs.Branches.{Fits, Misfits, ReadsList, ReadsPart}
 use Rattle.facet_solver_reader.specs.Counted.{Counted}
+use Rattle.facet_solver_reader.specs.Known.{Chooses, HasChoice}
 use Rattle.facet_solver_reader.specs.Parts.{a_selection}
 use Rattle.facet_solver_reader.specs.Reading.{IsBranchCount, object_view}
 use Rattle.facet_solver_reader.specs.Readings.{ReadsValue}
-use Rattle.facet_solver_reader.specs.Tables.{rules_at}
+use Rattle.facet_solver_reader.specs.Tables.{IsListAt, rules_at}
 use Rattle.facet_solver_reader.specs.Views.{list_view, selection_view}
 use Rattle.facet_solver_reader.proofs.CountingObjects.{halved_before, list_at, list_read}
-use Rattle.facet_solver_reader.proofs.Selections.{count_at_branch, count_at_misfit, count_at_none}
+use Rattle.facet_solver_reader.proofs.KnownNames.{where_none}
+use Rattle.facet_solver_reader.proofs.Selections.{count_at_branch, count_at_misfit, count_at_no_choice, count_at_none}
 use Rattle.facet_solver_reader.proofs.Selections.{only_fits}
 use Rattle.facet_solver_reader.proofs.read.selection.count_branch.Goals as goal
 use Rattle.facet_solver_reader.proofs.read.selection.count_branch.Goals.{then-is_none-via-then-is_none, then-is_none-via-else-is_none+then-len-eq1}
 
-pub returns-then-is_none : goal.returns-then-is_none
-returns-then-is_none c = λ k e.
+pub returns-then-is_none-clause-count : goal.returns-then-is_none-clause-count
+returns-then-is_none-clause-count c = λ k e.
     let t = c.args.tables.now in
     let rules = rules_at t in
     let object = object_view c.args.nodes.now c.args.object.now in
@@ -55,8 +57,8 @@ returns-then-is_none c = λ k e.
     (λ q. IsBranchCount part k (get_or counts q NoReading))
     same here
 
-pub returns-else-fits : goal.returns-else-fits
-returns-else-fits c = λ k e.
+pub returns-else-fits-clause-count : goal.returns-else-fits-clause-count
+returns-else-fits-clause-count c = λ k e.
     let t = c.args.tables.now in
     let rules = rules_at t in
     let object = object_view c.args.nodes.now c.args.object.now in
@@ -68,8 +70,8 @@ returns-else-fits c = λ k e.
     count_at_misfit rules (ReadsValue rules) object s k id e
     (subst (Misfits rules object s) read.1 (c.fits.ensures.no c.if-fits.false))
 
-pub returns-then-fits : goal.returns-then-fits
-returns-then-fits c = λ k e.
+pub returns-then-fits-clause-count : goal.returns-then-fits-clause-count
+returns-then-fits-clause-count c = λ k e.
     let t = c.args.tables.now in
     let rules = rules_at t in
     let object = object_view c.args.nodes.now c.args.object.now in
@@ -105,10 +107,38 @@ bounds-counts-position c =
     let same : b.0 ≡ c.in-Ok.position = cc (b.3, c.in-Ok.is) in
     subst (λ q. q < length c.args.counts.now) same b.1
 
-pub returns-in_default-search_near : goal.returns-in_default-search_near
-returns-in_default-search_near c = λ k e x w.
+pub returns-in_default-search_near-clause-count : goal.returns-in_default-search_near-clause-count
+returns-in_default-search_near-clause-count c = λ k e x w.
     let b = halved_before c.args.tables.now c.args.nodes.now c.args.object.now c.requires.object
     c.requires.tables (length c.args.counts.now) (list_view c.args.branch) c.in-Some.index
     c.deref.result.now c.search_near.result c.in-Some.ensures c.requires.before
     c.deref.ensures.value c.search_near.ensures.position in
     absurd (c.in_default-search_near.not-Ok b.0 b.3)
+
+pub returns-in_default-clause-count : goal.returns-in_default-clause-count
+returns-in_default-clause-count c = λ k e.
+    let t = c.args.tables.now in
+    let rules = rules_at t in
+    let id = list_view c.args.branch in
+    let none = where_none c.index_of.result (HasChoice (Chooses rules.lists id) → ⊥)
+    (IsListAt t id) c.in_default.not-Some
+    (subst (λ o. MatchOption o (HasChoice (Chooses rules.lists id) → ⊥) (IsListAt t id))
+    (sym c.index_of.ensures) c.requires.branch) in
+    count_at_no_choice rules (ReadsValue rules) (object_view c.args.nodes.now c.args.object.now)
+    (selection_view c.args.selection.now) k id e none
+
+pub index-requires : goal.index-requires
+index-requires c =
+    let t = c.args.tables.now in
+    let at = list_at t (list_view c.args.branch) c.in-Some.index c.in-Some.ensures
+    c.requires.branch in
+    let within = slice_get_within t.lists.items c.in-Some.index at.entry at.is_there in
+    omega (arith, within)
+
+pub fits-requires-clause-listed : goal.fits-requires-clause-listed
+fits-requires-clause-listed c =
+    let t = c.args.tables.now in
+    let id = list_view c.args.branch in
+    let read = list_read t id c.in-Some.index c.index.result.now
+    (list_at t id c.in-Some.index c.in-Some.ensures c.requires.branch) c.index.ensures in
+    record { index = c.in-Some.index; listed = read.0 }

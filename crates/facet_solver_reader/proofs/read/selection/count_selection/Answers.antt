@@ -8,6 +8,7 @@ use Rattle.facet_solver_reader.specs.Readings.{ReadsValue}
 use Rattle.facet_solver_reader.specs.Tables.{BranchIsBefore, ListIsServed, rules_at}
 use Rattle.facet_solver_reader.specs.Views.{list_view, selection_view}
 use Rattle.facet_solver_reader.proofs.CountingObjects.{seen_read}
+use Rattle.facet_solver_reader.proofs.KnownNames.{none_passed}
 use Rattle.facet_solver_reader.proofs.Quantifiers.{all_at}
 use Rattle.facet_solver_reader.proofs.Selections.{count_below_more, count_below_none}
 use Rattle.facet_solver_reader.proofs.Selections.{count_of_absent, count_of_present}
@@ -30,6 +31,7 @@ loop-branch-init c =
     let object = object_view c.args.nodes.now c.args.object.now in
     let s = selection_view c.args.selection.now in
     record {
+      passed = none_passed rules object s c.none-passed.result c.none-passed.ensures;
       present =
           elim c.else-selection.branch [
             | else-selection-via-then-selection+else-not-touches w ↦
@@ -71,13 +73,14 @@ loop-branch-preserved c =
     c.branch-item.result (ap (map list_view) c.deref-branch-items.ensures.value)
     c.loop-branch-test.true c.branch-item.is in
     record {
+      passed = c.count_branch-next.ensures.passed;
       present = c.loop-branch.invariant.present;
       counted =
           subst
           (Counted (ReadsBelow (ReadsPart rules (ReadsValue rules) object (a_selection s)) (i + 1)))
           (sym c.plus-count.ensures)
           (count_below_more rules (ReadsValue rules) object s i c.loop-branch.count
-          c.count_branch-next.result c.loop-branch.invariant.counted (c.count_branch-next.ensures i at));
+          c.count_branch-next.result c.loop-branch.invariant.counted (c.count_branch-next.ensures.count i at));
     }
 
 pub returns : goal.returns

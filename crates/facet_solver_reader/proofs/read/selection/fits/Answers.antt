@@ -1,15 +1,48 @@
-use Rattle.std.proofs.Common.{◌≡◌, inr, refl, true, false}
-use Rattle.facet_solver_reader.specs.Known.{rest}
+use Rattle.std.proofs.Common.{◌≡◌, IfSome, inr, refl, subst, sym, true, false}
+use Rattle.std.specs.List.{All}
+use Rattle.facet_solver_reader.specs.Branches.{HasKnown, MisfitsBy}
+use Rattle.facet_solver_reader.specs.Known.{Chooses, IsKnown, IsKnownIn, named, rest}
+use Rattle.facet_solver_reader.specs.Documents.{Member}
+use Rattle.facet_solver_reader.specs.Nodes.{members_in, value_of}
 use Rattle.facet_solver_reader.specs.Reading.{object_view}
 use Rattle.facet_solver_reader.specs.Tables.{rules_at}
 use Rattle.facet_solver_reader.specs.Views.{list_view, selection_view}
 use Rattle.facet_solver_reader.proofs.CountingObjects.{fits_by_rest, itself, known_by_list}
 use Rattle.facet_solver_reader.proofs.CountingObjects.{misfits_by_rest, not_false, not_true}
+use Rattle.facet_solver_reader.proofs.KnownNames.{misfits_of, where_none}
 use Rattle.facet_solver_reader.proofs.Touching.{fits_iff}
 use Rattle.facet_solver_reader.proofs.read.selection.fits.Goals as goal
 
-pub returns-then-has_other-clause-no : goal.returns-then-has_other-clause-no
-returns-then-has_other-clause-no c = λ _. c.has_other.ensures.yes c.if-has_other.true
+pub refuses-requires : goal.refuses-requires
+refuses-requires c =
+    let of = c.requires.listed in
+    (c.requires.tables.lists of.index c.args.list.now of.listed).sorted
+
+pub returns-then-refuses-clause-no : goal.returns-then-refuses-clause-no
+returns-then-refuses-clause-no c = λ _.
+    let t = c.args.tables.now in
+    let rules = rules_at t in
+    let object = object_view c.args.nodes.now c.args.object.now in
+    let s = selection_view c.args.selection.now in
+    let list = c.args.list.now in
+    let w = c.refuses.ensures c.if-refuses.true in
+    let x = named w.0.now in
+    let knows = known_by_list t c.requires.tables (list_view list.id) list
+    (itself t c.requires.tables list c.requires.listed) x false (sym w.2) in
+    misfits_of rules object s (list_view list.id) x (
+      subst (λ o. IfSome o (λ name. HasKnown rules object s (named name.now))) w.1
+          c.requires.passed,
+      λ k. let is : false ≡ true = knows.1 k in absurd (cc),
+    )
+
+pub returns-in-Some-clause-no : goal.returns-in-Some-clause-no
+returns-in-Some-clause-no c = λ _.
+    misfits_of (rules_at c.args.tables.now) (object_view c.args.nodes.now c.args.object.now)
+    (selection_view c.args.selection.now) (list_view c.args.list.now.id)
+    (named c.in-Some.name.now) c.in-Some.ensures
+
+pub returns-in-Some-clause-passed : goal.returns-in-Some-clause-passed
+returns-in-Some-clause-passed c = c.in-Some.ensures.0
 
 pub returns-then-list-clause-yes : goal.returns-then-list-clause-yes
 returns-then-list-clause-yes c =
@@ -17,7 +50,16 @@ returns-then-list-clause-yes c =
     let s = selection_view c.args.selection.now in
     let list = c.args.list.now in
     let id = list_view list.id in
-    let each = c.has_other.ensures.no c.if-has_other.false in
+    let lists = (rules_at t).lists in
+    let each = where_none c.other_member.result
+    (All
+    (λ (m : Member). IsKnownIn lists s (named m.name)
+    → IsKnown (Chooses lists (list_view list.id)) (named m.name))
+    (members_in (value_of c.args.nodes.now c.args.object.now.node)))
+    (λ name.
+    MisfitsBy (rules_at t) (object_view c.args.nodes.now c.args.object.now) s (list_view list.id)
+    (named name.now))
+    c.in_default.not-Some c.other_member.ensures in
     let knows_rest = known_by_list t c.requires.tables id list
     (itself t c.requires.tables list c.requires.listed) rest list.takes_rest refl in
     λ p.
@@ -29,7 +71,16 @@ returns-else-list-clause-yes c =
     let t = c.args.tables.now in
     let s = selection_view c.args.selection.now in
     let list = c.args.list.now in
-    let each = c.has_other.ensures.no c.if-has_other.false in
+    let lists = (rules_at t).lists in
+    let each = where_none c.other_member.result
+    (All
+    (λ (m : Member). IsKnownIn lists s (named m.name)
+    → IsKnown (Chooses lists (list_view list.id)) (named m.name))
+    (members_in (value_of c.args.nodes.now c.args.object.now.node)))
+    (λ name.
+    MisfitsBy (rules_at t) (object_view c.args.nodes.now c.args.object.now) s (list_view list.id)
+    (named name.now))
+    c.in_default.not-Some c.other_member.ensures in
     λ p.
     fits_by_rest t c.args.nodes.now c.args.object.now c.requires.object s
     c.touches_rest.result c.touches_rest.ensures (list_view list.id) each

@@ -47,7 +47,7 @@ returns-in-Ok c =
     (λ (e : n ≡ counts.None).
     let is : c.is_none.result ≡ true = c.is_none.ensures.1 e in
     let isnt : c.is_none.result ≡ false = c.if-is_none.false in absurd (cc))
-    (c.count_branch-count.ensures k c.requires.branch.1) in
+    (c.count_branch-count.ensures.count k c.requires.branch.1) in
     let branch = c.branch_of-branch.result in
     let by : IsReadByBranch rules (members_in v) id =
     record {

@@ -5,7 +5,7 @@ use Rattle.facet_solver_reader.specs.Nodes.{members_in, value_of}
 use Rattle.facet_solver_reader.specs.Parts.{ListId}
 use Rattle.facet_solver_reader.specs.Tables.{rules_at}
 use Rattle.facet_solver_reader.specs.Views.{list_view}
-use Rattle.facet_solver_reader.proofs.read.selection.has_other.Given as goal
+use Rattle.facet_solver_reader.proofs.read.selection.other_member.Given as goal
 
 -- no branch before this one knows a member that the list doesn't
 abbrev pub invariant-loop-branch : goal.invariant-loop-branch
