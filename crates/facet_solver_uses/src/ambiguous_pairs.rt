@@ -131,15 +131,10 @@ fn is_met(keys: &[FieldKey<'_>], field: &FieldInfo<'_>) -> bool
     !field.required
 }
 
-/// A key that means a field, and that a resolution has. Most often it is the flat key of the
-/// field's name, or there is none.
+/// A key that means a field, and that a resolution has.
 fn key_for<'c>(field: &FieldInfo<'c>, resolution: &Resolution<'c>) -> Option<FieldKey<'c>>
     ensures { IsKeyFor resolution.now field.now result }
 {
-    let flat = FieldKey::flat(field.serialized_name);
-    if serves(&flat, field, resolution) {
-        return Some(flat);
-    }
     if lacks_flat_name(field, resolution) {
         return None;
     }
