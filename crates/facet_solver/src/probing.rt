@@ -1,12 +1,12 @@
 //! A solver that goes by key paths alone: it narrows resolutions by the nested keys of a document,
 //! and records none.
-ghost use Rattle.std.specs.Prelude.{◌≡◌, IfOk, IfSome, is_some};
+ghost use Rattle.std.specs.Prelude.{◌≡◌, IfOk};
 ghost use Rattle.std.specs.Option.{ForSome};
 ghost use Rattle.facet_solver_shape.specs.Names.{names_of};
 ghost use Rattle.facet_solver.specs.KeyPath.{has_key_at, whole_path};
 ghost use Rattle.facet_solver.specs.Probing.{probe_key, probe_result, probe_result_view, resolutions_of};
 
-use crate::key_path::{has_known_path, known_path};
+use crate::key_path::{is_found, is_found_sooner, known_path};
 use crate::schema::Schema;
 use facet_solver_shape::{KeyPath, Resolution};
 use std::alloc::{AllocError, Global};
@@ -112,7 +112,7 @@ fn retain_with_key<'s, 'c>(resolutions: &mut Vec<&'s Resolution<'c>>, path: &[&s
     let mut kept = 0;
     for index in 0..resolutions.len() {
         let resolution = resolutions[index];
-        if search.find(resolution).is_some() {
+        if search.is_in(resolution) {
             resolutions[kept] = resolution;
             kept += 1;
         }
@@ -144,21 +144,19 @@ impl<'p, 'n, 'k, 's, 'c> KeyPathSearch<'p, 'n, 'k, 's, 'c> {
         }
     }
 
-    /// The whole path, as the first of the resolutions has it, if this one has it too.
-    fn find(&mut self, resolution: &'s Resolution<'c>) -> Option<&'s KeyPath<'c>>
-        ensures known { is_some result
+    /// Whether a resolution has the key at the path.
+    fn is_in(&mut self, resolution: &'s Resolution<'c>) -> bool
+        ensures has { result
             ≡ has_key_at (names_of self.old.path.now) self.old.key.now resolution.now }
-        ensures whole { IfSome result (λ known. names_of known.now.items
-            ≡ whole_path (names_of self.old.path.now) self.old.key.now) }
         ensures path { self.new.path ≡ self.old.path }
         ensures key { self.new.key ≡ self.old.key }
     {
         match self.known {
-            Some(known) if has_known_path(resolution, known) => Some(known),
-            Some(_) => None,
+            Some(known) if is_found_sooner(resolution, known) => is_found(resolution, known),
+            Some(_) => known_path(resolution, self.path, self.key).is_some(),
             None => {
                 self.known = known_path(resolution, self.path, self.key);
-                self.known
+                self.known.is_some()
             }
         }
     }

@@ -5,26 +5,25 @@ use Rattle.facet_solver.specs.KeyPath.{has_key_at}
 use Rattle.facet_solver.specs.Probing.{resolutions_of}
 use Rattle.facet_solver.proofs.Probed.{kept}
 use Rattle.facet_solver.proofs.probing.retain_with_key.Goals as goal
-use Rattle.facet_solver.proofs.probing.retain_with_key.Goals.{then-is_some, else-is_some}
+use Rattle.facet_solver.proofs.probing.retain_with_key.Goals.{then-is_in, else-is_in}
 
 pub loop-index-preserved : goal.loop-index-preserved
 loop-index-preserved c =
     let before = c.loop-index.invariant in
     let within : c.loop-index.index < length c.loop-index.resolutions.items = omega (arith, before.kept.long) in
-    let told : has_key_at (names_of c.args.path.now) c.args.key.now c.index-resolution.result.now.now ≡ c.is_some.result =
+    let told : has_key_at (names_of c.args.path.now) c.args.key.now c.index-resolution.result.now.now ≡ c.is_in.result =
     (λ i. has_key_at (names_of (sym before.path i)) (sym before.key i) c.index-resolution.result.now.now)
-    ∙ sym c.find.ensures.known
-    ∙ sym c.is_some.ensures in
+    ∙ sym c.is_in.ensures.has in
     record {
-      path = ap (λ p. p.now) c.find.ensures.path ∙ before.path;
-      key = ap (λ k. k.now) c.find.ensures.key ∙ before.key;
-      kept = elim c.if-is_some.branch [
-        | then-is_some w ↦
+      path = ap (λ p. p.now) c.is_in.ensures.path ∙ before.path;
+      key = ap (λ k. k.now) c.is_in.ensures.key ∙ before.key;
+      kept = elim c.if-is_in.branch [
+        | then-is_in w ↦
             rw (w.resolutions-is, w.kept-is)
-            (FiltersInPlace-more_set before.kept within (told ∙ w.if-is_some.true) c.index-resolution.ensures)
-        | else-is_some w ↦
+            (FiltersInPlace-more_set before.kept within (told ∙ w.if-is_in.true) c.index-resolution.ensures)
+        | else-is_in w ↦
             rw (w.resolutions-is, w.kept-is)
-            (FiltersInPlace-more_no before.kept within (told ∙ w.if-is_some.false) c.index-resolution.ensures)
+            (FiltersInPlace-more_no before.kept within (told ∙ w.if-is_in.false) c.index-resolution.ensures)
       ];
     }
 
