@@ -1,10 +1,10 @@
-// Counts the requests for memory of the program that it is loaded into, and how many bytes it holds.
+// Counts the requests for memory of the program that it is loaded into, and what it holds.
 // At the end of the program it writes a line on standard error:
 //   requests N held N   how many requests there were, and the most bytes that were held at once
 //
-// The programs call malloc, realloc and free, and no other function that gives or takes blocks. Each
-// call of malloc or realloc is a request. The bytes are those that were asked for, so that both
-// numbers are the same with any C library. This file needs no headers of one.
+// The programs call malloc, realloc and free, and no other function that gives or takes blocks.
+// Each call of malloc or realloc is a request. The bytes are those that were asked for, so that
+// both numbers are the same with any C library. This file needs no headers of one.
 extern void *dlsym(void *, const char *);
 extern int snprintf(char *, unsigned long, const char *, ...);
 extern long write(int, const void *, unsigned long);
