@@ -33,8 +33,7 @@ static PLACES: [Own; 5] = [
 /// Reads documents of 100 variants over 100 names.
 pub fn read_branches(job: &mut Job) -> Result<(), Fault> {
     let (variants, names) = (job.scaled(100).max(2), job.scaled(100).max(4));
-    let rounds = job.count.wrapping_mul(job.scaled(40));
-    read_some(job, variants, names, rounds)
+    read_some(job, variants, names, job.count)
 }
 
 /// Reads one document of each kind, of `count` variants over `size` names.

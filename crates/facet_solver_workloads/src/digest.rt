@@ -67,12 +67,16 @@ impl Digest {
         self.hash = (self.hash.rotate_left(5) ^ word).wrapping_mul(SPREAD);
     }
 
-    /// Adds a name: its length, and its bytes.
+    /// Adds a name: its length, its bytes by words, and its last eight bytes once more, so that no
+    /// byte is left out and hardly any is added alone.
     pub fn name(&mut self, name: &str) {
-        self.number(name.len());
-        for part in name.as_bytes().chunks(8) {
+        let bytes = name.as_bytes();
+        self.number(bytes.len());
+        for part in bytes.chunks_exact(8) {
             self.word(word_of(part));
         }
+        let last = bytes.len().saturating_sub(8);
+        self.word(word_of(&bytes[last..]));
     }
 
     /// Adds a text.

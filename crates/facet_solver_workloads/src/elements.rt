@@ -36,7 +36,7 @@ pub fn tell_elements(job: &mut Job) -> Result<(), Fault> {
     let readable = nodes(job.alloc, &records)?;
     let schema = schema(job.alloc, &readable, Builder::Dom)?;
     let mut digest = Digest::new();
-    for _ in 0..job.count.wrapping_mul(job.scaled(20_000)) {
+    for _ in 0..job.count.wrapping_mul(job.scaled(40_000)) {
         tell(job.alloc, &schema, &records, &mut job.random, &mut digest)?;
     }
     job.tell("elements", digest)

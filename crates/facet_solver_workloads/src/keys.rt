@@ -27,24 +27,36 @@ fn look(variants: u64, sparse: u64) -> Look {
 
 /// Tells the keys of some objects to solvers of each of some schemas.
 pub fn run(job: &mut Job) -> Result<(), Fault> {
-    let alloc = job.alloc;
     let untagged = Tagging::Untagged;
-    let of_two = make_choices(alloc, 0, 1, look(2, 4), untagged)?;
-    let by_two = schema(alloc, &of_two.readable, Builder::Auto)?;
-    tell_keys(job, "2 variants", &by_two, &of_two, untagged)?;
-    let of_four = make_choices(alloc, 0, 3, look(4, 2), untagged)?;
-    let by_four = schema(alloc, &of_four.readable, Builder::Auto)?;
-    tell_keys(job, "3 enums of 4", &by_four, &of_four, untagged)?;
-    let external = Tagging::External;
-    let of_names = make_choices(alloc, 0, 3, look(4, 6), external)?;
-    let by_names = schema(alloc, &of_names.readable, Builder::ExternallyTagged)?;
-    tell_keys(job, "3 enums of 4 by name", &by_names, &of_names, external)?;
-    let tagged = Tagging::Internal(TAG);
-    let of_many = make_choices(alloc, 0, 1, look(job.scaled(1_000), 2), tagged)?;
-    let by_many = schema(alloc, &of_many.readable, Builder::Auto)?;
-    tell_keys(job, "1,000 variants", &by_many, &of_many, tagged)?;
-    load_configurations(job, &by_many, &of_many)?;
+    let of_two = make_choices(job.alloc, 0, 1, look(2, 4), untagged)?;
+    tell_choices(job, "2 variants", &of_two, untagged, Builder::Auto)?;
+    let of_four = make_choices(job.alloc, 0, 3, look(4, 2), untagged)?;
+    tell_choices(job, "3 enums of 4", &of_four, untagged, Builder::Auto)?;
+    let (external, builder) = (Tagging::External, Builder::ExternallyTagged);
+    let by_name = make_choices(job.alloc, 0, 3, look(4, 6), external)?;
+    tell_choices(job, "3 enums of 4 by name", &by_name, external, builder)?;
+    tell_many(job)?;
     tell_nested(job)
+}
+
+fn tell_choices(
+    job: &mut Job,
+    part: &str,
+    of: &Choices,
+    tagging: Tagging,
+    builder: Builder,
+) -> Result<(), Fault> {
+    let schema = schema(job.alloc, &of.readable, builder)?;
+    tell_keys(job, part, &schema, of, tagging)
+}
+
+/// Tells keys and configurations of one schema with many variants.
+fn tell_many(job: &mut Job) -> Result<(), Fault> {
+    let tagged = Tagging::Internal(TAG);
+    let of_many = make_choices(job.alloc, 0, 1, look(job.scaled(1_000), 2), tagged)?;
+    let schema = schema(job.alloc, &of_many.readable, Builder::Auto)?;
+    tell_keys(job, "1,000 variants", &schema, &of_many, tagged)?;
+    load_configurations(job, &schema, &of_many)
 }
 
 /// What is wrong with one in twenty objects. Some of the others have an unknown key.
@@ -131,7 +143,8 @@ fn add_values(
     match choice_to_values(alloc, resolution, keys) {
         Ok(values) => {
             for value in &values.fields {
-                digest.name(value.field.serialized_name);
+                let field = value.field;
+                digest.name(field.serialized_name);
                 digest.number(value.member.unwrap_or(keys.len()));
             }
             for member in values.contents.iter().chain(&values.rest) {

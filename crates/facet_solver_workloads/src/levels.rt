@@ -126,7 +126,11 @@ fn last_value<'c, 'v, 'd>(
     reading: Reading<'c, 'v, 'd>,
     digest: &mut Digest,
 ) -> Option<Reading<'c, 'v, 'd>> {
-    match reading.kind {
+    let Reading {
+        variants: _variants,
+        kind,
+    } = reading;
+    match kind {
         ReadingKind::Object {
             object,
             mut values,

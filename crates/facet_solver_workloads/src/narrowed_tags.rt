@@ -40,7 +40,7 @@ pub fn tell_narrowed(job: &mut Job) -> Result<(), Fault> {
     let readable = commands(job.alloc, &enums)?;
     let schema = schema(job.alloc, &readable, Builder::Auto)?;
     let mut digest = Digest::new();
-    for _ in 0..job.count.wrapping_mul(job.scaled(20_000)) {
+    for _ in 0..job.count.wrapping_mul(job.scaled(40_000)) {
         tell(job.alloc, &schema, &enums, &mut job.random, &mut digest)?;
     }
     job.tell("narrowed tags", digest)

@@ -7,7 +7,7 @@ use crate::json_text::JsonText;
 use crate::random::Random;
 use crate::reads::{Readable, read_with};
 use crate::types::{Tagging, Types};
-use crate::words::{marked_word, word};
+use crate::words::marked_word;
 use facet_solver::{ScalarType, ShapeId, ShapeKind};
 use facet_solver_json::Scratch;
 use facet_solver_reader::Unknown;
@@ -20,7 +20,7 @@ pub fn read_notes(job: &mut Job) -> Result<(), Fault> {
     let mut digest = Digest::new();
     let mut scratch = Scratch::new(job.alloc);
     let mut text = JsonText::indented(job.alloc);
-    for _ in 0..job.count.wrapping_mul(job.scaled(8_000)) {
+    for _ in 0..job.count.wrapping_mul(job.scaled(6_000)) {
         text.clear();
         write_note(&mut text, &mut job.random)?;
         read_with(job.alloc, &reader, text.as_str(), &mut scratch, &mut digest)?;
@@ -67,47 +67,50 @@ fn add_body(
     types.enumeration("Body", vec![in alloc; words, table]?, Tagging::Untagged)
 }
 
-/// Writes a note. One in three names is written with an escape, and one note in forty has an escape
-/// that is none.
+/// Writes a note.
 fn write_note(text: &mut JsonText, random: &mut Random) -> Result<(), Fault> {
     text.open("{")?;
-    text.name(if random.one_in(3) {
-        "titl\\u0065"
-    } else {
-        "title"
-    })?;
-    text.string(if random.one_in(40) {
-        "\\q"
-    } else {
-        marked_word(random.next())
-    })?;
-    text.name(if random.one_in(3) {
-        "\\u4f5c\\u8005"
-    } else {
-        "作者"
-    })?;
-    text.string(marked_word(random.next()))?;
-    text.name(if random.one_in(3) {
-        "gra\\u0064e"
-    } else {
-        "grade"
-    })?;
-    text.signed_whole(random, 1_000_000)?;
-    text.name(if random.one_in(3) {
-        "gr\\u00f6\\u00dfe"
-    } else {
-        "größe"
-    })?;
-    text.signed_decimal(random, 100_000_000)?;
+    write_author(text, random)?;
+    write_grade(text, random)?;
     text.name("labels")?;
     text.word_list(random, 4)?;
-    text.name("languages")?;
     write_languages(text, random)?;
     write_body(text, random)?;
     Ok(text.close("}")?)
 }
 
+/// Writes a name, one in three with an escape.
+fn write_name(
+    text: &mut JsonText,
+    random: &mut Random,
+    name: &str,
+    escaped: &str,
+) -> Result<(), Fault> {
+    Ok(text.name(if random.one_in(3) { escaped } else { name })?)
+}
+
+/// Writes title and author. One title in forty has an escape that is none.
+fn write_author(text: &mut JsonText, random: &mut Random) -> Result<(), Fault> {
+    write_name(text, random, "title", "titl\\u0065")?;
+    let title = if random.one_in(40) {
+        "\\q"
+    } else {
+        marked_word(random.next())
+    };
+    text.string(title)?;
+    write_name(text, random, "作者", "\\u4f5c\\u8005")?;
+    Ok(text.string(marked_word(random.next()))?)
+}
+
+fn write_grade(text: &mut JsonText, random: &mut Random) -> Result<(), Fault> {
+    write_name(text, random, "grade", "gra\\u0064e")?;
+    text.signed_whole(random, 1_000_000)?;
+    write_name(text, random, "größe", "gr\\u00f6\\u00dfe")?;
+    Ok(text.signed_decimal(random, 100_000_000)?)
+}
+
 fn write_languages(text: &mut JsonText, random: &mut Random) -> Result<(), Fault> {
+    text.name("languages")?;
     text.open("{")?;
     let first = random.next();
     for place in 0..random.below(6) {
@@ -119,6 +122,7 @@ fn write_languages(text: &mut JsonText, random: &mut Random) -> Result<(), Fault
     Ok(text.close("}")?)
 }
 
+/// Writes paragraphs, or a table.
 fn write_body(text: &mut JsonText, random: &mut Random) -> Result<(), Fault> {
     if random.one_in(2) {
         text.name("paragraphs")?;
@@ -126,11 +130,16 @@ fn write_body(text: &mut JsonText, random: &mut Random) -> Result<(), Fault> {
         for _ in 0..random.below(3) {
             text.words(random, 12)?;
         }
-        return Ok(text.close("]")?);
+        Ok(text.close("]")?)
+    } else {
+        text.name("columns")?;
+        text.word_list(random, 3)?;
+        text.name("rows")?;
+        write_rows(text, random)
     }
-    text.name("columns")?;
-    text.word_list(random, 3)?;
-    text.name("rows")?;
+}
+
+fn write_rows(text: &mut JsonText, random: &mut Random) -> Result<(), Fault> {
     text.open("[")?;
     for _ in 0..random.below(4) {
         text.open("[")?;
@@ -139,7 +148,5 @@ fn write_body(text: &mut JsonText, random: &mut Random) -> Result<(), Fault> {
         }
         text.close("]")?;
     }
-    text.close("]")?;
-    text.name(word(random.next()))?;
-    Ok(text.raw("null")?)
+    Ok(text.close("]")?)
 }

@@ -38,7 +38,7 @@ pub fn probe_paths(job: &mut Job) -> Result<(), Fault> {
     let readable = routes(job.alloc, &leaves)?;
     let schema = schema(job.alloc, &readable, Builder::Auto)?;
     let mut digest = Digest::new();
-    for _ in 0..job.count.wrapping_mul(job.scaled(4_000)) {
+    for _ in 0..job.count.wrapping_mul(job.scaled(8_000)) {
         let keys = some_keys(job.alloc, &mut job.random, &leaves)?;
         probe_both(job.alloc, &schema, &keys, &mut digest)?;
     }
@@ -151,7 +151,8 @@ fn alike(alloc: Global, path: &[&str], leaves: &[String]) -> Result<Readable, Fa
     let mut variants = Vec::new(alloc);
     for number in 0..CANDIDATES {
         let name = numbered(alloc, "own", number)?;
-        let fields = types.fields(&[(first, shape), (name.as_str(), text)])?;
+        let mut fields = types.fields(&[(first, shape)])?;
+        fields.push(types.field(name.as_str(), text)?)?;
         variants.push(types.variant(name.as_str(), fields)?)?;
     }
     let root = types.enumeration("Route", variants, Tagging::Untagged)?;

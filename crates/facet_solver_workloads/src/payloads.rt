@@ -59,31 +59,36 @@ fn make_messages(alloc: Global, count: u64) -> Result<Messages, Fault> {
         sparse: 0,
     };
     let records = records(alloc, "message", look)?;
+    let readable = message_type(alloc, &records)?;
     let mut groups = Vec::new(alloc);
     for number in 0..GROUPS {
         groups.push(numbered(alloc, "group", number)?)?;
     }
+    Ok(Messages {
+        readable,
+        records,
+        groups,
+    })
+}
+
+/// An enum with a variant for each record: its group, a name of its own, and the record under the
+/// key of the payload.
+fn message_type(alloc: Global, records: &[Record]) -> Result<Readable, Fault> {
     let mut types = Types::new(alloc);
     let contents = Contents::new(&mut types)?;
     let mut variants = Vec::new(alloc);
     for (index, record) in records.iter().enumerate() {
-        let group = group_at(&groups, index)?;
+        let group = numbered(alloc, "group", index as u64 % GROUPS)?;
         let payload = fields(alloc, &types, &contents, record)?;
         let payload = types.structure(record.name.as_str(), payload)?;
-        let fields = types.fields(&[
-            (group, contents.text),
-            (record.name.as_str(), contents.whole),
-            (PAYLOAD, payload),
-        ])?;
+        let mut fields = types.fields(&[(PAYLOAD, payload)])?;
+        fields.push(types.field(group.as_str(), contents.text)?)?;
+        fields.push(types.field(record.name.as_str(), contents.whole)?)?;
         variants.push(types.variant(record.name.as_str(), fields)?)?;
     }
     let root = types.enumeration("Message", variants, Tagging::Untagged)?;
     let shapes = types.catalogue()?;
-    Ok(Messages {
-        readable: Readable { shapes, root },
-        records,
-        groups,
-    })
+    Ok(Readable { shapes, root })
 }
 
 /// The key of the group at an index.

@@ -37,9 +37,8 @@ fn add_key_path(digest: &mut Digest, path: &KeyPath<'_>) {
     }
 }
 
-/// Adds a field: its name, its path, its shape, and whether it is required.
+/// Adds a field beside its name: its path, its shape, and whether it is required.
 fn add_field(digest: &mut Digest, field: &FieldInfo<'_>) {
-    digest.name(field.serialized_name);
     add_path(digest, &field.path);
     digest.number(field.value_shape.index());
     digest.number(usize::from(field.required));
