@@ -63,9 +63,9 @@ impl Passed<'_> {
 /// How often an object is read by a selection, by the counts of its branches: it is absent where it
 /// may be and the object has no member of it, else it is the sum over the branches that have all
 /// members which it has.
-pub(crate) fn count_selection<'r>(
-    tables: &'r Tables<'_>,
-    nodes: &'r Nodes<'_, '_>,
+pub(crate) fn count_selection(
+    tables: &Tables<'_>,
+    nodes: &Nodes<'_, '_>,
     object: &Object<'_, '_>,
     selection: &Selection,
     counts: &[Count],
@@ -83,6 +83,29 @@ pub(crate) fn count_selection<'r>(
     if selection.optional && !touches(tables, nodes, object, selection) {
         return Count::One;
     }
+    count_branches(tables, nodes, object, selection, counts)
+}
+
+/// How often an object is read by the branches of a selection that is not absent.
+fn count_branches<'r>(
+    tables: &'r Tables<'_>,
+    nodes: &'r Nodes<'_, '_>,
+    object: &Object<'_, '_>,
+    selection: &Selection,
+    counts: &[Count],
+) -> Count
+    requires tables { AreTables tables.now }
+    requires numbering { IsNumbering nodes.now }
+    requires object { IsObject tables.now nodes.now object.now }
+    requires counts { AreListCounts tables.now nodes.now object.now counts.now }
+    requires served { All (ListIsServed tables.now) (selection_view selection.now).branches }
+    requires before { PartIsBefore tables.now object.now.list.now.below.items (length counts.now)
+        (a_selection (selection_view selection.now)) }
+    requires present { CanBePresent (rules_at tables.now) (object_view nodes.now object.now)
+        (selection_view selection.now) }
+    ensures { IsPartCount tables.now nodes.now object.now
+        (a_selection (selection_view selection.now)) result }
+{
     let mut count = Count::None;
     let mut passed = Passed::none();
     for branch in &selection.branches {
@@ -142,18 +165,48 @@ pub(crate) fn count_branch<'r>(
     if count.is_none() || selection.branches.len() == 1 {
         return count;
     }
-    if fits(
-        tables,
-        nodes,
-        object,
-        selection,
-        &tables.lists[index],
-        passed,
-    ) {
+    let list = &tables.lists[index];
+    if fits_next(tables, nodes, object, selection, list, passed) {
         count
     } else {
         Count::None
     }
+}
+
+/// How often an object is read by one branch, of which nothing is kept for the next.
+pub(crate) fn count_one_branch<'r>(
+    tables: &'r Tables<'_>,
+    nodes: &'r Nodes<'_, '_>,
+    object: &Object<'_, '_>,
+    selection: &Selection,
+    branch: ListId,
+    counts: &[Count],
+) -> Count
+    requires tables { AreTables tables.now }
+    requires numbering { IsNumbering nodes.now }
+    requires object { IsObject tables.now nodes.now object.now }
+    requires counts { AreListCounts tables.now nodes.now object.now counts.now }
+    requires served { All (ListIsServed tables.now) (selection_view selection.now).branches }
+    requires branch { ListIsServed tables.now (list_view branch) }
+    requires before { BranchIsBefore tables.now object.now.list.now.below.items
+        (length counts.now) (list_view branch) }
+    requires present { CanBePresent (rules_at tables.now) (object_view nodes.now object.now)
+        (selection_view selection.now) }
+    ensures { (k : ℕ)
+        → slice_get (selection_view selection.now).branches k ≡ Some (list_view branch)
+        → IsBranchCount (ReadsPart (rules_at tables.now) (ReadsValue (rules_at tables.now))
+        (object_view nodes.now object.now) (a_selection (selection_view selection.now))) k result }
+{
+    let mut passed = Passed::none();
+    count_branch(
+        tables,
+        nodes,
+        object,
+        selection,
+        branch,
+        counts,
+        &mut passed,
+    )
 }
 
 /// What `binary_search` finds. It is found at once where it stands at a guess: branches of one
@@ -206,6 +259,28 @@ pub(crate) fn touches_rest(
 
 /// Whether a list has each member of an object that a selection knows.
 pub(crate) fn fits<'r>(
+    tables: &'r Tables<'_>,
+    nodes: &'r Nodes<'_, '_>,
+    object: &Object<'_, '_>,
+    selection: &Selection,
+    list: &List<'_>,
+) -> bool
+    requires tables { AreTables tables.now }
+    requires numbering { IsNumbering nodes.now }
+    requires object { IsObject tables.now nodes.now object.now }
+    requires served { All (ListIsServed tables.now) (selection_view selection.now).branches }
+    requires listed { IsListed tables.now list.now }
+    ensures yes { IsTrue result → Fits (rules_at tables.now) (object_view nodes.now object.now)
+        (selection_view selection.now) (list_view list.now.id) }
+    ensures no { result ≡ false → Misfits (rules_at tables.now) (object_view nodes.now object.now)
+        (selection_view selection.now) (list_view list.now.id) }
+{
+    let mut passed = Passed::none();
+    fits_next(tables, nodes, object, selection, list, &mut passed)
+}
+
+/// The same of the next list. The member that refused one before it is tried first.
+fn fits_next<'r>(
     tables: &'r Tables<'_>,
     nodes: &'r Nodes<'_, '_>,
     object: &Object<'_, '_>,
@@ -321,8 +396,8 @@ fn has_any(nodes: &Nodes<'_, '_>, object: &Object<'_, '_>, names: &[&str]) -> bo
 }
 
 /// The name of a member of an object that a choice of a branch has, and no choice of another list.
-/// Only where the members are far fewer than the branch's names, they are gone through: often one
-/// of the first of its names is found.
+/// Where its members are far fewer than the branch's names they are gone through, else the names: of
+/// these, often one of the first is found.
 fn other_of_branch<'r>(
     tables: &'r Tables<'_>,
     nodes: &'r Nodes<'_, '_>,

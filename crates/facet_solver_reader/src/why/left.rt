@@ -8,7 +8,7 @@ ghost use Rattle.facet_solver_reader.specs.Views.{list_view, part_view, selectio
 use super::asked::position_of;
 use crate::nodes::Nodes;
 use crate::part::{ListId, Part, Selection};
-use crate::read::{Object, Passed, fails_at_once, fits, touches};
+use crate::read::{Object, fails_at_once, fits, touches};
 use crate::tables::{List, Tables};
 use std::alloc::AllocError;
 
@@ -100,9 +100,9 @@ fn first_left(
 }
 
 /// The position of a branch, if it is left.
-fn left_at<'r>(
-    tables: &'r Tables<'_>,
-    nodes: &'r Nodes<'_, '_>,
+fn left_at(
+    tables: &Tables<'_>,
+    nodes: &Nodes<'_, '_>,
     object: &Object<'_, '_>,
     selection: &Selection,
     branch: ListId,
@@ -117,7 +117,7 @@ fn left_at<'r>(
     let position = position_of(tables, object, branch)?;
     let list = tables.list(branch)?;
     let is_left = *left.get(position)?;
-    if is_left && fits(tables, nodes, object, selection, list, &mut Passed::none()) {
+    if is_left && fits(tables, nodes, object, selection, list) {
         Some(position)
     } else {
         None

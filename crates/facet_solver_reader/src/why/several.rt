@@ -20,7 +20,7 @@ use crate::count::Count;
 use crate::document::Document;
 use crate::nodes::Nodes;
 use crate::part::{CatchAll, ListId, Part, Selection};
-use crate::read::{Memo, Object, Passed, count_branch, touches};
+use crate::read::{Memo, Object, count_one_branch, touches};
 use crate::read_error::Branch;
 use crate::tables::{List, Tables};
 use std::alloc::AllocError;
@@ -177,9 +177,9 @@ fn branches_of<'c>(
 }
 
 /// Adds a branch of a selection, if an object is read by it.
-fn add_branch<'r, 'c>(
-    tables: &'r Tables<'c>,
-    nodes: &'r Nodes<'_, '_>,
+fn add_branch<'c>(
+    tables: &Tables<'c>,
+    nodes: &Nodes<'_, '_>,
     tallied: &Tallied<'_, 'c>,
     selection: &Selection,
     branch: &ListId,
@@ -200,16 +200,7 @@ fn add_branch<'r, 'c>(
 {
     let object = &tallied.object;
     let counts = &tallied.counts;
-    let mut passed = Passed::none();
-    let count = count_branch(
-        tables,
-        nodes,
-        object,
-        selection,
-        *branch,
-        counts,
-        &mut passed,
-    );
+    let count = count_one_branch(tables, nodes, object, selection, *branch, counts);
     if count.is_none() {
         return Ok(());
     }

@@ -57,21 +57,21 @@ returns-then-is_none-clause-count c = λ k e.
     (λ q. IsBranchCount part k (get_or counts q NoReading))
     same here
 
-pub returns-else-fits-clause-count : goal.returns-else-fits-clause-count
-returns-else-fits-clause-count c = λ k e.
+pub returns-else-fits_next-clause-count : goal.returns-else-fits_next-clause-count
+returns-else-fits_next-clause-count c = λ k e.
     let t = c.args.tables.now in
     let rules = rules_at t in
     let object = object_view c.args.nodes.now c.args.object.now in
     let s = selection_view c.args.selection.now in
     let part = ReadsPart rules (ReadsValue rules) object (a_selection s) in
     let id = list_view c.args.branch in
-    let read = list_read t id c.in-Some.index c.index.result.now
-    (list_at t id c.in-Some.index c.in-Some.ensures c.requires.branch) c.index.ensures in
+    let read = list_read t id c.in-Some.index c.index-list.result.now
+    (list_at t id c.in-Some.index c.in-Some.ensures c.requires.branch) c.index-list.ensures in
     count_at_misfit rules (ReadsValue rules) object s k id e
-    (subst (Misfits rules object s) read.1 (c.fits.ensures.no c.if-fits.false))
+    (subst (Misfits rules object s) read.1 (c.fits_next.ensures.no c.if-fits_next.false))
 
-pub returns-then-fits-clause-count : goal.returns-then-fits-clause-count
-returns-then-fits-clause-count c = λ k e.
+pub returns-then-fits_next-clause-count : goal.returns-then-fits_next-clause-count
+returns-then-fits_next-clause-count c = λ k e.
     let t = c.args.tables.now in
     let rules = rules_at t in
     let object = object_view c.args.nodes.now c.args.object.now in
@@ -79,9 +79,9 @@ returns-then-fits-clause-count c = λ k e.
     let part = ReadsPart rules (ReadsValue rules) object (a_selection s) in
     let id = list_view c.args.branch in
     let counts = c.args.counts.now in
-    let l = c.index.result.now in
+    let l = c.index-list.result.now in
     let read = list_read t id c.in-Some.index l
-    (list_at t id c.in-Some.index c.in-Some.ensures c.requires.branch) c.index.ensures in
+    (list_at t id c.in-Some.index c.in-Some.ensures c.requires.branch) c.index-list.ensures in
     let b = halved_before t c.args.nodes.now c.args.object.now c.requires.object
     c.requires.tables (length counts) id c.in-Some.index c.deref.result.now
     c.search_near.result c.in-Some.ensures c.requires.before c.deref.ensures.value
@@ -90,7 +90,7 @@ returns-then-fits-clause-count c = λ k e.
     let count = get_or counts b.0 NoReading in
     let counted = c.requires.counts.are b.0 c.in-Some.index count l
     (slice_get-get_or counts b.0 NoReading b.1) b.2 read.0 in
-    let fits = subst (Fits rules object s) read.1 (c.fits.ensures.yes c.if-fits.true) in
+    let fits = subst (Fits rules object s) read.1 (c.fits_next.ensures.yes c.if-fits_next.true) in
     let at = count_at_branch rules (ReadsValue rules) object s k id e count fits
     c.requires.present
     (subst (λ i. Counted (ReadsList rules (ReadsValue rules) object i) count) read.1 counted) in
@@ -127,18 +127,18 @@ returns-in_default-clause-count c = λ k e.
     count_at_no_choice rules (ReadsValue rules) (object_view c.args.nodes.now c.args.object.now)
     (selection_view c.args.selection.now) k id e none
 
-pub index-requires : goal.index-requires
-index-requires c =
+pub index-list-requires : goal.index-list-requires
+index-list-requires c =
     let t = c.args.tables.now in
     let at = list_at t (list_view c.args.branch) c.in-Some.index c.in-Some.ensures
     c.requires.branch in
     let within = slice_get_within t.lists.items c.in-Some.index at.entry at.is_there in
     omega (arith, within)
 
-pub fits-requires-clause-listed : goal.fits-requires-clause-listed
-fits-requires-clause-listed c =
+pub fits_next-requires-clause-listed : goal.fits_next-requires-clause-listed
+fits_next-requires-clause-listed c =
     let t = c.args.tables.now in
     let id = list_view c.args.branch in
-    let read = list_read t id c.in-Some.index c.index.result.now
-    (list_at t id c.in-Some.index c.in-Some.ensures c.requires.branch) c.index.ensures in
+    let read = list_read t id c.in-Some.index c.index-list.result.now
+    (list_at t id c.in-Some.index c.in-Some.ensures c.requires.branch) c.index-list.ensures in
     record { index = c.in-Some.index; listed = read.0 }

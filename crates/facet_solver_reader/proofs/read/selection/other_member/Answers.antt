@@ -1,4 +1,4 @@
-use Rattle.std.proofs.Common.{◌≡◌, ◌∙◌, ap, map, sym, true, false}
+use Rattle.std.proofs.Common.{◌∙◌, ap, map, sym}
 use Rattle.facet_solver_reader.specs.Branches.{IsOther, KnowsOther}
 use Rattle.facet_solver_reader.specs.Nodes.{members_in, value_of}
 use Rattle.facet_solver_reader.specs.Parts.{ListId}

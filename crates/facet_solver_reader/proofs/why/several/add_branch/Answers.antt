@@ -13,13 +13,13 @@ use Rattle.facet_solver_reader.proofs.Blaming.{some_counted}
 use Rattle.facet_solver_reader.proofs.Quantifiers.{all_at, all_of_last}
 use Rattle.facet_solver_reader.proofs.why.several.add_branch.Goals as goal
 
-pub count_branch-count-requires-clause-branch : goal.count_branch-count-requires-clause-branch
-count_branch-count-requires-clause-branch c =
+pub count_one_branch-count-requires-clause-branch : goal.count_one_branch-count-requires-clause-branch
+count_one_branch-count-requires-clause-branch c =
     all_at (ListIsServed c.args.tables.now) (selection_view c.args.selection.now).branches
     c.requires.branch.0 (list_view c.args.branch.now) c.requires.served c.requires.branch.1
 
-pub count_branch-count-requires-clause-before : goal.count_branch-count-requires-clause-before
-count_branch-count-requires-clause-before c =
+pub count_one_branch-count-requires-clause-before : goal.count_one_branch-count-requires-clause-before
+count_one_branch-count-requires-clause-before c =
     let below = c.args.tallied.now.object.list.now.below.items in
     subst (λ ns. BranchIsBefore c.args.tables.now below (length ns) (list_view c.args.branch.now))
     (sym c.deref.ensures.value)
@@ -27,8 +27,8 @@ count_branch-count-requires-clause-before c =
     (selection_view c.args.selection.now).branches c.requires.branch.0
     (list_view c.args.branch.now) c.requires.before c.requires.branch.1)
 
-pub count_branch-count-requires-clause-counts : goal.count_branch-count-requires-clause-counts
-count_branch-count-requires-clause-counts c =
+pub count_one_branch-count-requires-clause-counts : goal.count_one_branch-count-requires-clause-counts
+count_one_branch-count-requires-clause-counts c =
     subst (AreListCounts c.args.tables.now c.args.nodes.now c.args.tallied.now.object)
     (sym c.deref.ensures.value) c.requires.tallied.counts
 
@@ -41,13 +41,13 @@ returns-in-Ok c =
     let s = selection_view c.args.selection.now in
     let id = list_view c.args.branch.now in
     let k = c.requires.branch.0 in
-    let n = c.count_branch-count.result in
+    let n = c.count_one_branch-count.result in
     let read = some_counted
     (ReadsAt (ReadsPart rules (ReadsValue rules) (object_view nodes o) (a_selection s)) k) n
     (λ (e : n ≡ counts.None).
     let is : c.is_none.result ≡ true = c.is_none.ensures.1 e in
     let isnt : c.is_none.result ≡ false = c.if-is_none.false in absurd (cc))
-    (c.count_branch-count.ensures.count k c.requires.branch.1) in
+    (c.count_one_branch-count.ensures k c.requires.branch.1) in
     let branch = c.branch_of-branch.result in
     let by : IsReadByBranch rules (members_in v) id =
     record {

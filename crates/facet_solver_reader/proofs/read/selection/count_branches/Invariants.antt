@@ -1,4 +1,4 @@
-use Rattle.facet_solver_reader.specs.Branches.{CanBePresent, ReadsBelow, ReadsPart}
+use Rattle.facet_solver_reader.specs.Branches.{ReadsBelow, ReadsPart}
 use Rattle.facet_solver_reader.specs.Counted.{Counted}
 use Rattle.facet_solver_reader.specs.Passed.{IsPassed}
 use Rattle.facet_solver_reader.specs.Parts.{a_selection}
@@ -6,18 +6,15 @@ use Rattle.facet_solver_reader.specs.Reading.{object_view}
 use Rattle.facet_solver_reader.specs.Readings.{ReadsValue}
 use Rattle.facet_solver_reader.specs.Tables.{rules_at}
 use Rattle.facet_solver_reader.specs.Views.{selection_view}
-use Rattle.facet_solver_reader.proofs.read.selection.count_selection.Given as goal
+use Rattle.facet_solver_reader.proofs.read.selection.count_branches.Given as goal
 
--- what is kept of the branches is so, the selection can be present, and the count is that of the branches before this one
+-- what is kept of the branches before this one is so, and the count is theirs
 abbrev pub invariant-loop-branch : goal.invariant-loop-branch
 invariant-loop-branch l =
     record {
       passed :
           IsPassed (rules_at l.tables) (object_view l.nodes l.object) (selection_view l.selection)
           l.passed;
-      present :
-          CanBePresent (rules_at l.tables) (object_view l.nodes l.object)
-          (selection_view l.selection);
       counted :
           Counted
           (ReadsBelow

@@ -11,7 +11,7 @@ use Rattle.facet_solver_reader.proofs.CountingObjects.{fits_by_rest, itself, kno
 use Rattle.facet_solver_reader.proofs.CountingObjects.{misfits_by_rest, not_false, not_true}
 use Rattle.facet_solver_reader.proofs.KnownNames.{misfits_of, where_none}
 use Rattle.facet_solver_reader.proofs.Touching.{fits_iff}
-use Rattle.facet_solver_reader.proofs.read.selection.fits.Goals as goal
+use Rattle.facet_solver_reader.proofs.read.selection.fits_next.Goals as goal
 
 pub refuses-requires : goal.refuses-requires
 refuses-requires c =
