@@ -34,7 +34,6 @@ use Rattle.facet_solver_reader.specs.ToldObjects.{AreToldFields, IsToldField}
 use Rattle.facet_solver_reader.proofs.CatchAlls.{passing_images, taken_join}
 use Rattle.facet_solver_reader.proofs.Counting.{only_first, only_of_images, only_second}
 use Rattle.facet_solver_reader.proofs.FoundSteps.{members_in-append}
-use Rattle.facet_solver_reader.proofs.Quantifiers.{all_of_more}
 
 module _ (rules : Rules) (reads : Reads) (object : Object) (k : CatchAll) where
   -- where members are taken in one way, so are those behind the first
@@ -86,28 +85,6 @@ module _ (rules : Rules) (shapes : Catalogue) (object : Object) (k : CatchAll) w
       subst (λ (xs : List Member). TakenTold xs ns ws) (sym e)
       (subst (λ (xs : List Name). TakenTold [] xs ws) (sym f)
       (subst (λ (xs : List code.Reading). TakenTold [] [] xs) (sym g) nothing_taken))
-
-  -- nothing is taken where each name is known
-  all_passed : (ms : List Member)
-      → All (λ (m : Member). IsKnown (Chooses rules.lists object.list) (named m.name)) ms
-      → TakenTold ms [] []
-  all_passed [] known = nothing_taken
-  all_passed (m ∷ ms) known =
-      let both = (all_of_more
-      (λ (n : Member). IsKnown (Chooses rules.lists object.list) (named n.name)) m ms).0 known in
-      let below = all_passed ms both.1 in
-      record {
-        takes = passing below.takes;
-        reads = (both.0, below.reads);
-        tells = one_passed (end_taken rules k) m ms below.takes [] [] below.tells;
-      }
-
-  pub none_of_known : (ms : List Member) (ns : List Name) (ws : List code.Reading)
-      → All (λ (m : Member). IsKnown (Chooses rules.lists object.list) (named m.name)) ms
-      → ns ≡ [] → ws ≡ [] → TakenTold ms ns ws
-  none_of_known ms ns ws known f g =
-      subst (λ (xs : List Name). TakenTold ms xs ws) (sym f)
-      (subst (λ (xs : List code.Reading). TakenTold ms [] xs) (sym g) (all_passed ms known))
 
   -- one more at the end is passed over
   last_passed : (ms : List Member) (t : Taken) (ns : List Name) (ws : List code.Reading)

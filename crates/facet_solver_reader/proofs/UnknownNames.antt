@@ -1,27 +1,24 @@
 -- The names of members that no choice of a list has.
-use Rattle.std.proofs.Common.{◌≡◌, ◌↔◌, ◌∷◌, ◌++◌, [], Bool, List, ap, false, if◌then◌else◌, refl}
+use Rattle.std.proofs.Common.{◌≡◌, ◌∷◌, ◌++◌, [], Bool, List, ap, false, if◌then◌else◌, refl}
 use Rattle.std.proofs.Common.{sym, true, ◌∙◌, ℕ, ◌+◌, ◌<◌, take, map, length, get_or, arith, not, ◌||◌}
 use Rattle.std.proofs.lemmas.Bool.Decides.{same_from_decides}
 use Rattle.std.proofs.lemmas.List.{append-nil, length-map, take_more}
 use Rattle.std.proofs.lemmas.Option.{get_or_from_slice_get}
 use Rattle.facet_solver_shape.specs.Names.{Name}
-use Rattle.std.specs.List.{All}
 use Rattle.facet_solver_reader.specs.declared.nodes.Nodes.{Nodes}
 use Rattle.facet_solver_reader.specs.declared.read.object.Object as code
 use Rattle.facet_solver_reader.specs.declared.tables.List.{List as ListEntry}
 use Rattle.facet_solver_reader.specs.declared.tables.Tables.{Tables}
 use Rattle.facet_solver_reader.specs.Documents.{Member}
-use Rattle.facet_solver_reader.specs.Known.{Chooses, IsKnown, named}
+use Rattle.facet_solver_reader.specs.Known.{named}
 use Rattle.facet_solver_reader.specs.Nodes.{members_in, value_of}
 use Rattle.facet_solver_reader.specs.Parts.{ListId}
 use Rattle.facet_solver_reader.specs.Reading.{IsListed, IsObject, object_view}
 use Rattle.facet_solver_reader.specs.Tables.{AreTables, IsListOf, has_unknown, knows, rules_at}
 use Rattle.facet_solver_reader.specs.Told.{AreUnknown, a_known, an_unknown, no_member}
 use Rattle.facet_solver_reader.specs.ToldObjects.{unknown_names}
-use Rattle.facet_solver_reader.specs.Views.{list_view}
-use Rattle.facet_solver_reader.proofs.CountingObjects.{itself, known_by_list, seen_read}
+use Rattle.facet_solver_reader.proofs.CountingObjects.{known_by_list, seen_read}
 use Rattle.facet_solver_reader.proofs.CountingObjects.{unknown_by_list}
-use Rattle.facet_solver_reader.proofs.Named.{Has-at}
 
 -- the names of more members come behind
 pub unknown_names-append : (l : ListEntry) (ms ns : List Member)
@@ -111,30 +108,3 @@ module _ (t : Tables) (tables : AreTables t) (nodes : Nodes) (o : code.Object)
       (has_unknown o.list.now (members_in (value_of nodes o.node))) h.unknown
       (unknown_by_list t tables o.list.now listed (object_view nodes o)
       (has_unknown o.list.now (members_in (value_of nodes o.node))) refl refl)
-
-  -- where it has none, each name of it is known
-  pub all_known : o.has_unknown ≡ false
-      → All
-      (λ (m : Member). IsKnown (Chooses (rules_at t).lists (list_view o.list.now.id)) (named m.name))
-      (members_in (value_of nodes o.node))
-  all_known none k d within = go (knows o.list.now (named x)) refl
-    where
-      x : Name
-      x = (get_or (members_in (value_of nodes o.node)) k d).name
-
-      at : (b : Bool) → b ≡ knows o.list.now (named x) → (b ≡ true)
-          ↔ IsKnown (Chooses (rules_at t).lists (list_view o.list.now.id)) (named x)
-      at b e =
-          known_by_list t tables (list_view o.list.now.id) o.list.now (itself t tables o.list.now listed)
-          (named x) b e
-
-      go : (b : Bool) → b ≡ knows o.list.now (named x)
-          → IsKnown (Chooses (rules_at t).lists (list_view o.list.now.id)) (named x)
-      go true e = (at true e).0 refl
-      go false e =
-          let has : o.has_unknown ≡ true = h.unknown.1 (record {
-            name = x;
-            has = Has-at (members_in (value_of nodes o.node)) k d within;
-            unknown = λ known. let q : false ≡ true = (at false e).1 known in absurd (cc);
-          }) in
-          absurd (cc)

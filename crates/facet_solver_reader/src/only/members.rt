@@ -107,9 +107,6 @@ pub(super) fn read_rest<'c, 'v, 'd>(
     ensures told { IfOk result (λ rest. IsToldRest tables.now nodes.now object.now
         (catch_all_view catch_all.now) rest) }
 {
-    if !object.has_unknown {
-        return Ok((Vec::new(tables.alloc), Vec::new(tables.alloc)));
-    }
     let Document::Object(members) = nodes.value(object.node) else {
         return Ok((Vec::new(tables.alloc), Vec::new(tables.alloc)));
     };

@@ -88,8 +88,7 @@ use Rattle.facet_solver_reader.proofs.OneParts.{field_there, no_members_in, one_
 use Rattle.facet_solver_reader.proofs.OneParts.{one_of_member, one_rest, rest_told, told_then}
 use Rattle.facet_solver_reader.proofs.Quantifiers.{all_at}
 use Rattle.facet_solver_reader.proofs.ToldMembers.{TakenTold, more_field, more_passed, more_taken}
-use Rattle.facet_solver_reader.proofs.ToldMembers.{none_of_known}
-use Rattle.facet_solver_reader.proofs.UnknownNames.{all_known, unknown_told}
+use Rattle.facet_solver_reader.proofs.UnknownNames.{unknown_told}
 use Rattle.facet_solver_reader.proofs.ToldMembers.{no_field_more, none_told as nothing_taken}
 use Rattle.facet_solver_reader.proofs.ToldMembers.{one_taken_at}
 use Rattle.facet_solver_reader.proofs.ToldObject.{member_at as planned_member_at, members_of_plan}
@@ -690,21 +689,6 @@ members::read_fields-returns-clause-told t c =
     c.loop-step.values.items)
     (take_all i ss past) c.loop-step.invariant.told
 
-pub members::read_rest-returns-then-not-object : goal.members::read_rest-returns-then-not-object
-members::read_rest-returns-then-not-object t c =
-    let tb = c.args.tables.now in
-    let nodes = c.args.nodes.now in
-    let o = c.args.object.now in
-    let k = catch_all_view c.args.catch_all.now in
-    record {
-      sound = c.requires.sound;
-      told = rest_told tb nodes o k (c.new.result, c.new-then-not-object.result) c.requires.one
-          (none_of_known (rules_at tb) tb.shapes.now (object_view nodes o) k
-          (members_in (value_of nodes o.node)) (texts c.new.result.items) c.new-then-not-object.result.items
-          (all_known tb c.requires.sound.tables nodes o c.requires.object c.if-not-object.true)
-          (ap texts c.new.ensures.items) c.new-then-not-object.ensures.items);
-    }
-
 pub members::read_rest-returns-in_default : goal.members::read_rest-returns-in_default
 members::read_rest-returns-in_default t c =
     let tb = c.args.tables.now in
@@ -717,11 +701,11 @@ members::read_rest-returns-in_default t c =
     (seen_no_object c.value.result.now c.in_default.not-Object)) in
     record {
       sound = c.requires.sound;
-      told = rest_told tb c.args.nodes.now c.args.object.now k (c.new-in_default.result, c.new-in_default-2.result)
+      told = rest_told tb c.args.nodes.now c.args.object.now k (c.new.result, c.new-in_default.result)
           c.requires.one
-          (nothing_taken (rules_at tb) tb.shapes.now object k (members_in v) (texts c.new-in_default.result.items)
-          c.new-in_default-2.result.items none (ap texts c.new-in_default.ensures.items)
-          c.new-in_default-2.ensures.items);
+          (nothing_taken (rules_at tb) tb.shapes.now object k (members_in v) (texts c.new.result.items)
+          c.new-in_default.result.items none (ap texts c.new.ensures.items)
+          c.new-in_default.ensures.items);
     }
 
 pub members::read_rest-loop-index-init : goal.members::read_rest-loop-index-init
