@@ -1,6 +1,6 @@
 -- Lists of rising indices: what passes a test, and how many there are.
-use Rattle.std.proofs.Common.{◌≡◌, ℕ, zero, suc, ◌+◌, ◌<◌, ◌≤◌, Bool, true, false, cond, ◌&&◌, ◌⊎◌, inl, inr, nat_eq, List, [], ◌∷◌, ◌++◌, ◌-◌, length, not, filter, All, refl, ap, sym, ◌∙◌, arith, add-zero, zero-add, append-nil, eq-eqb, ne_eqb, append_assoc}
-use Rattle.std.specs.List.{range_with_len}
+use Rattle.std.proofs.Common.{◌≡◌, ℕ, zero, suc, ◌+◌, ◌<◌, ◌≤◌, Bool, true, false, cond, ◌&&◌, ◌||◌, ◌⊎◌, inl, inr, nat_eq, List, [], ◌∷◌, ◌++◌, ◌-◌, length, not, filter, All, refl, ap, sym, ◌∙◌, arith, add-zero, zero-add, append-nil, eq-eqb, ne_eqb, append_assoc, Option, Some, None, MatchOption, is_some}
+use Rattle.std.specs.List.{list_any, range_with_len}
 use Rattle.std.specs.List.Sorted.{IsStrictlyIncreasing}
 use Rattle.std.proofs.lemmas.Bool.{both_ways, cases_eq, cases_lt}
 use Rattle.std.proofs.lemmas.List.Elements.{All-filter, filter-append, All-contains, Contains-append_right}
@@ -186,3 +186,27 @@ none_of_none (i ∷ j ∷ rest) e = cc
 pub first_passes : (p : ℕ → Bool) (ys : List ℕ) (i : ℕ) → how_many (filter p ys) ≡ no_index → p i ≡ true → one_index i ≡ how_many (filter p (ys ++ i ∷ []))
 first_passes p ys i none passes =
     sym (ap how_many (filter_more p ys i true passes ∙ ap (λ k. k ++ i ∷ []) (none_of_none (filter p ys) none)))
+
+-- ---- whether some index passes
+
+-- whether there is an index
+abbrev pub has_some : List ℕ → Bool
+has_some [] = false
+has_some (i ∷ rest) = true
+
+pub any_passes : (p : ℕ → Bool) (xs : List ℕ) → list_any p xs ≡ has_some (filter p xs)
+any_passes p [] = refl
+any_passes p (x ∷ xs) = elim (p x) as (λ b. (b || list_any p xs) ≡ has_some (cond b (x ∷ filter p xs) (filter p xs))) [
+  | true ↦ refl
+  | false ↦ any_passes p xs
+]
+
+-- what the first of those that pass tells
+pub some_common : (p : ℕ → Bool) (xs items rest : List ℕ) (next : Option ℕ) → MatchOption next (items ≡ []) (λ i. items ≡ i ∷ rest) → items ≡ filter p xs → is_some next ≡ list_any p xs
+some_common p xs items rest None none are = sym (any_passes p xs ∙ ap has_some (sym are ∙ none))
+some_common p xs items rest (Some i) first are = sym (any_passes p xs ∙ ap has_some (sym are ∙ first))
+
+-- nothing passes
+pub none_pass : (p : ℕ → Bool) (xs : List ℕ) → ((i : ℕ) → p i ≡ false) → false ≡ list_any p xs
+none_pass p [] none = refl
+none_pass p (x ∷ xs) none = none_pass p xs none ∙ ap (λ b. b || list_any p xs) (sym (none x))

@@ -6,18 +6,19 @@ use Rattle.std.specs.Option.{option_and_then, option_map, option_map_or, option_
 use Rattle.std.proofs.Math.Bool.{or-false}
 use Rattle.std.proofs.lemmas.Bool.{false≢true}
 use Rattle.std.proofs.lemmas.Bool.Decides.{Decides-eqb}
-use Rattle.std.proofs.lemmas.List.Folds.{find-append, list_any-append}
+use Rattle.std.proofs.lemmas.List.Folds.{find-append}
 use Rattle.facet_solver_shape.proofs.Resolved.{or_none}
 use Rattle.facet_solver_shape.specs.Fields.{FieldView}
 use Rattle.facet_solver_shape.specs.Names.{Name}
 use Rattle.facet_solver.specs.set.IndexSet.{IndexSet, has_index, upto}
 use Rattle.facet_solver.specs.schema.FewShapes.{few_shapes_with, has_shape, most_shapes}
-use Rattle.facet_solver.specs.schema.IndexEntries.{added, agreed, entry_at, entry_of_one, shapes_with, with_number, with_occurrence}
-use Rattle.facet_solver.specs.schema.Indexed.{Meant, AgreesOn, AreSelected, HaveShapesOf, Differs, IsIndexEntry, IsEntryIfAny, IsIndexOf, first_passing}
-use Rattle.facet_solver.specs.schema.Selected.{has_selected, selected_by}
+use Rattle.facet_solver.specs.schema.IndexEntries.{HasOneMore, IsAdded, IsAfter, IsSlotAfter, agreed, entry_at, entry_of_one, selects_in, shapes_with, with_number}
+use Rattle.facet_solver.specs.schema.Indexed.{Meant, AgreesOn, HaveShapesOf, Differs, IsIndexEntry, IsEntryIfAny, IsIndexOf, first_passing, selects_at}
+use Rattle.facet_solver.specs.schema.Selected.{name_of, same_variant}
 use Rattle.facet_solver.specs.schema.Slots.{Slot, is_at}
 use Rattle.facet_solver.specs.solver.Tag.{last_variant}
 use Rattle.facet_solver.specs.declared.schema.index.entry.Entry.{Entry}
+use Rattle.facet_solver.specs.declared.schema.index.entry.Occurrence.{Occurrence}
 use Rattle.facet_solver.specs.declared.schema.index.Index.{Index}
 use Rattle.facet_solver.proofs.FewShapes.{few_before, few_has, few_keeps}
 use Rattle.facet_solver.proofs.IndexSet.{filter_same, filter_none, has_inside}
@@ -182,46 +183,37 @@ shapes_more meant i f none (Some shape) shapes one before apart few k g = go (na
         more_for (λ e. has_shape (few_shapes_with first f.shape) e.shape ≡ true) meant i f none (few_has first f.shape low) j h
         (λ there. few_keeps first f.shape h.shape (ap (has_shape first) (one.all j h there) ∙ has))
 
--- the variant of a resolution, if it is that of an index
-here_selected : (test : Name → Bool) (i k : ℕ) (variant : Option (Bor Name)) → nat_eq i k ≡ true
-    → has_selected test (selected_by i variant) k ≡ option_map_or test (option_map (λ (v : Bor Name). v.now) variant) false
-here_selected test i k None same = refl
-here_selected test i k (Some v) same = ap (λ b. (b && test v.now) || false) same ∙ or-false (test v.now)
-
-elsewhere_selected : (test : Name → Bool) (i k : ℕ) (variant : Option (Bor Name)) → nat_eq i k ≡ false → has_selected test (selected_by i variant) k ≡ false
-elsewhere_selected test i k None other = refl
-elsewhere_selected test i k (Some v) other = ap (λ b. (b && test v.now) || false) other
-
--- the variants after it
-selected_more : (meant : Meant) (i : ℕ) (f : FieldView) (selected : List (ℕ × Name)) (variant : Option (Bor Name)) → meant i ≡ None
-    → option_map (λ (v : Bor Name). v.now) variant ≡ last_variant f.path → AreSelected meant selected → AreSelected (more meant i true f) (selected ++ selected_by i variant)
-selected_more meant i f selected variant none named before test k =
-    list_any-append (λ (s : ℕ × Name). nat_eq s.0 k && test s.1) selected (selected_by i variant) ∙ go (nat_eq k i) refl
+-- the resolutions that select a variant after it
+selected_more : (bound : ℕ) (meant : Meant) (i : ℕ) (f : FieldView) (variant : Option (Bor Name)) (before after : Option Name → ℕ → Bool) → meant i ≡ None
+    → name_of variant ≡ last_variant f.path
+    → ((asked : Option Name) (k : ℕ) → k < bound → before asked k ≡ selects_at meant asked k)
+    → ((asked : Option Name) (k : ℕ) → k < bound → after asked k ≡ ((nat_eq k i && same_variant (name_of variant) asked) || before asked k))
+    → (asked : Option Name) (k : ℕ) → k < bound → after asked k ≡ selects_at (more meant i true f) asked k
+selected_more bound meant i f variant before after none named was step asked k low = step asked k low ∙ go (nat_eq k i) refl
   where
     by : Option FieldView → Bool
-    by o = option_map_or test (option_and_then (λ (g : FieldView). last_variant g.path) o) false
+    by o = option_map_or (λ (g : FieldView). same_variant (last_variant g.path) asked) o false
 
-    go : (b : Bool) → nat_eq k i ≡ b → (has_selected test selected k || has_selected test (selected_by i variant) k) ≡ by (if b then option_or (meant k) (Some f) else meant k)
+    go : (b : Bool) → nat_eq k i ≡ b → ((b && same_variant (name_of variant) asked) || before asked k) ≡ by (if b then option_or (meant k) (Some f) else meant k)
     go true same =
-        let is : k ≡ i = (Decides-eqb k i).0 same in
-        let absent : meant k ≡ None = ap meant is ∙ none in
-        ap (λ b. b || has_selected test (selected_by i variant) k) (before test k ∙ ap by absent)
-        ∙ here_selected test i k variant ((Decides-eqb i k).1 (sym is))
-        ∙ ap (λ o. option_map_or test o false) named
+        let absent : meant k ≡ None = ap meant ((Decides-eqb k i).0 same) ∙ none in
+        ap (λ b. same_variant (name_of variant) asked || b) (was asked k low ∙ ap by absent)
+        ∙ or-false (same_variant (name_of variant) asked)
+        ∙ ap (λ v. same_variant v asked) named
         ∙ sym (ap (λ o. by (option_or o (Some f))) absent)
-    go false other =
-        let apart : nat_eq i k ≡ false = ne_eqb i k (λ e. false≢true (sym other ∙ (Decides-eqb k i).1 (sym e))) in
-        ap (λ b. has_selected test selected k || b) (elsewhere_selected test i k variant apart)
-        ∙ or-false (has_selected test selected k)
-        ∙ before test k
+    go false other = was asked k low
 
--- before the first there is none
-pub none_selected : (meant : Meant) → ((k : ℕ) → meant k ≡ None) → AreSelected meant []
-none_selected meant none test k = sym (ap (λ o. option_map_or test (option_and_then (λ (g : FieldView). last_variant g.path) o) false) (none k))
+-- the field of a resolution with its variant
+abbrev occurrence : ℕ → ℕ → FieldView → Option (Bor Name) → Occurrence
+occurrence bound i f variant = record { index = i; bound = bound; shape = f.shape; variant = variant }
+
+or_and_none : (a b : Bool) → ((a || false) && b) ≡ ((a && b) || false)
+or_and_none true b = sym (or-false b)
+or_and_none false b = refl
 
 -- the first entry of a slot
-entry_first : (bound : ℕ) (meant : Meant) (i : ℕ) (f : FieldView) (variant : Option (Bor Name)) → option_map (λ (v : Bor Name). v.now) variant ≡ last_variant f.path → ((k : ℕ) → meant k ≡ None)
-    → IsIndexEntry bound (more meant i true f) (entry_of_one (record { index = i; bound = bound; shape = f.shape; variant = variant }))
+entry_first : (bound : ℕ) (meant : Meant) (i : ℕ) (f : FieldView) (variant : Option (Bor Name)) → name_of variant ≡ last_variant f.path → ((k : ℕ) → meant k ≡ None)
+    → IsIndexEntry bound (more meant i true f) (entry_of_one (occurrence bound i f variant))
 entry_first bound meant i f variant named none = record {
   set = ap (λ s. with_number s i) (sym nothing) ∙ set_more bound meant i f (none i);
   shape = record {
@@ -232,7 +224,8 @@ entry_first bound meant i f variant named none = record {
     all = λ k g is. more_only meant i f (none i) k g is f.shape refl (λ there. absurd (absent k g there));
   };
   shapes = λ apart. absurd (some_is_none apart);
-  selected = selected_more meant i f [] variant (none i) named (none_selected meant none);
+  below = tt;
+  selected = selected_more bound meant i f variant (λ asked k. false) (selects_in (entry_of_one (occurrence bound i f variant))) (none i) named unselected first;
 }
   where
     some_is_none : Some f.shape ≡ None → ⊥
@@ -247,46 +240,61 @@ entry_first bound meant i f variant named none = record {
     nothing : below bound (filter (λ k. is_some (meant k)) (upto bound)) ≡ below bound []
     nothing = ap (below bound) (filter_none (λ k. is_some (meant k)) 0 bound (λ k low high. ap is_some (none k)))
 
+    unselected : (asked : Option Name) (k : ℕ) → k < bound → false ≡ selects_at meant asked k
+    unselected asked k low = sym (ap (λ o. option_map_or (λ (g : FieldView). same_variant (last_variant g.path) asked) o false) (none k))
+
+    first : (asked : Option Name) (k : ℕ) → k < bound → selects_in (entry_of_one (occurrence bound i f variant)) asked k ≡ ((nat_eq k i && same_variant (name_of variant) asked) || false)
+    first asked k low =
+        ap (λ b. b && same_variant (name_of variant) asked) (has_inside (λ j. nat_eq j i || false) 0 bound k (omega arith) (omega arith))
+        ∙ or_and_none (nat_eq k i) (same_variant (name_of variant) asked)
+
 -- an entry with one resolution more
-entry_more : (bound : ℕ) (meant : Meant) (i : ℕ) (f : FieldView) (variant : Option (Bor Name)) → option_map (λ (v : Bor Name). v.now) variant ≡ last_variant f.path
-    → (entry : Entry) → i < bound → IsIndexEntry bound meant entry
-    → IsIndexEntry bound (more meant i true f) (with_occurrence entry (record { index = i; bound = bound; shape = f.shape; variant = variant }))
-entry_more bound meant i f variant named entry within is = go (meant i) refl
+entry_more : (bound : ℕ) (meant : Meant) (i : ℕ) (f : FieldView) (variant : Option (Bor Name)) → name_of variant ≡ last_variant f.path
+    → (old new : Entry) → i < bound → IsAfter old (occurrence bound i f variant) new → IsIndexEntry bound meant old → IsIndexEntry bound (more meant i true f) new
+entry_more bound meant i f variant named old new within step is = go (meant i) refl
   where
-    known : has_index entry.set.members i ≡ is_some (meant i)
+    after : Meant
+    after = more meant i true f
+
+    known : has_index old.set.members i ≡ is_some (meant i)
     known = ap (λ (s : IndexSet). has_index s.members i) is.set ∙ has_inside (λ j. is_some (meant j)) 0 bound i (omega arith) (omega arith)
 
-    go : (o : Option FieldView) → meant i ≡ o → IsIndexEntry bound (more meant i true f) (with_occurrence entry (record { index = i; bound = bound; shape = f.shape; variant = variant }))
+    go : (o : Option FieldView) → meant i ≡ o → IsIndexEntry bound (more meant i true f) new
     go (Some g) here =
-        let member : has_index entry.set.members i ≡ true = known ∙ ap is_some here in
-        rw member (subst (λ m. IsIndexEntry bound m entry) (λ j k. sym (more_known meant i f g here k) j) is)
+        let same : new ≡ old = step.known (known ∙ ap is_some here) in
+        subst (λ (e : Entry). IsIndexEntry bound after e) (sym same) (subst (λ m. IsIndexEntry bound m old) (λ j k. sym (more_known meant i f g here k) j) is)
     go None here =
-        let absent : has_index entry.set.members i ≡ false = known ∙ ap is_some here in
-        rw absent (record {
-          set = ap (λ s. with_number s i) is.set ∙ set_more bound meant i f here;
-          shape = shape_more meant i f here entry.shape is.shape;
-          shapes = shapes_more meant i f here entry.shape entry.shapes is.shape is.shapes;
-          selected = selected_more meant i f entry.selected variant here named is.selected;
-        })
+        let one : HasOneMore old (occurrence bound i f variant) new = step.new (known ∙ ap is_some here) in
+        record {
+          set = one.set ∙ ap (λ s. with_number s i) is.set ∙ set_more bound meant i f here;
+          shape = subst (λ (o : Option ℕ). MatchOption o (Differs after) (λ shape. AgreesOn shape after)) (sym one.shape) (shape_more meant i f here old.shape is.shape);
+          shapes = λ apart few.
+              subst (HaveShapesOf after) (sym one.shapes)
+              (shapes_more meant i f here old.shape old.shapes is.shape is.shapes (sym one.shape ∙ apart) (subst (λ (shapes : List ℕ). length shapes ≤ most_shapes) one.shapes few));
+          below = one.below;
+          selected = selected_more bound meant i f variant (selects_in old) (selects_in new) here named is.selected one.selected;
+        }
 
 -- the entry of a slot after one more field
-pub slot_more : (bound : ℕ) (meant : Meant) (i : ℕ) (f : FieldView) (variant : Option (Bor Name)) → option_map (λ (v : Bor Name). v.now) variant ≡ last_variant f.path
-    → (entry : Option Entry) → i < bound → (passes : Bool) → IsEntryIfAny bound meant entry
-    → IsEntryIfAny bound (more meant i passes f) (if passes then Some (added entry (record { index = i; bound = bound; shape = f.shape; variant = variant })) else entry)
-slot_more bound meant i f variant named entry within false is = subst (λ m. IsEntryIfAny bound m entry) (λ j k. sym (more_failing meant i f k) j) is
-slot_more bound meant i f variant named None within true is = entry_first bound meant i f variant named is
-slot_more bound meant i f variant named (Some e) within true is = entry_more bound meant i f variant named e within is
+pub slot_more : (bound : ℕ) (meant : Meant) (i : ℕ) (f : FieldView) (variant : Option (Bor Name)) → name_of variant ≡ last_variant f.path
+    → (old new : Option Entry) → i < bound → (passes : Bool) → IsSlotAfter passes (occurrence bound i f variant) old new → IsEntryIfAny bound meant old → IsEntryIfAny bound (more meant i passes f) new
+slot_more bound meant i f variant named old new within false step is =
+    subst (λ o. IsEntryIfAny bound (more meant i false f) o) (sym step) (subst (λ m. IsEntryIfAny bound m old) (λ j k. sym (more_failing meant i f k) j) is)
+slot_more bound meant i f variant named old None within true step is = absurd step
+slot_more bound meant i f variant named None (Some new) within true step is =
+    subst (λ (e : Entry). IsIndexEntry bound (more meant i true f) e) (sym step) (entry_first bound meant i f variant named is)
+slot_more bound meant i f variant named (Some old) (Some new) within true step is = entry_more bound meant i f variant named old new within step is
 
 -- an index after one more field of the last resolution
-pub index_more : (bound : ℕ) (before : List (List FieldView)) (seen : List FieldView) (f : FieldView) (variant : Option (Bor Name)) → option_map (λ (v : Bor Name). v.now) variant ≡ last_variant f.path
+pub index_more : (bound : ℕ) (before : List (List FieldView)) (seen : List FieldView) (f : FieldView) (variant : Option (Bor Name)) → name_of variant ≡ last_variant f.path
     → (old new : Index) → length before < bound
     → IsIndexOf bound (before ++ seen ∷ []) old
-    → ((slot : Slot) → entry_at new slot ≡ (if is_at slot f then Some (added (entry_at old slot) (record { index = length before; bound = bound; shape = f.shape; variant = variant })) else entry_at old slot))
+    → ((slot : Slot) → IsSlotAfter (is_at slot f) (occurrence bound (length before) f variant) (entry_at old slot) (entry_at new slot))
     → IsIndexOf bound (before ++ (seen ++ f ∷ []) ∷ []) new
 index_more bound before seen f variant named old new within is step slot =
     let meant : Meant = first_passing (is_at slot) (before ++ seen ∷ []) in
     let after : IsEntryIfAny bound (more meant (length before) (is_at slot f) f) (entry_at new slot) =
-    rw (step slot) (slot_more bound meant (length before) f variant named (entry_at old slot) within (is_at slot f) (is slot)) in
+    slot_more bound meant (length before) f variant named (entry_at old slot) (entry_at new slot) within (is_at slot f) (step slot) (is slot) in
     subst (λ m. IsEntryIfAny bound m (entry_at new slot)) (λ j k. sym (passing_more (is_at slot) before seen f k) j) after
 
 -- an index before the fields of one more resolution

@@ -36,10 +36,10 @@ pub mod FieldCategories
 pub mod NamedEntries
 pub mod Indexing
 pub mod Selected
+pub mod VariantSets
 pub mod UnderWay
 pub mod LookUps
 pub mod Kept
-pub mod Fingerprints
 pub mod QuotedNames
 pub mod ErrorTexts
 pub mod KeyPath

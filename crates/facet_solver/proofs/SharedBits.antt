@@ -1,8 +1,8 @@
 -- What two sets share, as bits of their words.
-use Rattle.std.proofs.Common.{◌≡◌, ℕ, zero, suc, ◌+◌, ◌-◌, ◌*◌, ◌/◌, ◌%◌, ◌^◌, ◌<◌, ◌≤◌, min, false, ◌&&◌, ◌||◌, inl, inr, nat_eq, List, [], ◌∷◌, filter, length, get_or, set, refl, ap, sym, ◌∙◌, arith, eq-eqb, ne_eqb, replicate, w64, get_or-set_other, get_or-set_same}
+use Rattle.std.proofs.Common.{◌≡◌, ℕ, zero, suc, ◌+◌, ◌-◌, ◌*◌, ◌/◌, ◌%◌, ◌^◌, ◌<◌, ◌≤◌, max, min, false, ◌&&◌, ◌||◌, inl, inr, nat_eq, List, [], ◌∷◌, filter, length, get_or, set, refl, ap, sym, ◌∙◌, arith, eq-eqb, ne_eqb, replicate, w64, get_or-set_other, get_or-set_same}
 use Rattle.std.proofs.lemmas.Bool.{and_left, cases_eq, cases_lt}
 use Rattle.std.proofs.lemmas.List.{get_or_past, get_or-replicate, length-replicate}
-use Rattle.std.proofs.lemmas.Nat.Bits.{bit_at_and, bit_at-zero, bit_at-lt, bit_at_set_same, bit_at_set_other, bit_at_above, bit_at-trailing_zeros}
+use Rattle.std.proofs.lemmas.Nat.Bits.{bit_at_and, bit_at_or, bit_at-zero, bit_at-lt, bit_at_set_same, bit_at_set_other, bit_at_above, bit_at-trailing_zeros}
 use Rattle.std.proofs.lemmas.Nat.{shr_le}
 use Rattle.std.specs.Int.{bit_at, trailing_zeros}
 use Rattle.std.specs.List.{range_with_len}
@@ -143,3 +143,25 @@ next_common words others from i next =
 -- and where there is none
 pub none_common : (words others : List ℕ) (from : ℕ) → ((i : ℕ) → from ≤ i → common_bit words others i ≡ false) → common_from words others from ≡ []
 none_common words others from none = filter_none (common_bit words others) from (length words * 64 - from) (λ i high _. none i high)
+
+either : (x y : ℕ) → x < 2 → y < 2 → nat_eq (max x y) 1 ≡ (nat_eq x 1 || nat_eq y 1)
+either zero zero p q = refl
+either zero (suc zero) p q = refl
+either (suc zero) zero p q = refl
+either (suc zero) (suc zero) p q = refl
+either (suc (suc x)) y p q = absurd (omega arith)
+either x (suc (suc y)) p q = absurd (omega arith)
+
+-- a bit of either word
+bit_of_or : (f g : ℕ → ℕ) (i : ℕ) → bit_of (λ k. bit_or (f k) (g k)) i ≡ (bit_of f i || bit_of g i)
+unfolding bit_of
+bit_of_or f g i =
+    let x : ℕ = bit_at (f (i / 64)) (i % 64) in
+    let y : ℕ = bit_at (g (i / 64)) (i % 64) in
+    let low = bit_at-lt (f (i / 64)) (i % 64) in
+    let low2 = bit_at-lt (g (i / 64)) (i % 64) in
+    rw (bit_at_or (f (i / 64)) (g (i / 64)) (i % 64)) (either x y low low2)
+
+-- a bit of one word that either of two others has
+pub bit_of_either : (f g e h : ℕ → ℕ) (i : ℕ) → ((k : ℕ) → h k ≡ bit_and (f k) (bit_or (g k) (e k))) → bit_of h i ≡ (bit_of f i && (bit_of g i || bit_of e i))
+bit_of_either f g e h i each = bit_of_and f (λ k. bit_or (g k) (e k)) h i each ∙ ap (λ b. bit_of f i && b) (bit_of_or g e i)

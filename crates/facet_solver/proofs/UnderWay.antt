@@ -1,14 +1,14 @@
 -- An index while the fields of a resolution are added.
 use Rattle.std.proofs.Common.{◌≡◌, ℕ, zero, suc, ◌+◌, ◌<◌, List, [], ◌∷◌, ◌++◌, Bor, Option, length, get_or, take, append_assoc, append-nil, refl, ap, sym, ◌∙◌, subst, arith}
 use Rattle.std.proofs.lemmas.Option.{slice_get-get_or}
-use Rattle.std.specs.Prelude.{if◌then◌else◌, Some, slice_get}
+use Rattle.std.specs.Prelude.{Some, slice_get}
 use Rattle.std.specs.FinMap as finite
 use Rattle.std.specs.Option.{option_map, option_map_or}
 use Rattle.facet_solver_shape.specs.declared.resolution.key.FieldKey.{FieldKey}
 use Rattle.facet_solver_shape.specs.Fields.{FieldView}
 use Rattle.facet_solver_shape.specs.Names.{Name}
 use Rattle.facet_solver_shape.specs.Resolved.{Resolved}
-use Rattle.facet_solver.specs.schema.IndexEntries.{added, entry_at}
+use Rattle.facet_solver.specs.schema.IndexEntries.{IsSlotAfter, entry_at}
 use Rattle.facet_solver.specs.schema.Indexed.{IsIndexOf, fields_of_each}
 use Rattle.facet_solver.specs.schema.Slots.{Slot, is_at}
 use Rattle.facet_solver.specs.solver.Tag.{last_variant}
@@ -53,8 +53,7 @@ way_start bound before fields rest index all is = record { seen = []; parts = al
 pub way_more : (bound : ℕ) (before : List (List FieldView)) (fields : List FieldView) (key : FieldKey) (f : FieldView) (variant : Option (Bor Name)) → option_map (λ (v : Bor Name). v.now) variant ≡ last_variant f.path
     → (rest : List (FieldKey × FieldView)) (old new : Index) (i : ℕ) → length before ≡ i → i < bound
     → IsUnderWay bound before fields ((key, f) ∷ rest) old
-    → ((slot : Slot) → entry_at new slot
-    ≡ (if is_at slot f then Some (added (entry_at old slot) (record { index = i; bound = bound; shape = f.shape; variant = variant })) else entry_at old slot))
+    → ((slot : Slot) → IsSlotAfter (is_at slot f) (record { index = i; bound = bound; shape = f.shape; variant = variant }) (entry_at old slot) (entry_at new slot))
     → IsUnderWay bound before fields rest new
 way_more bound before fields key f variant named rest old new i count within way step = record {
   seen = way.seen ++ f ∷ [];

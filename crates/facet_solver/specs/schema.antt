@@ -3,7 +3,6 @@ pub mod Schema
 pub mod SchemaStorage
 pub mod ResolutionHandle
 pub mod Slots
-pub mod Fingerprints
 pub mod Selected
 pub mod FewShapes
 pub mod IndexEntries

@@ -1,5 +1,6 @@
 //! Sets of resolutions, by their indices.
-ghost use Rattle.std.specs.Prelude.{◌≡◌, ◌↔◌, ◌+◌, ◌<◌, ◌≤◌, ◌||◌, [], All, IfOk, IsOk, IsTrue, filter, length, nat_eq, not, slice_get};
+ghost use Rattle.std.specs.Prelude.{◌≡◌, ◌↔◌, ◌+◌, ◌<◌, ◌≤◌, ◌||◌, [], All, IfOk, IsOk, IsTrue, filter, length, nat_eq, slice_get};
+ghost use Rattle.std.specs.List.{list_any};
 ghost use Rattle.std.specs.List.Sorted.{IsStrictlyIncreasing};
 ghost use Rattle.facet_solver_shape.specs.Steps.{NoCountFalls};
 ghost use Rattle.facet_solver.specs.set.IndexSet.{IsWithin, how_many, matches_view, full, has_index, upto};
@@ -65,6 +66,48 @@ impl ResolutionSet {
         Ok(ResolutionSet { bound, words })
     }
 
+    /// The same members once more.
+    pub(crate) fn copied(&self) -> Result<Self, AllocError>
+        ensures { IfOk result (λ s. s ≡ self.now) }
+    {
+        let words = self.words.copied()?;
+        Ok(ResolutionSet {
+            bound: self.bound,
+            words,
+        })
+    }
+
+    /// No member, below the same bound.
+    pub(crate) fn emptied(&self, alloc: Global) -> Result<Self, AllocError>
+        ensures { IfOk result (λ s. s ≡ record self.now { members = [] }) }
+    {
+        ResolutionSet::empty(alloc, self.bound)
+    }
+
+    /// Whether a member is one of another set.
+    pub(crate) fn shares(&self, other: &ResolutionSet) -> bool
+        requires { self.now.bound ≡ other.now.bound }
+        ensures shared { result ≡ list_any (has_index other.now.members) self.now.members }
+        ensures within { All (λ i. i < self.now.bound) self.now.members }
+    {
+        let mut steps = Steps::new();
+        let mut common = self.common(other, &mut steps);
+        common.next(&mut steps).is_some()
+    }
+
+    /// Drops the members that two other sets lack both.
+    pub(crate) fn keep_either(&mut self, one: &ResolutionSet, other: &ResolutionSet)
+        requires one { self.old.bound ≡ one.now.bound }
+        requires other { self.old.bound ≡ other.now.bound }
+        ensures { self.new ≡ record self.old {
+          members = filter (λ i. has_index one.now.members i || has_index other.now.members i)
+              self.old.members;
+        } }
+    {
+        self.words
+            .keep_either(one.words.as_slice(), other.words.as_slice());
+    }
+
     /// One more member.
     pub(crate) fn insert(&mut self, index: usize)
         requires { index < self.old.bound }
@@ -74,23 +117,6 @@ impl ResolutionSet {
         } }
     {
         self.words.insert(index);
-    }
-
-    /// Drops a member, if it is one.
-    pub(crate) fn remove(&mut self, index: usize)
-        ensures { self.new ≡ record self.old {
-          members = filter (λ i. not (nat_eq i index)) self.old.members;
-        } }
-    {
-        self.words.remove(index);
-    }
-
-    /// Whether there are so many members or more.
-    pub(crate) fn has_at_least(&self, count: usize) -> bool
-        ensures number { IsTrue result ↔ (count ≤ length self.now.members) }
-        ensures within { All (λ i. i < self.now.bound) self.now.members }
-    {
-        count <= count_bits(self.words.as_slice())
     }
 
     /// Drops the members that another set lacks.

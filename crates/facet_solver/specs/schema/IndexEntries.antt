@@ -1,5 +1,5 @@
 -- The entries of an index.
-use Rattle.std.specs.Prelude.{◌≡◌, ◌||◌, ℕ, Bool, false, if◌then◌else◌, List, [], ◌++◌, Option, Some, None, filter, nat_eq}
+use Rattle.std.specs.Prelude.{◌≡◌, ◌<◌, ◌||◌, ℕ, Bool, true, false, if◌then◌else◌, IsTrue, List, [], MatchOption, Option, Some, None, filter, nat_eq}
 use Rattle.std.specs.BTreeMap.{BTreeMap, get_by}
 use Rattle.std.specs.Cmp.Lexicographic.{slice_cmp}
 use Rattle.std.specs.List.{list_any}
@@ -11,12 +11,13 @@ use Rattle.facet_solver_shape.specs.declared.resolution.key.FieldCategory.TheVar
 use Rattle.facet_solver_shape.specs.Names.{Name}
 use Rattle.facet_solver.specs.set.IndexSet.{IndexSet, has_index, upto}
 use Rattle.facet_solver.specs.schema.FewShapes.{few_shapes_with}
-use Rattle.facet_solver.specs.schema.Selected.{selected_by}
+use Rattle.facet_solver.specs.schema.Selected.{HasSetsBelow, SelectsMore, selects}
 use Rattle.facet_solver.specs.schema.Slots.{Slot}
 use Rattle.facet_solver.specs.declared.schema.index.category_index.CategoryIndex.{CategoryIndex}
 use Rattle.facet_solver.specs.declared.schema.index.entry.Entry.{Entry}
 use Rattle.facet_solver.specs.declared.schema.index.Index.{Index}
 use Rattle.facet_solver.specs.declared.schema.index.entry.Occurrence.{Occurrence}
+use Rattle.facet_solver.specs.declared.schema.index.selected.Selected.TheVariants.{Same}
 
 -- the entry of a name
 abbrev pub named_entry : BTreeMap (Bor Name) Entry → Name → Option Entry
@@ -52,9 +53,14 @@ set_at index slot = option_map (λ e. e.set) (entry_at index slot)
 abbrev pub is_held : List (Bor IndexSet) → ℕ → Bool
 is_held sets index = list_any (λ set. has_index set.now.members index) sets
 
--- an entry is over the numbers below a bound
+-- the sets of an entry, if there is one, are over the numbers below a bound
 abbrev pub HasBound : ℕ → Option Entry → Type 0
-HasBound bound entry = ForSome entry (λ (e : Entry). e.set.bound ≡ bound)
+HasBound bound entry =
+    ForSome entry (λ (e : Entry). (e.set.bound ≡ bound) × HasSetsBelow bound e.selected)
+
+-- whether a resolution of an entry selects a variant, or none
+abbrev pub selects_in : Entry → Option Name → ℕ → Bool
+selects_in e variant index = selects e.selected e.set.members variant index
 
 -- a set with one more number
 abbrev pub with_number : IndexSet → ℕ → IndexSet
@@ -73,14 +79,15 @@ shapes_with (Some known) shapes shape =
     if nat_eq known shape then shapes
     else few_shapes_with (few_shapes_with shapes known) shape
 
--- an entry with one more resolution. Of a resolution that it has the field that came first is meant
-abbrev pub with_occurrence : Entry → Occurrence → Entry
-with_occurrence e at = if has_index e.set.members at.index then e else record {
-  set = with_number e.set at.index;
-  shape = agreed e.shape at.shape;
-  shapes = shapes_with e.shape e.shapes at.shape;
-  selected = e.selected ++ selected_by at.index at.variant;
-}
+-- two sets of resolutions of an entry: those that select the variant of a name, and others that make
+-- up with them those that select no other
+pub record AreSelecting (variant : Name) (e : Entry) (named others : IndexSet) : Type 0 where
+  pub named_bound : named.bound ≡ e.set.bound
+  pub others_bound : others.bound ≡ e.set.bound
+  pub is_named : (i : ℕ) → i < e.set.bound
+      → has_index named.members i ≡ selects_in e (Some variant) i
+  pub is_other : (i : ℕ) → i < e.set.bound → (has_index named.members i || has_index others.members i)
+      ≡ (selects_in e (Some variant) i || selects_in e None i)
 
 -- the entry of one resolution
 abbrev pub entry_of_one : Occurrence → Entry
@@ -88,10 +95,28 @@ entry_of_one at = record {
   set = with_number (record { bound = at.bound; members = [] }) at.index;
   shape = Some at.shape;
   shapes = [];
-  selected = selected_by at.index at.variant;
+  selected = Same at.variant;
 }
 
--- an entry, or none yet, with one more resolution
-abbrev pub added : Option Entry → Occurrence → Entry
-added None at = entry_of_one at
-added (Some e) at = with_occurrence e at
+-- an entry after a resolution that it did not have
+pub record HasOneMore (before : Entry) (at : Occurrence) (after : Entry) : Type 0 where
+  pub set : after.set ≡ with_number before.set at.index
+  pub shape : after.shape ≡ agreed before.shape at.shape
+  pub shapes : after.shapes ≡ shapes_with before.shape before.shapes at.shape
+  pub below : HasSetsBelow at.bound after.selected
+  pub selected : SelectsMore at (selects_in before) (selects_in after)
+
+-- an entry after one more field. Of a resolution that it has the field that came first is meant
+pub record IsAfter (before : Entry) (at : Occurrence) (after : Entry) : Type 0 where
+  pub known : IsTrue (has_index before.set.members at.index) → after ≡ before
+  pub new : has_index before.set.members at.index ≡ false → HasOneMore before at after
+
+-- an entry after one more field, where there may have been none
+abbrev pub IsAdded : Option Entry → Occurrence → Entry → Type 0
+IsAdded None at after = after ≡ entry_of_one at
+IsAdded (Some before) at after = IsAfter before at after
+
+-- the entry of a slot after one more field, which stands there or does not
+abbrev pub IsSlotAfter : Bool → Occurrence → Option Entry → Option Entry → Type 0
+IsSlotAfter true at before after = MatchOption after ⊥ (IsAdded before at)
+IsSlotAfter false at before after = after ≡ before

@@ -1,5 +1,5 @@
 -- What the entries of an index say of the resolutions.
-use Rattle.std.specs.Prelude.{◌≡◌, ◌≢◌, ◌≤◌, ℕ, Bool, List, Option, Some, None, MatchOption, All, false, IsTrue, filter, find, is_some, length, map, slice_get}
+use Rattle.std.specs.Prelude.{◌≡◌, ◌≢◌, ◌<◌, ◌≤◌, ℕ, Bool, List, Option, Some, None, MatchOption, All, false, IsTrue, filter, find, is_some, length, map, slice_get}
 use Rattle.std.specs.FinMap as finite
 use Rattle.std.specs.Option.{option_and_then, option_map_or}
 use Rattle.facet_solver_shape.specs.declared.resolution.key.FieldCategory.{FieldCategory}
@@ -9,9 +9,9 @@ use Rattle.facet_solver_shape.specs.Names.{Name}
 use Rattle.facet_solver_shape.specs.Resolved.{Resolved}
 use Rattle.facet_solver.specs.set.IndexSet.{upto}
 use Rattle.facet_solver.specs.solver.Tag.{last_variant}
-use Rattle.facet_solver.specs.schema.IndexEntries.{entry_at}
+use Rattle.facet_solver.specs.schema.IndexEntries.{entry_at, selects_in}
 use Rattle.facet_solver.specs.schema.FewShapes.{has_shape, most_shapes}
-use Rattle.facet_solver.specs.schema.Selected.{has_selected}
+use Rattle.facet_solver.specs.schema.Selected.{HasSetsBelow, same_variant}
 use Rattle.facet_solver.specs.schema.Slots.{Slot, is_at}
 use Rattle.facet_solver.specs.declared.build.format.Format.{Format}
 use Rattle.facet_solver.specs.declared.build.format.Format.TheVariants.{Flat, Dom}
@@ -40,14 +40,15 @@ pub record Differs (meant : Meant) : Type 0 where
   pub other_present : meant second ≡ Some other
   pub apart : one.shape ≢ other.shape
 
--- the variant that the field that is meant in a resolution selects, if it selects one
-abbrev pub selected_at : Meant → ℕ → Option Name
-selected_at meant index = option_and_then (λ f. last_variant f.path) (meant index)
+-- whether the field that is meant in a resolution selects a variant, or none
+abbrev pub selects_at : Meant → Option Name → ℕ → Bool
+selects_at meant variant index =
+    option_map_or (λ f. same_variant (last_variant f.path) variant) (meant index) false
 
--- the variants are those that the fields that are meant select
-abbrev pub AreSelected : Meant → List (ℕ × Name) → Type 0
-AreSelected meant selected = (test : Name → Bool) (index : ℕ)
-    → has_selected test selected index ≡ option_map_or test (selected_at meant index) false
+-- an entry has, of the resolutions below a bound, those that select each variant, and none
+abbrev pub AreSelected : ℕ → Meant → Entry → Type 0
+AreSelected bound meant entry = (variant : Option Name) (index : ℕ) → index < bound
+    → selects_in entry variant index ≡ selects_at meant variant index
 
 -- some shapes have that of each field that is meant
 abbrev pub HaveShapesOf : Meant → List ℕ → Type 0
@@ -66,7 +67,8 @@ pub record IsIndexEntry (bound : ℕ) (meant : Meant) (entry : Entry) : Type 0 w
       ≡ record { bound = bound; members = filter (λ i. is_some (meant i)) (upto bound) }
   pub shape : MatchOption entry.shape (Differs meant) (λ shape. AgreesOn shape meant)
   pub shapes : HasFewShapes meant entry
-  pub selected : AreSelected meant entry.selected
+  pub below : HasSetsBelow bound entry.selected
+  pub selected : AreSelected bound meant entry
 
 -- there is an entry, or no field is meant
 abbrev pub IsEntryIfAny : ℕ → Meant → Option Entry → Type 0

@@ -1,10 +1,10 @@
 //! The index of a schema: which resolutions have a key.
-ghost use Rattle.std.specs.Prelude.{◌≡◌, ◌+◌, ◌<◌, ℕ, IfOk, List, None, OnOk, Some, if◌then◌else◌, length, map, take};
+ghost use Rattle.std.specs.Prelude.{◌≡◌, ◌+◌, ◌<◌, ℕ, IfOk, List, None, OnOk, length, map, take};
 ghost use Rattle.std.specs.List.{filter_map};
 ghost use Rattle.std.specs.Option.{option_copied};
 ghost use Rattle.facet_solver_shape.specs.Keys.{key_of};
 ghost use Rattle.facet_solver_shape.specs.Resolved.{Resolved};
-ghost use Rattle.facet_solver.specs.schema.IndexEntries.{HasBound, added, category_of, entry_at, is_held, set_at};
+ghost use Rattle.facet_solver.specs.schema.IndexEntries.{HasBound, IsSlotAfter, category_of, entry_at, is_held, set_at};
 ghost use Rattle.facet_solver.specs.schema.Indexed.{AreOfFormat, IsEntryIfAny, IsIndexOf, fields_of_each};
 ghost use Rattle.facet_solver.specs.Resolutions.{field_at, has_field_named, passes};
 ghost use Rattle.facet_solver.specs.schema.Slots.{Slot, categories, is_at, slot_in, slot_of};
@@ -12,8 +12,8 @@ ghost use Rattle.facet_solver.specs.schema.Slots.{Slot, categories, is_at, slot_
 pub(crate) mod category_index;
 pub(crate) mod entry;
 pub(crate) mod few_shapes;
-mod fingerprinted_name;
 pub(crate) mod selected;
+pub(crate) mod variant_sets;
 
 use crate::build::format::Format;
 use crate::schema::index::category_index::CategoryIndex;
@@ -192,10 +192,8 @@ impl<'c> Index<'c> {
     ) -> Result<(), AllocError>
         requires index { at.now.index < at.now.bound }
         requires bounds { (slot : Slot) → HasBound at.now.bound (entry_at self.old slot) }
-        ensures { OnOk result ((slot : Slot) → entry_at self.new slot
-            ≡ (if is_at slot field.now
-            then Some (added (entry_at self.old slot) at.now)
-            else entry_at self.old slot)) }
+        ensures { OnOk result ((slot : Slot) → IsSlotAfter (is_at slot field.now) at.now
+            (entry_at self.old slot) (entry_at self.new slot)) }
     {
         match field.category {
             FieldCategory::Flat => self.flat.add(alloc, field, at),

@@ -1,5 +1,5 @@
 //! Indices as bits of words, 64 a word.
-ghost use Rattle.std.specs.Prelude.{◌≡◌, ℕ, ◌∷◌, [], ◌+◌, ◌-◌, ◌*◌, ◌^◌, ◌<◌, ◌≤◌, ◌↔◌, ◌&&◌, IfOk, IfSome, IsTrue, MatchOption, length, nat_eq, not, replicate, slice_index, vec_len};
+ghost use Rattle.std.specs.Prelude.{◌≡◌, ℕ, ◌∷◌, [], ◌+◌, ◌-◌, ◌*◌, ◌^◌, ◌<◌, ◌≤◌, ◌↔◌, ◌&&◌, IfOk, IfSome, IsTrue, MatchOption, bit_and, bit_or, length, nat_eq, replicate, slice_index, vec_len};
 ghost use Rattle.std.specs.Int.{bit_at};
 ghost use Rattle.facet_solver_shape.specs.Steps.{NoCountFalls};
 ghost use Rattle.facet_solver.specs.set.IndexSet.{has_index};
@@ -132,18 +132,6 @@ pub(crate) fn retain_bits<C: Condition>(words: &mut [u64], condition: &C)
     }
 }
 
-/// Clears the bit of an index.
-pub(crate) fn clear_bit(words: &mut [u64], index: usize)
-    ensures count { length words.new ≡ length words.old }
-    ensures cleared { (i : ℕ) → has_bit words.new i
-        ≡ (has_bit words.old i && not (nat_eq i index)) }
-{
-    let place = index / 64;
-    if place < words.len() {
-        words[place] &= !(1u64 << (index % 64));
-    }
-}
-
 /// The least index from one on whose bit is set in the word of a place, where the index lies in it
 /// or ends it.
 pub(crate) fn next_in_word(word: u64, place: usize, from: usize) -> Option<usize>
@@ -213,6 +201,20 @@ pub(crate) fn keep_words(words: &mut [u64], others: &[u64], steps: &mut Steps)
 {
     for k in 0..words.len() {
         words[k] &= read_word(others, k, steps);
+    }
+}
+
+/// Clears the bits that two other slices of words lack both.
+pub(crate) fn keep_either(words: &mut [u64], one: &[u64], other: &[u64])
+    requires one { length words.old ≡ length one.now }
+    requires other { length words.old ≡ length other.now }
+    ensures len { length words.new ≡ length words.old }
+    ensures kept { (k : ℕ) → slice_index words.new k
+        ≡ bit_and (slice_index words.old k)
+        (bit_or (slice_index one.now k) (slice_index other.now k)) }
+{
+    for k in 0..words.len() {
+        words[k] &= one[k] | other[k];
     }
 }
 

@@ -1,11 +1,11 @@
 //! The words of a set. One word takes no memory of its own.
-ghost use Rattle.std.specs.Prelude.{◌≡◌, ℕ, ◌+◌, ◌*◌, ◌/◌, ◌%◌, ◌^◌, ◌<◌, ◌≤◌, ◌&&◌, IfOk, IsOk, bit_or, length, nat_eq, not, replicate, slice_index, slice_set};
+ghost use Rattle.std.specs.Prelude.{◌≡◌, ℕ, ◌+◌, ◌*◌, ◌/◌, ◌%◌, ◌^◌, ◌<◌, ◌≤◌, ◌&&◌, IfOk, IsOk, bit_and, bit_or, length, replicate, slice_index, slice_set};
 ghost use Rattle.facet_solver_shape.specs.Steps.{NoCountFalls};
 ghost use Rattle.facet_solver.specs.set.SharedBits.{common_word};
 ghost use Rattle.facet_solver.specs.set.Words.{IsFull, has_bit, word_count, words_of};
 
 use crate::set::bits::{
-    clear_bit, empty_words, full_words, keep_words, low_ones, read_word, retain_bits,
+    empty_words, full_words, keep_either, keep_words, low_ones, read_word, retain_bits,
 };
 use crate::set::condition::Condition;
 use facet_solver_shape::Steps;
@@ -81,15 +81,28 @@ impl Words {
         }
     }
 
-    /// Clears the bit of an index.
-    pub(crate) fn remove(&mut self, index: usize)
-        ensures count { length (words_of self.new) ≡ length (words_of self.old) }
-        ensures cleared { (i : ℕ) → has_bit (words_of self.new) i
-            ≡ (has_bit (words_of self.old) i && not (nat_eq i index)) }
+    /// The same words once more.
+    pub(crate) fn copied(&self) -> Result<Self, AllocError>
+        ensures { IfOk result (λ words. words_of words ≡ words_of self.now) }
     {
         match self {
-            Words::One(word) => clear_bit(slice::from_mut(word), index),
-            Words::Many(words) => clear_bit(words.as_mut_slice(), index),
+            Words::One(word) => Ok(Words::One(*word)),
+            Words::Many(words) => Ok(Words::Many(words.clone()?)),
+        }
+    }
+
+    /// Clears the bits that two other slices of words lack both.
+    pub(crate) fn keep_either(&mut self, one: &[u64], other: &[u64])
+        requires one { length (words_of self.old) ≡ length one.now }
+        requires other { length (words_of self.old) ≡ length other.now }
+        ensures len { length (words_of self.new) ≡ length (words_of self.old) }
+        ensures kept { (k : ℕ) → slice_index (words_of self.new) k
+            ≡ bit_and (slice_index (words_of self.old) k)
+            (bit_or (slice_index one.now k) (slice_index other.now k)) }
+    {
+        match self {
+            Words::One(word) => *word &= one[0] | other[0],
+            Words::Many(words) => keep_either(words.as_mut_slice(), one, other),
         }
     }
 

@@ -7,7 +7,6 @@ pub(crate) mod seen_name;
 pub(crate) mod selects_variant;
 pub(crate) mod shape_among;
 pub(crate) mod tag_field;
-pub(crate) mod variant_under;
 pub(crate) mod viable;
 
 use crate::set::Condition;

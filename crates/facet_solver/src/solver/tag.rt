@@ -1,19 +1,18 @@
 //! The tag of an enum: a key whose text is the name of a variant.
-ghost use Rattle.std.specs.Prelude.{◌≡◌, ◌≢◌, ◌↔◌, [], IfOk, IsTrue, OnErr, OnOk};
+ghost use Rattle.std.specs.Prelude.{◌≡◌, ◌≢◌, ◌↔◌, ◌<◌, ◌||◌, [], All, IfOk, IsTrue, None, OnErr, OnOk, Some, filter, if◌then◌else◌};
+ghost use Rattle.std.specs.List.{list_any};
 ghost use Rattle.facet_solver_shape.specs.Keys.{flat_key};
-ghost use Rattle.facet_solver.specs.solver.State.{passing, see_key};
+ghost use Rattle.facet_solver.specs.schema.IndexEntries.{HasBound, selects_in};
+ghost use Rattle.facet_solver.specs.set.IndexSet.{has_index};
+ghost use Rattle.facet_solver.specs.solver.State.{or_all, passing, see_key};
 ghost use Rattle.facet_solver.specs.solver.Tag as state;
 ghost use Rattle.facet_solver.specs.solver.Tag.{has_variant_under};
 
-use crate::set::Matches;
+use crate::schema::index::entry::Entry;
+use crate::set::ResolutionSet;
 use crate::solver::Solver;
-use crate::solver::conditions::variant_under::{HasNoOtherUnder, HasVariantUnder};
-use facet_solver_shape::FieldKey;
+use facet_solver_shape::{FieldKey, Steps};
 use std::alloc::{AllocError, Global};
-
-/// How many variants of an entry are gone through for each candidate at most. It takes about as
-/// long as to seek the tag among the fields of the candidate.
-const VARIANTS_FOR_A_CANDIDATE: usize = 8;
 
 impl<'a> Solver<'_, '_, 'a> {
     /// Sees a tag of the document, with the text under it, which may name a variant.
@@ -39,40 +38,52 @@ impl<'a> Solver<'_, '_, 'a> {
         ensures ok { OnOk result (self.new ≡ state.see_tag tag.now variant.now self.old) }
         ensures err { OnErr result (self.new ≡ self.old) }
     {
-        self.see_key(alloc, FieldKey::flat(tag))?;
-        Ok(self.keep_variant(tag, variant))
-    }
-
-    /// Where some candidate has the variant under the tag, only those stay that have no other
-    /// there.
-    fn keep_variant(&mut self, tag: &str, variant: &str) -> bool
-        ensures named { IsTrue result
-            ↔ (passing (has_variant_under tag.now variant.now) self.old ≢ []) }
-        ensures kept { self.new ≡ state.keep_variant tag.now variant.now self.old }
-    {
-        let Some(entry) = self.schema.look_up(FieldKey::flat(tag)) else {
-            return false;
+        let key = FieldKey::flat(tag);
+        self.seen.insert(key)?;
+        let Some(entry) = self.schema.look_up(key) else {
+            return Ok(false);
         };
-        let enough = entry.selected.len() / VARIANTS_FOR_A_CANDIDATE;
-        if self.candidates.has_at_least(enough) {
-            entry.selected.narrow(variant, &mut self.candidates)
-        } else {
-            self.keep_by_fields(tag, variant)
+        if keep_variant(&mut self.candidates, entry, variant) {
+            return Ok(true);
+        }
+        keep_holders(&mut self.candidates, &entry.set);
+        Ok(false)
+    }
+}
+
+/// Where the field of a key in some candidate selects a variant, only those stay that have the key
+/// and select no other there.
+fn keep_variant(candidates: &mut ResolutionSet, entry: &Entry<'_>, variant: &str) -> bool
+    requires bound { candidates.old.bound ≡ entry.now.set.bound }
+    requires sets { HasBound entry.now.set.bound (Some entry.now) }
+    ensures named { result
+        ≡ list_any (selects_in entry.now (Some variant.now)) candidates.old.members }
+    ensures kept { candidates.new ≡ (if result then record candidates.old {
+      members = filter (λ i. selects_in entry.now (Some variant.now) i
+          || selects_in entry.now None i) candidates.old.members;
+    } else candidates.old) }
+    ensures within { IsTrue result
+        → All (λ i. i < candidates.old.bound) candidates.old.members }
+{
+    if let Some((named, others)) = entry.selecting(variant) {
+        if candidates.shares(named) {
+            candidates.keep_either(named, others);
+            return true;
         }
     }
+    false
+}
 
-    /// Keeps the variant as [`Solver::keep_variant`] does, by the fields of each candidate.
-    fn keep_by_fields(&mut self, tag: &str, variant: &str) -> bool
-        ensures named { IsTrue result
-            ↔ (passing (has_variant_under tag.now variant.now) self.old ≢ []) }
-        ensures kept { self.new ≡ state.keep_variant tag.now variant.now self.old }
-    {
-        match self.matching(HasVariantUnder { tag, variant }) {
-            Matches::None => false,
-            _ => {
-                self.retain(HasNoOtherUnder { tag, variant });
-                true
-            }
-        }
+/// Where some candidate is one of a set, only those stay that are.
+fn keep_holders(candidates: &mut ResolutionSet, holders: &ResolutionSet)
+    requires { candidates.old.bound ≡ holders.now.bound }
+    ensures kept { candidates.new ≡ record candidates.old {
+      members = or_all (filter (has_index holders.now.members) candidates.old.members)
+          candidates.old.members;
+    } }
+    ensures within { All (λ i. i < candidates.old.bound) candidates.old.members }
+{
+    if candidates.shares(holders) {
+        candidates.keep_common(holders, &mut Steps::new());
     }
 }

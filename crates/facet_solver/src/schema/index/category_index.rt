@@ -1,8 +1,8 @@
 //! The entries of one category of fields, by name.
-ghost use Rattle.std.specs.Prelude.{◌≡◌, ◌<◌, None, OnOk, Option, Some, if◌then◌else◌};
+ghost use Rattle.std.specs.Prelude.{◌≡◌, ◌<◌, None, OnOk, Option, Some, true};
 ghost use Rattle.std.specs.Option.{option_copied};
 ghost use Rattle.facet_solver_shape.specs.Names.{Name, name_eq};
-ghost use Rattle.facet_solver.specs.schema.IndexEntries.{HasBound, added, entry_in, named_entry};
+ghost use Rattle.facet_solver.specs.schema.IndexEntries.{HasBound, IsSlotAfter, entry_in, named_entry};
 ghost use Rattle.facet_solver.specs.schema.Slots.{is_named};
 
 use crate::schema::index::entry::{Entry, Occurrence};
@@ -48,11 +48,11 @@ impl<'c> CategoryIndex<'c> {
     fn add_to_all(&mut self, alloc: Global, at: &Occurrence<'c>) -> Result<(), AllocError>
         requires index { at.now.index < at.now.bound }
         requires bound { HasBound at.now.bound self.old.all }
-        ensures { OnOk result
-            (self.new ≡ record self.old { all = Some (added self.old.all at.now) }) }
+        ensures named { OnOk result (self.new.named ≡ self.old.named) }
+        ensures all { OnOk result (IsSlotAfter true at.now self.old.all self.new.all) }
     {
         match &mut self.all {
-            Some(entry) => entry.add(at)?,
+            Some(entry) => entry.add(alloc, at)?,
             None => self.all = Some(Entry::of_one(alloc, at)?),
         }
         Ok(())
@@ -67,10 +67,8 @@ impl<'c> CategoryIndex<'c> {
     ) -> Result<(), AllocError>
         requires index { at.now.index < at.now.bound }
         requires bounds { (name : Option Name) → HasBound at.now.bound (entry_in self.old name) }
-        ensures { OnOk result ((name : Option Name) → entry_in self.new name
-            ≡ (if is_named name field.now
-            then Some (added (entry_in self.old name) at.now)
-            else entry_in self.old name)) }
+        ensures { OnOk result ((name : Option Name) → IsSlotAfter (is_named name field.now) at.now
+            (entry_in self.old name) (entry_in self.new name)) }
     {
         add_named(&mut self.named, alloc, field.serialized_name, at)?;
         if field.category.takes_any_name() {
@@ -89,13 +87,11 @@ fn add_named<'c>(
 ) -> Result<(), AllocError>
     requires index { at.now.index < at.now.bound }
     requires bounds { (n : Name) → HasBound at.now.bound (named_entry named.old n) }
-    ensures { OnOk result ((n : Name) → named_entry named.new n
-        ≡ (if name_eq n name.now
-        then Some (added (named_entry named.old n) at.now)
-        else named_entry named.old n)) }
+    ensures { OnOk result ((n : Name) → IsSlotAfter (name_eq n name.now) at.now
+        (named_entry named.old n) (named_entry named.new n)) }
 {
     match named.entry(name)? {
-        btree_map::Entry::Occupied(entry) => entry.into_mut().add(at)?,
+        btree_map::Entry::Occupied(entry) => entry.into_mut().add(alloc, at)?,
         btree_map::Entry::Vacant(place) => {
             place.insert(Entry::of_one(alloc, at)?);
         }

@@ -1,10 +1,10 @@
 //! The resolutions that have a key.
-ghost use Rattle.std.specs.Prelude.{◌≡◌, ◌<◌, IfOk, OnOk};
+ghost use Rattle.std.specs.Prelude.{◌≡◌, ◌<◌, ℕ, false, IfOk, MatchOption, OnOk, Some};
 ghost use Rattle.std.specs.Option.{option_copied};
-ghost use Rattle.facet_solver.specs.schema.IndexEntries.{agreed, entry_of_one, holds, shapes_with, with_occurrence};
+ghost use Rattle.facet_solver.specs.schema.IndexEntries.{AreSelecting, HasBound, IsAfter, agreed, entry_of_one, holds, selects_in, shapes_with};
 
 use crate::schema::index::few_shapes::FewShapes;
-use crate::schema::index::selected::SelectedVariants;
+use crate::schema::index::selected::Selected;
 use crate::set::ResolutionSet;
 use facet_solver_shape::ShapeId;
 use std::alloc::{AllocError, Global};
@@ -30,7 +30,7 @@ pub(crate) struct Entry<'c> {
     /// The shapes of these fields where they do not agree, as long as they are few.
     pub(crate) shapes: FewShapes,
     /// The variants that these fields select, so that no resolution is asked for its own.
-    pub(crate) selected: SelectedVariants<'c>,
+    pub(crate) selected: Selected<'c>,
 }
 
 /// Printed as a derived impl would, without what the resolutions have: the shapes and the variants.
@@ -51,25 +51,24 @@ impl<'c> Entry<'c> {
     {
         let mut set = ResolutionSet::empty(alloc, at.bound)?;
         set.insert(at.index);
-        let mut selected = SelectedVariants::new(alloc);
-        selected.add(at.index, at.variant)?;
         Ok(Entry {
             set,
             shape: Some(at.shape),
             shapes: FewShapes::new(alloc),
-            selected,
+            selected: Selected::Same(at.variant),
         })
     }
 
     /// Adds a resolution. Of one that is here the field that came first is meant.
-    pub(super) fn add(&mut self, at: &Occurrence<'c>) -> Result<(), AllocError>
-        requires { at.now.index < self.old.set.bound }
-        ensures { OnOk result (self.new ≡ with_occurrence self.old at.now) }
+    pub(super) fn add(&mut self, alloc: Global, at: &Occurrence<'c>) -> Result<(), AllocError>
+        requires index { at.now.index < at.now.bound }
+        requires bound { HasBound at.now.bound (Some self.old) }
+        ensures { OnOk result (IsAfter self.old at.now self.new) }
     {
         if self.set.contains(at.index) {
             return Ok(());
         }
-        self.selected.add(at.index, at.variant)?;
+        self.selected.add(alloc, &self.set, at)?;
         self.add_shape(at.shape)?;
         self.set.insert(at.index);
         Ok(())
@@ -91,6 +90,21 @@ impl<'c> Entry<'c> {
             self.shape = None;
         }
         Ok(())
+    }
+
+    /// The resolutions whose fields select a variant, and others that make up with them those whose
+    /// fields select no other. There are none where no field selects it.
+    pub(crate) fn selecting(&self, variant: &str) -> Option<(&ResolutionSet, &ResolutionSet)>
+        requires { HasBound self.now.set.bound (Some self.now) }
+        ensures { MatchOption result
+            ((i : ℕ) → selects_in self.now (Some variant.now) i ≡ false)
+            (λ found. AreSelecting variant.now self.now found.0.now found.1.now) }
+    {
+        match &self.selected {
+            Selected::Same(Some(name)) if *name == variant => Some((&self.set, &self.set)),
+            Selected::Same(_) => None,
+            Selected::Different(sets) => Some((sets.named.get(variant)?, &sets.without)),
+        }
     }
 }
 

@@ -1,17 +1,16 @@
 //! The variants that the fields of an entry select.
-ghost use Rattle.std.specs.Prelude.{◌≡◌, ◌++◌, ◌&&◌, [], OnOk, filter, length, map, not, if◌then◌else◌};
-ghost use Rattle.std.specs.List.{list_any};
+ghost use Rattle.std.specs.Prelude.{◌≡◌, ◌<◌, false, OnOk};
 ghost use Rattle.std.specs.Option.{option_map};
-ghost use Rattle.facet_solver_shape.specs.Names.{name_eq};
-ghost use Rattle.facet_solver.specs.schema.Selected.{has_named, has_other, selected_by, selected_of};
+ghost use Rattle.facet_solver.specs.schema.IndexEntries.{with_number};
+ghost use Rattle.facet_solver.specs.schema.Selected.{HasSetsBelow, SelectsMore, name_of, same_variant, selects};
 ghost use Rattle.facet_solver.specs.set.IndexSet.{has_index};
 ghost use Rattle.facet_solver.specs.solver.Tag.{last_variant};
 
-use crate::schema::index::fingerprinted_name::FingerprintedName;
+use crate::schema::index::entry::Occurrence;
+use crate::schema::index::variant_sets::VariantSets;
 use crate::set::ResolutionSet;
 use facet_solver_shape::{FieldPath, PathSegment};
 use std::alloc::{AllocError, Global};
-use std::marker::Model;
 
 /// The variant that a field selects: that which its path ends in.
 pub(crate) fn last_variant<'c>(path: &FieldPath<'c>) -> Option<&'c str>
@@ -23,114 +22,52 @@ pub(crate) fn last_variant<'c>(path: &FieldPath<'c>) -> Option<&'c str>
     }
 }
 
-/// A variant that a field of a resolution selects: the index of the resolution, and its name.
+/// The variants that the fields of an entry select.
 #[derive(Drop)]
-struct SelectedVariant<'c> {
-    index: usize,
-    name: FingerprintedName<'c>,
+pub(crate) enum Selected<'c> {
+    /// Each field selects this one, or none selects any.
+    Same(Option<&'c str>),
+    /// They differ.
+    Different(Box<VariantSets<'c>>),
 }
 
-impl SelectedVariant<'_> {
-    /// Whether it is that of a name, and its resolution is in a set.
-    fn is_named(&self, variant: &FingerprintedName<'_>, set: &ResolutionSet) -> bool
-        ensures { result
-            ≡ (has_index set.now.members self.now.index && name_eq self.now.name variant.now) }
+impl<'c> Selected<'c> {
+    /// Adds what the field of one resolution more selects, beside the resolutions of the entry.
+    pub(super) fn add(
+        &mut self,
+        alloc: Global,
+        before: &ResolutionSet,
+        at: &Occurrence<'c>,
+    ) -> Result<(), AllocError>
+        requires index { at.now.index < at.now.bound }
+        requires bound { before.now.bound ≡ at.now.bound }
+        requires below { HasSetsBelow at.now.bound self.old }
+        ensures below { OnOk result (HasSetsBelow at.now.bound self.new) }
+        ensures selected { OnOk result (SelectsMore at.now (selects self.old before.now.members)
+            (selects self.new (with_number before.now at.now.index).members)) }
     {
-        self.name.is(variant) && set.contains(self.index)
-    }
-}
-
-/// The variants that the fields of an entry select, by the indices of their resolutions.
-#[derive(Drop)]
-pub(crate) struct SelectedVariants<'c> {
-    variants: Vec<SelectedVariant<'c>>,
-}
-
-impl<'c> Model for SelectedVariants<'c> {
-    ghost use Rattle.std.specs.Prelude.{List, ℕ, map};
-    ghost use Rattle.facet_solver_shape.specs.Names.{Name};
-    ghost use Rattle.facet_solver.specs.schema.Selected.{selected_of};
-
-    ghost Value = { List (ℕ × Name) };
-
-    ghost view = { λ s. map selected_of s.variants.items };
-}
-
-impl<'c> SelectedVariants<'c> {
-    /// None yet. The call allocates nothing.
-    pub(crate) fn new(alloc: Global) -> Self
-        ensures { result ≡ [] }
-    {
-        SelectedVariants {
-            variants: Vec::new(alloc),
-        }
-    }
-
-    /// Adds the variant of a resolution, if there is one.
-    pub(crate) fn add(&mut self, index: usize, variant: Option<&'c str>) -> Result<(), AllocError>
-        ensures { OnOk result (self.new ≡ self.old ++ selected_by index variant.entry) }
-    {
-        let Some(name) = variant else {
-            return Ok(());
-        };
-        let name = FingerprintedName::new(name);
-        self.variants.push(SelectedVariant { index, name })?;
-        Ok(())
-    }
-
-    /// How many there are.
-    pub(crate) fn len(&self) -> usize
-        ensures { result ≡ length self.now }
-    {
-        self.variants.len()
-    }
-
-    /// Where a resolution of a set has the variant, those that have another leave the set, and the
-    /// answer is true.
-    pub(crate) fn narrow(&self, variant: &str, set: &mut ResolutionSet) -> bool
-        ensures named { result ≡ list_any (has_named variant.now self.now) set.old.members }
-        ensures narrowed { set.new ≡ (if result then record set.old {
-          members = filter (λ i. not (has_other variant.now self.now i)) set.old.members;
-        } else set.old) }
-    {
-        let variant = FingerprintedName::new(variant);
-        if is_any_named(&self.variants, &variant, set) {
-            drop_others(&self.variants, &variant, set);
-            true
-        } else {
-            false
+        match self {
+            Selected::Different(sets) => sets.add(alloc, at),
+            Selected::Same(known) => {
+                let known = *known;
+                if is_same(known, at.variant) {
+                    return Ok(());
+                }
+                let sets = VariantSets::of_different(alloc, before, known, at)?;
+                *self = Selected::Different(Box::new(alloc, sets)?);
+                Ok(())
+            }
         }
     }
 }
 
-/// Whether a resolution of a set has a variant.
-fn is_any_named(
-    variants: &[SelectedVariant<'_>],
-    variant: &FingerprintedName<'_>,
-    set: &ResolutionSet,
-) -> bool
-    ensures { result ≡ list_any
-        (λ s. has_index set.now.members s.index && name_eq s.name variant.now) variants.now }
+/// Whether two fields select the same variant, or none both.
+fn is_same(one: Option<&str>, other: Option<&str>) -> bool
+    ensures { result ≡ same_variant (name_of one.entry) (name_of other.entry) }
 {
-    variants
-        .iter()
-        .any(|selected| selected.is_named(variant, set))
-}
-
-/// The resolutions of a set leave it that have another variant.
-fn drop_others(
-    variants: &[SelectedVariant<'_>],
-    variant: &FingerprintedName<'_>,
-    set: &mut ResolutionSet,
-)
-    ensures { set.new ≡ record set.old {
-      members = filter (λ i. not (has_other variant.now (map selected_of variants.now) i))
-          set.old.members;
-    } }
-{
-    for selected in variants {
-        if !selected.name.is(variant) {
-            set.remove(selected.index);
-        }
+    match (one, other) {
+        (Some(one), Some(other)) => one == other,
+        (None, None) => true,
+        _ => false,
     }
 }
