@@ -1,5 +1,6 @@
 //! What only code can show: names, derives, and errors that no transcript meets.
 
+mod debugs;
 mod errors;
 mod pieces;
 
@@ -7,6 +8,7 @@ use crate::answer::{Answer, Line};
 use crate::public_names::public_types_have_their_derives;
 use crate::readme::keys_tell_the_payload;
 use crate::types::Types;
+use debugs::schemas_and_solvers_are_printed;
 use errors::{
     a_second_field_is_an_error_of_a_schema, names_in_lists_are_escaped, refused_memory_has_a_text,
 };
@@ -30,11 +32,12 @@ pub enum Check {
     SecondField,
     PathSegments,
     Pieces,
+    Printed,
     Readme,
 }
 
 /// The checks, by name.
-pub const CHECKS: [(&str, Check); 11] = [
+pub const CHECKS: [(&str, Check); 12] = [
     ("public_types_have_their_derives", Check::PublicTypes),
     ("keys_have_names_and_an_order", Check::Keys),
     ("a_catalogue_gives_its_shapes", Check::Catalogue),
@@ -48,6 +51,7 @@ pub const CHECKS: [(&str, Check); 11] = [
     ("a_second_field_is_an_error_of_a_schema", Check::SecondField),
     ("a_path_gives_its_segments", Check::PathSegments),
     ("texts_of_readings_are_written_in_few_pieces", Check::Pieces),
+    ("schemas_and_solvers_are_printed", Check::Printed),
     ("the_sample_of_the_readme_holds", Check::Readme),
 ];
 
@@ -65,6 +69,7 @@ impl Check {
             Check::SecondField => a_second_field_is_an_error_of_a_schema(answer),
             Check::PathSegments => a_path_gives_its_segments(answer),
             Check::Pieces => texts_of_readings_are_written_in_few_pieces(answer),
+            Check::Printed => schemas_and_solvers_are_printed(answer),
             Check::Readme => keys_tell_the_payload(answer),
         }
     }
