@@ -79,14 +79,15 @@ shapes_with (Some known) shapes shape =
     if nat_eq known shape then shapes
     else few_shapes_with (few_shapes_with shapes known) shape
 
--- two sets of resolutions of an entry: those that select the variant of a name, and others that make
--- up with them those that select no other
+-- two sets of resolutions of an entry: those that select the variant of a name, and others that
+-- make up with them those that select no other
 pub record AreSelecting (variant : Name) (e : Entry) (named others : IndexSet) : Type 0 where
   pub named_bound : named.bound ≡ e.set.bound
   pub others_bound : others.bound ≡ e.set.bound
   pub is_named : (i : ℕ) → i < e.set.bound
       → has_index named.members i ≡ selects_in e (Some variant) i
-  pub is_other : (i : ℕ) → i < e.set.bound → (has_index named.members i || has_index others.members i)
+  pub is_other : (i : ℕ) → i < e.set.bound
+      → (has_index named.members i || has_index others.members i)
       ≡ (selects_in e (Some variant) i || selects_in e None i)
 
 -- the entry of one resolution

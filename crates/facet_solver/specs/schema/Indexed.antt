@@ -61,7 +61,7 @@ HasFewShapes meant entry = entry.shape ≡ None → length entry.shapes ≤ most
     → HaveShapesOf meant entry.shapes
 
 -- an entry has the resolutions below a bound in which a field is meant, the shape of these fields,
--- if they agree on it, or all their shapes, if these are few, and the variants that they select
+-- if they agree on it, or all their shapes, if these are few, and those that select each variant
 pub record IsIndexEntry (bound : ℕ) (meant : Meant) (entry : Entry) : Type 0 where
   pub set : entry.set
       ≡ record { bound = bound; members = filter (λ i. is_some (meant i)) (upto bound) }
