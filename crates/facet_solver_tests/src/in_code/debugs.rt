@@ -3,7 +3,7 @@
 use crate::answer::Answer;
 use crate::in_code::catalogue;
 use facet_solver::{FieldKey, Schema, ShapeId, Shapes, Solver};
-use std::alloc::AllocError;
+use std::alloc::{AllocError, Global};
 use std::fmt::Write;
 
 /// A schema of two variants, as it is printed.
@@ -79,17 +79,19 @@ fn of_catalogue(shapes: &Shapes, answer: &mut Answer<'static>) {
 fn of_schema(schema: &Schema<'_>, answer: &mut Answer<'static>) {
     answer.add_debug(schema);
     answer.claim(PRINTED_SCHEMA);
-    match Solver::new(answer.alloc, schema) {
-        Ok(solver) => of_solver(solver, answer),
+    match solver_that_saw_a_key(answer.alloc, schema) {
+        Ok(solver) => print(&solver, answer),
         Err(AllocError) => answer.refused(),
     }
 }
 
-fn of_solver(mut solver: Solver<'_, '_, 'static>, answer: &mut Answer<'static>) {
-    match solver.see_key(answer.alloc, FieldKey::flat("x")) {
-        Ok(_) => print(&solver, answer),
-        Err(AllocError) => answer.refused(),
-    }
+fn solver_that_saw_a_key<'s, 'c>(
+    alloc: Global,
+    schema: &'s Schema<'c>,
+) -> Result<Solver<'s, 'c, 'static>, AllocError> {
+    let mut solver = Solver::new(alloc, schema)?;
+    solver.see_key(alloc, FieldKey::flat("x"))?;
+    Ok(solver)
 }
 
 fn print(solver: &Solver<'_, '_, '_>, answer: &mut Answer<'static>) {
