@@ -151,6 +151,10 @@ fn count_members(
     ensures count { IfOk result
         (IsListCount tables.now nodes.now object.now object.now.list.now) }
 {
+    // Where its list goes through no other, no counts have to be kept.
+    if object.list.below.len() == 1 {
+        return count_list(tables, nodes, memo, object, object.list, &[]);
+    }
     let mut counts = list_counts(tables, nodes, memo, object)?;
     Ok(counts.pop().unwrap_or(Count::None))
 }

@@ -82,6 +82,9 @@ use Rattle.facet_solver_reader.proofs.Quantifiers.{all_at}
 use Rattle.facet_solver_reader.specs.declared.end.Alternative as code_alternative
 use Rattle.facet_solver_reader.specs.declared.part.Target as code_target
 use Rattle.facet_solver_reader.specs.declared.part.Part as code_part
+use Rattle.facet_solver_reader.specs.declared.nodes.Nodes.{Nodes}
+use Rattle.facet_solver_reader.specs.declared.read.object.Object as code_object
+use Rattle.facet_solver_reader.specs.declared.tables.Tables.{Tables}
 use Rattle.facet_solver_reader.specs.Views as views
 use Rattle.facet_solver_reader.proofs.CatchAlls as catch_alls
 use Rattle.facet_solver_reader.proofs.read.+count.Goals as goal
@@ -672,6 +675,36 @@ object::list_counts-loop-index-preserved t c =
       so_far = omega (arith, ap length items, length-append counts (c.in_ok-count.count ∷ []));
       last = c.fails_at_first.ensures.last;
     }
+
+-- the counts of no lists
+no_counts : (tb : Tables) (nodes : Nodes) (o : code_object.Object) → AreListCounts tb nodes o []
+no_counts tb nodes o =
+    record {
+      are = λ position index count l e below there.
+          let within : position < 0 = slice_get_within [] position count e in absurd (omega arith);
+    }
+
+pub object::count_members-count_list-requires : goal.object::count_members-count_list-requires
+object::count_members-count_list-requires t c =
+    let o = c.args.object.now in
+    let below = o.list.now.below.items in
+    let h = c.requires.object in
+    let last = (c.requires.sound.tables.lists h.index o.list.now h.listed).last in
+    let one : length below ≡ 1 = omega (arith, c.len.ensures, c.if-len-eq1.true) in
+    let first : last.0 ≡ 0 = omega (arith, last.1, one) in
+    let here = subst (λ q. slice_get below q ≡ Some h.index) first last.2 in (
+      omega arith,
+      (
+        c.requires.sound,
+        (
+          c.requires.object,
+          (
+            no_counts c.args.tables.now c.args.nodes.now o,
+            record { index = h.index; is_next = here; listed = h.listed },
+          ),
+        ),
+      ),
+    )
 
 pub object::count_members-returns-clause-count : goal.object::count_members-returns-clause-count
 object::count_members-returns-clause-count t c =
