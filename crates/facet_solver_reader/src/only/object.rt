@@ -46,7 +46,7 @@ pub(super) fn read_object<'c, 'v, 'd>(
     };
     let has_unknown = has_unknown(nodes, node, list);
     let takes = is_read_whole(tables, nodes, memo, node, list, has_unknown)?;
-    let filter = filter_of(nodes, node);
+    let filter = filter_of(nodes, node, list);
     let object = Object {
         node,
         list,

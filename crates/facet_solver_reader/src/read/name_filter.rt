@@ -18,7 +18,7 @@ pub(crate) struct NameFilter {
 
 impl NameFilter {
     /// The filter that tells of no name that it is missing.
-    fn any() -> NameFilter
+    pub(super) fn any() -> NameFilter
         ensures { (x : Name) → IsTrue (may_have result x) }
     {
         NameFilter { bits: u64::MAX }

@@ -70,7 +70,7 @@ pub(crate) fn count_object(
     if tables.strict || !count.is_none() {
         return Ok(count);
     }
-    let filter = filter_of(nodes, node);
+    let filter = filter_of(nodes, node, list);
     let object = Object {
         node,
         list,
@@ -104,7 +104,7 @@ pub(crate) fn count_all(
     if has_unknown && !list.takes_rest {
         return Ok(Count::None);
     }
-    let filter = filter_of(nodes, node);
+    let filter = filter_of(nodes, node, list);
     let object = Object {
         node,
         list,
@@ -129,12 +129,17 @@ pub(crate) fn has_unknown(nodes: &Nodes<'_, '_>, node: usize, list: &List<'_>) -
     false
 }
 
-/// The filter of an object's names.
-pub(crate) fn filter_of(nodes: &Nodes<'_, '_>, node: usize) -> NameFilter
+/// The filter of an object's names. It tells nothing where hardly anything asks for it: where the
+/// object's list goes through no other, or has branches that a tag tells apart.
+pub(crate) fn filter_of(nodes: &Nodes<'_, '_>, node: usize, list: &List<'_>) -> NameFilter
     requires { node < count nodes.now }
     ensures { HoldsNames (members_in (value_of nodes.now node)) result }
 {
-    NameFilter::of(members_of(nodes.value(node)))
+    if list.below.len() == 1 || matches!(list.id, ListId::Enum(_)) {
+        NameFilter::any()
+    } else {
+        NameFilter::of(members_of(nodes.value(node)))
+    }
 }
 
 /// How often an object is read by the choices of its list.

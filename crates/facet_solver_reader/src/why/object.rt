@@ -47,7 +47,7 @@ pub(super) fn object_by<'r, 'c>(
 {
     let list = tables.list(id)?;
     let has_unknown = has_unknown(nodes, node, list);
-    let filter = filter_of(nodes, node);
+    let filter = filter_of(nodes, node, list);
     Some(Object {
         node,
         list,
