@@ -49,6 +49,7 @@ pub mod Pairs
 pub mod Run
 pub mod FewShapes
 pub mod FirstOfEach
+pub mod KnownShapes
 pub mod NameEntries
 pub mod ByteOrder
 pub mod NameSets

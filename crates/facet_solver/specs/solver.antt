@@ -2,6 +2,7 @@
 pub mod State
 pub mod Tag
 pub mod FirstOfEach
+pub mod KnownShapes
 pub mod KeyResult
 pub mod SatisfyResult
 pub mod ShapeAtPath

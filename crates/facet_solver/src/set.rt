@@ -174,6 +174,13 @@ impl ResolutionSet {
         found
     }
 
+    /// The bound of the indices.
+    pub(crate) fn bound(&self) -> usize
+        ensures { result ≡ self.now.bound }
+    {
+        self.bound
+    }
+
     /// The number of resolutions in the set.
     pub fn len(&self) -> usize
         ensures { result ≡ length self.now.members }

@@ -17,6 +17,8 @@ pub(crate) mod distinct_fields;
 mod finish;
 mod hint;
 pub(crate) mod key_result;
+pub(crate) mod known_shapes;
+pub(crate) mod many_fields;
 pub(crate) mod path_ends;
 pub(crate) mod path_search;
 mod probe;

@@ -99,4 +99,6 @@ pub mod FirstRest
 pub mod Lacking
 pub mod Blaming
 pub mod Quoted
+pub mod PathTexts
+pub mod LookUps
 pub mod Alone

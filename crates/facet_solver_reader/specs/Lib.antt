@@ -57,3 +57,5 @@ pub mod Tells
 pub mod Why
 pub mod Blaming
 pub mod Quoted
+pub mod PathTexts
+pub mod LookUps

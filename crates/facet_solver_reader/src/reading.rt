@@ -2,6 +2,8 @@
 ghost use Rattle.std.specs.Prelude.{◌≡◌, []};
 ghost use Rattle.facet_solver_reader.specs.declared.reading.ReadingKind.TheVariants as kinds;
 
+mod look_up;
+mod path_text;
 mod quoted;
 mod text;
 

@@ -1,7 +1,9 @@
 //! Calls that are about types alone.
 
 use crate::answer::{Answer, BAR};
+use crate::declarations::{of_catalogue, of_text};
 use crate::documents::{of_json, of_readings};
+use crate::look_ups::of_reading;
 use crate::types::place_of;
 use crate::uses::{of_config, of_element, of_events, of_keys, of_type, of_value};
 use facet_solver::{
@@ -34,6 +36,9 @@ impl<'c> Catalogue<'c> {
             "load_config" => of_config(*self, answer),
             "stream" => of_events(*self, answer),
             "variants_for" => of_value(*self, answer),
+            "declarations" => of_catalogue(*self, answer),
+            "types" => of_text(answer),
+            "look_up" => of_reading(*self, answer),
             "json" => of_json(answer),
             "readings" => of_readings(*self, Unknown::Ignored, answer),
             "strict_readings" => of_readings(*self, Unknown::Refused, answer),

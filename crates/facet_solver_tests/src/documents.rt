@@ -23,7 +23,7 @@ pub fn of_json(answer: &mut Answer<'_>) {
 }
 
 /// The rest of a call behind its first word, with its line feeds. No word is left then.
-fn text_of_call(answer: &mut Answer<'_>) -> String {
+pub fn text_of_call(answer: &mut Answer<'_>) -> String {
     answer.words = "".split_whitespace();
     let rest = match answer.call.split_once(' ') {
         Some((_, rest)) => rest,

@@ -8,11 +8,13 @@
 mod answer;
 mod by_hand;
 mod catalogue;
+mod declarations;
 mod documents;
 mod error_by_hand;
 mod errors;
 mod in_code;
 mod lives;
+mod look_ups;
 mod marks;
 mod probing;
 mod public_names;

@@ -1,5 +1,5 @@
 -- What attributes mean on a subject: the definitions, row by row.
-use Rattle.std.proofs.Common.{◌≡◌, ℕ, List, [], ◌∷◌, map, Result, Ok, Err, codes, refl}
+use Rattle.std.proofs.Common.{◌≡◌, ℕ, List, [], ◌∷◌, ◌++◌, map, Result, Ok, Err, codes, refl}
 use Rattle.std.specs.Str.{chars}
 use lib.Utf8.{encode}
 use Rattle.facet_solver_types.specs.declared.attribute.meaning.Meaning.{Meaning}
@@ -197,6 +197,29 @@ pub clash_rows :
     ≡ Err (At 21 (problem.Attribute refusal.Clashes)))
 unfolding tokens_from first_part first_token gap_len blank_len continues_name is_keyword mark opening_of text_token begins_character character same_bracket entries_from begins_attribute run_from nest_after pieces_from chars encode
 clash_rows = (refl, refl, refl, refl, refl, refl)
+
+-- of two names for reading, both must be one; a name for writing is passed over
+pub twice_rows :
+    (meanings on.NamedField (codes "#[serde(rename(serialize = \"x\"), rename(deserialize = \"y\"))]")
+    ≡ Ok (means.Rename ∷ means.Rename ∷ []))
+    × (meanings on.NamedField (codes "#[serde(rename = \"y\", rename(serialize = \"x\"))]")
+    ≡ Ok (means.Rename ∷ means.Rename ∷ []))
+    × (meanings on.Variant (codes "#[serde(rename(serialize = \"x\"), rename(serialize = \"y\"))]")
+    ≡ Ok (means.Rename ∷ means.Rename ∷ []))
+    × (meanings on.Variant (codes "#[serde(rename(serialize = \"x\"), rename = \"\")]")
+    ≡ Ok (means.Rename ∷ means.Rename ∷ []))
+    × (meanings on.Enum (codes "#[serde(rename_all(serialize = \"lowercase\"))] "
+    ++ codes "#[serde(rename_all = \"UPPERCASE\")]")
+    ≡ Ok (means.RenameAll ∷ means.RenameAll ∷ []))
+    × (meanings on.Variant (codes "#[serde(rename = \"\", rename = \"y\")]")
+    ≡ Err (At 21 (problem.Attribute refusal.Clashes)))
+    × (meanings on.Variant (codes "#[serde(rename(deserialize = \"x\"), rename = \"y\")]")
+    ≡ Err (At 35 (problem.Attribute refusal.Clashes)))
+    × (meanings on.NamedField (codes "#[serde(rename = \"x\", rename(serialize = \"y\"), "
+    ++ codes "rename = \"z\")]")
+    ≡ Err (At 47 (problem.Attribute refusal.Clashes)))
+unfolding tokens_from first_part first_token gap_len blank_len continues_name is_keyword mark opening_of text_token begins_character character same_bracket entries_from begins_attribute run_from nest_after pieces_from chars encode
+twice_rows = (refl, refl, refl, refl, refl, refl, refl, refl)
 
 -- what stands where something else is expected
 pub syntax_rows :

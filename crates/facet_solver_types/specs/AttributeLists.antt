@@ -1,5 +1,5 @@
 -- All attributes of serde and facet that stand before something.
-use Rattle.std.specs.Prelude.{ℕ, Bool, true, false, if◌then◌else◌, List, [], ◌∷◌, ◌++◌, map, unwrap_or, Option, Some, None, Result, Ok, Err}
+use Rattle.std.specs.Prelude.{ℕ, Bool, true, false, not, if◌then◌else◌, List, [], ◌∷◌, ◌++◌, map, Option, Some, None, Result, Ok, Err}
 use Rattle.std.specs.List.{list_any}
 use Rattle.facet_solver_shape.specs.Names.{Name, name_eq}
 use Rattle.facet_solver_types.specs.declared.attribute.Attribute as declared
@@ -23,16 +23,21 @@ use Rattle.facet_solver_types.specs.Values.{Value, text}
 abbrev pub attributes_view : List declared.Attribute → List Attribute
 attributes_view found = map attribute_view found
 
--- what a value says: nothing where it is no text
-abbrev pub said_by_value : Value → Name
-said_by_value (text token) = unwrap_or (text_of token) []
-said_by_value value = []
+-- the text that a value says, if it says one
+abbrev pub said_by_value : Value → Option Name
+said_by_value (text token) = text_of token
+said_by_value value = None
+
+-- whether two texts are both there, and differ
+abbrev pub differ : Option Name → Option Name → Bool
+differ (Some one) (Some other) = not (name_eq one other)
+differ one other = false
 
 -- whether two attributes exclude each other
 abbrev pub clashes : Attribute → Attribute → Bool
 clashes one other =
     clash one.meaning other.meaning
-    (name_eq (said_by_value one.value) (said_by_value other.value))
+    (differ (said_by_value one.value) (said_by_value other.value))
 
 -- whether one of some attributes excludes another
 abbrev pub has_clash : List Attribute → Attribute → Bool

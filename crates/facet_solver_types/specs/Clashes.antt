@@ -1,5 +1,5 @@
 -- Attributes that exclude each other.
-use Rattle.std.specs.Prelude.{Bool, true, false, not, ◌&&◌, ◌||◌}
+use Rattle.std.specs.Prelude.{Bool, true, false, ◌&&◌, ◌||◌}
 use Rattle.facet_solver_types.specs.declared.attribute.meaning.Meaning.{Meaning}
 use Rattle.facet_solver_types.specs.declared.attribute.meaning.Meaning.TheVariants.{Flatten, Default, Rename, RenameAll, RenameAllFields, Tag, Content, Untagged, Transparent, Proxy, Dom}
 
@@ -22,7 +22,8 @@ are_one_text Tag Tag = true
 are_one_text Content Content = true
 are_one_text one other = false
 
--- whether two attributes of these meanings exclude each other, by whether they say the same
+-- whether two attributes of these meanings exclude each other, by whether they say texts that
+-- differ
 abbrev pub clash : Meaning → Meaning → Bool → Bool
-clash one other same =
-    (are_one_text one other && not same) || excludes one other || excludes other one
+clash one other differ =
+    (are_one_text one other && differ) || excludes one other || excludes other one

@@ -1,11 +1,12 @@
 -- Why a text was not read, with its place.
 use Rattle.std.specs.Prelude.{◌≡◌, ℕ, Bool, ◌&&◌, ◌||◌, ◌==◌, nat_le, slice_index, List, [], ◌++◌, codes, length, min, take, drop, encode_utf8, if◌then◌else◌, ⊤, Result, Ok, Err}
+use Rattle.facet_solver_shape.specs.Catalogues.{refusal_text as catalogue_text}
 use Rattle.facet_solver_types.specs.declared.error.TypesError.{TypesError}
 use Rattle.facet_solver_types.specs.declared.error.TypesError.TheVariants as error
 use Rattle.facet_solver_types.specs.declared.fault.Fault.{Fault}
 use Rattle.facet_solver_types.specs.declared.fault.Fault.TheVariants as fault
 use Rattle.facet_solver_types.specs.declared.problem.Problem.{Problem}
-use Rattle.facet_solver_types.specs.declared.problem.Problem.TheVariants.{NoToken, OpenText, OpenCharacter, OpenComment, OpenBracket, ClosesNothing, Expected, Generic, Attribute}
+use Rattle.facet_solver_types.specs.declared.problem.Problem.TheVariants.{NoToken, OpenText, OpenCharacter, OpenComment, OpenBracket, ClosesNothing, Expected, Generic, Attribute, OfType, Shape}
 use Rattle.facet_solver_types.specs.declared.tokens.part.Part.{Part}
 use Rattle.facet_solver_types.specs.declared.tokens.part.Part.TheVariants.{Gap, Spelled}
 use Rattle.facet_solver_types.specs.FirstParts.{first_part}
@@ -13,6 +14,8 @@ use Rattle.facet_solver_types.specs.Places.{begins_character, place_at}
 use Rattle.facet_solver_types.specs.PlaceTexts.{place_text}
 use Rattle.facet_solver_types.specs.ProblemTexts.{expected_text}
 use Rattle.facet_solver_types.specs.Refusals.{refusal_text}
+use Rattle.facet_solver_types.specs.TypeProblems.{type_problem_text}
+use Rattle.facet_solver_types.specs.ShapeProblems.{shape_problem_text}
 
 -- what is met: these bytes, or the end
 abbrev pub met_text : List ℕ → List ℕ
@@ -31,11 +34,14 @@ problem_text (Expected expected) met =
     codes "expected " ++ (expected_text expected ++ (codes ", met " ++ met_text met))
 problem_text Generic met = codes "type parameters are not read"
 problem_text (Attribute refusal) met = refusal_text refusal met
+problem_text (OfType problem) met = type_problem_text problem met
+problem_text (Shape problem) met = shape_problem_text problem met
 
 -- the place first, where the text cannot be read
 abbrev pub error_text : TypesError → List ℕ
 error_text (error.Invalid place problem met) =
     place_text place ++ (codes ": " ++ problem_text problem met.now)
+error_text (error.Catalogue fault) = catalogue_text fault
 error_text error.OutOfMemory = codes "out of memory"
 
 -- a token, as it is written
@@ -64,6 +70,6 @@ Tells text (fault.At offset problem) (error.Invalid place told met) =
     (told ≡ problem)
     × (place ≡ place_at (min offset (length text)) text)
     × (met.now ≡ met_at offset text)
-Tells text (fault.At offset problem) error.OutOfMemory = ⊥
-Tells text fault.OutOfMemory (error.Invalid place told met) = ⊥
+Tells text (fault.Catalogue refusal) (error.Catalogue told) = told ≡ refusal
 Tells text fault.OutOfMemory error.OutOfMemory = ⊤
+Tells text fault error = ⊥

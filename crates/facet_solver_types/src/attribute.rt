@@ -5,6 +5,7 @@ ghost use Rattle.facet_solver_types.specs.Entries.{entry_view};
 ghost use Rattle.facet_solver_types.specs.Outcomes.{Gives};
 
 mod clash;
+mod help;
 mod list;
 mod meaning;
 mod refusal;
@@ -14,13 +15,17 @@ mod value;
 use crate::fault::Fault;
 use crate::grammar::{Entry, EntryValue};
 use crate::problem::Problem;
+pub(crate) use list::attributes;
 pub use meaning::Misuse;
-use meaning::{Meaning, Subject, dom_mark, means};
+pub(crate) use meaning::{Meaning, Subject};
+use meaning::{dom_mark, means};
 pub use refusal::Refusal;
 pub(crate) use refusal::Refused;
 use std::alloc::Global;
+pub(crate) use text::text_of;
 pub use value::Form;
-use value::{Value, form_of, value_of};
+pub(crate) use value::{Value, only_text};
+use value::{form_of, value_of};
 
 /// An attribute of serde or facet.
 #[derive(Clone, Copy, Debug)]

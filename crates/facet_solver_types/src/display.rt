@@ -13,6 +13,7 @@ mod word;
 use declaration::DeclarationAt;
 use facet_solver_shape::Shapes;
 use std::fmt;
+pub(crate) use word::Declared as DeclaredName;
 
 /// A catalogue, to be printed as Rust declarations.
 ///

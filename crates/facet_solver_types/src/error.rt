@@ -6,7 +6,10 @@ use crate::attribute::Refused;
 use crate::fault::Fault;
 use crate::place::{Place, place_at};
 use crate::problem::Problem;
+use crate::shape_problem::Unshaped;
 use crate::tokens::first_written;
+use crate::type_problem::TypeProblemAt;
+use facet_solver_shape::CatalogueError;
 use std::error::Error;
 use std::fmt;
 
@@ -24,6 +27,8 @@ pub enum TypesError<'t> {
         /// The token that stands there, as it is written, or nothing at the end.
         met: &'t str,
     },
+    /// The shapes of the types are no catalogue.
+    Catalogue(CatalogueError),
     /// Out of memory.
     OutOfMemory,
 }
@@ -34,6 +39,7 @@ impl fmt::Display for TypesError<'_> {
     fn fmt<W: fmt::Write>(&self, f: &mut fmt::Formatter<W>) -> fmt::Result {
         let (place, problem, met) = match self {
             TypesError::OutOfMemory => return write!(f, "out of memory"),
+            TypesError::Catalogue(error) => return write!(f, "{error}"),
             TypesError::Invalid {
                 place,
                 problem,
@@ -61,6 +67,20 @@ impl fmt::Display for TypesError<'_> {
                     met,
                 };
                 write!(f, "{place}: {refused}")
+            }
+            Problem::OfType(problem) => {
+                let told = TypeProblemAt {
+                    problem: *problem,
+                    met,
+                };
+                write!(f, "{place}: {told}")
+            }
+            Problem::Shape(problem) => {
+                let unshaped = Unshaped {
+                    problem: *problem,
+                    met,
+                };
+                write!(f, "{place}: {unshaped}")
             }
         }
     }
@@ -91,6 +111,7 @@ pub(crate) fn error_at<'t>(text: &'t str, fault: Fault) -> TypesError<'t>
 {
     match fault {
         Fault::OutOfMemory => TypesError::OutOfMemory,
+        Fault::Catalogue(error) => TypesError::Catalogue(error),
         Fault::At { offset, problem } => TypesError::Invalid {
             place: place_at(text, offset.min(text.len())),
             problem,

@@ -2,6 +2,7 @@
 ghost use Rattle.std.specs.Prelude.{◌≡◌};
 
 use crate::problem::Problem;
+use facet_solver_shape::CatalogueError;
 use std::alloc::{AllocError, AllocFailed};
 
 /// Why a text was not read.
@@ -14,6 +15,8 @@ pub(crate) enum Fault {
         /// What.
         problem: Problem,
     },
+    /// The shapes of its types are no catalogue.
+    Catalogue(CatalogueError),
     /// Out of memory.
     OutOfMemory,
 }

@@ -1,21 +1,39 @@
-//! Parts of a way from Rust declarations to a catalogue of shapes, and back.
+//! From Rust declarations to a catalogue of shapes, and back.
 //!
-//! A text is cut into tokens and items, and the attributes of serde and facet on them are
-//! understood. A catalogue is printed as declarations. Nothing of it is public yet.
+//! [`Types::parse`] reads the structs and enums that a text declares, with the attributes of serde
+//! and facet on them, and gives the shapes of all their types. [`Declarations`] prints a catalogue
+//! as declarations. The functions in [`laws`] have theorems as contracts.
 #![tactic(auto)]
 
 mod attribute;
 mod case;
+mod catalogue;
+mod declaration;
+mod declare;
 mod display;
 mod error;
 mod fault;
 mod grammar;
 mod item;
 mod keyword;
-mod laws;
+pub mod laws;
 mod literal;
+mod parsed;
 mod passage;
 mod place;
 mod problem;
+mod shape_problem;
 mod token;
 mod tokens;
+mod type_entry;
+mod type_problem;
+mod typing;
+
+pub use attribute::{Form, Misuse, Refusal};
+pub use display::Declarations;
+pub use error::TypesError;
+pub use parsed::Types;
+pub use place::Place;
+pub use problem::{Expected, Problem};
+pub use shape_problem::ShapeProblem;
+pub use type_problem::{Arity, TypeProblem};

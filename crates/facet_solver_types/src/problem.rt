@@ -3,6 +3,8 @@ ghost use Rattle.std.specs.Prelude.{Some};
 ghost use Rattle.facet_solver_types.specs.ProblemTexts.{expected_text};
 
 use crate::attribute::Refusal;
+use crate::shape_problem::ShapeProblem;
+use crate::type_problem::TypeProblem;
 use std::fmt;
 
 /// What is wrong at a place of a text.
@@ -26,6 +28,10 @@ pub enum Problem {
     Generic,
     /// An attribute is refused.
     Attribute(Refusal),
+    /// A type is none, or a name is declared twice.
+    OfType(TypeProblem),
+    /// A type has no shape.
+    Shape(ShapeProblem),
 }
 
 /// What is expected where something else stands.

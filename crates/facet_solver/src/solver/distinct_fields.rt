@@ -10,6 +10,7 @@ ghost use Rattle.facet_solver.specs.Resolutions.{field_at};
 
 use crate::schema::Schema;
 use crate::set::CommonIter;
+use crate::solver::many_fields::{add_rest, are_many};
 use crate::solver::shaped::is_among;
 use facet_solver_shape::{FieldInfo, FieldKey, ShapeId, Steps, specificity_score};
 use std::alloc::{AllocError, Global};
@@ -66,6 +67,10 @@ pub(crate) fn distinct_fields<'s, 'c>(
             return Ok(fields);
         }
         add_if_new(&mut fields, search, index, steps)?;
+        if are_many(&fields, search.schema.shapes()) {
+            add_rest(alloc, &mut fields, search, rest, steps)?;
+            return Ok(fields);
+        }
     }
     Ok(fields)
 }

@@ -31,9 +31,10 @@ fn excludes(one: Meaning, other: Meaning) -> bool
     }
 }
 
-/// Whether two attributes of these meanings exclude each other, by whether they say the same.
-pub(super) fn clash(one: Meaning, other: Meaning, same: bool) -> bool
-    ensures { result ≡ clash one other same }
+/// Whether two attributes of these meanings exclude each other, by whether they say texts that
+/// differ.
+pub(super) fn clash(one: Meaning, other: Meaning, differ: bool) -> bool
+    ensures { result ≡ clash one other differ }
 {
-    (are_one_text(one, other) && !same) || excludes(one, other) || excludes(other, one)
+    (are_one_text(one, other) && differ) || excludes(one, other) || excludes(other, one)
 }

@@ -1,7 +1,7 @@
 //! All attributes of serde and facet that stand before something.
-ghost use Rattle.std.specs.Prelude.{◌≡◌, [], IfOk};
+ghost use Rattle.std.specs.Prelude.{◌≡◌, [], IfOk, option_map};
 ghost use Rattle.std.specs.String.{string_bytes};
-ghost use Rattle.facet_solver_types.specs.AttributeLists.{attributes, attributes_after, attributes_view, clashes, content_offset, has_clash, has_tag, is_content, is_tag, lone_content, next_attribute, said_by_value};
+ghost use Rattle.facet_solver_types.specs.AttributeLists.{attributes, attributes_after, attributes_view, clashes, content_offset, differ, has_clash, has_tag, is_content, is_tag, lone_content, next_attribute, said_by_value};
 ghost use Rattle.facet_solver_types.specs.Attributes.{attribute_view};
 ghost use Rattle.facet_solver_types.specs.Entries.{entries_view, entry_view};
 ghost use Rattle.facet_solver_types.specs.Outcomes.{Gives};
@@ -20,16 +20,25 @@ use crate::problem::Problem;
 use crate::token::Token;
 use std::alloc::{AllocError, Global};
 
-/// What a value says: an empty text where it is none.
-fn said_by_value(alloc: Global, value: &Value<'_, '_>) -> Result<String, AllocError>
-    ensures { IfOk result (λ text. string_bytes text ≡ said_by_value (value_view value.now)) }
+/// The text that a value says, if it says one.
+fn said_by_value(alloc: Global, value: &Value<'_, '_>) -> Result<Option<String>, AllocError>
+    ensures { IfOk result (λ text. option_map string_bytes text
+        ≡ said_by_value (value_view value.now)) }
 {
-    let Value::Text(token) = value else {
-        return Ok(String::new(alloc));
-    };
-    match text_of(alloc, token)? {
-        Some(text) => Ok(text),
-        None => Ok(String::new(alloc)),
+    match value {
+        Value::Text(token) => text_of(alloc, token),
+        _ => Ok(None),
+    }
+}
+
+/// Whether two texts are both there, and differ.
+fn differ(one: &Option<String>, other: &Option<String>) -> bool
+    ensures { result
+        ≡ differ (option_map string_bytes one.now) (option_map string_bytes other.now) }
+{
+    match (one, other) {
+        (Some(one), Some(other)) => one != other,
+        _ => false,
     }
 }
 
@@ -42,8 +51,9 @@ fn clashes(
     ensures { IfOk result (λ is. is
         ≡ clashes (attribute_view one.now) (attribute_view other.now)) }
 {
-    let same = said_by_value(alloc, &one.value)? == said_by_value(alloc, &other.value)?;
-    Ok(clash(one.meaning, other.meaning, same))
+    let said = said_by_value(alloc, &one.value)?;
+    let then = said_by_value(alloc, &other.value)?;
+    Ok(clash(one.meaning, other.meaning, differ(&said, &then)))
 }
 
 /// Whether one of some attributes excludes another.

@@ -1,7 +1,8 @@
 //! Why an attribute is refused.
 ghost use Rattle.std.specs.Prelude.{Some};
-ghost use Rattle.facet_solver_types.specs.Refusals.{form_text, misuse_text, refusal_text};
+ghost use Rattle.facet_solver_types.specs.Refusals.{form_text, misused_text, refusal_text};
 
+use super::help::help_for;
 use super::meaning::Misuse;
 use super::value::Form;
 use std::fmt;
@@ -21,6 +22,10 @@ pub enum Refusal {
     Clashes,
     /// It is `content`, and `tag` isn't there.
     NoTag,
+    /// It is `transparent`, and a field is flattened.
+    Flattens,
+    /// It is a name that isn't ASCII, under a case.
+    NotAscii,
 }
 
 /// Why the attribute is refused that is met, or whose value is.
@@ -36,24 +41,40 @@ impl fmt::Display for Refused<'_> {
     fn fmt<W: fmt::Write>(&self, f: &mut fmt::Formatter<W>) -> fmt::Result {
         let met = self.met;
         match self.refusal {
-            Refusal::Misused(misuse) => write!(f, "'{met}' {misuse}"),
+            Refusal::Misused(misuse) => {
+                let misused = Misused { misuse, met };
+                write!(f, "{misused}")
+            }
             Refusal::Takes(form) => write!(f, "'{met}' takes {form}"),
             Refusal::NoText => write!(f, "no text: {met}"),
             Refusal::NoCase => write!(f, "no case: {met}"),
             Refusal::Clashes => write!(f, "'{met}' and one before it exclude each other"),
             Refusal::NoTag => write!(f, "'{met}' asks for a 'tag' beside it"),
+            Refusal::Flattens => write!(f, "'{met}' and a flattened field exclude each other"),
+            Refusal::NotAscii => write!(f, "'{met}' cannot be said in a case: write 'rename'"),
         }
     }
 }
 
-impl fmt::Display for Misuse {
-    ghost output = { λ m. Some (misuse_text m) };
+/// Why the attribute means nothing there that is met.
+#[derive(Clone, Copy)]
+struct Misused<'t> {
+    misuse: Misuse,
+    met: &'t str,
+}
+
+impl fmt::Display for Misused<'_> {
+    ghost output = { λ m. Some (misused_text m.misuse m.met.now) };
 
     fn fmt<W: fmt::Write>(&self, f: &mut fmt::Formatter<W>) -> fmt::Result {
-        match self {
-            Misuse::Unknown => write!(f, "is no attribute of serde or facet"),
-            Misuse::Misplaced => write!(f, "means nothing here"),
-            Misuse::Unsupported => write!(f, "cannot be said"),
+        let met = self.met;
+        match self.misuse {
+            Misuse::Unknown => write!(f, "'{met}' is no attribute of serde or facet"),
+            Misuse::Misplaced => write!(f, "'{met}' means nothing here"),
+            Misuse::Unsupported => match help_for(met) {
+                Some(help) => write!(f, "'{met}' cannot be said: {help}"),
+                None => write!(f, "'{met}' cannot be said"),
+            },
         }
     }
 }

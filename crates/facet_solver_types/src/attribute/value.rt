@@ -66,7 +66,7 @@ fn is_text(kind: TokenKind) -> bool
 }
 
 /// The text that some tokens are.
-fn only_text<'t>(tokens: &[Token<'t>]) -> Option<Token<'t>>
+pub(crate) fn only_text<'t>(tokens: &[Token<'t>]) -> Option<Token<'t>>
     ensures { option_map token_view result ≡ values.only_text (tokens_view tokens.now) }
 {
     match tokens {

@@ -45,7 +45,7 @@ fn goes_on_in_word(byte: u8) -> bool
 
 /// A declared name, raw where it is a keyword.
 #[derive(Drop)]
-pub(super) struct Declared<'t>(pub(super) &'t str);
+pub(crate) struct Declared<'t>(pub(crate) &'t str);
 
 impl fmt::Display for Declared<'_> {
     ghost output = { λ d. Some (texts.declared d.0.now) };

@@ -39,7 +39,7 @@ pub(crate) struct Entry<'s, 't> {
 }
 
 /// Whether a token may name an entry: a name or a keyword.
-fn is_entry_word(kind: TokenKind) -> bool
+pub(super) fn is_entry_word(kind: TokenKind) -> bool
     ensures { result ≡ is_entry_word kind }
 {
     match kind {

@@ -17,7 +17,7 @@ fn is_open(bracket: Bracket, kind: TokenKind) -> bool
 }
 
 /// Whether the first token is this mark.
-pub(super) fn sees_mark(byte: u8, tokens: &[Token<'_>]) -> bool
+pub(crate) fn sees_mark(byte: u8, tokens: &[Token<'_>]) -> bool
     ensures value { result ≡ sees_mark byte (tokens_view tokens.now) }
     ensures some { IsTrue result → 0 < length tokens.now }
 {
@@ -112,7 +112,7 @@ pub(super) fn sees_path(tokens: &[Token<'_>]) -> bool
 }
 
 /// Whether a token is `::`.
-fn is_path(kind: TokenKind) -> bool
+pub(super) fn is_path(kind: TokenKind) -> bool
     ensures { result ≡ is_path kind }
 {
     match kind {

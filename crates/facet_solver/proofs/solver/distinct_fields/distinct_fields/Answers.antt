@@ -48,3 +48,12 @@ returns-then-has_all-clause-fields c =
     all_shown search.schema.now.build.catalogue (field_at key search.schema.now.resolutions) indices c.loop-index.rest.items c.loop-index.fields.items c.args.known c.requires
     (c.if-has_all.ensures.known refl) (rw c.deref.ensures.value at (c.if-has_all.ensures.all refl)) before.shown.2
     ∙ ap (λ is. distinct_fields key search.schema.now (c.args.first ∷ c.args.second ∷ is)) before.shown.1
+
+pub returns-then-are_many-clause-fields : goal.returns-then-are_many-clause-fields
+returns-then-are_many-clause-fields c =
+    let before = c.loop-index.invariant in
+    let search = c.args.search.now in
+    let shown = distinct_fields (key_of search.key) search.schema.now in
+    let indices : List ℕ = c.args.first ∷ c.args.second ∷ before.shown.0 in
+    c.in_ok-add_rest.ensures.fields (indices ++ c.in-Some.index ∷ []) (c.in_ok-add_if_new-3.ensures.fields indices before.shown.2)
+    ∙ ap (λ is. shown (c.args.first ∷ c.args.second ∷ is)) (rest_more before.shown.0 _ _ _ c.in-Some.index before.shown.1 c.in-Some.ensures.next)

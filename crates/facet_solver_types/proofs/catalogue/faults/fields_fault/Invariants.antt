@@ -1,0 +1,13 @@
+use Rattle.std.proofs.Common.{◌≡◌, drop, length, map}
+use Rattle.std.specs.String.{string_bytes}
+use Rattle.facet_solver_types.specs.TypeTables.{table_view}
+use Rattle.facet_solver_types.specs.ShapeFaults.{fields_fault}
+use Rattle.facet_solver_types.specs.Understood.{field_view}
+use Rattle.facet_solver_types.proofs.catalogue.faults.fields_fault.Given as goal
+
+-- the verdict on all is that on the rest
+abbrev pub invariant-loop-field : goal.invariant-loop-field
+invariant-loop-field l =
+    fields_fault (table_view l.table) (map field_view l.fields) (map string_bytes l.types)
+    ≡ fields_fault (table_view l.table) (map field_view (drop (length l.yielded) l.fields))
+    (map string_bytes (drop (length l.yielded) l.types))

@@ -1,0 +1,14 @@
+use Rattle.std.proofs.Common.{◌∙◌, Result, ap, subst}
+use Rattle.facet_solver_types.specs.declared.fault.Fault.{Fault}
+use Rattle.facet_solver_types.specs.CataloguedTypes.{shaped}
+use Rattle.facet_solver_types.specs.GivenTypes.{GivesTypes}
+use Rattle.facet_solver_types.specs.TypeTables.{table_view}
+use Rattle.facet_solver_types.specs.Links.{links_view}
+use Rattle.facet_solver_types.specs.TypesViews.{Types}
+use Rattle.facet_solver_types.proofs.catalogue.table_types.Goals as goal
+
+pub returns : goal.returns
+returns c =
+    let table = table_view c.args.table in
+    let same = ap (shaped table) (ap links_view c.deref.ensures.value ∙ c.in_ok-needs.ensures) in
+    subst (λ (o : Result Types Fault). GivesTypes o c.shaped.result) same c.shaped.ensures

@@ -1,0 +1,12 @@
+use Rattle.std.proofs.Common.{◌≡◌, ◌++◌, drop}
+use Rattle.std.specs.List.{flat_map}
+use Rattle.std.specs.String.{string_bytes}
+use Rattle.facet_solver_types.specs.Tokens.{tokens_view}
+use Rattle.facet_solver_types.specs.TypeIds.{behind_blank}
+use Rattle.facet_solver_types.proofs.typing.id.spaced.Given as goal
+
+-- the text, and then what is left
+abbrev pub invariant-loop-other : goal.invariant-loop-other
+invariant-loop-other l =
+    string_bytes l.text ++ flat_map behind_blank (tokens_view (drop l.other-index l.others))
+    ≡ string_bytes l.initial.text ++ flat_map behind_blank (tokens_view l.others)

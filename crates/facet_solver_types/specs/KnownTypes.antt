@@ -1,0 +1,86 @@
+-- The types that need no declaration, by their names.
+use Rattle.std.specs.Prelude.{ℕ, [], ◌∷◌, Option, option_map, codes}
+use Rattle.std.specs.Option.{option_or}
+use Rattle.facet_solver_shape.specs.Names.{Name}
+use Rattle.facet_solver_shape.specs.declared.shape.ScalarType.{ScalarType}
+use Rattle.facet_solver_shape.specs.declared.shape.ScalarType.TheVariants as scalars
+use Rattle.facet_solver_types.specs.Cases.{said_by}
+use Rattle.facet_solver_types.specs.declared.type_problem.Arity.{Arity}
+use Rattle.facet_solver_types.specs.declared.type_problem.Arity.TheVariants as arity
+use Rattle.facet_solver_types.specs.declared.typing.known.Applied.{Applied}
+use Rattle.facet_solver_types.specs.declared.typing.known.Applied.TheVariants as made
+use Rattle.facet_solver_types.specs.declared.typing.known.Known.{Known}
+use Rattle.facet_solver_types.specs.declared.typing.known.Known.TheVariants.{Scalar, Dynamic, Cow, Applied as AppliedTo}
+
+-- texts: any text is read
+abbrev pub text : Name → Option ScalarType
+text =
+    said_by ((codes "String", scalars.String) ∷ (codes "PathBuf", scalars.String)
+    ∷ (codes "OsString", scalars.String) ∷ (codes "IpAddr", scalars.String)
+    ∷ (codes "Ipv4Addr", scalars.String) ∷ (codes "Ipv6Addr", scalars.String)
+    ∷ (codes "SocketAddr", scalars.String) ∷ [])
+
+-- numbers with a sign, and texts
+abbrev pub signed : Name → Option ScalarType
+signed name =
+    option_or
+    (said_by ((codes "i8", scalars.I8) ∷ (codes "NonZeroI8", scalars.I8)
+    ∷ (codes "i16", scalars.I16) ∷ (codes "NonZeroI16", scalars.I16)
+    ∷ (codes "i32", scalars.I32) ∷ (codes "NonZeroI32", scalars.I32)
+    ∷ (codes "i64", scalars.I64) ∷ (codes "NonZeroI64", scalars.I64)
+    ∷ (codes "i128", scalars.I128) ∷ (codes "NonZeroI128", scalars.I128)
+    ∷ (codes "isize", scalars.ISize) ∷ (codes "NonZeroIsize", scalars.ISize) ∷ []) name)
+    (text name)
+
+-- all numbers without fractions, and texts
+abbrev pub unsigned : Name → Option ScalarType
+unsigned name =
+    option_or
+    (said_by ((codes "u8", scalars.U8) ∷ (codes "NonZeroU8", scalars.U8)
+    ∷ (codes "u16", scalars.U16) ∷ (codes "NonZeroU16", scalars.U16)
+    ∷ (codes "u32", scalars.U32) ∷ (codes "NonZeroU32", scalars.U32)
+    ∷ (codes "u64", scalars.U64) ∷ (codes "NonZeroU64", scalars.U64)
+    ∷ (codes "u128", scalars.U128) ∷ (codes "NonZeroU128", scalars.U128)
+    ∷ (codes "usize", scalars.USize) ∷ (codes "NonZeroUsize", scalars.USize) ∷ []) name)
+    (signed name)
+
+-- the scalars
+abbrev pub scalar : Name → Option ScalarType
+scalar name =
+    option_or
+    (said_by ((codes "bool", scalars.Bool) ∷ (codes "char", scalars.Char)
+    ∷ (codes "str", scalars.Str) ∷ (codes "f32", scalars.F32)
+    ∷ (codes "f64", scalars.F64) ∷ []) name)
+    (unsigned name)
+
+-- the types that take types
+abbrev pub applied_type : Name → Option Applied
+applied_type =
+    said_by ((codes "Option", made.Option)
+    ∷ (codes "Vec", made.List) ∷ (codes "VecDeque", made.List)
+    ∷ (codes "LinkedList", made.List) ∷ (codes "BinaryHeap", made.List)
+    ∷ (codes "HashSet", made.Set) ∷ (codes "BTreeSet", made.Set) ∷ (codes "IndexSet", made.Set)
+    ∷ (codes "HashMap", made.Map) ∷ (codes "BTreeMap", made.Map) ∷ (codes "IndexMap", made.Map)
+    ∷ (codes "Box", made.Pointer) ∷ (codes "Rc", made.Pointer) ∷ (codes "Arc", made.Pointer)
+    ∷ [])
+
+-- the types that are no scalars
+abbrev pub other_type : Name → Option Known
+other_type name =
+    option_or (said_by ((codes "Value", Dynamic) ∷ (codes "Cow", Cow) ∷ []) name)
+    (option_map AppliedTo (applied_type name))
+
+-- all of them
+abbrev pub known_type : Name → Option Known
+known_type name = option_or (option_map Scalar (scalar name)) (other_type name)
+
+-- a map takes two types, others one
+abbrev pub arity_of : Applied → Arity
+arity_of made.Map = arity.Two
+arity_of kind = arity.One
+
+-- how many types that is
+abbrev pub count_of : Arity → ℕ
+count_of arity.None = 0
+count_of arity.One = 1
+count_of arity.Two = 2

@@ -1,0 +1,32 @@
+-- Enums, with what their attributes say.
+use Rattle.std.specs.Prelude.{List, Result, Ok}
+use Rattle.facet_solver_types.specs.declared.attribute.meaning.Meaning.TheVariants.{Content, RenameAll, RenameAllFields, Tag, Untagged}
+use Rattle.facet_solver_types.specs.declared.declare.variants.AllVariants.{AllVariants}
+use Rattle.facet_solver_types.specs.declared.fault.Fault.{Fault}
+use Rattle.facet_solver_types.specs.Attributes.{Attribute}
+use Rattle.facet_solver_types.specs.Declarations.{Variant}
+use Rattle.facet_solver_types.specs.Pieces.{and_then}
+use Rattle.facet_solver_types.specs.ReadVariants.{variants}
+use Rattle.facet_solver_types.specs.Sought.{case_said, is_said, text_said}
+use Rattle.facet_solver_types.specs.Understood.{Declared, Tagging, enum}
+
+-- what an enum says of all its variants
+abbrev pub variants_of_enum : List Attribute → AllVariants
+variants_of_enum found = record {
+  case = case_said RenameAll found;
+  field_case = case_said RenameAllFields found;
+}
+
+-- how the variants of an enum are told
+abbrev pub tagging_of : List Attribute → Tagging
+tagging_of found = record {
+  tag = text_said Tag found;
+  content = text_said Content found;
+  untagged = is_said Untagged found;
+}
+
+-- an enum
+abbrev pub read_enum : List Attribute → List Variant → Result Declared Fault
+read_enum found written =
+    and_then (variants (variants_of_enum found) written)
+    (λ variants. Ok (enum variants (tagging_of found)))

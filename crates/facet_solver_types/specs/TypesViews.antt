@@ -1,0 +1,44 @@
+-- Types with their shapes.
+use Rattle.std.specs.Prelude.{ℕ, ◌==◌, ◌&&◌, Bool, List, [], ◌∷◌, Option, Some, None, option_map, find}
+use Rattle.std.specs.List.{list_any}
+use Rattle.std.specs.String.{string_bytes}
+use Rattle.facet_solver_shape.specs.Names.{Name, name_eq}
+use Rattle.facet_solver_types.specs.declared.parsed.DeclaredType as declared
+use Rattle.facet_solver_types.specs.ShapeViews.{Shape}
+
+-- a struct or an enum: its name, the place of its shape, and whether it denies unknown members
+pub record DeclaredType : Type 0 where
+  pub name : Name
+  pub shape : ℕ
+  pub denies_unknown : Bool
+
+-- what is seen of one
+abbrev pub declared_type_view : declared.DeclaredType → DeclaredType
+declared_type_view d =
+    record { name = string_bytes d.name; shape = d.shape; denies_unknown = d.denies_unknown }
+
+-- types: their shapes in order, the structs and enums, and the places of those that no other
+-- mentions
+pub record Types : Type 0 where
+  pub shapes : List Shape
+  pub declared : List DeclaredType
+  pub roots : List ℕ
+
+-- the place of the struct or enum of a name
+abbrev pub shape_named : List DeclaredType → Name → Option ℕ
+shape_named types name =
+    option_map (λ (d : DeclaredType). d.shape)
+    (find (λ (d : DeclaredType). name_eq d.name name) types)
+
+-- the only one of some places
+abbrev pub only : List ℕ → Option ℕ
+only (place ∷ []) = Some place
+only places = None
+
+-- whether a type stands at a place and denies unknown members
+abbrev pub denies_at : ℕ → DeclaredType → Bool
+denies_at place d = d.shape == place && d.denies_unknown
+
+-- whether one of some types does
+abbrev pub denies_unknown : List DeclaredType → ℕ → Bool
+denies_unknown types place = list_any (denies_at place) types

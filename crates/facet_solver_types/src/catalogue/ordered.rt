@@ -1,0 +1,118 @@
+//! Types in order.
+ghost use Rattle.std.specs.Prelude.{◌≡◌, ◌++◌, IfOk, OnOk, flat_map, length, map, option_map, slice_get};
+ghost use Rattle.std.specs.List.{range_with_len};
+ghost use Rattle.facet_solver_shape.specs.Names.{names_of};
+ghost use Rattle.facet_solver_types.specs.CataloguedTypes.{declared_places, entry_at, ordered};
+ghost use Rattle.facet_solver_types.specs.TypeTables.{table_view};
+ghost use Rattle.facet_solver_types.specs.Links.{ids, links_view};
+ghost use Rattle.facet_solver_types.specs.TypeEntries.{entries_view, entry_view};
+
+use super::table::TypeTable;
+use super::walks::in_order;
+use crate::type_entry::TypeEntry;
+use std::alloc::{AllocError, Global};
+
+/// The places of what declarations declare, in their order.
+pub(super) fn declared_places(
+    alloc: Global,
+    table: TypeTable<'_, '_, '_>,
+) -> Result<Vec<usize>, AllocError>
+    ensures { IfOk result (λ places. places.items ≡ declared_places (table_view table.entry)) }
+{
+    let mut places = Vec::new(alloc);
+    for index in 0..table.declarations.len() {
+        let place = table.declared_place(index);
+        if place < table.entries.len() {
+            places.push(place)?;
+        }
+    }
+    Ok(places)
+}
+
+/// The places of what declarations declare, and then those of all types.
+fn all_places(alloc: Global, table: TypeTable<'_, '_, '_>) -> Result<Vec<usize>, AllocError>
+    ensures { IfOk result (λ places. places.items
+        ≡ declared_places (table_view table.entry)
+        ++ range_with_len 0 (length (table_view table.entry).entries)) }
+{
+    let mut places = declared_places(alloc, table)?;
+    for place in 0..table.entries.len() {
+        places.push(place)?;
+    }
+    Ok(places)
+}
+
+/// The type at a place, if there is one.
+pub(super) fn entry_at(entries: &[TypeEntry], place: usize) -> Option<&TypeEntry>
+    ensures { option_map (λ e. entry_view e.now) result
+        ≡ slice_get (entries_view entries.now) place }
+{
+    match entries.get(place) {
+        Some(entry) => Some(entry),
+        None => None,
+    }
+}
+
+/// Adds the type at a place, if there is one.
+fn add_entry<'e>(
+    found: &mut Vec<&'e TypeEntry>,
+    entries: &'e [TypeEntry],
+    place: usize,
+) -> Result<(), AllocError>
+    ensures { OnOk result (map (λ e. entry_view e.now) found.new.items
+        ≡ map (λ e. entry_view e.now) found.old.items
+        ++ entry_at (entries_view entries.now) place) }
+{
+    match entry_at(entries, place) {
+        Some(entry) => {
+            found.push(entry)?;
+            Ok(())
+        }
+        None => Ok(()),
+    }
+}
+
+/// The types at places, where there are any.
+fn entries_at<'e>(
+    alloc: Global,
+    entries: &'e [TypeEntry],
+    places: &[usize],
+) -> Result<Vec<&'e TypeEntry>, AllocError>
+    ensures { IfOk result (λ found. map (λ e. entry_view e.now) found.items
+        ≡ flat_map (entry_at (entries_view entries.now)) places.now) }
+{
+    let mut found = Vec::new(alloc);
+    for place in places {
+        add_entry(&mut found, entries, *place)?;
+    }
+    Ok(found)
+}
+
+/// Types in order: what declarations declare, each after what it needs, and then the others.
+pub(super) fn ordered<'k>(
+    alloc: Global,
+    table: TypeTable<'k, '_, '_>,
+    needs: &[Vec<usize>],
+) -> Result<Vec<&'k TypeEntry>, AllocError>
+    ensures { IfOk result (λ found. map (λ e. entry_view e.now) found.items
+        ≡ ordered (table_view table.entry) (links_view needs.now)) }
+{
+    let places = all_places(alloc, table)?;
+    let order = in_order(alloc, needs, &places)?;
+    entries_at(alloc, table.entries, &order)
+}
+
+/// The ids of types in order.
+pub(super) fn ordered_ids<'e>(
+    alloc: Global,
+    entries: &[&'e TypeEntry],
+) -> Result<Vec<&'e str>, AllocError>
+    ensures { IfOk result (λ found. names_of found.items
+        ≡ ids (map (λ e. entry_view e.now) entries.now)) }
+{
+    let mut found = Vec::new(alloc);
+    for entry in entries {
+        found.push(entry.id())?;
+    }
+    Ok(found)
+}

@@ -1,0 +1,109 @@
+//! The ids of types: as they are written, where aliases are followed, and lifetimes and paths
+//! dropped.
+ghost use Rattle.std.specs.Prelude.{◌≡◌, IfOk, map};
+ghost use Rattle.std.specs.String.{string_bytes};
+ghost use Rattle.facet_solver_types.specs.Layers.{head_view};
+ghost use Rattle.facet_solver_types.specs.Tokens.{tokens_view};
+ghost use Rattle.facet_solver_types.specs.TypeIds as type_ids;
+
+use super::layer::Head;
+use crate::display::DeclaredName;
+use crate::token::Token;
+use std::alloc::{AllocError, Global};
+
+/// The first of some ids.
+pub(super) fn first(ids: &[String]) -> &str
+    ensures { result.now ≡ type_ids.first (map string_bytes ids.now) }
+{
+    match ids.split_first() {
+        None => "",
+        Some((id, _)) => id.as_str(),
+    }
+}
+
+/// The second of some ids.
+pub(super) fn second(ids: &[String]) -> &str
+    ensures { result.now ≡ type_ids.second (map string_bytes ids.now) }
+{
+    match ids.split_first() {
+        None => "",
+        Some((_, others)) => first(others),
+    }
+}
+
+/// Ids with `, ` between.
+fn joined(alloc: Global, ids: &[String]) -> Result<String, AllocError>
+    ensures { IfOk result (λ text. string_bytes text
+        ≡ type_ids.joined (map string_bytes ids.now)) }
+{
+    let mut text = String::new(alloc);
+    if let Some((id, others)) = ids.split_first() {
+        text.push_str(id.as_str())?;
+        for other in others {
+            text.push_str(", ")?;
+            text.push_str(other.as_str())?;
+        }
+    }
+    Ok(text)
+}
+
+/// Tokens with blanks between.
+fn spaced(alloc: Global, tokens: &[Token<'_>]) -> Result<String, AllocError>
+    ensures { IfOk result (λ text. string_bytes text
+        ≡ type_ids.spaced (tokens_view tokens.now)) }
+{
+    let mut text = String::new(alloc);
+    if let Some((first, others)) = tokens.split_first() {
+        text.push_str(first.text)?;
+        for other in others {
+            text.push_str(" ")?;
+            text.push_str(other.text)?;
+        }
+    }
+    Ok(text)
+}
+
+/// What stands behind the types of a tuple: a comma too, where it is one.
+fn tuple_end(ids: &[String]) -> &'static str
+    ensures { result.now ≡ type_ids.tuple_end (map string_bytes ids.now) }
+{
+    if ids.len() == 1 { ",)" } else { ")" }
+}
+
+/// The id of a type, by those of the types in it.
+pub(super) fn id_of(alloc: Global, head: Head<'_, '_>, ids: &[String]) -> Result<String, AllocError>
+    ensures { IfOk result (λ id. string_bytes id
+        ≡ type_ids.id_of (head_view head.entry) (map string_bytes ids.now)) }
+{
+    match head {
+        Head::Same => String::from_str(alloc, first(ids)),
+        Head::Declared(name) => declared_id(alloc, name),
+        Head::Scalar(name, _) => String::from_str(alloc, name),
+        Head::Dynamic(name) => String::from_str(alloc, name),
+        Head::Applied(name, _) => {
+            let inside = joined(alloc, ids)?;
+            format!(in alloc; "{name}<{inside}>")
+        }
+        Head::Array(len) => {
+            let item = first(ids);
+            let len = spaced(alloc, len)?;
+            format!(in alloc; "[{item}; {len}]")
+        }
+        Head::Slice => {
+            let item = first(ids);
+            format!(in alloc; "[{item}]")
+        }
+        Head::Tuple => {
+            let inside = joined(alloc, ids)?;
+            let end = tuple_end(ids);
+            format!(in alloc; "({inside}{end}")
+        }
+    }
+}
+
+/// The id of a declared type.
+pub(super) fn declared_id(alloc: Global, name: &str) -> Result<String, AllocError>
+    ensures { IfOk result (λ id. string_bytes id ≡ type_ids.declared_id name.now) }
+{
+    DeclaredName(name).to_string(alloc)
+}
