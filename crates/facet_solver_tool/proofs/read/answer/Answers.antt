@@ -1,0 +1,28 @@
+use Rattle.std.proofs.Common.{◌∙◌, ap, subst}
+use Rattle.std.proofs.lemmas.Result.{IfOk-weaker}
+use Rattle.facet_solver_reader.specs.Readers.{is_strict}
+use Rattle.facet_solver_tool.specs.Answer.{answer_view}
+use Rattle.facet_solver_tool.specs.ReadAnswers.{AnswersBytes}
+use Rattle.facet_solver_tool.specs.RootAnswers.{by_reader, no_reader}
+use Rattle.facet_solver_tool.proofs.Faults.{fault_of_refusal}
+use Rattle.facet_solver_tool.proofs.read.answer.Goals as goal
+
+pub returns-in-Ok : goal.returns-in-Ok
+returns-in-Ok c =
+    let shapes = c.shapes.result.now in
+    let made = c.in-Ok.ensures.made
+    ∙ ap (λ u. record { shapes = shapes; root = c.args.root.id; strict = is_strict u }) c.unknown_at.ensures in
+    IfOk-weaker c.read_bytes.result _ _
+    (λ a said. by_reader shapes c.shapes.ensures (subst (λ r. AnswersBytes r c.args.document.now (answer_view a)) made said))
+    c.read_bytes.ensures
+
+pub returns-in-Err : goal.returns-in-Err
+returns-in-Err c =
+    let shapes = c.shapes.result.now in
+    IfOk-weaker c.refused.result _ _
+    (λ a said. no_reader shapes c.shapes.ensures record {
+      error = c.in-Err.error;
+      fault = fault_of_refusal shapes c.args.root.id c.in-Err.error said.0 c.in-Err.ensures.refused;
+      told = said.1;
+    })
+    c.refused.ensures
