@@ -1,5 +1,5 @@
 pub mod Lines
-mod CatalogueLines
+pub mod CatalogueLines
 pub mod Words
 pub mod ShapeNames
 pub mod Joined

@@ -11,7 +11,7 @@ use Rattle.facet_solver_types.specs.TypesViews.{Types, only, shape_named}
 use Rattle.facet_solver_tool.specs.declared.status.Status.TheVariants.{BadTypes}
 use Rattle.facet_solver_tool.specs.Answer.{Answer, says}
 use Rattle.facet_solver_tool.specs.Questions.{Question}
-use Rattle.facet_solver_tool.specs.RootAnswers.{AnswersRoot, Root}
+use Rattle.facet_solver_tool.specs.RootAnswers.{AnswersRoot, root_at}
 use Rattle.facet_solver_tool.specs.ShapeNames.{names_at}
 use Rattle.facet_solver_tool.specs.Utf8.{no_utf8_text}
 
@@ -32,16 +32,12 @@ abbrev pub root_of : Option Name → Types → Option ℕ
 root_of (Some name) ts = shape_named ts.declared name
 root_of None ts = only ts.roots
 
--- the root of an index
-abbrev pub root_at : Question → Types → ℕ → Root
-root_at q ts id = record { path = q.types; types = ts; id = id }
-
 -- the answer to a question about types and a document
 pub data AnswersTypes (q : Question) (ts : Types) (document : List ℕ) (a : Answer) : Type 0 where
   no_root : root_of q.root ts ≡ None → a ≡ says BadTypes (no_root_text q ts q.root)
       → AnswersTypes q ts document a
   has_root : (id : ℕ) → root_of q.root ts ≡ Some id
-      → AnswersRoot (root_at q ts id) q.task document a → AnswersTypes q ts document a
+      → AnswersRoot (root_at q.types ts id) q.task document a → AnswersTypes q ts document a
 
 -- the text where a file declares no types: its path, the place if there is one, and why
 abbrev pub no_types_text : Name → TypesError → List ℕ

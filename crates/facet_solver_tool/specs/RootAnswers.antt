@@ -11,7 +11,6 @@ use Rattle.facet_solver_types.specs.ShapeViews.{shapes_view}
 use Rattle.facet_solver_types.specs.TypesViews.{Types, denies_unknown}
 use Rattle.facet_solver_tool.specs.declared.question.Task.{Task}
 use Rattle.facet_solver_tool.specs.declared.question.Task.TheVariants.{Read, Check, Catalogue as AsCatalogue}
-use Rattle.facet_solver_tool.specs.declared.root.Root as root
 use Rattle.facet_solver_tool.specs.declared.status.Status.TheVariants.{Answered, BadTypes}
 use Rattle.facet_solver_tool.specs.Answer.{Answer, says}
 use Rattle.facet_solver_tool.specs.CatalogueText.{catalogue}
@@ -25,9 +24,9 @@ pub record Root : Type 0 where
   pub types : Types
   pub id : ℕ
 
--- what is seen of one
-abbrev pub root_view : root.Root → Root
-root_view r = record { path = r.path.now; types = r.types.now; id = r.id }
+-- the root of a path, types and an index
+abbrev pub root_at : Name → Types → ℕ → Root
+root_at path types id = record { path = path; types = types; id = id }
 
 -- an error tells why a root is not read
 abbrev pub IsFault : Catalogue → ℕ → TypeError → Type 0
@@ -45,13 +44,13 @@ pub record Refuses (r : Root) (shapes : Catalogue) (a : Answer) : Type 0 where
   pub told : a ≡ says BadTypes (fault_text r.path error)
 
 -- what is done with unknown members: they are refused where the root denies them
-abbrev pub unknown_at : Root → Unknown → Unknown
-unknown_at r unknown = if denies_unknown r.types.declared r.id then Refused else unknown
+abbrev pub unknown_at : Types → ℕ → Unknown → Unknown
+unknown_at types id unknown = if denies_unknown types.declared id then Refused else unknown
 
 -- what a reader of a root is of
 abbrev pub reader_of : Root → Catalogue → Unknown → ReaderView
 reader_of r shapes unknown =
-    record { shapes = shapes; root = r.id; strict = is_strict (unknown_at r unknown) }
+    record { shapes = shapes; root = r.id; strict = is_strict (unknown_at r.types r.id unknown) }
 
 -- the answer that has the reading of a document
 pub data AnswersRead (r : Root) (unknown : Unknown) (document : List ℕ) (a : Answer) : Type 0 where
@@ -72,13 +71,13 @@ pub data AnswersCheck (r : Root) (a : Answer) : Type 0 where
       → a ≡ says Answered (check_text shapes r.id) → AnswersCheck r a
 
 -- the answer that has the catalogue
-pub record AnswersCatalogue (r : Root) (a : Answer) : Type 0 where
+pub record AnswersCatalogue (types : Types) (id : ℕ) (a : Answer) : Type 0 where
   pub shapes : Catalogue
-  pub same : shapes_view shapes ≡ r.types.shapes
-  pub told : a ≡ says Answered (catalogue shapes r.id)
+  pub same : shapes_view shapes ≡ types.shapes
+  pub told : a ≡ says Answered (catalogue shapes id)
 
 -- the answer about a root to what is asked
 abbrev pub AnswersRoot : Root → Task → List ℕ → Answer → Type 0
 AnswersRoot r (Read unknown) document a = AnswersRead r unknown document a
 AnswersRoot r Check document a = AnswersCheck r a
-AnswersRoot r AsCatalogue document a = AnswersCatalogue r a
+AnswersRoot r AsCatalogue document a = AnswersCatalogue r.types r.id a

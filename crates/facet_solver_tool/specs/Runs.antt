@@ -18,12 +18,17 @@ document_of (Read unknown) input = input
 document_of Check input = Some []
 document_of Catalogue input = Some []
 
--- the answer to a question: something cannot be read, or it is about some types, and about the
--- document, where the input tells it
+-- the answer to a question about the types that bytes declare: the document cannot be read, or it
+-- is about the document, where the input tells it
+abbrev pub AnswersFile : Question → List ℕ → Option (List ℕ) → Answer → Type 0
+AnswersFile q types input a =
+    (a.status ≡ Misused)
+    ⊎ IfSome (document_of q.task input) (λ document. IsAnswer q types document a)
+
+-- the answer to a question: the file cannot be read, or it is about the types in it
 abbrev pub AnswersQuestion : Question → Option (List ℕ) → Answer → Type 0
 AnswersQuestion q input a =
-    (a.status ≡ Misused)
-    ⊎ ((types : List ℕ) × IfSome (document_of q.task input) (λ document. IsAnswer q types document a))
+    (a.status ≡ Misused) ⊎ ((types : List ℕ) × AnswersFile q types input a)
 
 -- the answer to what words ask
 abbrev pub AnswersOutcome : Outcome → Option (List ℕ) → Answer → Type 0

@@ -2,28 +2,30 @@
 ghost use Rattle.std.specs.Prelude.{◌≡◌, IfOk};
 ghost use Rattle.facet_solver_tool.specs.declared.status.Status.TheVariants.{Answered};
 ghost use Rattle.facet_solver_tool.specs.Answer.{answer_view, says};
-ghost use Rattle.facet_solver_tool.specs.RootAnswers.{AnswersCheck, check_text, root_view};
+ghost use Rattle.facet_solver_tool.specs.RootAnswers.{AnswersCheck, check_text, root_at};
 
 use crate::answer::Answer;
 use crate::name::name_at;
 use crate::representation::EnumLines;
-use crate::root::{Root, refused};
+use crate::root::refused;
 use crate::status::Status;
 use facet_solver_reader::{Reader, Unknown};
 use facet_solver_shape::{ShapeId, Shapes};
+use facet_solver_types::Types;
 use std::alloc::{AllocError, Global};
 
 /// The answer that has the root's name, and how each enum is written; or why documents cannot be
 /// read as the root.
 ///
 /// The only error is out of memory.
-pub fn answer(alloc: Global, root: Root<'_>) -> Result<Answer, AllocError>
-    ensures { IfOk result (λ a. AnswersCheck (root_view root.entry) (answer_view a)) }
+pub fn answer(alloc: Global, path: &str, types: &Types, id: ShapeId) -> Result<Answer, AllocError>
+    ensures { IfOk result (λ a.
+        AnswersCheck (root_at path.now types.now id) (answer_view a)) }
 {
-    let shapes = root.types.shapes();
-    match Reader::new(alloc, shapes, root.id, Unknown::Ignored) {
-        Ok(_reader) => checked(alloc, shapes, root.id),
-        Err(error) => refused(alloc, root.path, &error),
+    let shapes = types.shapes();
+    match Reader::new(alloc, shapes, id, Unknown::Ignored) {
+        Ok(_reader) => checked(alloc, shapes, id),
+        Err(error) => refused(alloc, path, &error),
     }
 }
 

@@ -22,11 +22,6 @@ use run::run;
 use std::process::ExitCode;
 
 fn main(rt: HostRuntime) -> ExitCode {
-    let status = run(
-        &rt,
-        &mut rt.stdin(),
-        &mut rt.stdout(),
-        &mut rt.stderr(),
-    );
+    let status = run(&rt, &mut rt.stdin(), &mut rt.stdout(), &mut rt.stderr());
     ExitCode::from(status.code())
 }

@@ -6,14 +6,16 @@ ghost use Rattle.facet_solver_tool.specs.declared.status.Status.TheVariants.{Bad
 ghost use Rattle.facet_solver_tool.specs.Answer.{answer_view, says};
 ghost use Rattle.facet_solver_tool.specs.ReadAnswers.{AnswersBytes, AnswersText, EndsTree, no_json_text, status_of};
 ghost use Rattle.facet_solver_tool.specs.RootAnswers as roots;
-ghost use Rattle.facet_solver_tool.specs.RootAnswers.{AnswersRead, root_view};
+ghost use Rattle.facet_solver_tool.specs.RootAnswers.{AnswersRead, root_at};
 
 use crate::answer::Answer;
-use crate::root::{Root, refused};
+use crate::root::refused;
 use crate::status::Status;
 use crate::utf8;
 use facet_solver_json::{JsonError, Scratch, parse};
 use facet_solver_reader::{Document, ReadError, Reader, Unknown};
+use facet_solver_shape::ShapeId;
+use facet_solver_types::Types;
 use std::alloc::{AllocError, Global};
 use std::str;
 
@@ -26,25 +28,28 @@ const DOCUMENT: &str = "document";
 /// The only error is out of memory.
 pub fn answer(
     alloc: Global,
-    root: Root<'_>,
+    path: &str,
+    types: &Types,
+    id: ShapeId,
     unknown: Unknown,
     document: &[u8],
 ) -> Result<Answer, AllocError>
     ensures { IfOk result (λ a.
-        AnswersRead (root_view root.entry) unknown document.now (answer_view a)) }
+        AnswersRead (root_at path.now types.now id) unknown document.now (answer_view a)) }
 {
-    let unknown = unknown_at(root, unknown);
-    match Reader::new(alloc, root.types.shapes(), root.id, unknown) {
+    let unknown = unknown_at(types, id, unknown);
+    let shapes = types.shapes();
+    match Reader::new(alloc, shapes, id, unknown) {
         Ok(reader) => read_bytes(alloc, &reader, document),
-        Err(error) => refused(alloc, root.path, &error),
+        Err(error) => refused(alloc, path, &error),
     }
 }
 
 /// What is done with unknown members: they are refused where the root denies them.
-fn unknown_at(root: Root<'_>, unknown: Unknown) -> Unknown
-    ensures { result ≡ roots.unknown_at (root_view root.entry) unknown }
+fn unknown_at(types: &Types, id: ShapeId, unknown: Unknown) -> Unknown
+    ensures { result ≡ roots.unknown_at types.now id unknown }
 {
-    if root.types.denies_unknown(root.id) {
+    if types.denies_unknown(id) {
         Unknown::Refused
     } else {
         unknown

@@ -3,50 +3,47 @@ ghost use Rattle.std.specs.Prelude.{◌≡◌, ◌≢◌, IfOk};
 ghost use Rattle.facet_solver_reader.specs.declared.reader.error.TypeError.TheVariants as errors;
 ghost use Rattle.facet_solver_tool.specs.declared.status.Status.TheVariants.{BadTypes};
 ghost use Rattle.facet_solver_tool.specs.Answer.{answer_view, says};
-ghost use Rattle.facet_solver_tool.specs.RootAnswers.{AnswersRoot, fault_text, root_view};
+ghost use Rattle.facet_solver_tool.specs.RootAnswers.{AnswersCatalogue, AnswersRoot, fault_text, root_at};
 
 use crate::answer::Answer;
 use crate::catalogue::catalogue;
-use crate::check;
 use crate::question::Task;
-use crate::read;
 use crate::status::Status;
+use crate::{check, read};
 use facet_solver_reader::TypeError;
 use facet_solver_shape::ShapeId;
 use facet_solver_types::Types;
 use std::alloc::{AllocError, Global};
 
-/// A type that documents are read as.
-#[derive(Clone, Copy, Debug)]
-pub struct Root<'t> {
-    /// The path of the file that declares the types.
-    pub path: &'t str,
-    /// The types.
-    pub types: &'t Types,
-    /// Its shape.
-    pub id: ShapeId,
-}
-
-/// The answer about a root to what is asked.
+/// The answer about a root to what is asked. The types come from the file at a path.
 ///
 /// The only error is out of memory.
 pub fn answer(
     alloc: Global,
-    root: Root<'_>,
+    path: &str,
+    types: &Types,
+    id: ShapeId,
     task: Task,
     document: &[u8],
 ) -> Result<Answer, AllocError>
-    ensures { IfOk result (λ a. AnswersRoot (root_view root.entry) task document.now
-        (answer_view a)) }
+    ensures { IfOk result (λ a.
+        AnswersRoot (root_at path.now types.now id) task document.now (answer_view a)) }
 {
     match task {
-        Task::Read(unknown) => read::answer(alloc, root, unknown, document),
-        Task::Check => check::answer(alloc, root),
-        Task::Catalogue => Ok(Answer {
-            status: Status::Answered,
-            text: catalogue(alloc, root.types.shapes(), root.id)?,
-        }),
+        Task::Read(unknown) => read::answer(alloc, path, types, id, unknown, document),
+        Task::Check => check::answer(alloc, path, types, id),
+        Task::Catalogue => answer_catalogue(alloc, types, id),
     }
+}
+
+/// The answer that has the catalogue of the types.
+fn answer_catalogue(alloc: Global, types: &Types, id: ShapeId) -> Result<Answer, AllocError>
+    ensures { IfOk result (λ a. AnswersCatalogue types.now id (answer_view a)) }
+{
+    Ok(Answer {
+        status: Status::Answered,
+        text: catalogue(alloc, types.shapes(), id)?,
+    })
 }
 
 /// The answer where a reader refuses a root: the path of the file, and why.

@@ -7,7 +7,7 @@ ghost use Rattle.facet_solver_tool.specs.Answer.{answer_view};
 ghost use Rattle.facet_solver_tool.specs.Misuses.{TellsMisuse};
 ghost use Rattle.facet_solver_tool.specs.Questions.{question_view};
 ghost use Rattle.facet_solver_tool.specs.Requests.{misuse_view};
-ghost use Rattle.facet_solver_tool.specs.Runs.{AnswersQuestion, AnswersRun, AnswersWords, IsRun, Writes, document_of};
+ghost use Rattle.facet_solver_tool.specs.Runs.{AnswersFile, AnswersQuestion, AnswersRun, AnswersWords, IsRun, Writes, document_of};
 
 use crate::answer::Answer;
 use crate::arguments::{ArgumentError, Request, requested};
@@ -113,13 +113,25 @@ fn answer_question<R: Files + AllocGlobal, I: Read>(
     ensures { IfOk result (λ a. AnswersQuestion (question_view question.now)
         (I.remaining input.old) (answer_view a)) }
 {
-    let types = match fs::read(rt, question.types) {
-        Ok(types) => types,
-        Err(error) => return unread(rt.alloc(), question.types, error),
-    };
-    match document(rt.alloc(), input, question.task) {
-        Ok(document) => types::answer(rt.alloc(), question, &types, &document),
-        Err(error) => unread(rt.alloc(), "standard input", error),
+    match fs::read(rt, question.types) {
+        Ok(types) => answer_file(rt.alloc(), input, question, &types),
+        Err(error) => unread(rt.alloc(), question.types, error),
+    }
+}
+
+/// The answer to a question about the types that the bytes of a file declare.
+fn answer_file<I: Read>(
+    alloc: Global,
+    input: &mut I,
+    question: &Question<'_>,
+    types: &[u8],
+) -> Result<Answer, AllocError>
+    ensures { IfOk result (λ a. AnswersFile (question_view question.now) types.now
+        (I.remaining input.old) (answer_view a)) }
+{
+    match document(alloc, input, question.task) {
+        Ok(document) => types::answer(alloc, question, types, &document),
+        Err(error) => unread(alloc, "standard input", error),
     }
 }
 

@@ -11,10 +11,8 @@ ghost use Rattle.facet_solver_tool.specs.declared.status.Status.TheVariants.{Bad
 use crate::answer::Answer;
 use crate::name::names_at;
 use crate::question::Question;
-use crate::root;
-use crate::root::Root;
 use crate::status::Status;
-use crate::utf8;
+use crate::{root, utf8};
 use facet_solver_shape::ShapeId;
 use facet_solver_types::{Types, TypesError};
 use std::alloc::{AllocError, Global};
@@ -83,14 +81,7 @@ fn answer_types(
         AnswersTypes (question_view question.now) types.now document.now (answer_view a)) }
 {
     match root_of(question, types) {
-        Some(id) => {
-            let root = Root {
-                path: question.types,
-                types,
-                id,
-            };
-            root::answer(alloc, root, question.task, document)
-        }
+        Some(id) => root::answer(alloc, question.types, types, id, question.task, document),
         None => no_root(alloc, question, types),
     }
 }

@@ -26,7 +26,11 @@ pub fn answer(
     ensures { IfOk result (λ a. answer_view a ≡ says status (no_utf8_text name.now bytes.now)) }
 {
     let offset = error.valid_up_to();
-    let line = 1 + bytes[..offset].iter().filter(|byte| **byte == b'\n').count();
+    let line = 1
+        + bytes[..offset]
+            .iter()
+            .filter(|byte| **byte == b'\n')
+            .count();
     let text = format!(in alloc; "{name}:{line}: no UTF-8 at byte {offset}")?;
     Ok(Answer { status, text })
 }

@@ -7,4 +7,4 @@ use Rattle.facet_solver_tool.proofs.name.names_at.Given as goal
 -- the names so far
 abbrev pub invariant-loop-id : goal.invariant-loop-id
 invariant-loop-id l =
-    names_of l.found.items ≡ names_at (shapes_view l.shapes.now) (take l.id-index l.ids)
+    names_of l.found.items ≡ names_at (shapes_view l.shapes) (take l.id-index l.ids)

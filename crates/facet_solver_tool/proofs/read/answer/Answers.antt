@@ -9,20 +9,20 @@ use Rattle.facet_solver_tool.proofs.read.answer.Goals as goal
 
 pub returns-in-Ok : goal.returns-in-Ok
 returns-in-Ok c =
-    let shapes = c.shapes.result.now in
+    let shapes = c.shapes-shapes.result.now in
     let made = c.in-Ok.ensures.made
-    ∙ ap (λ u. record { shapes = shapes; root = c.args.root.id; strict = is_strict u }) c.unknown_at.ensures in
+    ∙ ap (λ u. record { shapes = shapes; root = c.args.id; strict = is_strict u }) c.unknown_at-unknown.ensures in
     IfOk-weaker c.read_bytes.result _ _
-    (λ a said. by_reader shapes c.shapes.ensures (subst (λ r. AnswersBytes r c.args.document.now (answer_view a)) made said))
+    (λ a said. by_reader shapes c.shapes-shapes.ensures (subst (λ r. AnswersBytes r c.args.document.now (answer_view a)) made said))
     c.read_bytes.ensures
 
 pub returns-in-Err : goal.returns-in-Err
 returns-in-Err c =
-    let shapes = c.shapes.result.now in
+    let shapes = c.shapes-shapes.result.now in
     IfOk-weaker c.refused.result _ _
-    (λ a said. no_reader shapes c.shapes.ensures record {
+    (λ a said. no_reader shapes c.shapes-shapes.ensures record {
       error = c.in-Err.error;
-      fault = fault_of_refusal shapes c.args.root.id c.in-Err.error said.0 c.in-Err.ensures.refused;
+      fault = fault_of_refusal shapes c.args.id c.in-Err.error said.0 c.in-Err.ensures.refused;
       told = said.1;
     })
     c.refused.ensures

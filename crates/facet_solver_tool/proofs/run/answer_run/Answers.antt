@@ -1,0 +1,6 @@
+use Rattle.std.proofs.Common.{inr}
+use Rattle.std.proofs.lemmas.Result.{IfOk-weaker}
+use Rattle.facet_solver_tool.proofs.run.answer_run.Goals as goal
+
+pub returns-in-Ok : goal.returns-in-Ok
+returns-in-Ok g c = IfOk-weaker c.answer_arguments.result _ _ (λ a said. inr said) c.answer_arguments.ensures
