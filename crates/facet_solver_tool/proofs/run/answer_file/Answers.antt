@@ -1,4 +1,4 @@
-use Rattle.std.proofs.Common.{inr, subst}
+use Rattle.std.proofs.Common.{inl, inr, subst}
 use Rattle.std.proofs.lemmas.Result.{IfOk-weaker}
 use Rattle.facet_solver_tool.specs.Answer.{answer_view}
 use Rattle.facet_solver_tool.specs.Answers.{IsAnswer}
@@ -14,3 +14,6 @@ returns-in-Ok g c =
     inr (about_document q c.args.types.now _ c.in-Ok.document.items (answer_view a) c.in-Ok.ensures
     (subst (λ d. IsAnswer q c.args.types.now d (answer_view a)) c.deref.ensures.value said)))
     c.answer.ensures
+
+pub returns-in-Err : goal.returns-in-Err
+returns-in-Err g c = IfOk-weaker c.unread.result _ _ (λ a status. inl status) c.unread.ensures
