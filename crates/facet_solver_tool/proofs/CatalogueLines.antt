@@ -1,8 +1,7 @@
 -- The lines of a catalogue's shapes.
-use Rattle.std.proofs.Common.{◌≡◌, ℕ, zero, suc, ◌+◌, ◌<◌, List, [], ◌∷◌, ◌++◌, codes, length, slice_get, get_or, take, add-one, append_assoc, append-nil, ap, sym, ◌∙◌, arith}
+use Rattle.std.proofs.Common.{◌≡◌, ℕ, zero, suc, ◌+◌, ◌<◌, List, [], ◌∷◌, ◌++◌, codes, length, get_or, take, add-one, append_assoc, append-nil, ap, sym, ◌∙◌, arith}
 use Rattle.std.proofs.lemmas.List.{flat_map_more, take_more}
 use Rattle.std.specs.List.{flat_map}
-use Rattle.std.specs.Option.{option_map_or}
 use Rattle.facet_solver_shape.specs.Catalogues.{Catalogue}
 use Rattle.facet_solver_shape.specs.Names.{Name}
 use Rattle.facet_solver_tool.specs.SeparatedTexts.{behind}
@@ -27,4 +26,4 @@ line_at_more shapes i within = go shapes i within ∙ ap (λ k. lines (take k sh
     go (s ∷ ss) (suc i) within =
         append_assoc (line s) (flat_map (behind (codes ",") line) (take i ss)) (line_at (s ∷ ss) (suc i))
         ∙ ap (λ ys. line s ++ ys)
-          (each.line_at_more (behind (codes ",") line) ss i (omega arith) ∙ ap (λ k. flat_map (behind (codes ",") line) (take k ss)) (add-one i))
+        (each.line_at_more (behind (codes ",") line) ss i (omega arith) ∙ ap (λ k. flat_map (behind (codes ",") line) (take k ss)) (add-one i))

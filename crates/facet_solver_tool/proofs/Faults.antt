@@ -1,5 +1,5 @@
 -- Errors of readers and of documents that tell more than that memory was refused.
-use Rattle.std.proofs.Common.{◌≡◌, ◌≢◌, ℕ, List, Some, None, Option, refl}
+use Rattle.std.proofs.Common.{◌≡◌, ◌≢◌, ℕ, List, None, refl}
 use Rattle.facet_solver_json.specs.declared.error.JsonError.{JsonError}
 use Rattle.facet_solver_json.specs.declared.error.JsonError.TheVariants as json_errors
 use Rattle.facet_solver_json.specs.Places.{HasPlace}

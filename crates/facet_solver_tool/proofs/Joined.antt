@@ -28,4 +28,4 @@ pub several_said : {X : Type 0} (f : X → List ℕ) (xs : List X) (names : List
 several_said f xs names joined some same is =
     ap several (is ∙ joined_said f (codes ", ") xs ∙ ap (join_by (λ n. n) (codes ", ")) same)
     ∙ ap (λ b. cond b (codes ": no type stands by itself; name the root") (several (join_by (λ n. n) (codes ", ") names)))
-      (sym (ap (λ n. n == 0) (sym (ap length same) ∙ length-map xs f) ∙ some))
+    (sym (ap (λ n. n == 0) (sym (ap length same) ∙ length-map xs f) ∙ some))

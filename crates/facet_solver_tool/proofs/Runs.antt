@@ -1,5 +1,5 @@
 -- Answers to runs.
-use Rattle.std.proofs.Common.{◌≡◌, ◌≢◌, ℕ, List, Option, Some, None, Err, IfSome, refl, subst, sym}
+use Rattle.std.proofs.Common.{◌≡◌, ◌≢◌, ℕ, List, Option, Some, None, IfSome, refl, subst, sym}
 use Rattle.facet_solver_tool.specs.declared.arguments.ArgumentError.{ArgumentError}
 use Rattle.facet_solver_tool.specs.declared.arguments.ArgumentError.TheVariants as errors
 use Rattle.facet_solver_tool.specs.declared.status.Status.TheVariants.{Misused}

@@ -1,7 +1,6 @@
 -- The names of shapes, as they are seen.
-use Rattle.std.proofs.Common.{◌≡◌, ◌∙◌, ℕ, zero, suc, List, [], ◌∷◌, Option, Some, None, ap, map, option_map, refl, slice_get, sym}
+use Rattle.std.proofs.Common.{◌≡◌, ◌∙◌, ℕ, zero, suc, List, [], ◌∷◌, Option, ap, option_map, refl, slice_get}
 use Rattle.std.specs.Option.{option_map_or}
-use Rattle.std.specs.String.{string_bytes}
 use Rattle.facet_solver_shape.specs.declared.shape.Shape as code
 use Rattle.facet_solver_types.specs.ShapeViews.{Shape, shape_view, shapes_view}
 use Rattle.facet_solver_tool.specs.ShapeNames.{name_at}

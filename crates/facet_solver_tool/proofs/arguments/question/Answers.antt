@@ -1,4 +1,4 @@
-use Rattle.std.proofs.Common.{None, Some, ◌∙◌, ap, option_map, subst, sym}
+use Rattle.std.proofs.Common.{◌∙◌, ap, option_map, subst, sym}
 use Rattle.facet_solver_shape.specs.Names.{names_of}
 use Rattle.facet_solver_tool.specs.Requests.{Asks, is_option, named, unless_option}
 use Rattle.facet_solver_tool.proofs.Words.{find_said}

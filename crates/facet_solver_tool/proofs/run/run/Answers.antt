@@ -9,8 +9,7 @@ returns-in-Ok g c =
     λ written.
     let replied = c.reply.ensures written in
     let before : Streams = record { output = g.O.Write.contents c.args.output.now; errors = g.E.Write.contents c.args.errors.now } in
-    let after : Streams = record { output = g.O.Write.contents c.reply.new.output; errors = g.E.Write.contents c.reply.new.errors } in
-    (
+    let after : Streams = record { output = g.O.Write.contents c.reply.new.output; errors = g.E.Write.contents c.reply.new.errors } in (
       answer_view c.in-Ok.answer,
       sym replied.0,
       inl c.in-Ok.ensures,

@@ -16,5 +16,5 @@ returns c =
     let some = ap (λ n. n == 0) c.deref.ensures.len ∙ sym c.is_empty.ensures ∙ c.if-is_empty.false in
     IfOk-weaker c.format-2.result _ _
     (λ text wrote. wrote ∙ ap (λ t. c.args.path.now ++ t)
-      (several_said (λ (n : Bor Name). n.now) names (names_at types.shapes types.roots) _ some same c.in_ok-names-2.ensures.ok))
+    (several_said (λ (n : Bor Name). n.now) names (names_at types.shapes types.roots) _ some same c.in_ok-names-2.ensures.ok))
     c.format-2.ensures.ok
