@@ -27,6 +27,7 @@ use Rattle.facet_solver_reader.specs.declared.why.walk.Next.{Next}
 use Rattle.facet_solver_reader.specs.declared.why.walk.Next.TheVariants as next
 use Rattle.facet_solver_reader.specs.Choices.{ChoiceAt, Item}
 use Rattle.facet_solver_reader.specs.Documents.{Tree, Member}
+use Rattle.facet_solver_reader.specs.Given.{IsGiven}
 use Rattle.facet_solver_reader.specs.Known.{ChoosesAt, named}
 use Rattle.facet_solver_reader.specs.Nodes.{IsNumbering, count, members_in, value_of}
 use Rattle.facet_solver_reader.specs.Objects.{find, HasNamed}
@@ -74,10 +75,15 @@ pub record IsBlamed (t : Tables) (nodes : Nodes) (blame : Count) (b : Blamed) : 
   pub counted : IsCount t nodes b.node (target_view b.target) blame
   pub here : IfSome b.here (IsHere (rules_at t) (value_of nodes b.node))
 
+-- a target is told of, and what a value is
+pub record IsUnreadAs (t : Target) (v : Tree) (u : Unread) : Type 0 where
+  pub target : target_view u.target ≡ t
+  pub given : IsGiven v u.given
+
 -- what is told is a place, and that its value is not what a target reads
-pub record IsUnreadAt (t : Target) (place : List Step) (n : NoReading) : Type 0 where
+pub record IsUnreadAt (t : Target) (v : Tree) (place : List Step) (n : NoReading) : Type 0 where
   pub same : n.place ≡ place
-  pub unread : (u : Unread) × (n.why ≡ obstacle.Unread u) × (target_view u.target ≡ t)
+  pub unread : (u : Unread) × (n.why ≡ obstacle.Unread u) × IsUnreadAs t v u
 
 -- the list whose names are left to others is one of the tables
 abbrev pub IsBesides : Tables → Option (Bor ListEntry) → Type 0

@@ -17,11 +17,13 @@ use Rattle.facet_solver_reader.specs.declared.read_error.Stop.{Stop}
 use Rattle.facet_solver_reader.specs.declared.read_error.Stop.TheVariants.{Nothing}
 use Rattle.facet_solver_reader.specs.declared.read_error.Stop.TheVariants.{Member as AtMember}
 use Rattle.facet_solver_reader.specs.declared.read_error.Stop.TheVariants.{OneOf, Itself}
+use Rattle.facet_solver_reader.specs.declared.read_error.Unread.{Unread}
 use Rattle.facet_solver_reader.specs.Branches.{Misfits, ReadsAt, ReadsPart}
 use Rattle.facet_solver_reader.specs.Choices.{Choice, ChoiceAt, Item, member_of, catch_all_of}
 use Rattle.facet_solver_reader.specs.Choices.{presence_of, Reading}
 use Rattle.facet_solver_reader.specs.Counted.{AreTwo, Counted}
 use Rattle.facet_solver_reader.specs.Documents.{Tree, Member}
+use Rattle.facet_solver_reader.specs.Given.{IsGiven}
 use Rattle.facet_solver_reader.specs.Known.{Chooses, Key, named, rest}
 use Rattle.facet_solver_reader.specs.Nodes.{members_in}
 use Rattle.facet_solver_reader.specs.Objects.{find, HasNamed, IsUnknown, Object}
@@ -67,14 +69,18 @@ pub record IsNoKey (rules : Rules) (members : List Member) (id : ListId) (x : Na
 abbrev pub IsUnread : Rules → Target → Tree → Type 0
 IsUnread rules t v = Counted (ReadsValue rules t v) NoCount
 
+-- what is told of a value that is not read: it has no reading as the target, and what it is
+pub record IsToldUnread (rules : Rules) (v : Tree) (u : Unread) : Type 0 where
+  pub unread : IsUnread rules (target_view u.target) v
+  pub given : IsGiven v u.given
+
 -- what is told of a part of a variant: a member's value is not read, or the value itself
 abbrev pub IsStop : Rules → Tree → Stop → Type 0
 IsStop rules v (AtMember x unread) =
-    (w : Tree) × (find (members_in v) x.now ≡ Some w)
-    × IsUnread rules (target_view unread.target) w
+    (w : Tree) × (find (members_in v) x.now ≡ Some w) × IsToldUnread rules w unread
 IsStop rules v Nothing = ⊤
 IsStop rules v (OneOf x) = ⊤
-IsStop rules v (Itself unread) = IsUnread rules (target_view unread.target) v
+IsStop rules v (Itself unread) = IsToldUnread rules v unread
 
 -- what is told of a variant that does not fit: it lacks a name, has no key of a name, or a part of it
 -- is not read
@@ -87,7 +93,7 @@ pub record IsMisfit (rules : Rules) (v : Tree) (m : Misfit) : Type 0 where
 
 -- what is told of a value that has no reading
 abbrev pub IsObstacle : Rules → Tree → Obstacle → Type 0
-IsObstacle rules v (obstacle.Unread unread) = IsUnread rules (target_view unread.target) v
+IsObstacle rules v (obstacle.Unread unread) = IsToldUnread rules v unread
 IsObstacle rules v (obstacle.Lacks branch x) =
     Lacks rules (members_in v) (list_view branch.list) x.now
 IsObstacle rules v (obstacle.NoVariant of misfits) = All (IsMisfit rules v) misfits.items

@@ -4,8 +4,11 @@ ghost use Rattle.std.specs.Prelude.{◌≡◌};
 use crate::nodes::DocumentError;
 use crate::part::{ListId, Target};
 use crate::place::Place;
+use facet_solver_shape::WholeRange;
+pub use given::Given;
 use std::alloc::AllocError;
 
+mod given;
 mod text;
 
 /// Why a document is not read.
@@ -50,7 +53,7 @@ pub struct Several<'c, 'd> {
 #[derive(Debug, Drop)]
 pub enum Obstacle<'c, 'd> {
     /// It is no value that the type reads.
-    Unread(Unread<'c>),
+    Unread(Unread<'c, 'd>),
     /// An object lacks a name that the type requires.
     Lacks(Branch<'c>, &'c str),
     /// None of several variants reads it: the type, and what stops each variant, in their order.
@@ -82,15 +85,17 @@ pub struct Branch<'c> {
     pub name: TypeName<'c>,
 }
 
-/// A type, and what it reads.
+/// A type, what it reads, and the value that it does not read.
 #[derive(Clone, Copy, Debug)]
-pub struct Unread<'c> {
+pub struct Unread<'c, 'd> {
     /// What the value is not read as.
     pub(crate) target: Target<'c>,
     /// The name of the type.
     pub name: TypeName<'c>,
     /// What it reads.
     pub reads: Wanted<'c>,
+    /// The value.
+    pub given: Given<'d>,
 }
 
 /// What a type reads.
@@ -100,8 +105,8 @@ pub enum Wanted<'c> {
     Null,
     /// A truth value.
     Truth,
-    /// A whole number in its range.
-    Whole,
+    /// A whole number of the range.
+    Whole(WholeRange),
     /// A number.
     Number,
     /// A text.
@@ -134,20 +139,20 @@ pub struct Misfit<'c, 'd> {
     /// The first member of the object that is another variant's, and none of this one.
     pub no_key: Option<&'d str>,
     /// Where neither stops it: what does.
-    pub stop: Stop<'c>,
+    pub stop: Stop<'c, 'd>,
 }
 
 /// What of a variant has no reading.
 #[derive(Clone, Copy, Debug)]
-pub enum Stop<'c> {
+pub enum Stop<'c, 'd> {
     /// Nothing that could be told.
     Nothing,
     /// The member of a name, by its type.
-    Member(&'c str, Unread<'c>),
+    Member(&'c str, Unread<'c, 'd>),
     /// One of the variants of a type, among the members.
     OneOf(&'c str),
     /// The value itself.
-    Itself(Unread<'c>),
+    Itself(Unread<'c, 'd>),
 }
 
 impl<'c, 'd> From<AllocError> for ReadError<'c, 'd> {

@@ -1,7 +1,8 @@
 //! The texts of errors.
 use super::{
-    Branch, Misfit, NoReading, Obstacle, ReadError, Several, Stop, TypeName, Unread, Wanted,
+    Branch, Given, Misfit, NoReading, Obstacle, ReadError, Several, Stop, TypeName, Unread, Wanted,
 };
+use facet_solver_shape::WholeRange;
 use std::error::Error;
 use std::fmt;
 
@@ -26,13 +27,15 @@ impl fmt::Display for Branch<'_> {
     }
 }
 
-/// As `a whole number in its range`.
+/// As `a whole number from 0 to 255`.
 impl fmt::Display for Wanted<'_> {
     fn fmt<W: fmt::Write>(&self, f: &mut fmt::Formatter<W>) -> fmt::Result {
         match self {
             Wanted::Null => f.write_str("null"),
             Wanted::Truth => f.write_str("a truth value"),
-            Wanted::Whole => f.write_str("a whole number in its range"),
+            Wanted::Whole(WholeRange { lowest, highest }) => {
+                write!(f, "a whole number from {lowest} to {highest}")
+            }
             Wanted::Number => f.write_str("a number"),
             Wanted::Text => f.write_str("a text"),
             Wanted::Character => f.write_str("a text of one character"),
@@ -47,13 +50,28 @@ impl fmt::Display for Wanted<'_> {
     }
 }
 
-/// As `u8 reads a whole number in its range`.
-impl fmt::Display for Unread<'_> {
+/// As `300 is no u8: 0 to 255`, `the text "3" is no u8`, or `Login reads an object`.
+impl fmt::Display for Unread<'_, '_> {
     fn fmt<W: fmt::Write>(&self, f: &mut fmt::Formatter<W>) -> fmt::Result {
         let name = self.name;
-        match self.reads {
-            Wanted::Exactly(text) => write!(f, "only the text '{text}' is read"),
-            reads => write!(f, "{name} reads {reads}"),
+        let given = &self.given;
+        match (self.reads, given) {
+            (Wanted::Exactly(text), _) => write!(f, "only the text '{text}' is read"),
+            (Wanted::Whole(range), Given::Number(_)) => {
+                let WholeRange { lowest, highest } = range;
+                write!(f, "{given} is no {name}: {lowest} to {highest}")
+            }
+            (Wanted::Character, Given::Text(_)) => write!(f, "{given} is no {name}: one character"),
+            (Wanted::Null, _) => write!(f, "{given} is no {name}: null"),
+            (
+                Wanted::Truth
+                | Wanted::Whole(_)
+                | Wanted::Number
+                | Wanted::Text
+                | Wanted::Character,
+                _,
+            ) => write!(f, "{given} is no {name}"),
+            (reads, _) => write!(f, "{name} reads {reads}"),
         }
     }
 }
