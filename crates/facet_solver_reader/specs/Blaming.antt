@@ -62,7 +62,7 @@ IsNext t nodes blame v (next.Here here) = IsHere (rules_at t) v here
 -- what is found of a part that has no reading is so
 abbrev pub IsFound : Tables → Nodes → Tree → Found → Type 0
 IsFound t nodes v (found.Next n) = IsNext t nodes NoCount v n
-IsFound t nodes v (found.Branch position) = ⊤
+IsFound t nodes v (found.Branch position optional) = ⊤
 
 -- what is found of a part of a branch is so
 abbrev pub IsInner : Rules → Tree → Inner → Type 0

@@ -24,7 +24,7 @@ use Rattle.facet_solver_reader.specs.Choices.{presence_of, Reading}
 use Rattle.facet_solver_reader.specs.Counted.{AreTwo, Counted}
 use Rattle.facet_solver_reader.specs.Documents.{Tree, Member}
 use Rattle.facet_solver_reader.specs.Given.{IsGiven}
-use Rattle.facet_solver_reader.specs.Known.{Chooses, Key, named, rest}
+use Rattle.facet_solver_reader.specs.Known.{Chooses, IsKnown, Key, named, rest}
 use Rattle.facet_solver_reader.specs.Nodes.{members_in}
 use Rattle.facet_solver_reader.specs.Objects.{find, HasNamed, IsUnknown, Object}
 use Rattle.facet_solver_reader.specs.Parts.{ListId, a_selection, Selection, Target, of_shape}
@@ -49,6 +49,12 @@ pub record Lacks (rules : Rules) (members : List Member) (id : ListId) (x : Name
   pub absent : find members x ≡ None
   pub required : (c : Choice) (items : List Item) → Chooses rules.lists id c items
       → IsRequiredIn items x
+
+-- the members have the name, and some choice of a list has a member of it
+pub record IsMemberOf (rules : Rules) (members : List Member) (id : ListId) (x : Name)
+    : Type 0 where
+  pub has : HasNamed members x
+  pub known : IsKnown (Chooses rules.lists id) (named x)
 
 -- a key is that of the name, or it is the rest, to which the unknown name belongs
 abbrev pub IsKeyOf : Rules → Object → Key → Name → Type 0
@@ -96,6 +102,9 @@ abbrev pub IsObstacle : Rules → Tree → Obstacle → Type 0
 IsObstacle rules v (obstacle.Unread unread) = IsToldUnread rules v unread
 IsObstacle rules v (obstacle.Lacks branch x) =
     Lacks rules (members_in v) (list_view branch.list) x.now
+IsObstacle rules v (obstacle.Incomplete x block y) =
+    IsMemberOf rules (members_in v) (list_view block.list) x.now
+    × Lacks rules (members_in v) (list_view block.list) y.now
 IsObstacle rules v (obstacle.NoVariant of misfits) = All (IsMisfit rules v) misfits.items
 IsObstacle rules v _ = ⊤
 

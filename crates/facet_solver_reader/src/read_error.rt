@@ -56,6 +56,9 @@ pub enum Obstacle<'c, 'd> {
     Unread(Unread<'c, 'd>),
     /// An object lacks a name that the type requires.
     Lacks(Branch<'c>, &'c str),
+    /// An object has a member of a block that may be absent, and lacks another that the block
+    /// requires: the name of the member, the block, and the name that it lacks.
+    Incomplete(&'d str, Branch<'c>, &'c str),
     /// None of several variants reads it: the type, and what stops each variant, in their order.
     /// Where the text of a tag leaves some, it is these alone.
     NoVariant(&'c str, Vec<Misfit<'c, 'd>>),

@@ -108,6 +108,10 @@ impl fmt::Display for Obstacle<'_, '_> {
                 let of = branch.name;
                 write!(f, "{of} lacks '{name}'")
             }
+            Obstacle::Incomplete(member, block, name) => {
+                let of = block.name;
+                write!(f, "'{member}' is of {of}, which lacks '{name}'")
+            }
             Obstacle::NoVariant(name, misfits) => {
                 write!(f, "no variant of {name} fits")?;
                 for misfit in misfits {
