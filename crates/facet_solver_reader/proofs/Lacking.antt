@@ -9,7 +9,7 @@ use Rattle.std.specs.Prelude.{IfSome}
 use Rattle.facet_solver_reader.specs.declared.tables.List.{List as ListEntry}
 use Rattle.facet_solver_reader.specs.declared.tables.Tables.{Tables}
 use Rattle.facet_solver_reader.specs.Reading.{IsListed}
-use Rattle.facet_solver_reader.specs.Tables.{AreTables, rules_at}
+use Rattle.facet_solver_reader.specs.Tables.{AreTables, IsListOf, rules_at}
 use Rattle.facet_solver_reader.specs.Views.{list_view, parts_view}
 use Rattle.facet_solver_shape.specs.Names.{Name}
 use Rattle.facet_solver_reader.specs.Choices.{Choice, ChoiceAt, Item, member_of, catch_all_of}
@@ -21,8 +21,8 @@ use Rattle.facet_solver_reader.specs.Objects.{find}
 use Rattle.facet_solver_reader.specs.Parts.{ListId, Lists, MemberPart, Part, Selection, a_member}
 use Rattle.facet_solver_reader.specs.Parts.{a_selection}
 use Rattle.facet_solver_reader.specs.Rules.{Rules}
-use Rattle.facet_solver_reader.specs.Blaming.{PartLacks}
-use Rattle.facet_solver_reader.specs.Why.{IsRequiredIn, Lacks}
+use Rattle.facet_solver_reader.specs.Blaming.{BeginsWith, PartLacks}
+use Rattle.facet_solver_reader.specs.Why.{IsRequiredIn, Lacks, Requires}
 use Rattle.facet_solver_reader.proofs.Lists.{choices_of_list}
 use Rattle.facet_solver_reader.proofs.Selections.{choice_at}
 
@@ -71,18 +71,44 @@ lacks_by_part rules members id ps k p x e at h =
           ((choices_of_list rules.lists id ps e c items).1 chooses);
     }
 
+-- each choice at a required member requires its name
+member_required : (rules : Rules) (m : MemberPart) → m.required ≡ true → (c : ChoiceAt)
+    (items : List Item) → ChoosesAt rules.lists (a_member m) c items → IsRequiredIn items m.name
+member_required rules m is lacking items h =
+    subst (λ js. IsRequiredIn js m.name) (sym h) (inl (is, refl))
+member_required rules m is (having r) items h =
+    subst (λ js. IsRequiredIn js m.name) (sym h) (inl (is, refl))
+member_required rules m is without items h = absurd h
+member_required rules m is (choosing k c) items h = absurd h
+member_required rules m is (taking t) items h = absurd h
+
+-- a list requires the name of the member that it begins with
+pub first_required : (t : Tables) (id : ListId) (l : ListEntry) (x : Name) → AreTables t
+    → IsListOf t id l → BeginsWith l x → Requires (rules_at t) id x
+first_required t id l x tables of h c items chooses =
+    let ps = parts_view l.parts.items in
+    let same : (rules_at t).lists (list_view l.id) ≡ Some ps =
+    (tables.lists of.index l of.listed).same in
+    let at : (rules_at t).lists id ≡ Some ps =
+    subst (λ i. (rules_at t).lists i ≡ Some ps) of.same same in
+    subst (IsRequiredIn items) h.name
+    (required_by_part (rules_at t).lists ps 0 (a_member h.member) h.member.name h.first
+    (member_required (rules_at t) h.member h.required) c items
+    ((choices_of_list (rules_at t).lists id ps at c items).1 chooses))
+
+-- the same of what is told of a list
+pub tag_required : {X : Type 0} (t : Tables) (id : ListId) (l : ListEntry)
+    (tag : Option (Bor Name × X)) → AreTables t → IsListOf t id l
+    → IfSome tag (λ p. BeginsWith l p.0.now) → IfSome tag (λ p. Requires (rules_at t) id p.0.now)
+tag_required {X} t id l tag tables of h =
+    IfSome_then tag h
+    (λ (p : Bor Name × X) begins. first_required t id l p.0.now tables of begins)
+
 -- a required member that is not there
 pub member_lacks : (rules : Rules) (members : List Member) (m : MemberPart) → m.required ≡ true
     → find members m.name ≡ None → PartLacks rules members (a_member m) m.name
-member_lacks rules members m is e = record { absent = e; required = required }
-  where
-    required : (c : ChoiceAt) (items : List Item) → ChoosesAt rules.lists (a_member m) c items
-        → IsRequiredIn items m.name
-    required lacking items h = subst (λ is. IsRequiredIn is m.name) (sym h) (inl (is, refl))
-    required (having r) items h = subst (λ is. IsRequiredIn is m.name) (sym h) (inl (is, refl))
-    required without items h = absurd h
-    required (choosing k c) items h = absurd h
-    required (taking t) items h = absurd h
+member_lacks rules members m is e =
+    record { absent = e; required = member_required rules m is }
 
 -- what the one branch of a selection lacks that is always present
 pub branch_lacks : (rules : Rules) (members : List Member) (s : Selection) (id : ListId) (x : Name)

@@ -1,5 +1,5 @@
 -- What is known on the way to a place that has no reading, or several.
-use Rattle.std.specs.Prelude.{◌≡◌, ◌<◌, ⊤, ℕ, false, All, IfSome, List, Option, Some, None}
+use Rattle.std.specs.Prelude.{◌≡◌, ◌<◌, ⊤, ℕ, true, false, All, IfSome, List, Option, Some, None}
 use Rattle.std.specs.Prelude.{length, slice_get}
 use Rattle.std.specs.Borrow.{Bor}
 use Rattle.facet_solver_shape.specs.Names.{Name}
@@ -31,7 +31,7 @@ use Rattle.facet_solver_reader.specs.Given.{IsGiven}
 use Rattle.facet_solver_reader.specs.Known.{ChoosesAt, named}
 use Rattle.facet_solver_reader.specs.Nodes.{IsNumbering, count, members_in, value_of}
 use Rattle.facet_solver_reader.specs.Objects.{find, HasNamed}
-use Rattle.facet_solver_reader.specs.Parts.{ListId, Part, Selection, Target}
+use Rattle.facet_solver_reader.specs.Parts.{ListId, MemberPart, Part, Selection, Target, a_member}
 use Rattle.facet_solver_reader.specs.Places.{Step, at}
 use Rattle.facet_solver_reader.specs.Reading.{AreListCounts, IsCount, IsListed, IsNextList}
 use Rattle.facet_solver_reader.specs.Reading.{IsObject}
@@ -107,6 +107,13 @@ IsBranchOf s id = (k : ℕ) × (slice_get s.branches k ≡ Some id)
 pub record IsAmong (l : ListEntry) (members : List Member) (x : Name) : Type 0 where
   pub has : HasNamed members x
   pub unknown : knows l (named x) ≡ false
+
+-- a list begins with a member of the name, which it requires
+pub record BeginsWith (l : ListEntry) (x : Name) : Type 0 where
+  pub member : MemberPart
+  pub first : slice_get (parts_view l.parts.items) 0 ≡ Some (a_member member)
+  pub required : member.required ≡ true
+  pub name : member.name ≡ x
 
 -- a part is one of a list
 abbrev pub IsPartOf : ListEntry → Part → Type 0

@@ -1,5 +1,5 @@
 -- What is told of a document that has no reading, or several.
-use Rattle.std.specs.Prelude.{◌≡◌, ◌⊎◌, ⊤, ℕ, All, IfSome, IsTrue, List, [], ◌∷◌, Some, None}
+use Rattle.std.specs.Prelude.{◌≡◌, ◌⊎◌, ⊤, ℕ, All, IfSome, IsTrue, List, [], ◌∷◌, Option, Some, None}
 use Rattle.std.specs.Prelude.{slice_get}
 use Rattle.facet_solver_shape.specs.Names.{Name}
 use Rattle.facet_solver_reader.specs.declared.count.Count.TheVariants.{None as NoCount}
@@ -23,6 +23,7 @@ use Rattle.facet_solver_reader.specs.Choices.{Choice, ChoiceAt, Item, member_of,
 use Rattle.facet_solver_reader.specs.Choices.{presence_of, Reading}
 use Rattle.facet_solver_reader.specs.Counted.{AreTwo, Counted}
 use Rattle.facet_solver_reader.specs.Documents.{Tree, Member}
+use Rattle.facet_solver_reader.specs.declared.read_error.given.Given.{Given}
 use Rattle.facet_solver_reader.specs.Given.{IsGiven}
 use Rattle.facet_solver_reader.specs.Known.{Chooses, IsKnown, Key, named, rest}
 use Rattle.facet_solver_reader.specs.Nodes.{members_in}
@@ -44,11 +45,21 @@ IsRequiredIn (member_of m r ∷ items) x =
 IsRequiredIn (catch_all_of k t ∷ items) x = IsRequiredIn items x
 IsRequiredIn (presence_of s ∷ items) x = IsRequiredIn items x
 
+-- each choice of a list requires the name
+abbrev pub Requires : Rules → ListId → Name → Type 0
+Requires rules id x = (c : Choice) (items : List Item) → Chooses rules.lists id c items
+    → IsRequiredIn items x
+
 -- each choice of a list requires the name, and it is no name of the members
 pub record Lacks (rules : Rules) (members : List Member) (id : ListId) (x : Name) : Type 0 where
   pub absent : find members x ≡ None
-  pub required : (c : Choice) (items : List Item) → Chooses rules.lists id c items
-      → IsRequiredIn items x
+  pub required : Requires rules id x
+
+-- what members have of a name: none, or a value that is told
+abbrev pub StandsAt : List Member → Name → Option Given → Type 0
+StandsAt members x None = find members x ≡ None
+StandsAt members x (Some given) =
+    (v : Tree) × (find members x ≡ Some v) × IsGiven v given
 
 -- the members have the name, and some choice of a list has a member of it
 pub record IsMemberOf (rules : Rules) (members : List Member) (id : ListId) (x : Name)
@@ -106,6 +117,9 @@ IsObstacle rules v (obstacle.Incomplete x block y) =
     IsMemberOf rules (members_in v) (list_view block.list) x.now
     × Lacks rules (members_in v) (list_view block.list) y.now
 IsObstacle rules v (obstacle.NoVariant of misfits) = All (IsMisfit rules v) misfits.items
+IsObstacle rules v (obstacle.NoTag x given branches) =
+    StandsAt (members_in v) x.now given
+    × All (λ b. Requires rules (list_view b.list) x.now) branches.items
 IsObstacle rules v _ = ⊤
 
 -- a branch of a selection reads an object

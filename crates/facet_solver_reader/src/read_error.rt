@@ -62,6 +62,9 @@ pub enum Obstacle<'c, 'd> {
     /// None of several variants reads it: the type, and what stops each variant, in their order.
     /// Where the text of a tag leaves some, it is these alone.
     NoVariant(&'c str, Vec<Misfit<'c, 'd>>),
+    /// The member of a tag is missing, or its value is the text of no variant: the name of the tag,
+    /// the value, and the variants.
+    NoTag(&'c str, Option<Given<'d>>, Vec<Branch<'c>>),
     /// A text is the name of no variant: the type, the text, and the names that are.
     NoName(&'c str, &'d str, Vec<&'c str>),
     /// The name of a member is no key of a map: the type of its keys, and the name.

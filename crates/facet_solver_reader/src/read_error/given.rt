@@ -65,6 +65,13 @@ impl fmt::Display for Given<'_> {
     }
 }
 
+/// Writes a text between quotes, if it is short, or else its first characters and dots.
+pub(super) fn write_text<W: fmt::Write>(text: &str, f: &mut fmt::Formatter<W>) -> fmt::Result {
+    let told = told_of(text);
+    write!(f, "'{told}'")?;
+    write_rest(text, told, f)
+}
+
 /// The first characters of a text.
 fn told_of(text: &str) -> &str {
     match text.char_indices().nth(TOLD) {

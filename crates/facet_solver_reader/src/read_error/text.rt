@@ -1,4 +1,5 @@
 //! The texts of errors.
+use super::given::write_text;
 use super::{
     Branch, Given, Misfit, NoReading, Obstacle, ReadError, Several, Stop, TypeName, Unread, Wanted,
 };
@@ -119,6 +120,10 @@ impl fmt::Display for Obstacle<'_, '_> {
                 }
                 Ok(())
             }
+            Obstacle::NoTag(tag, given, branches) => {
+                write_tag(tag, given.as_ref(), f)?;
+                write_branches(branches, f)
+            }
             Obstacle::NoName(of, text, names) => {
                 write!(f, "{of} has no variant '{text}' here")?;
                 if !names.is_empty() {
@@ -133,6 +138,35 @@ impl fmt::Display for Obstacle<'_, '_> {
             }
         }
     }
+}
+
+/// What stands where a tag does, as `'in' is missing` or `'in' is 'Ftp'`.
+fn write_tag<W: fmt::Write>(
+    tag: &str,
+    given: Option<&Given<'_>>,
+    f: &mut fmt::Formatter<W>,
+) -> fmt::Result {
+    match given {
+        None => write!(f, "'{tag}' is missing"),
+        Some(Given::Text(text)) => {
+            write!(f, "'{tag}' is ")?;
+            write_text(text, f)
+        }
+        Some(given) => write!(f, "'{tag}' is {given}"),
+    }
+}
+
+/// The names of variants, as `: 'File' or 'Http'`.
+fn write_branches<W: fmt::Write>(
+    branches: &[Branch<'_>],
+    f: &mut fmt::Formatter<W>,
+) -> fmt::Result {
+    let mut before = ": ";
+    for branch in branches {
+        write!(f, "{before}'{branch}'")?;
+        before = " or ";
+    }
+    Ok(())
 }
 
 /// Names with commas between them, each in quotes and the first behind a blank.

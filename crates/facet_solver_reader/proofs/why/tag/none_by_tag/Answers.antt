@@ -1,0 +1,19 @@
+use Rattle.std.proofs.Common.{ap, map, subst, sym}
+use Rattle.std.specs.List.{All}
+use Rattle.facet_solver_reader.specs.Tables.{ListIsServed, rules_at}
+use Rattle.facet_solver_reader.specs.Views.{list_view, selection_view}
+use Rattle.facet_solver_reader.specs.Why.{Requires}
+use Rattle.facet_solver_reader.specs.declared.read_error.Branch.{Branch}
+use Rattle.facet_solver_reader.proofs.CountingObjects.{seen_read}
+use Rattle.facet_solver_reader.proofs.Quantifiers.{all_at, all_of_last, all_of_none}
+use Rattle.facet_solver_reader.proofs.why.tag.none_by_tag.Goals as goal
+
+pub wants_other_text-requires-clause-served : goal.wants_other_text-requires-clause-served
+wants_other_text-requires-clause-served c =
+    let ids = (selection_view c.args.selection.now).branches in
+    let i = c.loop-branch.branch-index in
+    all_at (ListIsServed c.args.tables.now) ids i (list_view c.branch-item.result)
+    c.requires.served
+    (seen_read list_view c.deref-branch-items.result.now ids i c.branch-item.result
+    (ap (map list_view) c.deref-branch-items.ensures.value) c.loop-branch-test.true
+    c.branch-item.is)
