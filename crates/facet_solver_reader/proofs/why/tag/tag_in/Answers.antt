@@ -11,7 +11,7 @@ pub returns-in-Member : goal.returns-in-Member
 returns-in-Member c =
     let parts = c.args.list.now.parts.items in
     let part = c.in_ok-first.first.now in
-    let m = c.in-Member.member.now in
+    let m = c.in-Member.member in
     let at : slice_get parts 0 ≡ Some part =
     subst (λ ps. slice_get ps 0 ≡ Some part) c.deref.ensures.value (sym c.in_ok-first.ensures.value) in
     let first : slice_get (parts_view parts) 0 ≡ Some (a_member (member_view m)) =
