@@ -15,7 +15,7 @@ returns-in-Some-Splits c =
     let rules = rules_at c.args.tables.now in
     let nodes = c.args.nodes.now in
     let v = value_of nodes c.in_ok-last.last.node in
-    let seen = view c.value.result.now in
+    let seen = view c.value-value.result.now in
     let place = c.in_ok-place.place in
     let target = target_view c.same_target-target.result in
     let unread = subst (λ (u : Target). IsUnread rules u v) (sym c.same_target-target.ensures)
@@ -24,7 +24,7 @@ returns-in-Some-Splits c =
     c.unread_at.result
     (λ (n : NoReading) (h : IsUnreadAt target seen place n).
     why_unread rules (value_of nodes 0) v target place n c.in_ok-place.ensures unread
-    (subst (λ (w : Tree). IsUnreadAt target w place n) c.value.ensures h))
+    (subst (λ (w : Tree). IsUnreadAt target w place n) c.value-value.ensures h))
     c.unread_at.ensures
 
 pub returns-in-None : goal.returns-in-None
@@ -32,7 +32,7 @@ returns-in-None c =
     let rules = rules_at c.args.tables.now in
     let nodes = c.args.nodes.now in
     let v = value_of nodes c.in_ok-last.last.node in
-    let seen = view c.value.result.now in
+    let seen = view c.value-value.result.now in
     let place = c.in_ok-place.place in
     let target = target_view c.same_target-target.result in
     let unread = subst (λ (u : Target). IsUnread rules u v) (sym c.same_target-target.ensures)
@@ -41,5 +41,5 @@ returns-in-None c =
     c.unread_at-in-None.result
     (λ (n : NoReading) (h : IsUnreadAt target seen place n).
     why_unread rules (value_of nodes 0) v target place n c.in_ok-place.ensures unread
-    (subst (λ (w : Tree). IsUnreadAt target w place n) c.value.ensures h))
+    (subst (λ (w : Tree). IsUnreadAt target w place n) c.value-value.ensures h))
     c.unread_at-in-None.ensures
