@@ -1,6 +1,8 @@
 // Watches the memory of the program that it is loaded into, and refuses one request for memory: the
-// one whose number REFUSE gives, from 1. It also has reads of standard input and writes on standard
-// output take few bytes, or fail. What it sees it writes on standard error, each in a line:
+// one whose number REFUSE gives, from 1. It also has reads of standard input and writes on one file
+// take few bytes, or fail. What it sees it writes on the open file whose number TELL gives, so that
+// nothing of the program stands between. Where it is not set, that is standard error. Each stands
+// in a line:
 //   refused                          the request of that number is refused
 //   asked N where none is needed     a call that promises to take no memory made N requests
 //   held N                           the most bytes that a call held at once, beside those that
@@ -14,8 +16,9 @@
 // else asks for. A mark is neither refused nor counted. The sizes, BEGIN to OUT_OF_MEMORY, are
 // those of marks.rt in facet_solver_tests, and sweep/run hands them to the compiler.
 //
-// Two more numbers of the environment say how reads of standard input go, and two how writes on
-// standard output go:
+// Two more numbers of the environment say how reads of standard input go, and three how writes go:
+//   WRITES_TO                the file that the writes are on. Where it is not set, it is standard
+//                            output
 //   READS, WRITES            the most bytes that one takes: the first takes a byte, the next two,
 //                            and so on up to this number, then a byte again. Where it is not set,
 //                            each takes all that it is asked for
@@ -57,15 +60,15 @@ static unsigned long requests, begun, most;
 // Whether a request was refused.
 static int refused;
 
-static void tell(const char *text, unsigned long number) {
-  char line[64];
-  write(2, line, snprintf(line, sizeof line, text, number));
-}
-
 // A number of the environment, or another one where it is not set.
 static long number(const char *name, long unset) {
   const char *text = getenv(name);
   return text ? atol(text) : unset;
+}
+
+static void tell(const char *text, unsigned long count) {
+  char line[64];
+  write(number("TELL", 2), line, snprintf(line, sizeof line, text, count));
 }
 
 // Whether a request is a mark, which is then done.
@@ -140,7 +143,7 @@ void free(void *block) {
   next(head);
 }
 
-// How the reads of standard input go, or the writes on standard output.
+// How the reads of standard input go, or the writes on one file.
 struct way {
   long most; // The most bytes that one takes, or 0 where each takes all that it is asked for.
   long next; // The most that the next one takes.
@@ -148,10 +151,12 @@ struct way {
 };
 
 static struct way reads, writes;
+static long writes_to = 1;
 
 __attribute__((constructor)) static void begin(void) {
   reads = (struct way){number("READS", 0), 1, number("READS_LEFT", -1)};
   writes = (struct way){number("WRITES", 0), 1, number("WRITES_LEFT", -1)};
+  writes_to = number("WRITES_TO", writes_to);
 }
 
 // How many bytes a read or a write takes that is asked for so many. Where it fails, this is -1, and
@@ -187,7 +192,7 @@ long read(int file, void *bytes, unsigned long asked) {
 long write(int file, const void *bytes, unsigned long asked) {
   static long (*next)(int, const void *, unsigned long);
   if (!next) next = dlsym(NEXT, "write");
-  if (file != 1) return next(file, bytes, asked);
+  if (file != writes_to) return next(file, bytes, asked);
   long count = taken(&writes, asked, BROKEN_PIPE);
   return count < 0 ? -1 : next(file, bytes, count);
 }

@@ -1,0 +1,15 @@
+use Rattle.std.proofs.Common.{subst}
+use Rattle.std.proofs.lemmas.Result.{IfOk-weaker}
+use Rattle.facet_solver_tool.specs.Answer.{answer_view}
+use Rattle.facet_solver_tool.specs.ReadAnswers.{AnswersText, is_utf8, no_utf8}
+use Rattle.facet_solver_tool.proofs.read.read_bytes.Goals as goal
+
+pub returns-in-Ok : goal.returns-in-Ok
+returns-in-Ok c =
+    let read = c.in-Ok.ensures.cases in
+    IfOk-weaker c.read_text.result _ _
+    (λ a said. is_utf8 read.1 (subst (λ t. AnswersText c.args.reader.now t (answer_view a)) read.0 said))
+    c.read_text.ensures
+
+pub returns-in-Err : goal.returns-in-Err
+returns-in-Err c = IfOk-weaker c.answer.result _ _ (λ a said. no_utf8 c.in-Err.ensures.cases.0 said) c.answer.ensures

@@ -1,0 +1,19 @@
+-- What is asked.
+use Rattle.std.specs.Prelude.{Option, option_map}
+use Rattle.facet_solver_shape.specs.Names.{Name}
+use Rattle.facet_solver_tool.specs.declared.question.Question as question
+use Rattle.facet_solver_tool.specs.declared.question.Task.{Task}
+
+-- a question: what is asked, the path of the file of types, and the name of the root, if one is named
+pub record Question : Type 0 where
+  pub task : Task
+  pub types : Name
+  pub root : Option Name
+
+-- what is seen of one
+abbrev pub question_view : question.Question → Question
+question_view q = record {
+  task = q.task;
+  types = q.types.now;
+  root = option_map (λ name. name.now) q.root;
+}

@@ -1,0 +1,185 @@
+//! What the words of a command line ask.
+ghost use Rattle.std.specs.Prelude.{◌≡◌, IfOk, Some, filter, find, not};
+ghost use Rattle.std.specs.List.{list_any};
+ghost use Rattle.facet_solver_shape.specs.Names.{names_of};
+ghost use Rattle.facet_solver_tool.specs.Requests as requests;
+ghost use Rattle.facet_solver_tool.specs.Requests.{Asks, request_view};
+ghost use Rattle.facet_solver_tool.specs.Misuses.{error_text};
+
+use crate::question::{Question, Task};
+use facet_solver_reader::Unknown;
+use std::alloc::{AllocError, Global};
+use std::error::Error;
+use std::fmt;
+
+/// The word that has unknown members refused.
+const STRICT: &str = "--strict";
+
+/// What is asked for.
+#[derive(Clone, Copy, Debug, Drop, PartialEq, Eq)]
+pub enum Request<'w> {
+    /// How the program is called.
+    Help,
+    /// Its name and version.
+    Version,
+    /// The answer to a question.
+    Ask(Question<'w>),
+}
+
+/// Why words ask nothing.
+#[derive(Clone, Copy, Debug, Drop, PartialEq, Eq)]
+pub enum ArgumentError<'w> {
+    /// There is no word.
+    NoCommand,
+    /// The first word is no command.
+    NoSuchCommand(&'w str),
+    /// A word begins with a dash, and is no option of the command.
+    NoSuchOption(&'w str),
+    /// No file is named.
+    NoTypes,
+    /// There is a word too many.
+    TooMany(&'w str),
+    /// Out of memory.
+    OutOfMemory,
+}
+
+impl<'w> From<AllocError> for ArgumentError<'w> {
+    ghost use Rattle.facet_solver_tool.specs.declared.arguments.ArgumentError.TheVariants.{OutOfMemory};
+
+    ghost from_gives = { λ _ e. e ≡ OutOfMemory };
+
+    fn from(_refused: AllocError) -> ArgumentError<'w> {
+        ArgumentError::OutOfMemory
+    }
+}
+
+impl fmt::Display for ArgumentError<'_> {
+    ghost output = { λ e. Some (error_text e) };
+
+    fn fmt<W: fmt::Write>(&self, f: &mut fmt::Formatter<W>) -> fmt::Result {
+        match self {
+            ArgumentError::NoCommand => write!(f, "no command; --help lists them"),
+            ArgumentError::NoSuchCommand(word) => {
+                write!(f, "no command '{word}'; --help lists them")
+            }
+            ArgumentError::NoSuchOption(word) => write!(f, "no option '{word}' here"),
+            ArgumentError::NoTypes => write!(f, "no file of types is named"),
+            ArgumentError::TooMany(word) => write!(f, "'{word}' is a word too many"),
+            ArgumentError::OutOfMemory => write!(f, "out of memory"),
+        }
+    }
+}
+
+impl Error for ArgumentError<'_> {}
+
+/// What is asked by the words behind the program's name.
+///
+/// Errors: why they ask nothing; out of memory.
+pub fn requested<'w>(alloc: Global, words: &[&'w str]) -> Result<Request<'w>, ArgumentError<'w>>
+    ensures { Asks (requests.requested (names_of words.now)) result }
+{
+    let Some((command, others)) = words.split_first() else {
+        return Err(ArgumentError::NoCommand);
+    };
+    match *command {
+        "--help" => alone(Request::Help, others),
+        "--version" => alone(Request::Version, others),
+        "read" => read(alloc, others),
+        "check" => question(Task::Check, others),
+        "catalogue" => question(Task::Catalogue, others),
+        word => Err(ArgumentError::NoSuchCommand(word)),
+    }
+}
+
+/// A request that has no other words.
+fn alone<'w>(request: Request<'w>, words: &[&'w str]) -> Result<Request<'w>, ArgumentError<'w>>
+    ensures { Asks (requests.alone (request_view request.entry) (names_of words.now)) result }
+{
+    match words.first() {
+        None => Ok(request),
+        Some(word) => Err(ArgumentError::TooMany(word)),
+    }
+}
+
+/// What is asked by the words behind `read`.
+fn read<'w>(alloc: Global, words: &[&'w str]) -> Result<Request<'w>, ArgumentError<'w>>
+    ensures { Asks (requests.read (names_of words.now)) result }
+{
+    let task = Task::Read(unknown(words));
+    let operands = operands(alloc, words)?;
+    question(task, &operands)
+}
+
+/// The words that don't have unknown members refused.
+fn operands<'w>(alloc: Global, words: &[&'w str]) -> Result<Vec<&'w str>, AllocError>
+    ensures { IfOk result (λ operands.
+        operands.items ≡ filter (λ word. not (requests.is_strict word.now)) words.now) }
+{
+    words
+        .iter()
+        .copied()
+        .filter(|word| *word != STRICT)
+        .collect(alloc)
+}
+
+/// What is done with unknown members.
+fn unknown(words: &[&str]) -> Unknown
+    ensures { result ≡ requests.unknown (names_of words.now) }
+{
+    if has_strict(words) {
+        Unknown::Refused
+    } else {
+        Unknown::Ignored
+    }
+}
+
+/// Whether a word has unknown members refused.
+fn has_strict(words: &[&str]) -> bool
+    ensures { result ≡ list_any (λ word. requests.is_strict word.now) words.now }
+{
+    words.iter().any(|word| *word == STRICT)
+}
+
+/// The question of a task, about the types and the root that words name.
+fn question<'w>(task: Task, words: &[&'w str]) -> Result<Request<'w>, ArgumentError<'w>>
+    ensures { Asks (requests.question task (names_of words.now)) result }
+{
+    match first_option(words) {
+        Some(word) => Err(ArgumentError::NoSuchOption(word)),
+        None => named(task, words),
+    }
+}
+
+/// The first word that begins with a dash.
+fn first_option<'w>(words: &[&'w str]) -> Option<&'w str>
+    ensures { result ≡ find (λ word. requests.is_option word.now) words.now }
+{
+    words.iter().copied().find(|word| is_option(word))
+}
+
+/// Whether a word begins with a dash.
+fn is_option(word: &str) -> bool
+    ensures { result ≡ requests.is_option word.now }
+{
+    word.starts_with('-')
+}
+
+/// The question of a task, about the types and the root that words name, of which none is an option.
+fn named<'w>(task: Task, words: &[&'w str]) -> Result<Request<'w>, ArgumentError<'w>>
+    ensures { Asks (requests.named task (names_of words.now)) result }
+{
+    match *words {
+        [] => Err(ArgumentError::NoTypes),
+        [types] => Ok(Request::Ask(Question {
+            task,
+            types,
+            root: None,
+        })),
+        [types, root] => Ok(Request::Ask(Question {
+            task,
+            types,
+            root: Some(root),
+        })),
+        [_, _, word, ..] => Err(ArgumentError::TooMany(word)),
+    }
+}

@@ -1,0 +1,26 @@
+//! What the program says of itself.
+
+/// The name and version.
+pub const VERSION: &str = "facet_solver_tool 1.0.0";
+
+/// How the program is called.
+pub const HELP: &str = "\
+Reads a document of JSON as a Rust type, and tells which variants it means.
+
+Usage:
+    facet_solver_tool read TYPES [ROOT] [--strict] < DOCUMENT
+    facet_solver_tool check TYPES [ROOT]
+    facet_solver_tool catalogue TYPES [ROOT]
+    facet_solver_tool --help | --version
+
+TYPES is a file of Rust declarations, with attributes of serde or facet. ROOT is
+the name of the type to read. Without it, it is the one type that no other names.
+
+    read        prints the only reading of the document on standard input
+    check       prints how each enum is written, if the root can be read
+    catalogue   prints the shapes of the types as JSON
+    --strict    refuses members that no type has
+
+Status: 0 answered, 1 no reading, 2 several readings, 3 a fault of the types,
+4 a fault of the document, 5 out of memory, 64 bad arguments or an unreadable
+file, 74 a failed write.";

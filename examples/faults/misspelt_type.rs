@@ -1,0 +1,5 @@
+//! A type that nothing declares.
+struct Person {
+    name: Strng,
+    age: u8,
+}

@@ -1,0 +1,5 @@
+//! A page of anything.
+struct Page<T> {
+    items: Vec<T>,
+    next: Option<String>,
+}
