@@ -14,7 +14,7 @@ use Rattle.facet_solver_types.specs.ShapeViews.{shapes_view}
 use Rattle.facet_solver_types.specs.TypeEntries.{TypeEntry}
 use Rattle.facet_solver_types.specs.TypesViews.{DeclaredType, Types, declared_type_view}
 use Rattle.facet_solver_types.specs.Understood.{Declaration}
-use Rattle.facet_solver_types.specs.Walks.{in_order, is_marked, reached}
+use Rattle.facet_solver_types.specs.Walks.{in_order, is_marked, is_placed, reached}
 
 -- the places of what declarations declare, in their order; an alias declares no type
 abbrev pub declared_places : TypeTable → List ℕ
@@ -26,11 +26,16 @@ declared_places table =
 abbrev pub entry_at : List TypeEntry → ℕ → List TypeEntry
 entry_at entries place = option_to_list (slice_get entries place)
 
--- types in order: what declarations declare, each after what it needs, and then the others
+-- the same, each after those of them that it needs, itself or over others
+abbrev pub declared_in_order : TypeTable → List (List ℕ) → List ℕ
+declared_in_order table needs =
+    filter (is_placed (declared_places table)) (in_order needs (declared_places table))
+
+-- types in order: what declarations declare, and before each what else it needs, and then the others
 abbrev pub ordered : TypeTable → List (List ℕ) → List TypeEntry
 ordered table needs =
     flat_map (entry_at table.entries)
-    (in_order needs (declared_places table ++ range_with_len 0 (length table.entries)))
+    (in_order needs (declared_in_order table needs ++ range_with_len 0 (length table.entries)))
 
 -- the place in an order of ids of the type at a place, if there is one
 abbrev pub shape_place : TypeTable → List Name → ℕ → Option ℕ

@@ -2,13 +2,13 @@
 ghost use Rattle.std.specs.Prelude.{◌≡◌, ◌++◌, IfOk, OnOk, flat_map, length, map, option_map, slice_get};
 ghost use Rattle.std.specs.List.{range_with_len};
 ghost use Rattle.facet_solver_shape.specs.Names.{names_of};
-ghost use Rattle.facet_solver_types.specs.CataloguedTypes.{declared_places, entry_at, ordered};
+ghost use Rattle.facet_solver_types.specs.CataloguedTypes.{declared_in_order, declared_places, entry_at, ordered};
 ghost use Rattle.facet_solver_types.specs.TypeTables.{table_view};
 ghost use Rattle.facet_solver_types.specs.Links.{ids, links_view};
 ghost use Rattle.facet_solver_types.specs.TypeEntries.{entries_view, entry_view};
 
 use super::table::TypeTable;
-use super::walks::in_order;
+use super::walks::{in_order, is_placed};
 use crate::type_entry::TypeEntry;
 use std::alloc::{AllocError, Global};
 
@@ -29,13 +29,35 @@ pub(super) fn declared_places(
     Ok(places)
 }
 
-/// The places of what declarations declare, and then those of all types.
-fn all_places(alloc: Global, table: TypeTable<'_, '_, '_>) -> Result<Vec<usize>, AllocError>
+/// The same, each after those of them that it needs, itself or over others.
+fn declared_in_order(
+    alloc: Global,
+    table: TypeTable<'_, '_, '_>,
+    needs: &[Vec<usize>],
+) -> Result<Vec<usize>, AllocError>
     ensures { IfOk result (λ places. places.items
-        ≡ declared_places (table_view table.entry)
+        ≡ declared_in_order (table_view table.entry) (links_view needs.now)) }
+{
+    let declared = declared_places(alloc, table)?;
+    let order = in_order(alloc, needs, &declared)?;
+    order
+        .iter()
+        .copied()
+        .filter(|place| is_placed(&declared, *place))
+        .collect(alloc)
+}
+
+/// The places of what declarations declare, in order, and then those of all types.
+fn all_places(
+    alloc: Global,
+    table: TypeTable<'_, '_, '_>,
+    needs: &[Vec<usize>],
+) -> Result<Vec<usize>, AllocError>
+    ensures { IfOk result (λ places. places.items
+        ≡ declared_in_order (table_view table.entry) (links_view needs.now)
         ++ range_with_len 0 (length (table_view table.entry).entries)) }
 {
-    let mut places = declared_places(alloc, table)?;
+    let mut places = declared_in_order(alloc, table, needs)?;
     for place in 0..table.entries.len() {
         places.push(place)?;
     }
@@ -88,7 +110,8 @@ fn entries_at<'e>(
     Ok(found)
 }
 
-/// Types in order: what declarations declare, each after what it needs, and then the others.
+/// Types in order: what declarations declare, and before each what else it needs, and then the
+/// others.
 pub(super) fn ordered<'k>(
     alloc: Global,
     table: TypeTable<'k, '_, '_>,
@@ -97,7 +120,7 @@ pub(super) fn ordered<'k>(
     ensures { IfOk result (λ found. map (λ e. entry_view e.now) found.items
         ≡ ordered (table_view table.entry) (links_view needs.now)) }
 {
-    let places = all_places(alloc, table)?;
+    let places = all_places(alloc, table, needs)?;
     let order = in_order(alloc, needs, &places)?;
     entries_at(alloc, table.entries, &order)
 }

@@ -64,7 +64,7 @@ pub(super) fn reached(
 }
 
 /// Whether a place stands in an order.
-fn is_placed(order: &[usize], place: usize) -> bool
+pub(super) fn is_placed(order: &[usize], place: usize) -> bool
     ensures { result ≡ is_placed order.now place }
 {
     order.iter().any(|other| *other == place)
