@@ -1,3 +1,4 @@
 pub mod Reading
 pub mod Columns
+pub mod LastBytes
 pub mod Nesting

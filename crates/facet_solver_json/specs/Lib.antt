@@ -6,5 +6,6 @@ pub use Rattle.facet_solver_reader.specs.Names
 pub use Rattle.facet_solver_reader.specs.Numbers
 pub use Rattle.facet_solver_reader.specs.Documents
 pub mod Values
+pub mod Reasons
 pub mod Places
 pub mod ErrorTexts

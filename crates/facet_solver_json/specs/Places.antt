@@ -3,6 +3,8 @@ use Rattle.std.specs.Prelude.{ℕ, ◌+◌, List, take, reverse, length, ◌≡�
 use Rattle.std.specs.List.{count_by, take_while}
 use Rattle.facet_solver_json.specs.declared.error.JsonError.{JsonError}
 use Rattle.facet_solver_json.specs.declared.error.JsonError.TheVariants.{Invalid, OutOfMemory}
+use Rattle.facet_solver_json.specs.declared.value.Wanted.{Wanted}
+use Rattle.facet_solver_json.specs.Reasons.{reason_at}
 
 -- whether a byte ends a line
 abbrev pub is_line_feed : ℕ → Bool
@@ -25,8 +27,10 @@ column_after bytes =
 abbrev pub column_at : ℕ → List ℕ → ℕ
 column_at offset text = column_after (take offset text)
 
--- the error tells the line and the column of an offset of the text, where it tells any
+-- the error tells the line and the column of an offset of the text, where it tells any, and why
+-- something that was wanted is not there
 abbrev pub HasPlace : JsonError → List ℕ → Type 0
-HasPlace (Invalid line column) text = (offset : ℕ) × (offset ≤ length text)
+HasPlace (Invalid line column reason) text = (offset : ℕ) × (offset ≤ length text)
     × (line ≡ line_at offset text) × (column ≡ column_at offset text)
+    × ((wanted : Wanted) × (reason ≡ reason_at offset text wanted))
 HasPlace OutOfMemory text = ⊤

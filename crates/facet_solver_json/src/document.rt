@@ -10,7 +10,8 @@ ghost use Rattle.facet_solver_json.specs.Places.{HasPlace};
 
 use crate::error::JsonError;
 use crate::place::{column_at, line_at};
-use crate::value::{Fault, read_value};
+use crate::reason::{Reason, reason_at};
+use crate::value::{Fault, Refused, Wanted, read_value};
 use facet_solver_reader::Document;
 use json::{MAX_DEPTH, Reader, Scratch};
 use std::alloc::Global;
@@ -22,9 +23,9 @@ use std::alloc::Global;
 /// names that come twice stay twice.
 ///
 /// Errors: `Invalid` where the text is no JSON, or nests deeper than 128 lists and objects, with
-/// the place of the first token that cannot stand there; `OutOfMemory`. A name and its colon are
-/// one token: where the colon is missing, the place is that of the name. A comma belongs to what
-/// is before it.
+/// the place of the first token that cannot stand there, and why; `OutOfMemory`. A name and its
+/// colon are one token: where the colon is missing, the place is that of the name. A comma belongs
+/// to what is before it.
 pub fn parse<'d>(
     alloc: Global,
     text: &'d str,
@@ -32,8 +33,8 @@ pub fn parse<'d>(
 ) -> Result<Document<'d>, JsonError>
     ensures ok { IfOk result (λ document. parse text.now ≡ Some (view document)) }
     ensures nests { IfOk result (λ document. depth (view document) ≤ max_depth) }
-    ensures invalid { (line column : ℕ) → result ≡ Err (JsonError.Invalid line column)
-        → parse text.now ≡ None }
+    ensures invalid { (line column : ℕ) (reason : Reason)
+        → result ≡ Err (JsonError.Invalid line column reason) → parse text.now ≡ None }
     ensures place { IfErr result (λ error. HasPlace error text.now) }
     ensures memory { result ≡ Err JsonError.OutOfMemory
         → IsTrue (opens (tokens text.now)) ⊎ (room scratch.old < length text.now) }
@@ -41,11 +42,12 @@ pub fn parse<'d>(
     let mut reader = Reader::new(text, scratch)?;
     match read_document(alloc, &mut reader) {
         Ok(document) => Ok(document),
-        Err(Fault::Invalid(offset)) => {
+        Err(Fault::Invalid(Refused { offset, wanted })) => {
             let offset = offset.min(text.len());
             Err(JsonError::Invalid {
                 line: line_at(text, offset),
                 column: column_at(text, offset),
+                reason: reason_at(text, offset, wanted),
             })
         }
         Err(Fault::OutOfMemory) => Err(JsonError::OutOfMemory),
@@ -55,12 +57,15 @@ pub fn parse<'d>(
 /// The one value of a reader, and nothing after it.
 fn read_document<'d>(alloc: Global, reader: &mut Reader<'d>) -> Result<Document<'d>, Fault>
     ensures ok { IfOk result (λ document. read_document reader.old ≡ Some (view document)) }
-    ensures invalid { (offset : ℕ) → result ≡ Err (Fault.Invalid offset)
+    ensures invalid { (at : Refused) → result ≡ Err (Fault.Invalid at)
         → read_document reader.old ≡ None }
     ensures memory { result ≡ Err Fault.OutOfMemory → IsTrue (opens reader.old) }
 {
-    let document = read_value(alloc, reader, MAX_DEPTH)?;
-    let end = reader.offset();
+    let document = read_value(alloc, reader, MAX_DEPTH, Wanted::Value)?;
+    let end = Refused {
+        offset: reader.offset(),
+        wanted: Wanted::NoMore,
+    };
     match reader.next() {
         Some(_) => Err(Fault::Invalid(end)),
         None => Ok(document),

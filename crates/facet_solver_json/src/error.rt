@@ -3,13 +3,15 @@ ghost use Rattle.std.specs.Prelude.{◌≡◌, Some};
 ghost use Rattle.facet_solver_json.specs.declared.error.JsonError.TheVariants.{OutOfMemory};
 ghost use Rattle.facet_solver_json.specs.ErrorTexts.{error_text};
 
+use crate::reason::Reason;
 use std::alloc::AllocError;
 use std::error::Error;
 use std::fmt;
 
 /// Why a text was not read.
 ///
-/// It prints as `3:18: invalid JSON`, line and column first, or as `out of memory`.
+/// It prints as `3:18: invalid JSON: ',' or ']' was expected`, line and column first, or as
+/// `out of memory`.
 #[derive(Clone, Copy, Debug, Drop, PartialEq, Eq)]
 pub enum JsonError {
     /// The text is no JSON, or nests deeper than 128 lists and objects.
@@ -18,6 +20,8 @@ pub enum JsonError {
         line: usize,
         /// Its column, counted from 1, in characters.
         column: usize,
+        /// Why it cannot.
+        reason: Reason,
     },
     /// Out of memory.
     OutOfMemory,
@@ -36,7 +40,11 @@ impl fmt::Display for JsonError {
 
     fn fmt<W: fmt::Write>(&self, f: &mut fmt::Formatter<W>) -> fmt::Result {
         match self {
-            JsonError::Invalid { line, column } => write!(f, "{line}:{column}: invalid JSON"),
+            JsonError::Invalid {
+                line,
+                column,
+                reason,
+            } => write!(f, "{line}:{column}: invalid JSON: {reason}"),
             JsonError::OutOfMemory => write!(f, "out of memory"),
         }
     }

@@ -6,8 +6,10 @@
 mod document;
 mod error;
 mod place;
+mod reason;
 mod value;
 
 pub use document::parse;
 pub use error::JsonError;
 pub use json::Scratch;
+pub use reason::Reason;

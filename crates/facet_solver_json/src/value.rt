@@ -9,11 +9,37 @@ use facet_solver_reader::{Document, Number};
 use json::{Reader, Token};
 use std::alloc::{AllocFailed, Global};
 
+/// What has to stand at a token.
+#[derive(Clone, Copy, Debug, Drop)]
+pub(crate) enum Wanted {
+    /// A value.
+    Value,
+    /// A value of a list, behind a comma but for the first one, or the closing bracket.
+    Item,
+    /// A name of an object and its colon, so too, or the closing brace.
+    Name,
+    /// A value. There is a name with its colon.
+    NoName,
+    /// The end of the text.
+    NoMore,
+    /// A value that is no list and no object.
+    LessDeep,
+}
+
+/// The first token that cannot stand where it stands.
+#[derive(Clone, Copy, Debug, Drop)]
+pub(crate) struct Refused {
+    /// Its offset.
+    pub(crate) offset: usize,
+    /// What has to stand there.
+    pub(crate) wanted: Wanted,
+}
+
 /// Why no value was read.
 #[derive(Clone, Copy, Debug, Drop)]
 pub(crate) enum Fault {
-    /// There is none. At this offset is the first token that cannot stand where it stands.
-    Invalid(usize),
+    /// There is none.
+    Invalid(Refused),
     /// Out of memory.
     OutOfMemory,
 }
@@ -28,39 +54,52 @@ impl<T: Drop> From<AllocFailed<T>> for Fault {
     }
 }
 
-/// The next value of a reader. Lists and objects may nest `depth` deep.
+/// The next value of a reader, where `wanted` has to stand. Lists and objects may nest so deep.
 #[cycle(value)]
 pub(crate) fn read_value<'d>(
     alloc: Global,
     reader: &mut Reader<'d>,
     depth: usize,
+    wanted: Wanted,
 ) -> Result<Document<'d>, Fault>
     ensures ok { IfOk result (λ document.
         read_value depth reader.old ≡ Some (view document, reader.new)) }
     ensures shorter { OnOk result (length reader.new < length reader.old) }
-    ensures invalid { (offset : ℕ) → result ≡ Err (Fault.Invalid offset)
+    ensures invalid { (at : Refused) → result ≡ Err (Fault.Invalid at)
         → read_value depth reader.old ≡ None }
     ensures memory { result ≡ Err Fault.OutOfMemory → IsTrue (opens reader.old) }
 {
-    let start = reader.offset();
-    let token = reader.next().ok_or(Fault::Invalid(start))?;
+    let offset = reader.offset();
+    let token = reader
+        .next()
+        .ok_or(Fault::Invalid(Refused { offset, wanted }))?;
     match token {
         Token::Null => Ok(Document::Null),
         Token::Bool(truth) => Ok(Document::Bool(truth)),
         Token::Number(text) => Ok(Document::Number(Number::new(text))),
         Token::String(text) => Ok(Document::Text(text)),
-        Token::EndObject | Token::EndArray | Token::Key(_) | Token::Bad => {
-            Err(Fault::Invalid(start))
+        Token::EndObject | Token::EndArray | Token::Bad => {
+            Err(Fault::Invalid(Refused { offset, wanted }))
         }
+        Token::Key(_) => Err(Fault::Invalid(Refused {
+            offset,
+            wanted: Wanted::NoName,
+        })),
         Token::BeginArray => {
             if depth == 0 {
-                return Err(Fault::Invalid(start));
+                return Err(Fault::Invalid(Refused {
+                    offset,
+                    wanted: Wanted::LessDeep,
+                }));
             }
             Ok(Document::List(read_items(alloc, reader, depth - 1)?))
         }
         Token::BeginObject => {
             if depth == 0 {
-                return Err(Fault::Invalid(start));
+                return Err(Fault::Invalid(Refused {
+                    offset,
+                    wanted: Wanted::LessDeep,
+                }));
             }
             Ok(Document::Object(read_members(alloc, reader, depth - 1)?))
         }
@@ -77,12 +116,12 @@ fn read_items<'d>(
     ensures ok { IfOk result (λ documents.
         read_items depth reader.old ≡ Some (items_view documents.items, reader.new)) }
     ensures shorter { OnOk result (length reader.new < length reader.old) }
-    ensures invalid { (offset : ℕ) → result ≡ Err (Fault.Invalid offset)
+    ensures invalid { (at : Refused) → result ≡ Err (Fault.Invalid at)
         → read_items depth reader.old ≡ None }
 {
     let mut found = Vec::new(alloc);
     while !reader.take_end_array() {
-        let item = read_value(alloc, reader, depth)?;
+        let item = read_value(alloc, reader, depth, Wanted::Item)?;
         found.push(item)?;
     }
     Ok(found)
@@ -98,12 +137,12 @@ fn read_members<'d>(
     ensures ok { IfOk result (λ found.
         read_members depth reader.old ≡ Some (members_view found.items, reader.new)) }
     ensures shorter { OnOk result (length reader.new < length reader.old) }
-    ensures invalid { (offset : ℕ) → result ≡ Err (Fault.Invalid offset)
+    ensures invalid { (at : Refused) → result ≡ Err (Fault.Invalid at)
         → read_members depth reader.old ≡ None }
 {
     let mut found = Vec::new(alloc);
     while let Some(name) = next_name(reader)? {
-        let value = read_value(alloc, reader, depth)?;
+        let value = read_value(alloc, reader, depth, Wanted::Value)?;
         found.push((name, value))?;
     }
     Ok(found)
@@ -113,10 +152,13 @@ fn read_members<'d>(
 fn next_name<'d>(reader: &mut Reader<'d>) -> Result<Option<&'d str>, Fault>
     ensures ok { IfOk result (λ name.
         read_key reader.old ≡ Some (option_map (λ s. s.now) name, reader.new)) }
-    ensures invalid { (offset : ℕ) → result ≡ Err (Fault.Invalid offset)
+    ensures invalid { (at : Refused) → result ≡ Err (Fault.Invalid at)
         → read_key reader.old ≡ None }
     ensures no_memory { result ≢ Err Fault.OutOfMemory }
 {
-    let start = reader.offset();
-    reader.next_key().map_err(|_| Fault::Invalid(start))
+    let refused = Refused {
+        offset: reader.offset(),
+        wanted: Wanted::Name,
+    };
+    reader.next_key().map_err(|_| Fault::Invalid(refused))
 }

@@ -22,12 +22,13 @@ use Rattle.facet_solver_shape.specs.Names.{Name}
 use Rattle.std.specs.Borrow.{Bor}
 use Rattle.facet_solver_reader.specs.Views.{list_view, parts_view}
 use Rattle.facet_solver_reader.specs.declared.read_error.NoReading.{NoReading}
+use Rattle.facet_solver_reader.specs.declared.read_error.Unread.{Unread}
 use Rattle.facet_solver_reader.specs.Documents.{Tree}
 use Rattle.facet_solver_reader.specs.Parts.{Target}
 use Rattle.facet_solver_reader.specs.Places.{Step, at}
 use Rattle.facet_solver_reader.specs.Rules.{Rules}
-use Rattle.facet_solver_reader.specs.Blaming.{IsUnreadAt}
-use Rattle.facet_solver_reader.specs.Why.{IsObstacle, IsUnread, IsWhyNone}
+use Rattle.facet_solver_reader.specs.Blaming.{IsUnreadAs, IsUnreadAt}
+use Rattle.facet_solver_reader.specs.Why.{IsObstacle, IsToldUnread, IsUnread, IsWhyNone}
 use Rattle.std.proofs.Common.{Err, IfOk, Ok, Result}
 use Rattle.facet_solver_reader.specs.Blaming.{AreMissing, IsBelow, IsPartOf, IsPosition}
 use Rattle.facet_solver_reader.specs.Why.{Lacks}
@@ -149,9 +150,18 @@ pub ok_then : {X E : Type 0} (P Q : X → Type 0) (r : Result X E) → ((x : X) 
 ok_then P Q (Ok x) f h = f x h
 ok_then P Q (Err e) f h = tt
 
+-- a value is not read as a target that is told of
+pub told_unread : (rules : Rules) (v : Tree) (t : Target) (u : Unread) → IsUnread rules t v
+    → IsUnreadAs t v u → IsToldUnread rules v u
+told_unread rules v t u unread h =
+    record {
+      unread = subst (λ (x : Target). IsUnread rules x v) (sym h.target) unread;
+      given = h.given;
+    }
+
 -- a value at a place that is not what a target reads is why there is no reading
 pub why_unread : (rules : Rules) (document v : Tree) (t : Target) (place : List Step)
-    (n : NoReading) → at document place ≡ Some v → IsUnread rules t v → IsUnreadAt t place n
+    (n : NoReading) → at document place ≡ Some v → IsUnread rules t v → IsUnreadAt t v place n
     → IsWhyNone rules document n
 why_unread rules document v t place n leads unread h =
     record {
@@ -159,5 +169,5 @@ why_unread rules document v t place n leads unread h =
       leads = subst (λ (p : List Step). at document p ≡ Some v) (sym h.same) leads;
       why =
           subst (IsObstacle rules v) (sym h.unread.1)
-          (subst (λ (u : Target). IsUnread rules u v) (sym h.unread.2) unread);
+          (told_unread rules v t h.unread.0 unread h.unread.2);
     }

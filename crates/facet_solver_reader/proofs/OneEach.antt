@@ -1,9 +1,9 @@
 -- Where there is one reading, each of the values that it reads has one.
-use Rattle.std.proofs.Common.{◌≡◌, ◌∙◌, sym, ap, subst, refl, ℕ, zero, suc, List, [], ◌∷◌, Some}
+use Rattle.std.proofs.Common.{◌≡◌, ◌∙◌, sym, subst, ℕ, zero, suc, List, [], ◌∷◌, Some}
 use Rattle.std.proofs.Common.{slice_get}
 use Rattle.facet_solver_reader.specs.declared.count.Count.TheVariants.{None as NoReading, One}
 use Rattle.facet_solver_reader.specs.Choices.{Reading, Readings, no_readings, reading}
-use Rattle.facet_solver_reader.specs.Counted.{Counted, IsOnly}
+use Rattle.facet_solver_reader.specs.Counted.{Counted}
 use Rattle.facet_solver_reader.specs.Values.{ReadsEach}
 
 -- what has no reading has not one

@@ -1,32 +1,25 @@
 -- Where a value has one reading, so has what it is read by, and what is told of that is told of it.
-use Rattle.std.proofs.Common.{◌≡◌, ◌∙◌, sym, ap, subst, refl, ℕ, List, [], ◌∷◌, zip, true, false}
-use Rattle.std.proofs.Common.{length, IsTrue, Bool, Some, slice_get, map}
-use Rattle.facet_solver_shape.specs.Catalogues.{Catalogue}
-use Rattle.facet_solver_shape.specs.Names.{Name}
-use Rattle.facet_solver_reader.specs.declared.count.Count.TheVariants.{None as NoReading, One}
+use Rattle.std.proofs.Common.{◌≡◌, sym, subst, refl, ℕ, List, zip, true, false}
+use Rattle.std.proofs.Common.{length, IsTrue}
+use Rattle.facet_solver_reader.specs.declared.count.Count.TheVariants.{One}
 use Rattle.facet_solver_reader.specs.declared.nodes.Nodes.{Nodes}
 use Rattle.facet_solver_reader.specs.declared.reading.Reading as code
-use Rattle.facet_solver_reader.specs.declared.reading.ReadingKind.TheVariants as kinds
 use Rattle.facet_solver_reader.specs.declared.tables.Tables.{Tables}
-use Rattle.facet_solver_reader.specs.Choices.{Choice, Reading, a_value, each_of, an_object}
-use Rattle.facet_solver_reader.specs.Choices.{a_variant, Readings}
+use Rattle.facet_solver_reader.specs.Choices.{Reading, a_value, each_of, an_object}
+use Rattle.facet_solver_reader.specs.Choices.{a_variant}
 use Rattle.facet_solver_reader.specs.Counted.{Counted}
 use Rattle.facet_solver_reader.specs.Documents.{Tree, null, truth, number, text, list, object}
-use Rattle.facet_solver_reader.specs.Documents.{Items, Members, items, members}
+use Rattle.facet_solver_reader.specs.Documents.{items, members}
 use Rattle.facet_solver_reader.specs.Kinds.{is_list, is_null, is_object}
 use Rattle.facet_solver_reader.specs.Nodes.{children, members_in, value_of}
-use Rattle.facet_solver_reader.specs.Objects.{Reads, ReadsObject}
-use Rattle.facet_solver_reader.specs.Parts.{ListId, Target, of_shape, of_content}
+use Rattle.facet_solver_reader.specs.Parts.{of_shape, of_content}
 use Rattle.facet_solver_reader.specs.Reached.{IsRanked}
 use Rattle.facet_solver_reader.specs.Readings.{ReadsValue, inner}
-use Rattle.facet_solver_reader.specs.Rules as types
-use Rattle.facet_solver_reader.specs.Rules.{Alternative, Content, End, Rules, a_list, a_map, a_tuple}
-use Rattle.facet_solver_reader.specs.Rules.{an_option, an_untagged_variant, as_object, as_shape}
-use Rattle.facet_solver_reader.specs.Rules.{as_tuple, no_content}
+use Rattle.facet_solver_reader.specs.Rules.{Content, End, Rules, a_list, a_map, a_tuple}
+use Rattle.facet_solver_reader.specs.Rules.{an_option}
 use Rattle.facet_solver_reader.specs.Tables.{rules_at}
-use Rattle.facet_solver_reader.specs.Told.{IsTold, Tells, by_joined, by_parts, end_of_content}
-use Rattle.facet_solver_reader.specs.Told.{inside}
-use Rattle.facet_solver_reader.specs.ToldAt.{IsToldAs, IsToldAt, IsToldBy}
+use Rattle.facet_solver_reader.specs.Told.{Tells, end_of_content}
+use Rattle.facet_solver_reader.specs.ToldAt.{IsToldAs, IsToldAt}
 use Rattle.facet_solver_reader.specs.Values.{Inner, ReadsContent, ReadsEach, ReadsEnd, ReadsEntries}
 use Rattle.facet_solver_reader.specs.Values.{ReadsItems, ReadsPlace, ReadsTarget}
 use Rattle.facet_solver_reader.proofs.Counting.{counted_same}

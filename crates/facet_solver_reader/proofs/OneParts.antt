@@ -9,7 +9,7 @@ use Rattle.facet_solver_reader.specs.declared.reading.ReadingKind.TheVariants as
 use Rattle.facet_solver_reader.specs.declared.tables.Tables.{Tables}
 use Rattle.facet_solver_reader.specs.declared.count.Count.TheVariants.{One}
 use Rattle.facet_solver_reader.specs.Branches.{ReadsPart}
-use Rattle.facet_solver_reader.specs.Choices.{ChoiceAt, Reading, Taken, a_value, having, lacking}
+use Rattle.facet_solver_reader.specs.Choices.{ChoiceAt, Taken, a_value, having, lacking}
 use Rattle.facet_solver_reader.specs.Choices.{taking}
 use Rattle.facet_solver_reader.specs.Counted.{IsOnly}
 use Rattle.facet_solver_reader.specs.Documents.{Member, Tree, view}

@@ -1,8 +1,8 @@
 -- Texts that are written between quotes as they are.
-use Rattle.std.proofs.Common.{◌≡◌, ◌∙◌, ap, sym, refl, ℕ, ◌<◌, ◌≤◌, List, [], ◌∷◌, ◌++◌, Bool, true, false, not}
+use Rattle.std.proofs.Common.{◌≡◌, refl, ℕ, List, [], ◌∷◌, ◌++◌, Bool, true, false}
 use Rattle.std.proofs.Common.{arith, Some}
-use Rattle.std.specs.Prelude.{◌&&◌, ◌==◌, nat_le, nat_lt, if◌then◌else◌}
-use Rattle.std.specs.Fmt.{debug_escape, debug_escape_letter, debug_str}
+use Rattle.std.specs.Prelude.{◌&&◌, nat_lt}
+use Rattle.std.specs.Fmt.{debug_escape, debug_str}
 use Rattle.std.specs.List.{flat_map, list_all}
 use Rattle.facet_solver_reader.specs.Quoted.{is_unescaped, is_unescaped_byte}
 

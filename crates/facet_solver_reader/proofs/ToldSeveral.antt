@@ -1,6 +1,6 @@
 -- What is told of lists, tuples and maps.
-use Rattle.std.proofs.Common.{◌≡◌, ◌∙◌, sym, ap, subst, ℕ, ◌+◌, List, [], ◌∷◌, ◌++◌, map, zip, take}
-use Rattle.std.proofs.Common.{length, Some, slice_get, get_or, true, false, Vec, Global, arith}
+use Rattle.std.proofs.Common.{◌≡◌, ◌∙◌, sym, ap, ℕ, ◌+◌, List, [], ◌∷◌, ◌++◌, map, zip, take}
+use Rattle.std.proofs.Common.{length, Some, slice_get, get_or, true, Vec, Global, arith}
 use Rattle.std.proofs.lemmas.List.{map-append, take_more}
 use Rattle.std.proofs.lemmas.Option.{get_or_from_slice_get, slice_get_within, slice_get-get_or}
 use Rattle.std.proofs.lemmas.Slice.Zip.{get_or-zip, length-zip}
@@ -10,14 +10,13 @@ use Rattle.facet_solver_reader.specs.declared.nodes.Nodes.{Nodes}
 use Rattle.facet_solver_reader.specs.declared.reading.Reading as code
 use Rattle.facet_solver_reader.specs.declared.reading.ReadingKind.TheVariants as kinds
 use Rattle.facet_solver_reader.specs.declared.tables.Tables.{Tables}
-use Rattle.facet_solver_reader.specs.Choices.{Readings, each_of}
+use Rattle.facet_solver_reader.specs.Choices.{each_of}
 use Rattle.facet_solver_reader.specs.Documents.{Member, Tree, list, null, number, object, text, truth}
-use Rattle.facet_solver_reader.specs.Documents.{items, members}
 use Rattle.facet_solver_reader.specs.Kinds.{is_list, is_object}
 use Rattle.facet_solver_reader.specs.Nodes.{children, members_in, value_of}
 use Rattle.facet_solver_reader.specs.Parts.{of_shape}
 use Rattle.facet_solver_reader.specs.Readings.{ReadsValue, inner}
-use Rattle.facet_solver_reader.specs.Rules.{Rules, a_list, a_map, a_tuple}
+use Rattle.facet_solver_reader.specs.Rules.{a_list, a_map, a_tuple}
 use Rattle.facet_solver_reader.specs.Tables.{rules_at}
 use Rattle.facet_solver_reader.specs.Told.{Tells, entries_of, items_of, places_of, texts}
 use Rattle.facet_solver_reader.specs.ToldAt.{IsToldAs}

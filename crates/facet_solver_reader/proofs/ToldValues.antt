@@ -1,5 +1,5 @@
 -- What is told of values as they are, and of objects.
-use Rattle.std.proofs.Common.{◌≡◌, ◌∙◌, sym, subst, refl, ℕ, List, [], true, false, IsTrue, Vec}
+use Rattle.std.proofs.Common.{◌≡◌, sym, subst, refl, ℕ, List, [], true, Vec}
 use Rattle.std.proofs.Common.{Global, inl}
 use Rattle.std.specs.Borrow.{Bor}
 use Rattle.facet_solver_shape.specs.Catalogues.{Catalogue}
@@ -17,17 +17,17 @@ use Rattle.facet_solver_reader.specs.Choices.{Choice, Reading, a_value, each_of,
 use Rattle.facet_solver_reader.specs.Choices.{a_variant}
 use Rattle.facet_solver_reader.specs.Counted.{Counted}
 use Rattle.facet_solver_reader.specs.Documents.{Tree, null, truth, number, text, list, object}
-use Rattle.facet_solver_reader.specs.Documents.{Members, members, view}
+use Rattle.facet_solver_reader.specs.Documents.{members, view}
 use Rattle.facet_solver_reader.specs.Kinds.{is_object}
 use Rattle.facet_solver_reader.specs.Nodes.{members_in, value_of}
-use Rattle.facet_solver_reader.specs.Objects.{Reads, ReadsObject}
+use Rattle.facet_solver_reader.specs.Objects.{ReadsObject}
 use Rattle.facet_solver_reader.specs.Parts.{ListId, Target, of_tag}
 use Rattle.facet_solver_reader.specs.Readings.{ReadsValue}
 use Rattle.facet_solver_reader.specs.Rules as types
 use Rattle.facet_solver_reader.specs.Rules.{Alternative, End, Rules, a_character, a_text, a_truth}
 use Rattle.facet_solver_reader.specs.Rules.{an_untagged_variant, anything, as_object, no_content}
 use Rattle.facet_solver_reader.specs.Tables.{rules_at}
-use Rattle.facet_solver_reader.specs.Told.{IsTold, Tells, TellsObject, as_it_is, by_joined}
+use Rattle.facet_solver_reader.specs.Told.{Tells, TellsObject, as_it_is, by_joined}
 use Rattle.facet_solver_reader.specs.Told.{by_parts, end_of_target}
 use Rattle.facet_solver_reader.specs.ToldAt.{IsToldAt}
 use Rattle.facet_solver_reader.specs.Values.{Inner, ReadsContent, ReadsEnd, ReadsTag, is_scalar_end}

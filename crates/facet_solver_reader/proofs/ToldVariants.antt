@@ -1,7 +1,7 @@
 -- The only reading of a value as a variant, and what is told of it.
 use Rattle.std.proofs.Common.{◌≡◌, ◌⊎◌, ◌∙◌, sym, ap, subst, refl, ⊎_elim, inl, inr, ℕ, ◌<◌, List}
 use Rattle.std.proofs.Common.{[]}
-use Rattle.std.proofs.Common.{◌∷◌, Some, None, Option, slice_get, true, false, Bool, length, Box}
+use Rattle.std.proofs.Common.{◌∷◌, Some, None, Option, slice_get, true, false, length, Box}
 use Rattle.std.proofs.Common.{Global, IfOk, Ok, Err, Result}
 use Rattle.std.proofs.lemmas.Option.{slice_get_within}
 use Rattle.std.specs.Borrow.{Bor}
@@ -18,12 +18,12 @@ use Rattle.facet_solver_reader.specs.Choices.{Choice, Reading, a_value, each_of,
 use Rattle.facet_solver_reader.specs.Choices.{a_variant}
 use Rattle.facet_solver_reader.specs.Counted.{Counted}
 use Rattle.facet_solver_reader.specs.Documents.{Tree, null, truth, number, text, list, object, view}
-use Rattle.facet_solver_reader.specs.Documents.{Members, member, members, no_members}
+use Rattle.facet_solver_reader.specs.Documents.{member, members, no_members}
 use Rattle.facet_solver_reader.specs.Kinds.{is_object}
 use Rattle.facet_solver_reader.specs.declared.nodes.Nodes.{Nodes}
 use Rattle.facet_solver_reader.specs.declared.tables.Tables.{Tables}
 use Rattle.facet_solver_reader.specs.Nodes.{children, members_in, value_of}
-use Rattle.facet_solver_reader.specs.Objects.{Reads, ReadsObject}
+use Rattle.facet_solver_reader.specs.Objects.{ReadsObject}
 use Rattle.facet_solver_reader.specs.Parts.{ListId, Target}
 use Rattle.facet_solver_reader.specs.Reached.{asked_by_kind}
 use Rattle.facet_solver_reader.specs.Readings.{ReadsValue, inner}
@@ -38,8 +38,8 @@ use Rattle.facet_solver_reader.specs.ToldAt.{IsOnlyByKind, IsToldAlternative, Is
 use Rattle.facet_solver_reader.specs.ToldAt.{ReadsByAlternative}
 use Rattle.facet_solver_reader.specs.Values.{Inner, ReadsAlone, ReadsByFallback, ReadsByItself}
 use Rattle.facet_solver_reader.specs.Values.{ReadsByKind, ReadsByOne, ReadsDirectly, ReadsEnd}
-use Rattle.facet_solver_reader.specs.Values.{ReadsFallback, ReadsJoined, ReadsLast, is_whole_of}
-use Rattle.facet_solver_reader.specs.Values.{ReadsNamed, ReadsNamedVariant, NamesUnit}
+use Rattle.facet_solver_reader.specs.Values.{ReadsJoined, ReadsLast, is_whole_of}
+use Rattle.facet_solver_reader.specs.Values.{ReadsNamed, ReadsNamedVariant}
 use Rattle.facet_solver_reader.proofs.OneEach.{one_into}
 
 module _ (rules : Rules) (reads : Inner) (joined : ListId) (alone : List Alternative) (v : Tree)

@@ -1,5 +1,5 @@
 -- What is known on the way to a place that has no reading, or several.
-use Rattle.std.specs.Prelude.{◌≡◌, ◌<◌, ⊤, ℕ, false, All, IfSome, List, Option, Some, None}
+use Rattle.std.specs.Prelude.{◌≡◌, ◌<◌, ⊤, ℕ, true, false, All, IfSome, List, Option, Some, None}
 use Rattle.std.specs.Prelude.{length, slice_get}
 use Rattle.std.specs.Borrow.{Bor}
 use Rattle.facet_solver_shape.specs.Names.{Name}
@@ -27,24 +27,25 @@ use Rattle.facet_solver_reader.specs.declared.why.walk.Next.{Next}
 use Rattle.facet_solver_reader.specs.declared.why.walk.Next.TheVariants as next
 use Rattle.facet_solver_reader.specs.Choices.{ChoiceAt, Item}
 use Rattle.facet_solver_reader.specs.Documents.{Tree, Member}
+use Rattle.facet_solver_reader.specs.Given.{IsGiven}
 use Rattle.facet_solver_reader.specs.Known.{ChoosesAt, named}
 use Rattle.facet_solver_reader.specs.Nodes.{IsNumbering, count, members_in, value_of}
 use Rattle.facet_solver_reader.specs.Objects.{find, HasNamed}
-use Rattle.facet_solver_reader.specs.Parts.{ListId, Part, Selection, Target}
-use Rattle.facet_solver_reader.specs.Places.{Step, at}
+use Rattle.facet_solver_reader.specs.Parts.{ListId, MemberPart, Part, Selection, Target, a_member}
+use Rattle.facet_solver_reader.specs.Places.{Step}
 use Rattle.facet_solver_reader.specs.Reading.{AreListCounts, IsCount, IsListed, IsNextList}
 use Rattle.facet_solver_reader.specs.Reading.{IsObject}
 use Rattle.facet_solver_reader.specs.Rules.{Rules}
 use Rattle.facet_solver_reader.specs.Slots.{index_of}
 use Rattle.facet_solver_reader.specs.Tables.{IsServed, knows, rules_at}
 use Rattle.facet_solver_reader.specs.Views.{list_view, parts_view, target_view}
-use Rattle.facet_solver_reader.specs.Why.{IsRequiredIn, Lacks, IsStop, IsObstacle, IsReadBy}
+use Rattle.facet_solver_reader.specs.Why.{IsOfName, IsRequiredIn, Lacks, IsStop, IsObstacle, IsReadBy}
 
 -- each choice at a part requires the name, and it is no name of the members
 pub record PartLacks (rules : Rules) (members : List Member) (p : Part) (x : Name) : Type 0 where
   pub absent : find members x ≡ None
   pub required : (c : ChoiceAt) (items : List Item) → ChoosesAt rules.lists p c items
-      → IsRequiredIn items x
+      → IsRequiredIn (IsOfName x) items
 
 -- what is told of a value is so
 abbrev pub IsHere : Rules → Tree → Here → Type 0
@@ -61,7 +62,7 @@ IsNext t nodes blame v (next.Here here) = IsHere (rules_at t) v here
 -- what is found of a part that has no reading is so
 abbrev pub IsFound : Tables → Nodes → Tree → Found → Type 0
 IsFound t nodes v (found.Next n) = IsNext t nodes NoCount v n
-IsFound t nodes v (found.Branch position) = ⊤
+IsFound t nodes v (found.Branch position optional) = ⊤
 
 -- what is found of a part of a branch is so
 abbrev pub IsInner : Rules → Tree → Inner → Type 0
@@ -74,10 +75,15 @@ pub record IsBlamed (t : Tables) (nodes : Nodes) (blame : Count) (b : Blamed) : 
   pub counted : IsCount t nodes b.node (target_view b.target) blame
   pub here : IfSome b.here (IsHere (rules_at t) (value_of nodes b.node))
 
+-- a target is told of, and what a value is
+pub record IsUnreadAs (t : Target) (v : Tree) (u : Unread) : Type 0 where
+  pub target : target_view u.target ≡ t
+  pub given : IsGiven v u.given
+
 -- what is told is a place, and that its value is not what a target reads
-pub record IsUnreadAt (t : Target) (place : List Step) (n : NoReading) : Type 0 where
+pub record IsUnreadAt (t : Target) (v : Tree) (place : List Step) (n : NoReading) : Type 0 where
   pub same : n.place ≡ place
-  pub unread : (u : Unread) × (n.why ≡ obstacle.Unread u) × (target_view u.target ≡ t)
+  pub unread : (u : Unread) × (n.why ≡ obstacle.Unread u) × IsUnreadAs t v u
 
 -- the list whose names are left to others is one of the tables
 abbrev pub IsBesides : Tables → Option (Bor ListEntry) → Type 0
@@ -101,6 +107,13 @@ IsBranchOf s id = (k : ℕ) × (slice_get s.branches k ≡ Some id)
 pub record IsAmong (l : ListEntry) (members : List Member) (x : Name) : Type 0 where
   pub has : HasNamed members x
   pub unknown : knows l (named x) ≡ false
+
+-- a list begins with a required member with a property
+pub record BeginsWith (l : ListEntry) (P : MemberPart → Type 0) : Type 0 where
+  pub member : MemberPart
+  pub first : slice_get (parts_view l.parts.items) 0 ≡ Some (a_member member)
+  pub required : member.required ≡ true
+  pub is : P member
 
 -- a part is one of a list
 abbrev pub IsPartOf : ListEntry → Part → Type 0

@@ -2,6 +2,7 @@ pub use Rattle.facet_solver_shape.specs.Names
 pub mod Counted
 pub mod Numbers
 pub mod Documents
+pub mod Given
 pub mod Parts
 pub mod Choices
 pub mod Rules

@@ -17,7 +17,7 @@ use Rattle.facet_solver_reader.specs.Choices.{Readings, no_readings, reading, Ta
 use Rattle.facet_solver_reader.specs.Choices.{none_left, passing}
 use Rattle.facet_solver_reader.specs.Choices as choices
 use Rattle.facet_solver_reader.specs.Documents.{Items, Member, Members, Tree, items, list, members}
-use Rattle.facet_solver_reader.specs.Documents.{member, no_members, object, text, view}
+use Rattle.facet_solver_reader.specs.Documents.{member, no_members, object, view}
 use Rattle.facet_solver_reader.specs.FieldPlaces.{Path, shape_name, variant_name}
 use Rattle.facet_solver_reader.specs.Known.{Chooses, IsKnown, named}
 use Rattle.facet_solver_reader.specs.Objects.{find}
@@ -31,7 +31,6 @@ use Rattle.facet_solver_reader.specs.Rules.{an_option, an_untagged_variant, anyt
 use Rattle.facet_solver_reader.specs.Rules.{as_object, as_shape, as_tuple, no_content}
 use Rattle.facet_solver_reader.specs.Steps.{Step, a_field, a_rest, steps_through, Walk}
 use Rattle.facet_solver_reader.specs.Steps as steps
-use Rattle.facet_solver_reader.specs.Types.{rules_of}
 
 -- the end as which content is told: what is within stands for it
 abbrev pub end_of_content : Content → End

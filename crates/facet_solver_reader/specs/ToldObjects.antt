@@ -1,5 +1,5 @@
 -- What readings tell of the members of a numbered object.
-use Rattle.std.specs.Prelude.{◌≡◌, ⊤, All, List, [], ◌∷◌, map, Option, Vec, if◌then◌else◌}
+use Rattle.std.specs.Prelude.{⊤, All, List, [], ◌∷◌, Option, Vec, if◌then◌else◌}
 use Rattle.std.specs.Borrow.{Bor}
 use Rattle.std.specs.Global.{Global}
 use Rattle.facet_solver_shape.specs.Names.{Name}

@@ -1,5 +1,5 @@
 -- What is told of a document that has no reading, or several.
-use Rattle.std.specs.Prelude.{◌≡◌, ◌⊎◌, ⊤, ℕ, All, IfSome, IsTrue, List, [], ◌∷◌, Some, None}
+use Rattle.std.specs.Prelude.{◌≡◌, ◌≢◌, ◌⊎◌, ⊤, ℕ, All, IfSome, IsTrue, List, [], ◌∷◌, Option, Some, None}
 use Rattle.std.specs.Prelude.{slice_get}
 use Rattle.facet_solver_shape.specs.Names.{Name}
 use Rattle.facet_solver_reader.specs.declared.count.Count.TheVariants.{None as NoCount}
@@ -17,36 +17,67 @@ use Rattle.facet_solver_reader.specs.declared.read_error.Stop.{Stop}
 use Rattle.facet_solver_reader.specs.declared.read_error.Stop.TheVariants.{Nothing}
 use Rattle.facet_solver_reader.specs.declared.read_error.Stop.TheVariants.{Member as AtMember}
 use Rattle.facet_solver_reader.specs.declared.read_error.Stop.TheVariants.{OneOf, Itself}
+use Rattle.facet_solver_reader.specs.declared.read_error.Unread.{Unread}
 use Rattle.facet_solver_reader.specs.Branches.{Misfits, ReadsAt, ReadsPart}
 use Rattle.facet_solver_reader.specs.Choices.{Choice, ChoiceAt, Item, member_of, catch_all_of}
 use Rattle.facet_solver_reader.specs.Choices.{presence_of, Reading}
 use Rattle.facet_solver_reader.specs.Counted.{AreTwo, Counted}
-use Rattle.facet_solver_reader.specs.Documents.{Tree, Member}
-use Rattle.facet_solver_reader.specs.Known.{Chooses, Key, named, rest}
+use Rattle.facet_solver_reader.specs.Documents.{Tree, Member, text}
+use Rattle.facet_solver_reader.specs.declared.read_error.given.Given.{Given}
+use Rattle.facet_solver_reader.specs.Given.{IsGiven}
+use Rattle.facet_solver_reader.specs.Known.{Chooses, IsKnown, Key, named, rest}
 use Rattle.facet_solver_reader.specs.Nodes.{members_in}
 use Rattle.facet_solver_reader.specs.Objects.{find, HasNamed, IsUnknown, Object}
 use Rattle.facet_solver_reader.specs.Parts.{ListId, a_selection, Selection, Target, of_shape}
 use Rattle.facet_solver_reader.specs.Parts.{of_content, of_struct, of_enum, of_joined, of_branch}
-use Rattle.facet_solver_reader.specs.Parts.{of_fields}
+use Rattle.facet_solver_reader.specs.Parts.{MemberPart, of_fields, of_tag}
 use Rattle.facet_solver_reader.specs.Places.{IsNameTwice, at}
 use Rattle.facet_solver_reader.specs.Readings.{ReadsValue}
 use Rattle.facet_solver_reader.specs.Rules.{Rules}
-use Rattle.facet_solver_reader.specs.Tables.{knows}
 use Rattle.facet_solver_reader.specs.Views.{list_view, target_view}
 
--- some item is a member of the name, and required
-abbrev pub IsRequiredIn : List Item → Name → Type 0
-IsRequiredIn [] x = ⊥
-IsRequiredIn (member_of m r ∷ items) x =
-    (IsTrue m.required × (m.name ≡ x)) ⊎ IsRequiredIn items x
-IsRequiredIn (catch_all_of k t ∷ items) x = IsRequiredIn items x
-IsRequiredIn (presence_of s ∷ items) x = IsRequiredIn items x
+-- some item is a required member with a property
+abbrev pub IsRequiredIn : (MemberPart → Type 0) → List Item → Type 0
+IsRequiredIn P [] = ⊥
+IsRequiredIn P (member_of m r ∷ items) = (IsTrue m.required × P m) ⊎ IsRequiredIn P items
+IsRequiredIn P (catch_all_of k t ∷ items) = IsRequiredIn P items
+IsRequiredIn P (presence_of s ∷ items) = IsRequiredIn P items
+
+-- each choice of a list requires a member with a property
+abbrev pub Requires : Rules → ListId → (MemberPart → Type 0) → Type 0
+Requires rules id P = (c : Choice) (items : List Item) → Chooses rules.lists id c items
+    → IsRequiredIn P items
+
+-- a member has the name
+abbrev pub IsOfName : Name → MemberPart → Type 0
+IsOfName x m = m.name ≡ x
+
+-- a member has the name, and only the text of a tag is read there
+abbrev pub IsTagOf : Name → Name → MemberPart → Type 0
+IsTagOf x tag m = (m.name ≡ x) × (m.target ≡ of_tag tag)
 
 -- each choice of a list requires the name, and it is no name of the members
 pub record Lacks (rules : Rules) (members : List Member) (id : ListId) (x : Name) : Type 0 where
   pub absent : find members x ≡ None
-  pub required : (c : Choice) (items : List Item) → Chooses rules.lists id c items
-      → IsRequiredIn items x
+  pub required : Requires rules id (IsOfName x)
+
+-- each choice of a list requires the text of a tag as the name, and the members don't have it there
+pub record LacksTag (rules : Rules) (members : List Member) (id : ListId) (x : Name) : Type 0 where
+  pub tag : Name
+  pub other : find members x ≢ Some (text tag)
+  pub required : Requires rules id (IsTagOf x tag)
+
+-- what members have of a name: none, or a value that is told
+abbrev pub StandsAt : List Member → Name → Option Given → Type 0
+StandsAt members x None = find members x ≡ None
+StandsAt members x (Some given) =
+    (v : Tree) × (find members x ≡ Some v) × IsGiven v given
+
+-- the members have the name, and some choice of a list has a member of it
+pub record IsMemberOf (rules : Rules) (members : List Member) (id : ListId) (x : Name)
+    : Type 0 where
+  pub has : HasNamed members x
+  pub known : IsKnown (Chooses rules.lists id) (named x)
 
 -- a key is that of the name, or it is the rest, to which the unknown name belongs
 abbrev pub IsKeyOf : Rules → Object → Key → Name → Type 0
@@ -67,14 +98,18 @@ pub record IsNoKey (rules : Rules) (members : List Member) (id : ListId) (x : Na
 abbrev pub IsUnread : Rules → Target → Tree → Type 0
 IsUnread rules t v = Counted (ReadsValue rules t v) NoCount
 
+-- what is told of a value that is not read: it has no reading as the target, and what it is
+pub record IsToldUnread (rules : Rules) (v : Tree) (u : Unread) : Type 0 where
+  pub unread : IsUnread rules (target_view u.target) v
+  pub given : IsGiven v u.given
+
 -- what is told of a part of a variant: a member's value is not read, or the value itself
 abbrev pub IsStop : Rules → Tree → Stop → Type 0
 IsStop rules v (AtMember x unread) =
-    (w : Tree) × (find (members_in v) x.now ≡ Some w)
-    × IsUnread rules (target_view unread.target) w
+    (w : Tree) × (find (members_in v) x.now ≡ Some w) × IsToldUnread rules w unread
 IsStop rules v Nothing = ⊤
 IsStop rules v (OneOf x) = ⊤
-IsStop rules v (Itself unread) = IsUnread rules (target_view unread.target) v
+IsStop rules v (Itself unread) = IsToldUnread rules v unread
 
 -- what is told of a variant that does not fit: it lacks a name, has no key of a name, or a part of it
 -- is not read
@@ -87,10 +122,16 @@ pub record IsMisfit (rules : Rules) (v : Tree) (m : Misfit) : Type 0 where
 
 -- what is told of a value that has no reading
 abbrev pub IsObstacle : Rules → Tree → Obstacle → Type 0
-IsObstacle rules v (obstacle.Unread unread) = IsUnread rules (target_view unread.target) v
+IsObstacle rules v (obstacle.Unread unread) = IsToldUnread rules v unread
 IsObstacle rules v (obstacle.Lacks branch x) =
     Lacks rules (members_in v) (list_view branch.list) x.now
+IsObstacle rules v (obstacle.Incomplete x block y) =
+    IsMemberOf rules (members_in v) (list_view block.list) x.now
+    × Lacks rules (members_in v) (list_view block.list) y.now
 IsObstacle rules v (obstacle.NoVariant of misfits) = All (IsMisfit rules v) misfits.items
+IsObstacle rules v (obstacle.NoTag x given branches) =
+    StandsAt (members_in v) x.now given
+    × All (λ b. LacksTag rules (members_in v) (list_view b.list) x.now) branches.items
 IsObstacle rules v _ = ⊤
 
 -- a branch of a selection reads an object

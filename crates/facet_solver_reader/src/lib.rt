@@ -32,11 +32,11 @@ mod why;
 
 pub use count::Count;
 pub use document::{Document, Number};
-pub use facet_solver_shape::Whole;
+pub use facet_solver_shape::{Whole, WholeRange};
 pub use nodes::DocumentError;
 pub use place::{Place, PlaceSegment};
 pub use read_error::{
-    Branch, Misfit, NoReading, Obstacle, ReadError, Several, Stop, TypeName, Unread, Wanted,
+    Branch, Given, Misfit, NoReading, Obstacle, ReadError, Several, Stop, TypeName, Unread, Wanted,
 };
 pub use reader::{Reader, TypeError, Unknown};
 pub use reading::{FieldPlace, ObjectReading, Reading, ReadingKind, VariantName};

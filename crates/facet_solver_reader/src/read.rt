@@ -19,7 +19,7 @@ mod untagged;
 mod variant;
 
 pub(crate) use chosen::{chosen_branch, lone_branch};
-pub(crate) use list::{count_list, fails_at_once};
+pub(crate) use list::{count_list, fails_at_once, is_other_tag};
 pub(crate) use members::members_of;
 pub(crate) use memo::{Asked, Memo};
 pub(crate) use object::{Object, count_all, count_object, filter_of, has_unknown, list_counts};

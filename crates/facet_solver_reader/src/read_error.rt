@@ -4,8 +4,11 @@ ghost use Rattle.std.specs.Prelude.{◌≡◌};
 use crate::nodes::DocumentError;
 use crate::part::{ListId, Target};
 use crate::place::Place;
+use facet_solver_shape::WholeRange;
+pub use given::Given;
 use std::alloc::AllocError;
 
+mod given;
 mod text;
 
 /// Why a document is not read.
@@ -50,12 +53,18 @@ pub struct Several<'c, 'd> {
 #[derive(Debug, Drop)]
 pub enum Obstacle<'c, 'd> {
     /// It is no value that the type reads.
-    Unread(Unread<'c>),
+    Unread(Unread<'c, 'd>),
     /// An object lacks a name that the type requires.
     Lacks(Branch<'c>, &'c str),
+    /// An object has a member of a block that may be absent, and lacks another that the block
+    /// requires: the name of the member, the block, and the name that it lacks.
+    Incomplete(&'d str, Branch<'c>, &'c str),
     /// None of several variants reads it: the type, and what stops each variant, in their order.
     /// Where the text of a tag leaves some, it is these alone.
     NoVariant(&'c str, Vec<Misfit<'c, 'd>>),
+    /// The member of a tag is missing, or its value is the text of no variant: the name of the tag,
+    /// the value, and the variants.
+    NoTag(&'c str, Option<Given<'d>>, Vec<Branch<'c>>),
     /// A text is the name of no variant: the type, the text, and the names that are.
     NoName(&'c str, &'d str, Vec<&'c str>),
     /// The name of a member is no key of a map: the type of its keys, and the name.
@@ -82,15 +91,17 @@ pub struct Branch<'c> {
     pub name: TypeName<'c>,
 }
 
-/// A type, and what it reads.
+/// A type, what it reads, and the value that it does not read.
 #[derive(Clone, Copy, Debug)]
-pub struct Unread<'c> {
+pub struct Unread<'c, 'd> {
     /// What the value is not read as.
     pub(crate) target: Target<'c>,
     /// The name of the type.
     pub name: TypeName<'c>,
     /// What it reads.
     pub reads: Wanted<'c>,
+    /// The value.
+    pub given: Given<'d>,
 }
 
 /// What a type reads.
@@ -100,8 +111,8 @@ pub enum Wanted<'c> {
     Null,
     /// A truth value.
     Truth,
-    /// A whole number in its range.
-    Whole,
+    /// A whole number of the range.
+    Whole(WholeRange),
     /// A number.
     Number,
     /// A text.
@@ -134,20 +145,20 @@ pub struct Misfit<'c, 'd> {
     /// The first member of the object that is another variant's, and none of this one.
     pub no_key: Option<&'d str>,
     /// Where neither stops it: what does.
-    pub stop: Stop<'c>,
+    pub stop: Stop<'c, 'd>,
 }
 
 /// What of a variant has no reading.
 #[derive(Clone, Copy, Debug)]
-pub enum Stop<'c> {
+pub enum Stop<'c, 'd> {
     /// Nothing that could be told.
     Nothing,
     /// The member of a name, by its type.
-    Member(&'c str, Unread<'c>),
+    Member(&'c str, Unread<'c, 'd>),
     /// One of the variants of a type, among the members.
     OneOf(&'c str),
     /// The value itself.
-    Itself(Unread<'c>),
+    Itself(Unread<'c, 'd>),
 }
 
 impl<'c, 'd> From<AllocError> for ReadError<'c, 'd> {

@@ -3,6 +3,7 @@
 //! Both go from the root into the value that is to blame, as long as one part of a value is to blame
 //! for all of it. What is told is asked of the counts: nothing is told that they don't say.
 ghost use Rattle.std.specs.Prelude.{◌≡◌, [], IfOk};
+ghost use Rattle.facet_solver_reader.specs.Documents.{view};
 ghost use Rattle.facet_solver_reader.specs.Nodes.{value_of};
 ghost use Rattle.facet_solver_reader.specs.Parts.{of_shape};
 ghost use Rattle.facet_solver_reader.specs.Reading.{AreSound, IsCount};
@@ -66,11 +67,11 @@ pub(crate) fn why_none<'c, 'd>(
 /// That the value at a place is not what a target reads.
 fn unread_at<'c, 'd>(
     tables: &Tables<'c>,
-    value: &Document<'_>,
+    value: &Document<'d>,
     target: &Target<'c>,
     place: Place<'d>,
 ) -> Result<NoReading<'c, 'd>, AllocError>
-    ensures { IfOk result (IsUnreadAt (target_view target.now) place.entry) }
+    ensures { IfOk result (IsUnreadAt (target_view target.now) (view value.now) place.entry) }
 {
     match unread(tables, value, target) {
         Ok(unread) => Ok(NoReading {

@@ -79,7 +79,7 @@ pub(crate) fn fails_at_once(nodes: &Nodes<'_, '_>, node: usize, part: &Part<'_>)
 }
 
 /// Whether a value is not the text of a tag, where the target is one.
-pub(super) fn is_other_tag(target: &Target<'_>, value: &Document<'_>) -> bool
+pub(crate) fn is_other_tag(target: &Target<'_>, value: &Document<'_>) -> bool
     ensures { result ≡ is_other_tag (target_view target.now) (view value.now) }
 {
     match target {

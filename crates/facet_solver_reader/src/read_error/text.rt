@@ -1,7 +1,9 @@
 //! The texts of errors.
+use super::given::write_text;
 use super::{
-    Branch, Misfit, NoReading, Obstacle, ReadError, Several, Stop, TypeName, Unread, Wanted,
+    Branch, Given, Misfit, NoReading, Obstacle, ReadError, Several, Stop, TypeName, Unread, Wanted,
 };
+use facet_solver_shape::WholeRange;
 use std::error::Error;
 use std::fmt;
 
@@ -26,13 +28,15 @@ impl fmt::Display for Branch<'_> {
     }
 }
 
-/// As `a whole number in its range`.
+/// As `a whole number from 0 to 255`.
 impl fmt::Display for Wanted<'_> {
     fn fmt<W: fmt::Write>(&self, f: &mut fmt::Formatter<W>) -> fmt::Result {
         match self {
             Wanted::Null => f.write_str("null"),
             Wanted::Truth => f.write_str("a truth value"),
-            Wanted::Whole => f.write_str("a whole number in its range"),
+            Wanted::Whole(WholeRange { lowest, highest }) => {
+                write!(f, "a whole number from {lowest} to {highest}")
+            }
             Wanted::Number => f.write_str("a number"),
             Wanted::Text => f.write_str("a text"),
             Wanted::Character => f.write_str("a text of one character"),
@@ -47,13 +51,28 @@ impl fmt::Display for Wanted<'_> {
     }
 }
 
-/// As `u8 reads a whole number in its range`.
-impl fmt::Display for Unread<'_> {
+/// As `300 is no u8: 0 to 255`, `the text "3" is no u8`, or `Login reads an object`.
+impl fmt::Display for Unread<'_, '_> {
     fn fmt<W: fmt::Write>(&self, f: &mut fmt::Formatter<W>) -> fmt::Result {
         let name = self.name;
-        match self.reads {
-            Wanted::Exactly(text) => write!(f, "only the text '{text}' is read"),
-            reads => write!(f, "{name} reads {reads}"),
+        let given = &self.given;
+        match (self.reads, given) {
+            (Wanted::Exactly(text), _) => write!(f, "only the text '{text}' is read"),
+            (Wanted::Whole(range), Given::Number(_)) => {
+                let WholeRange { lowest, highest } = range;
+                write!(f, "{given} is no {name}: {lowest} to {highest}")
+            }
+            (Wanted::Character, Given::Text(_)) => write!(f, "{given} is no {name}: one character"),
+            (Wanted::Null, _) => write!(f, "{given} is no {name}: null"),
+            (
+                Wanted::Truth
+                | Wanted::Whole(_)
+                | Wanted::Number
+                | Wanted::Text
+                | Wanted::Character,
+                _,
+            ) => write!(f, "{given} is no {name}"),
+            (reads, _) => write!(f, "{name} reads {reads}"),
         }
     }
 }
@@ -90,12 +109,20 @@ impl fmt::Display for Obstacle<'_, '_> {
                 let of = branch.name;
                 write!(f, "{of} lacks '{name}'")
             }
+            Obstacle::Incomplete(member, block, name) => {
+                let of = block.name;
+                write!(f, "'{member}' is of {of}, which lacks '{name}'")
+            }
             Obstacle::NoVariant(name, misfits) => {
                 write!(f, "no variant of {name} fits")?;
                 for misfit in misfits {
                     write!(f, "; {misfit}")?;
                 }
                 Ok(())
+            }
+            Obstacle::NoTag(tag, given, branches) => {
+                write_tag(tag, given.as_ref(), f)?;
+                write_branches(branches, f)
             }
             Obstacle::NoName(of, text, names) => {
                 write!(f, "{of} has no variant '{text}' here")?;
@@ -111,6 +138,35 @@ impl fmt::Display for Obstacle<'_, '_> {
             }
         }
     }
+}
+
+/// What stands where a tag does, as `'in' is missing` or `'in' is 'Ftp'`.
+fn write_tag<W: fmt::Write>(
+    tag: &str,
+    given: Option<&Given<'_>>,
+    f: &mut fmt::Formatter<W>,
+) -> fmt::Result {
+    match given {
+        None => write!(f, "'{tag}' is missing"),
+        Some(Given::Text(text)) => {
+            write!(f, "'{tag}' is ")?;
+            write_text(text, f)
+        }
+        Some(given) => write!(f, "'{tag}' is {given}"),
+    }
+}
+
+/// The names of variants, as `: 'File' or 'Http'`.
+fn write_branches<W: fmt::Write>(
+    branches: &[Branch<'_>],
+    f: &mut fmt::Formatter<W>,
+) -> fmt::Result {
+    let mut before = ": ";
+    for branch in branches {
+        write!(f, "{before}'{branch}'")?;
+        before = " or ";
+    }
+    Ok(())
 }
 
 /// Names with commas between them, each in quotes and the first behind a blank.

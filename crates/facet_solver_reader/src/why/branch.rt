@@ -47,7 +47,7 @@ pub(super) fn none_in_selection<'c, 'd>(
         return Ok(None);
     }
     if let Some(position) = one_branch(tables, nodes, asked, selection) {
-        return Ok(Some(Found::Branch(position)));
+        return Ok(Some(Found::Branch(position, selection.optional)));
     }
     if let Some(here) = none_by_tag(tables, nodes, object, selection)? {
         return Ok(Some(Found::Next(Next::Here(here))));

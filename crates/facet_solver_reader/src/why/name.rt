@@ -1,15 +1,18 @@
 //! The names of types and variants, and what they read.
 ghost use Rattle.std.specs.Prelude.{◌≡◌, IfOk};
+ghost use Rattle.facet_solver_reader.specs.Documents.{view};
 ghost use Rattle.facet_solver_reader.specs.Views.{list_view, target_view};
+ghost use Rattle.facet_solver_reader.specs.Blaming.{IsUnreadAs};
 
 use crate::content::content_at;
 use crate::document::Document;
 use crate::end::{Content, End};
+use crate::ends::last_of;
 use crate::part::{ListId, Selection, Target};
-use crate::read_error::{Branch, TypeName, Unread, Wanted};
+use crate::read_error::{Branch, Given, TypeName, Unread, Wanted};
 use crate::tables::Tables;
 use crate::variants::variant_at;
-use facet_solver_shape::{ShapeId, Shapes};
+use facet_solver_shape::{ShapeId, ShapeKind, Shapes};
 use std::alloc::AllocError;
 
 /// The name of the shape at an index.
@@ -36,6 +39,16 @@ fn whole_name(shapes: &Shapes, id: ShapeId) -> TypeName<'_> {
     TypeName {
         name: shape_name(shapes, id),
         variant: None,
+    }
+}
+
+/// The name of the basic type to which the shape at an index leads, if it leads to one, or else
+/// another name.
+fn basic_name<'c>(shapes: &'c Shapes, id: ShapeId, other: TypeName<'c>) -> TypeName<'c> {
+    let last = last_of(shapes, id);
+    match shapes.get(last) {
+        Some(shape) if matches!(shape.kind, ShapeKind::Scalar(_)) => whole_name(shapes, last),
+        _ => other,
     }
 }
 
@@ -70,12 +83,12 @@ pub(super) fn same_target<'c>(target: &Target<'c>) -> Target<'c>
 }
 
 /// A target, and what it reads, for a value that it does not read.
-pub(super) fn unread<'c>(
+pub(super) fn unread<'c, 'd>(
     tables: &Tables<'c>,
-    value: &Document<'_>,
+    value: &Document<'d>,
     target: &Target<'c>,
-) -> Result<Unread<'c>, AllocError>
-    ensures { IfOk result (λ unread. target_view unread.target ≡ target_view target.now) }
+) -> Result<Unread<'c, 'd>, AllocError>
+    ensures { IfOk result (IsUnreadAs (target_view target.now) (view value.now)) }
 {
     let (name, reads) = name_and_kind(tables, target)?;
     Ok(Unread {
@@ -86,6 +99,7 @@ pub(super) fn unread<'c>(
         } else {
             reads
         },
+        given: Given::of(value),
     })
 }
 
@@ -104,10 +118,18 @@ fn name_and_kind<'c>(
     target: &Target<'c>,
 ) -> Result<(TypeName<'c>, Wanted<'c>), AllocError> {
     match target {
-        Target::Shape(id) => Ok((whole_name(tables.shapes, *id), wanted_by(tables, *id))),
+        Target::Shape(id) => {
+            let name = basic_name(tables.shapes, *id, whole_name(tables.shapes, *id));
+            Ok((name, wanted_by(tables, *id)))
+        }
         Target::Content(id, k) => {
             let content = content_at(tables.alloc, tables.shapes, *id, *k)?;
-            let name = variant_name(tables.shapes, *id, *k);
+            let name = match &content {
+                Content::Shape(inside) => {
+                    basic_name(tables.shapes, *inside, variant_name(tables.shapes, *id, *k))
+                }
+                _ => variant_name(tables.shapes, *id, *k),
+            };
             Ok((name, wanted_of_content(tables, &content)))
         }
         Target::Tag(text) => {
@@ -143,7 +165,7 @@ fn wanted_of_end<'c>(end: &End<'_>) -> Wanted<'c> {
     match end {
         End::Null => Wanted::Null,
         End::Truth => Wanted::Truth,
-        End::Whole(_) => Wanted::Whole,
+        End::Whole(range) => Wanted::Whole(*range),
         End::Float => Wanted::Number,
         End::Text => Wanted::Text,
         End::Character => Wanted::Character,

@@ -1,11 +1,12 @@
 //! What stops a reading of an object by a list of parts.
 ghost use Rattle.std.specs.Prelude.{◌≡◌, ◌<◌, IfOk, IfSome};
-ghost use Rattle.facet_solver_reader.specs.Nodes.{count, value_of};
+ghost use Rattle.facet_solver_reader.specs.Nodes.{count, members_in, value_of};
 ghost use Rattle.facet_solver_reader.specs.Parts.{a_catch_all, a_member};
 ghost use Rattle.facet_solver_reader.specs.Reading.{AreSound, IsObject};
-ghost use Rattle.facet_solver_reader.specs.Tables.{AreTables, ListIsServed, PartIsServed};
+ghost use Rattle.facet_solver_reader.specs.Tables.{AreTables, ListIsServed, PartIsServed, rules_at};
 ghost use Rattle.facet_solver_reader.specs.Views.{catch_all_view, list_view, member_view, part_view};
 ghost use Rattle.facet_solver_reader.specs.Blaming.{IsAsked, IsBelow, IsFound, IsNext, IsPartOf};
+ghost use Rattle.facet_solver_reader.specs.Why.{IsMemberOf, IsObstacle, Lacks};
 ghost use Rattle.facet_solver_reader.specs.declared.count.Count.TheVariants.{None as NoCount};
 
 use super::asked::{Asked, ask, list_at};
@@ -27,8 +28,9 @@ use std::alloc::AllocError;
 pub(super) enum Found<'c, 'd> {
     /// This.
     Next(Next<'c, 'd>),
-    /// Something of the one branch that its names leave, by the position of its list.
-    Branch(usize),
+    /// Something of the one branch that its names leave, by the position of its list, and whether
+    /// it may be absent.
+    Branch(usize, bool),
 }
 
 /// An object that is read by a list, if some choice has that. Catch-alls take its members of no
@@ -103,26 +105,31 @@ fn none_in_lists<'c, 'd>(
 {
     let lists = asked.object.list.below.len();
     let mut position = lists.saturating_sub(1);
+    let mut is_block = false;
     for _ in 0..lists {
         let Some(list) = list_at(tables, &asked.object, position) else {
             return Ok(None);
         };
-        match none_in_list(tables, nodes, memo, asked, list)? {
+        match none_in_list(tables, nodes, memo, asked, list, is_block)? {
             Some(Found::Next(next)) => return Ok(Some(next)),
-            Some(Found::Branch(inner)) => position = inner,
+            Some(Found::Branch(inner, is_optional)) => {
+                position = inner;
+                is_block |= is_optional;
+            }
             None => return Ok(None),
         }
     }
     Ok(None)
 }
 
-/// The first part of a list that has no reading.
+/// The first part of a list that has no reading. The list may be of a block that may be absent.
 fn none_in_list<'c, 'd>(
     tables: &Tables<'c>,
     nodes: &Nodes<'_, 'd>,
     memo: &mut Memo,
     asked: &Asked<'_, 'c>,
     list: &List<'c>,
+    is_block: bool,
 ) -> Result<Option<Found<'c, 'd>>, AllocError>
     requires sound { AreSound tables.now nodes.now memo.old.entries.items }
     requires asked { IsAsked tables.now nodes.now asked.now }
@@ -132,7 +139,7 @@ fn none_in_list<'c, 'd>(
         (IsFound tables.now nodes.now (value_of nodes.now asked.now.object.node))) }
 {
     for part in &list.parts {
-        let found = none_in_part(tables, nodes, memo, asked, list, part)?;
+        let found = none_in_part(tables, nodes, memo, asked, list, is_block, part)?;
         if found.is_some() {
             return Ok(found);
         }
@@ -147,6 +154,7 @@ fn none_in_part<'c, 'd>(
     memo: &mut Memo,
     asked: &Asked<'_, 'c>,
     list: &List<'c>,
+    is_block: bool,
     part: &Part<'c>,
 ) -> Result<Option<Found<'c, 'd>>, AllocError>
     requires sound { AreSound tables.now nodes.now memo.old.entries.items }
@@ -159,7 +167,7 @@ fn none_in_part<'c, 'd>(
 {
     match part {
         Part::Member(member) => {
-            match none_in_member(tables, nodes, memo, &asked.object, list, member)? {
+            match none_in_member(tables, nodes, memo, &asked.object, list, is_block, member)? {
                 Some(next) => Ok(Some(Found::Next(next))),
                 None => Ok(None),
             }
@@ -181,6 +189,7 @@ fn none_in_member<'c, 'd>(
     memo: &mut Memo,
     object: &Object<'_, 'c>,
     list: &List<'c>,
+    is_block: bool,
     member: &MemberPart<'c>,
 ) -> Result<Option<Next<'c, 'd>>, AllocError>
     requires sound { AreSound tables.now nodes.now memo.old.entries.items }
@@ -195,14 +204,60 @@ fn none_in_member<'c, 'd>(
         Some(value) => into(tables, nodes, memo, value, &member.target, Count::None),
         None => {
             if member.required {
-                let branch = branch_of(tables.shapes, list.id);
-                let lacks = Obstacle::Lacks(branch, member.name);
+                let lacks = lacking(tables, nodes, object, list, is_block, member.name);
                 Ok(Some(Next::Here(Here::Stops(lacks))))
             } else {
                 Ok(None)
             }
         }
     }
+}
+
+/// That an object lacks a name that a list requires. Of a block that may be absent it is told by
+/// which member it is there.
+fn lacking<'c, 'd>(
+    tables: &Tables<'c>,
+    nodes: &Nodes<'_, 'd>,
+    object: &Object<'_, 'c>,
+    list: &List<'c>,
+    is_block: bool,
+    name: &'c str,
+) -> Obstacle<'c, 'd>
+    requires tables { AreTables tables.now }
+    requires object { IsObject tables.now nodes.now object.now }
+    requires below { IsBelow tables.now object.now list.now }
+    requires lacks { Lacks (rules_at tables.now) (members_in (value_of nodes.now object.now.node))
+        (list_view list.now.id) name.now }
+    ensures { IsObstacle (rules_at tables.now) (value_of nodes.now object.now.node) result }
+{
+    let branch = branch_of(tables.shapes, list.id);
+    if is_block {
+        if let Some(member) = first_known(tables, nodes, object, list) {
+            return Obstacle::Incomplete(member, branch, name);
+        }
+    }
+    Obstacle::Lacks(branch, name)
+}
+
+/// The first member of an object that some choice of a list has.
+fn first_known<'d>(
+    tables: &Tables<'_>,
+    nodes: &Nodes<'_, 'd>,
+    object: &Object<'_, '_>,
+    list: &List<'_>,
+) -> Option<&'d str>
+    requires tables { AreTables tables.now }
+    requires object { IsObject tables.now nodes.now object.now }
+    requires below { IsBelow tables.now object.now list.now }
+    ensures { IfSome result (λ name. IsMemberOf (rules_at tables.now)
+        (members_in (value_of nodes.now object.now.node)) (list_view list.now.id) name.now) }
+{
+    for member in members_of(nodes.value(object.node)) {
+        if list.has_name(member.0) {
+            return Some(member.0);
+        }
+    }
+    None
 }
 
 /// What stops a reading of an object by a catch-all.

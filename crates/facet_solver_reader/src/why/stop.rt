@@ -20,21 +20,21 @@ use std::alloc::AllocError;
 
 /// What of a part of a branch has no reading.
 #[derive(Clone, Copy, Debug)]
-pub(super) enum Inner<'c> {
+pub(super) enum Inner<'c, 'd> {
     /// This.
-    Stop(Stop<'c>),
+    Stop(Stop<'c, 'd>),
     /// Something of a list that each choice goes through, by its position.
     List(usize),
 }
 
 /// The first part of a list, or of one that each choice of it goes through, that has no reading.
-pub(super) fn stop_of<'c>(
+pub(super) fn stop_of<'c, 'd>(
     tables: &Tables<'c>,
-    nodes: &Nodes<'_, '_>,
+    nodes: &Nodes<'_, 'd>,
     memo: &mut Memo,
     asked: &Asked<'_, 'c>,
     position: usize,
-) -> Result<Stop<'c>, AllocError>
+) -> Result<Stop<'c, 'd>, AllocError>
     requires sound { AreSound tables.now nodes.now memo.old.entries.items }
     requires asked { IsAsked tables.now nodes.now asked.now }
     ensures sound { AreSound tables.now nodes.now memo.new.entries.items }
@@ -57,13 +57,13 @@ pub(super) fn stop_of<'c>(
 }
 
 /// The first part of a list that has no reading.
-fn stop_in_list<'c>(
+fn stop_in_list<'c, 'd>(
     tables: &Tables<'c>,
-    nodes: &Nodes<'_, '_>,
+    nodes: &Nodes<'_, 'd>,
     memo: &mut Memo,
     asked: &Asked<'_, 'c>,
     list: &List<'c>,
-) -> Result<Option<Inner<'c>>, AllocError>
+) -> Result<Option<Inner<'c, 'd>>, AllocError>
     requires sound { AreSound tables.now nodes.now memo.old.entries.items }
     requires asked { IsAsked tables.now nodes.now asked.now }
     requires below { IsBelow tables.now asked.now.object list.now }
@@ -81,13 +81,13 @@ fn stop_in_list<'c>(
 }
 
 /// What of a part of a list has no reading.
-fn stop_in_part<'c>(
+fn stop_in_part<'c, 'd>(
     tables: &Tables<'c>,
-    nodes: &Nodes<'_, '_>,
+    nodes: &Nodes<'_, 'd>,
     memo: &mut Memo,
     asked: &Asked<'_, 'c>,
     part: &Part<'c>,
-) -> Result<Option<Inner<'c>>, AllocError>
+) -> Result<Option<Inner<'c, 'd>>, AllocError>
     requires sound { AreSound tables.now nodes.now memo.old.entries.items }
     requires asked { IsAsked tables.now nodes.now asked.now }
     requires served { PartIsServed tables.now (part_view part.now) }
@@ -105,13 +105,13 @@ fn stop_in_part<'c>(
 }
 
 /// A member that the object has, and whose value is not read.
-fn stop_at_member<'c>(
+fn stop_at_member<'c, 'd>(
     tables: &Tables<'c>,
-    nodes: &Nodes<'_, '_>,
+    nodes: &Nodes<'_, 'd>,
     memo: &mut Memo,
     asked: &Asked<'_, 'c>,
     member: &MemberPart<'c>,
-) -> Result<Option<Inner<'c>>, AllocError>
+) -> Result<Option<Inner<'c, 'd>>, AllocError>
     requires sound { AreSound tables.now nodes.now memo.old.entries.items }
     requires asked { IsAsked tables.now nodes.now asked.now }
     requires served { IsServed tables.now (member_view member.now).target }
@@ -133,12 +133,12 @@ fn stop_at_member<'c>(
 }
 
 /// A selection by which the object is not read.
-fn stop_at_selection<'c>(
+fn stop_at_selection<'c, 'd>(
     tables: &Tables<'c>,
-    nodes: &Nodes<'_, '_>,
+    nodes: &Nodes<'_, 'd>,
     asked: &Asked<'_, 'c>,
     selection: &Selection,
-) -> Option<Inner<'c>>
+) -> Option<Inner<'c, 'd>>
     requires tables { AreTables tables.now }
     requires asked { IsAsked tables.now nodes.now asked.now }
     requires served { All (ListIsServed tables.now) (selection_view selection.now).branches }

@@ -36,6 +36,12 @@ read_value-returns-in-EndObject-clause-invalid t c offset refused =
     let none : value c.args.depth c.args.reader.now ≡ None = rw (value_is c.args.depth c.args.reader.now, first) (grind arith) in
     ap (parse_map document_of) none
 
+pub read_value-returns-in-Key-clause-invalid : goal.read_value-returns-in-Key-clause-invalid
+read_value-returns-in-Key-clause-invalid t c offset refused =
+    let first : c.args.reader.now ≡ token_of c.in_ok-token.token ∷ c.next.new.self = grind arith in
+    let none : value c.args.depth c.args.reader.now ≡ None = rw (value_is c.args.depth c.args.reader.now, first) (grind arith) in
+    ap (parse_map document_of) none
+
 pub read_value-returns-in-Null-clause-ok : goal.read_value-returns-in-Null-clause-ok
 read_value-returns-in-Null-clause-ok t c =
     let first : c.args.reader.now ≡ token_of c.in_ok-token.token ∷ c.next.new.self = grind arith in

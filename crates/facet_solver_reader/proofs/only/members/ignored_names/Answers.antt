@@ -4,7 +4,6 @@ use Rattle.std.proofs.lemmas.List.{map-append}
 use Rattle.facet_solver_reader.specs.Reading.{member_view}
 use Rattle.facet_solver_reader.specs.Told.{texts}
 use Rattle.facet_solver_reader.proofs.UnknownNames.{unknown_more, unknown_same}
-use Rattle.facet_solver_reader.specs.Nodes.{members_in, value_of}
 use Rattle.facet_solver_reader.proofs.only.members.ignored_names.Goals as goal
 use Rattle.facet_solver_reader.proofs.only.members.ignored_names.Goals.{
   then-not-has_name+in_ok-push,

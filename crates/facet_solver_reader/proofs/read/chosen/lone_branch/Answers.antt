@@ -1,4 +1,4 @@
-use Rattle.std.proofs.Common.{◌≡◌, ◌∙◌, ap, length, map, arith, subst, sym}
+use Rattle.std.proofs.Common.{◌∙◌, ap, length, map, arith, subst, sym}
 use Rattle.std.proofs.lemmas.List.{length-map}
 use Rattle.facet_solver_reader.specs.Reading.{object_view}
 use Rattle.facet_solver_reader.specs.Readings.{ReadsValue}

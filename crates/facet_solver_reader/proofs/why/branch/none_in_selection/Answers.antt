@@ -9,4 +9,4 @@ pub returns-in-Some-2-clause-found : goal.returns-in-Some-2-clause-found
 returns-in-Some-2-clause-found c =
     let rules = rules_at c.args.tables.now in
     let v = value_of c.args.nodes.now c.args.asked.now.object.node in
-    subst (λ o. IfSome o (IsHere rules v)) c.in-Some-2.is (c.in_ok-here.ensures rules v)
+    subst (λ o. IfSome o (IsHere rules v)) c.in-Some-2.is c.in_ok-here.ensures

@@ -1,9 +1,7 @@
-use Rattle.std.proofs.Common.{subst, sym}
 use Rattle.facet_solver_reader.specs.Nodes.{members_in, value_of}
 use Rattle.facet_solver_reader.specs.Parts.{a_member}
 use Rattle.facet_solver_reader.specs.Tables.{rules_at}
 use Rattle.facet_solver_reader.specs.Views.{list_view, member_view, parts_view}
-use Rattle.facet_solver_reader.specs.Why.{Lacks}
 use Rattle.facet_solver_reader.proofs.Blaming.{listed_of_below, part_served}
 use Rattle.facet_solver_reader.proofs.Lacking.{lacks_by_part, member_lacks}
 use Rattle.facet_solver_reader.proofs.why.object.none_in_member.Goals as goal
@@ -20,8 +18,11 @@ pub returns-in-Some-clause-next : goal.returns-in-Some-clause-next
 returns-in-Some-clause-next c =
     c.into.ensures.next (value_of c.args.nodes.now c.args.object.now.node)
 
-pub returns-then-member-clause-next : goal.returns-then-member-clause-next
-returns-then-member-clause-next c =
+pub lacking-lacks-requires-clause-below : goal.lacking-lacks-requires-clause-below
+lacking-lacks-requires-clause-below c = c.requires.below
+
+pub lacking-lacks-requires-clause-lacks : goal.lacking-lacks-requires-clause-lacks
+lacking-lacks-requires-clause-lacks c =
     let t = c.args.tables.now in
     let rules = rules_at t in
     let tables = c.requires.sound.tables in
@@ -30,7 +31,6 @@ returns-then-member-clause-next c =
     let ms = members_in (value_of c.args.nodes.now c.args.object.now.node) in
     let m = member_view c.args.member.now in
     let listed = listed_of_below t tables c.args.object.now l c.requires.below in
-    subst (λ i. Lacks rules ms i m.name) (sym c.branch_of-branch.ensures)
-    (lacks_by_part rules ms (list_view l.id) ps c.requires.part.0 (a_member m) m.name
+    lacks_by_part rules ms (list_view l.id) ps c.requires.part.0 (a_member m) m.name
     (tables.lists listed.index l listed.listed).same c.requires.part.1
-    (member_lacks rules ms m c.if-member.true c.in-None.ensures))
+    (member_lacks rules ms m c.if-member.true c.in-None.ensures)

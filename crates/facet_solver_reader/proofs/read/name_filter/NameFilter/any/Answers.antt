@@ -1,4 +1,4 @@
-use Rattle.std.proofs.Common.{◌≡◌, ap, nat_eq}
+use Rattle.std.proofs.Common.{ap, nat_eq}
 use Rattle.std.proofs.lemmas.Nat.Bits.{bit_at_ones}
 use Rattle.facet_solver_reader.specs.NameFilters.{bit_of}
 use Rattle.facet_solver_reader.proofs.NameFilters.{bit_of_below}

@@ -1,4 +1,4 @@
-use Rattle.std.proofs.Common.{◌≡◌, ◌∙◌, ap, nat_eq, sym}
+use Rattle.std.proofs.Common.{◌∙◌, ap, nat_eq, sym}
 use Rattle.std.proofs.lemmas.Nat.Bits.{bit_at_ones, shr_and_one}
 use Rattle.std.specs.Int.{bit_at}
 use Rattle.facet_solver_reader.specs.NameFilters.{bit_of}
