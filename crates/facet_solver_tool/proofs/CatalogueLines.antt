@@ -6,7 +6,7 @@ use Rattle.facet_solver_shape.specs.Catalogues.{Catalogue}
 use Rattle.facet_solver_shape.specs.Names.{Name}
 use Rattle.facet_solver_tool.specs.SeparatedTexts.{behind}
 use Rattle.facet_solver_tool.specs.ShapeText.{line, line_at, lines}
-use Rattle.facet_solver_tool.proofs.Lines as each
+use Rattle.facet_solver_tool.proofs.ElementLines as each
 
 -- behind the pieces so far comes that of the next element
 pub piece_more : {A : Type 0} (piece : A → Name) (xs : List A) (i : ℕ) (x : A) → i < length xs → x ≡ get_or xs i x

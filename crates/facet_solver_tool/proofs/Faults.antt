@@ -2,6 +2,7 @@
 use Rattle.std.proofs.Common.{◌≡◌, ◌≢◌, ℕ, List, None, refl}
 use Rattle.facet_solver_json.specs.declared.error.JsonError.{JsonError}
 use Rattle.facet_solver_json.specs.declared.error.JsonError.TheVariants as json_errors
+use Rattle.facet_solver_json.specs.declared.reason.Reason.{Reason}
 use Rattle.facet_solver_json.specs.Places.{HasPlace}
 use Rattle.facet_solver_json.specs.Values.{parse}
 use Rattle.facet_solver_reader.specs.declared.reader.error.TypeError.{TypeError}
@@ -26,8 +27,8 @@ fault_of_refusal shapes root type_errors.OutOfMemory more refused = absurd (more
 -- an error of JSON answers a text that is none
 pub answers_no_json : (r : ReaderView) (text : List ℕ) (error : JsonError) (a : Answer)
     → error ≢ json_errors.OutOfMemory
-    → ((line column : ℕ) → error ≡ json_errors.Invalid line column → parse text ≡ None)
+    → ((line column : ℕ) (reason : Reason) → error ≡ json_errors.Invalid line column reason → parse text ≡ None)
     → HasPlace error text → a ≡ says BadDocument (no_json_text error) → AnswersText r text a
-answers_no_json r text (json_errors.Invalid line column) a more invalid place told =
-    no_json line column (invalid line column refl) place told
+answers_no_json r text (json_errors.Invalid line column reason) a more invalid place told =
+    no_json line column reason (invalid line column reason refl) place told
 answers_no_json r text json_errors.OutOfMemory a more invalid place told = absurd (more refl)

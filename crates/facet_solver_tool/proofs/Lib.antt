@@ -1,4 +1,4 @@
-pub mod Lines
+pub mod ElementLines
 pub mod CatalogueLines
 pub mod Words
 pub mod ShapeNames
@@ -6,3 +6,9 @@ pub mod Joined
 pub mod Explained
 pub mod Faults
 pub mod Runs
+pub mod Told
+pub mod EachLine
+pub mod FirstLine
+pub mod SoFar
+pub mod Written
+pub mod Refused

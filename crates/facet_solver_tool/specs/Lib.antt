@@ -17,4 +17,7 @@ pub mod ShapeText
 pub mod CatalogueText
 pub mod RootAnswers
 pub mod Answers
+pub mod Streams
+pub mod Counts
+pub mod Lines
 pub mod Runs

@@ -1,8 +1,11 @@
 -- What is asked.
 use Rattle.std.specs.Prelude.{Option, option_map}
 use Rattle.facet_solver_shape.specs.Names.{Name}
+use Rattle.facet_solver_tool.specs.declared.question.Form.TheVariants.{Json}
+use Rattle.facet_solver_tool.specs.declared.question.LinesQuestion as lines_question
 use Rattle.facet_solver_tool.specs.declared.question.Question as question
 use Rattle.facet_solver_tool.specs.declared.question.Task.{Task}
+use Rattle.facet_solver_tool.specs.declared.question.Task.TheVariants.{Read}
 
 -- a question: what is asked, the path of the file of types, and the name of the root, if one is named
 pub record Question : Type 0 where
@@ -14,6 +17,14 @@ pub record Question : Type 0 where
 abbrev pub question_view : question.Question → Question
 question_view q = record {
   task = q.task;
+  types = q.types.now;
+  root = option_map (λ name. name.now) q.root;
+}
+
+-- what is seen of a question about each line: the question that is asked about one
+abbrev pub lines_view : lines_question.LinesQuestion → Question
+lines_view q = record {
+  task = Read (record { unknown = q.unknown; form = Json });
   types = q.types.now;
   root = option_map (λ name. name.now) q.root;
 }

@@ -2,6 +2,7 @@
 use Rattle.std.specs.Prelude.{◌≡◌, ◌++◌, ℕ, List, Option, Some, None, IsUtf8, codes}
 use Rattle.facet_solver_json.specs.declared.error.JsonError.{JsonError}
 use Rattle.facet_solver_json.specs.declared.error.JsonError.TheVariants.{Invalid}
+use Rattle.facet_solver_json.specs.declared.reason.Reason.{Reason}
 use Rattle.facet_solver_json.specs.ErrorTexts.{error_text}
 use Rattle.facet_solver_json.specs.Places.{HasPlace}
 use Rattle.facet_solver_json.specs.Values.{parse}
@@ -40,15 +41,15 @@ pub data EndsTree (r : ReaderView) (v : Tree) (status : Status) : Type 0 where
   is_unread : (error : ReadError) → IsUnread r v error → Some status ≡ status_of error
       → EndsTree r v status
 
--- the text that tells why a document is no JSON: the place first
+-- the text that tells where and why a document is no JSON
 abbrev pub no_json_text : JsonError → List ℕ
 no_json_text error = codes "document:" ++ error_text error
 
 -- a reader's answer to the text of a document
 pub data AnswersText (r : ReaderView) (text : List ℕ) (a : Answer) : Type 0 where
-  no_json : (line column : ℕ)
-      → parse text ≡ None → HasPlace (Invalid line column) text
-      → a ≡ says BadDocument (no_json_text (Invalid line column)) → AnswersText r text a
+  no_json : (line column : ℕ) (reason : Reason)
+      → parse text ≡ None → HasPlace (Invalid line column reason) text
+      → a ≡ says BadDocument (no_json_text (Invalid line column reason)) → AnswersText r text a
   is_json : (v : Tree) → parse text ≡ Some v → EndsTree r v a.status → AnswersText r text a
 
 -- a reader's answer to the bytes of a document

@@ -1,5 +1,6 @@
 -- What the words of a command line ask.
-use Rattle.std.specs.Prelude.{◌≡◌, ◌==◌, ⊤, Bool, List, [], ◌∷◌, Option, Some, None, Result, Ok, Err, codes, filter, find, not, slice_index, if◌then◌else◌}
+use Rattle.std.specs.Prelude.{◌≡◌, ◌==◌, ◌&&◌, ⊤, Bool, List, [], ◌∷◌, Option, Some, None, Result, Ok, Err, codes, filter, find, not, option_map, slice_index, if◌then◌else◌}
+use Rattle.std.specs.Borrow.{Bor}
 use Rattle.std.specs.List.{list_any}
 use Rattle.facet_solver_shape.specs.Names.{Name, name_eq}
 use Rattle.facet_solver_reader.specs.declared.reader.Unknown.{Unknown}
@@ -8,15 +9,25 @@ use Rattle.facet_solver_tool.specs.declared.arguments.ArgumentError.{ArgumentErr
 use Rattle.facet_solver_tool.specs.declared.arguments.ArgumentError.TheVariants as errors
 use Rattle.facet_solver_tool.specs.declared.arguments.Request as request
 use Rattle.facet_solver_tool.specs.declared.arguments.Request.TheVariants as requests
+use Rattle.facet_solver_tool.specs.declared.question.Form.{Form}
+use Rattle.facet_solver_tool.specs.declared.question.Form.TheVariants.{Text, Json}
+use Rattle.facet_solver_tool.specs.declared.question.Manner.{Manner}
 use Rattle.facet_solver_tool.specs.declared.question.Task.{Task}
 use Rattle.facet_solver_tool.specs.declared.question.Task.TheVariants.{Read, Check, Catalogue}
-use Rattle.facet_solver_tool.specs.Questions.{Question, question_view}
+use Rattle.facet_solver_tool.specs.Questions.{Question, lines_view, question_view}
 
--- what is asked for: how the program is called, its version, or the answer to a question
+-- what is asked for: how the program is called, its version, the answer to a question, or the
+-- answers to one about each line
 pub data Request : Type 0 where
   help : Request
   version : Request
   ask : Question → Request
+  ask_lines : Question → Request
+
+-- what words name: the path of the file of types, and the name of the root, if one is named
+pub record Subject : Type 0 where
+  pub types : Name
+  pub root : Option Name
 
 -- why words ask nothing
 pub data Misuse : Type 0 where
@@ -38,30 +49,73 @@ is_option word = slice_index word 0 == 45
 abbrev pub is_strict : Name → Bool
 is_strict word = name_eq word (codes "--strict")
 
--- the question of a task, about the types and the root that words name
-abbrev pub named : Task → List Name → Outcome
-named task [] = Err no_types
-named task (types ∷ []) = Ok (ask record { task = task; types = types; root = None })
-named task (types ∷ root ∷ []) =
-    Ok (ask record { task = task; types = types; root = Some root })
-named task (types ∷ root ∷ word ∷ words) = Err (too_many word)
+-- whether a word has the reading written as JSON
+abbrev pub is_json : Name → Bool
+is_json word = name_eq word (codes "--json")
+
+-- whether a word has each line read as a document
+abbrev pub is_lines : Name → Bool
+is_lines word = name_eq word (codes "--lines")
+
+-- whether a word behind 'read' doesn't say how documents are read
+abbrev pub is_operand : Name → Bool
+is_operand word = (not (is_strict word) && not (is_json word)) && not (is_lines word)
+
+-- what words name, of which none is an option
+abbrev pub named : List Name → Result Subject Misuse
+named [] = Err no_types
+named (types ∷ []) = Ok record { types = types; root = None }
+named (types ∷ root ∷ []) = Ok record { types = types; root = Some root }
+named (types ∷ root ∷ word ∷ words) = Err (too_many word)
 
 -- the same, unless a word is an option, which the first is
-abbrev pub unless_option : Option Name → Outcome → Outcome
-unless_option None outcome = outcome
-unless_option (Some word) outcome = Err (no_such_option word)
+abbrev pub unless_option : Option Name → Result Subject Misuse → Result Subject Misuse
+unless_option None subject = subject
+unless_option (Some word) subject = Err (no_such_option word)
 
--- the question of a task that has no options
+-- what words name
+abbrev pub subject : List Name → Result Subject Misuse
+subject words = unless_option (find is_option words) (named words)
+
+-- the question of a task about a subject
+abbrev pub about : Task → Subject → Question
+about task s = record { task = task; types = s.types; root = s.root }
+
+-- what is asked about a subject, if there is one
+abbrev pub asked : (Subject → Request) → Result Subject Misuse → Outcome
+asked request (Ok s) = Ok (request s)
+asked request (Err misuse) = Err misuse
+
+-- the question of a task about what words name
 abbrev pub question : Task → List Name → Outcome
-question task words = unless_option (find is_option words) (named task words)
+question task words = asked (λ s. ask (about task s)) (subject words)
+
+-- how a document of a line is read
+abbrev pub of_line : Unknown → Task
+of_line unknown = Read (record { unknown = unknown; form = Json })
+
+-- the question about each line, and about what words name
+abbrev pub question_of_lines : Unknown → List Name → Outcome
+question_of_lines unknown words =
+    asked (λ s. ask_lines (about (of_line unknown) s)) (subject words)
 
 -- what is done with unknown members
 abbrev pub unknown : List Name → Unknown
 unknown words = if list_any is_strict words then Refused else Ignored
 
+-- how the reading is written
+abbrev pub form : List Name → Form
+form words = if list_any is_json words then Json else Text
+
+-- how a document is read
+abbrev pub manner : List Name → Manner
+manner words = record { unknown = unknown words; form = form words }
+
 -- what the words behind 'read' ask
 abbrev pub read : List Name → Outcome
-read words = question (Read (unknown words)) (filter (λ word. not (is_strict word)) words)
+read words =
+    if list_any is_lines words then question_of_lines (unknown words) (filter is_operand words)
+    else question (Read (manner words)) (filter is_operand words)
 
 -- a request that has no other words
 abbrev pub alone : Request → List Name → Outcome
@@ -88,6 +142,7 @@ abbrev pub request_view : request.Request → Request
 request_view requests.Help = help
 request_view requests.Version = version
 request_view (requests.Ask question) = ask (question_view question)
+request_view (requests.Lines question) = ask_lines (lines_view question)
 
 -- what is seen of an error: a misuse, unless memory was refused
 abbrev pub misuse_view : ArgumentError → Option Misuse
@@ -99,7 +154,7 @@ misuse_view (errors.TooMany word) = Some (too_many word.now)
 misuse_view errors.OutOfMemory = None
 
 -- an error tells a misuse, unless memory was refused
-abbrev pub IsMisuse : Outcome → Option Misuse → Type 0
+abbrev pub IsMisuse : {A : Type 0} → Result A Misuse → Option Misuse → Type 0
 IsMisuse outcome None = ⊤
 IsMisuse outcome (Some misuse) = outcome ≡ Err misuse
 
@@ -107,3 +162,12 @@ IsMisuse outcome (Some misuse) = outcome ≡ Err misuse
 abbrev pub Asks : Outcome → Result request.Request ArgumentError → Type 0
 Asks outcome (Ok made) = outcome ≡ Ok (request_view made)
 Asks outcome (Err error) = IsMisuse outcome (misuse_view error)
+
+-- what is seen of a subject
+abbrev pub subject_view : Bor Name × Option (Bor Name) → Subject
+subject_view s = record { types = s.0.now; root = option_map (λ name. name.now) s.1 }
+
+-- a result tells what words name, unless memory was refused
+abbrev pub Names : Result Subject Misuse → Result (Bor Name × Option (Bor Name)) ArgumentError → Type 0
+Names outcome (Ok made) = outcome ≡ Ok (subject_view made)
+Names outcome (Err error) = IsMisuse outcome (misuse_view error)

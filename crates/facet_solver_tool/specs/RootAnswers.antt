@@ -78,6 +78,6 @@ pub record AnswersCatalogue (types : Types) (id : ℕ) (a : Answer) : Type 0 whe
 
 -- the answer about a root to what is asked
 abbrev pub AnswersRoot : Root → Task → List ℕ → Answer → Type 0
-AnswersRoot r (Read unknown) document a = AnswersRead r unknown document a
+AnswersRoot r (Read manner) document a = AnswersRead r manner.unknown document a
 AnswersRoot r Check document a = AnswersCheck r a
 AnswersRoot r AsCatalogue document a = AnswersCatalogue r.types r.id a

@@ -1,12 +1,12 @@
 //! What the words of a command line ask.
-ghost use Rattle.std.specs.Prelude.{◌≡◌, IfOk, Some, filter, find, not};
+ghost use Rattle.std.specs.Prelude.{◌≡◌, IfOk, Some, filter, find};
 ghost use Rattle.std.specs.List.{list_any};
 ghost use Rattle.facet_solver_shape.specs.Names.{names_of};
 ghost use Rattle.facet_solver_tool.specs.Requests as requests;
-ghost use Rattle.facet_solver_tool.specs.Requests.{Asks, request_view};
+ghost use Rattle.facet_solver_tool.specs.Requests.{Asks, Names, request_view};
 ghost use Rattle.facet_solver_tool.specs.Misuses.{error_text};
 
-use crate::question::{Question, Task};
+use crate::question::{Form, LinesQuestion, Manner, Question, Task};
 use facet_solver_reader::Unknown;
 use std::alloc::{AllocError, Global};
 use std::error::Error;
@@ -14,6 +14,10 @@ use std::fmt;
 
 /// The word that has unknown members refused.
 const STRICT: &str = "--strict";
+/// The word that has the reading written as JSON.
+const JSON: &str = "--json";
+/// The word that has each line of the input read as a document.
+const LINES: &str = "--lines";
 
 /// What is asked for.
 #[derive(Clone, Copy, Debug, Drop, PartialEq, Eq)]
@@ -24,7 +28,12 @@ pub enum Request<'w> {
     Version,
     /// The answer to a question.
     Ask(Question<'w>),
+    /// The answers to a question, about each line of the input.
+    Lines(LinesQuestion<'w>),
 }
+
+/// What words name: the file of types, and the root, if one is named.
+type Subject<'w> = (&'w str, Option<&'w str>);
 
 /// Why words ask nothing.
 #[derive(Clone, Copy, Debug, Drop, PartialEq, Eq)]
@@ -105,21 +114,42 @@ fn alone<'w>(request: Request<'w>, words: &[&'w str]) -> Result<Request<'w>, Arg
 fn read<'w>(alloc: Global, words: &[&'w str]) -> Result<Request<'w>, ArgumentError<'w>>
     ensures { Asks (requests.read (names_of words.now)) result }
 {
-    let task = Task::Read(unknown(words));
+    let manner = manner(words);
     let operands = operands(alloc, words)?;
-    question(task, &operands)
+    if has_lines(words) {
+        lines(manner.unknown, &operands)
+    } else {
+        question(Task::Read(manner), &operands)
+    }
 }
 
-/// The words that don't have unknown members refused.
+/// The words that don't say how a document is read.
 fn operands<'w>(alloc: Global, words: &[&'w str]) -> Result<Vec<&'w str>, AllocError>
     ensures { IfOk result (λ operands.
-        operands.items ≡ filter (λ word. not (requests.is_strict word.now)) words.now) }
+        operands.items ≡ filter (λ word. requests.is_operand word.now) words.now) }
 {
     words
         .iter()
         .copied()
-        .filter(|word| *word != STRICT)
+        .filter(|word| is_operand(word))
         .collect(alloc)
+}
+
+/// Whether a word doesn't say how a document is read.
+fn is_operand(word: &str) -> bool
+    ensures { result ≡ requests.is_operand word.now }
+{
+    word != STRICT && word != JSON && word != LINES
+}
+
+/// How a document is read.
+fn manner(words: &[&str]) -> Manner
+    ensures { result ≡ requests.manner (names_of words.now) }
+{
+    Manner {
+        unknown: unknown(words),
+        form: form(words),
+    }
 }
 
 /// What is done with unknown members.
@@ -140,13 +170,58 @@ fn has_strict(words: &[&str]) -> bool
     words.iter().any(|word| *word == STRICT)
 }
 
+/// Whether a word has each line read.
+fn has_lines(words: &[&str]) -> bool
+    ensures { result ≡ list_any (λ word. requests.is_lines word.now) words.now }
+{
+    words.iter().any(|word| *word == LINES)
+}
+
+/// How the reading is written.
+fn form(words: &[&str]) -> Form
+    ensures { result ≡ requests.form (names_of words.now) }
+{
+    if has_json(words) {
+        Form::Json
+    } else {
+        Form::Text
+    }
+}
+
+/// Whether a word has the reading written as JSON.
+fn has_json(words: &[&str]) -> bool
+    ensures { result ≡ list_any (λ word. requests.is_json word.now) words.now }
+{
+    words.iter().any(|word| *word == JSON)
+}
+
 /// The question of a task, about the types and the root that words name.
 fn question<'w>(task: Task, words: &[&'w str]) -> Result<Request<'w>, ArgumentError<'w>>
     ensures { Asks (requests.question task (names_of words.now)) result }
 {
+    let (types, root) = subject(words)?;
+    Ok(Request::Ask(Question { task, types, root }))
+}
+
+/// The question about each line, and about the types and the root that words name.
+fn lines<'w>(unknown: Unknown, words: &[&'w str]) -> Result<Request<'w>, ArgumentError<'w>>
+    ensures { Asks (requests.question_of_lines unknown (names_of words.now)) result }
+{
+    let (types, root) = subject(words)?;
+    Ok(Request::Lines(LinesQuestion {
+        unknown,
+        types,
+        root,
+    }))
+}
+
+/// The file of types and the root that words name.
+fn subject<'w>(words: &[&'w str]) -> Result<Subject<'w>, ArgumentError<'w>>
+    ensures { Names (requests.subject (names_of words.now)) result }
+{
     match first_option(words) {
         Some(word) => Err(ArgumentError::NoSuchOption(word)),
-        None => named(task, words),
+        None => named(words),
     }
 }
 
@@ -164,22 +239,14 @@ fn is_option(word: &str) -> bool
     word.starts_with('-')
 }
 
-/// The question of a task, about the types and the root that words name, of which none is an option.
-fn named<'w>(task: Task, words: &[&'w str]) -> Result<Request<'w>, ArgumentError<'w>>
-    ensures { Asks (requests.named task (names_of words.now)) result }
+/// The file of types and the root that words name, of which none is an option.
+fn named<'w>(words: &[&'w str]) -> Result<Subject<'w>, ArgumentError<'w>>
+    ensures { Names (requests.named (names_of words.now)) result }
 {
     match *words {
         [] => Err(ArgumentError::NoTypes),
-        [types] => Ok(Request::Ask(Question {
-            task,
-            types,
-            root: None,
-        })),
-        [types, root] => Ok(Request::Ask(Question {
-            task,
-            types,
-            root: Some(root),
-        })),
+        [types] => Ok((types, None)),
+        [types, root] => Ok((types, Some(root))),
         [_, _, word, ..] => Err(ArgumentError::TooMany(word)),
     }
 }

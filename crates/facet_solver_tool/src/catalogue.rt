@@ -4,7 +4,6 @@ ghost use Rattle.facet_solver_tool.specs.CatalogueText as texts;
 
 mod field;
 mod member;
-mod quoted;
 mod shape;
 mod variant;
 mod word;

@@ -8,7 +8,8 @@ pub const HELP: &str = "\
 Reads a document of JSON as a Rust type, and tells which variants it means.
 
 Usage:
-    facet_solver_tool read TYPES [ROOT] [--strict] < DOCUMENT
+    facet_solver_tool read TYPES [ROOT] [--strict] [--json] < DOCUMENT
+    facet_solver_tool read TYPES [ROOT] [--strict] --lines < DOCUMENTS
     facet_solver_tool check TYPES [ROOT]
     facet_solver_tool catalogue TYPES [ROOT]
     facet_solver_tool --help | --version
@@ -20,7 +21,11 @@ the name of the type to read. Without it, it is the one type that no other names
     check       prints how each enum is written, if the root can be read
     catalogue   prints the shapes of the types as JSON
     --strict    refuses members that no type has
+    --json      prints the reading as JSON, in one line
+    --lines     reads each line as a document, and prints a line of JSON for it:
+                {\"reading\": ..} as --json prints it, or {\"status\": .., \"error\": \"..\"}
 
 Status: 0 answered, 1 no reading, 2 several readings, 3 a fault of the types,
 4 a fault of the document, 5 out of memory, 64 bad arguments or an unreadable
-file, 74 a failed write.";
+file, 74 a failed write. With --lines it is the first of 5, 4, 2 and 1 that a
+line has, and else 0.";

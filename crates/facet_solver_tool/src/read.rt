@@ -9,11 +9,13 @@ ghost use Rattle.facet_solver_tool.specs.RootAnswers as roots;
 ghost use Rattle.facet_solver_tool.specs.RootAnswers.{AnswersRead, root_at};
 
 use crate::answer::Answer;
+use crate::json::Json;
+use crate::question::{Form, Manner};
 use crate::root::refused;
 use crate::status::Status;
 use crate::utf8;
 use facet_solver_json::{JsonError, Scratch, parse};
-use facet_solver_reader::{Document, ReadError, Reader, Unknown};
+use facet_solver_reader::{Document, ReadError, Reader, Reading, Unknown};
 use facet_solver_shape::ShapeId;
 use facet_solver_types::Types;
 use std::alloc::{AllocError, Global};
@@ -31,22 +33,22 @@ pub fn answer(
     path: &str,
     types: &Types,
     id: ShapeId,
-    unknown: Unknown,
+    manner: Manner,
     document: &[u8],
 ) -> Result<Answer, AllocError>
     ensures { IfOk result (λ a.
-        AnswersRead (root_at path.now types.now id) unknown document.now (answer_view a)) }
+        AnswersRead (root_at path.now types.now id) manner.unknown document.now (answer_view a)) }
 {
-    let unknown = unknown_at(types, id, unknown);
+    let unknown = unknown_at(types, id, manner.unknown);
     let shapes = types.shapes();
     match Reader::new(alloc, shapes, id, unknown) {
-        Ok(reader) => read_bytes(alloc, &reader, document),
+        Ok(reader) => read_bytes(alloc, &reader, manner.form, document),
         Err(error) => refused(alloc, path, &error),
     }
 }
 
 /// What is done with unknown members: they are refused where the root denies them.
-fn unknown_at(types: &Types, id: ShapeId, unknown: Unknown) -> Unknown
+pub(crate) fn unknown_at(types: &Types, id: ShapeId, unknown: Unknown) -> Unknown
     ensures { result ≡ roots.unknown_at types.now id unknown }
 {
     if types.denies_unknown(id) {
@@ -57,22 +59,32 @@ fn unknown_at(types: &Types, id: ShapeId, unknown: Unknown) -> Unknown
 }
 
 /// The answer that a reader has for the bytes of a document.
-fn read_bytes(alloc: Global, reader: &Reader<'_>, document: &[u8]) -> Result<Answer, AllocError>
+pub(crate) fn read_bytes(
+    alloc: Global,
+    reader: &Reader<'_>,
+    form: Form,
+    document: &[u8],
+) -> Result<Answer, AllocError>
     ensures { IfOk result (λ a. AnswersBytes reader.now document.now (answer_view a)) }
 {
     match str::from_utf8(document) {
-        Ok(text) => read_text(alloc, reader, text),
+        Ok(text) => read_text(alloc, reader, form, text),
         Err(error) => utf8::answer(alloc, Status::BadDocument, DOCUMENT, document, error),
     }
 }
 
 /// The answer that a reader has for the text of a document.
-fn read_text(alloc: Global, reader: &Reader<'_>, text: &str) -> Result<Answer, AllocError>
+fn read_text(
+    alloc: Global,
+    reader: &Reader<'_>,
+    form: Form,
+    text: &str,
+) -> Result<Answer, AllocError>
     ensures { IfOk result (λ a. AnswersText reader.now text.now (answer_view a)) }
 {
     let mut scratch = Scratch::new(alloc);
     match parse(alloc, text, &mut scratch) {
-        Ok(document) => read_document(alloc, reader, &document),
+        Ok(document) => read_document(alloc, reader, form, &document),
         Err(error) => no_json(alloc, error),
     }
 }
@@ -95,6 +107,7 @@ fn no_json(alloc: Global, error: JsonError) -> Result<Answer, AllocError>
 fn read_document(
     alloc: Global,
     reader: &Reader<'_>,
+    form: Form,
     document: &Document<'_>,
 ) -> Result<Answer, AllocError>
     ensures { IfOk result (λ a. EndsTree reader.now (view document.now) a.status) }
@@ -102,9 +115,17 @@ fn read_document(
     match reader.read(alloc, document) {
         Ok(reading) => Ok(Answer {
             status: Status::Answered,
-            text: reading.to_string(alloc)?,
+            text: text_of(alloc, form, &reading)?,
         }),
         Err(error) => unread(alloc, &error),
+    }
+}
+
+/// The text of a reading.
+fn text_of(alloc: Global, form: Form, reading: &Reading<'_, '_, '_>) -> Result<String, AllocError> {
+    match form {
+        Form::Text => reading.to_string(alloc),
+        Form::Json => Json(reading).to_string(alloc),
     }
 }
 

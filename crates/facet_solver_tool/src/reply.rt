@@ -1,23 +1,39 @@
 //! What is written.
-ghost use Rattle.std.specs.Prelude.{◌≡◌, ◌≢◌, ◌++◌, [], ◌∷◌, OnOk};
+ghost use Rattle.std.specs.Prelude.{◌≡◌, ◌≢◌, ◌++◌, [], ◌∷◌, None, OnOk};
 ghost use Rattle.std.specs.Io.KnownBytes.{Appends};
 ghost use Rattle.facet_solver_tool.specs.declared.status.Status.TheVariants.{Unwritten};
-ghost use Rattle.facet_solver_tool.specs.Runs.{WritesLine};
+ghost use Rattle.facet_solver_tool.specs.Streams.{Tells, WritesLine, ran, streams, told};
 
+use crate::answer::Answer;
 use crate::status::Status;
+use std::alloc::AllocError;
 use std::io::{self, Write};
+
+/// What is told where memory was refused.
+const OUT_OF_MEMORY: &str = "out of memory";
+
+/// Writes an answer and a line feed, or that memory was refused for it. It gives how the run ends.
+pub fn tell<O: Write, E: Write>(
+    output: &mut O,
+    errors: &mut E,
+    answer: Result<Answer, AllocError>,
+) -> Status
+    ensures { result ≢ Unwritten → Tells (ran None
+        (streams (O.contents output.old) (E.contents errors.old))
+        (streams (O.contents output.new) (E.contents errors.new)) result) (told answer) }
+{
+    match answer {
+        Ok(answer) => reply(output, errors, answer.status, answer.text.as_str()),
+        Err(AllocError) => reply(output, errors, Status::OutOfMemory, OUT_OF_MEMORY),
+    }
+}
 
 /// Writes a text and a line feed, to the output if it answers the question, and else to the errors.
 /// It gives how the run ends: as was to be told, unless a write fails.
-pub fn reply<O: Write, E: Write>(
-    output: &mut O,
-    errors: &mut E,
-    status: Status,
-    text: &str,
-) -> Status
+fn reply<O: Write, E: Write>(output: &mut O, errors: &mut E, status: Status, text: &str) -> Status
     ensures { result ≢ Unwritten → (result ≡ status) × WritesLine status
-        (record { output = O.contents output.old; errors = E.contents errors.old })
-        (record { output = O.contents output.new; errors = E.contents errors.new })
+        (streams (O.contents output.old) (E.contents errors.old))
+        (streams (O.contents output.new) (E.contents errors.new))
         (text.now ++ 10 ∷ []) }
 {
     let written = match status {

@@ -30,7 +30,7 @@ pub fn answer(
         AnswersRoot (root_at path.now types.now id) task document.now (answer_view a)) }
 {
     match task {
-        Task::Read(unknown) => read::answer(alloc, path, types, id, unknown, document),
+        Task::Read(manner) => read::answer(alloc, path, types, id, manner, document),
         Task::Check => check::answer(alloc, path, types, id),
         Task::Catalogue => answer_catalogue(alloc, types, id),
     }

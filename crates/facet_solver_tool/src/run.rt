@@ -1,54 +1,40 @@
 //! A run of the program.
-ghost use Rattle.std.specs.Prelude.{◌≡◌, ◌≢◌, IfOk, IfSome, List};
-ghost use Rattle.facet_solver_shape.specs.Names.{Name, names_of};
-ghost use Rattle.facet_solver_tool.specs.declared.status.Status.TheVariants.{Misused, Unwritten};
-ghost use Rattle.facet_solver_tool.specs.Answer as answers;
+ghost use Rattle.std.specs.Prelude.{◌≡◌, ◌≢◌, IfOk, IfSome};
+ghost use Rattle.facet_solver_shape.specs.Names.{names_of};
+ghost use Rattle.facet_solver_tool.specs.declared.status.Status.TheVariants.{Unwritten};
 ghost use Rattle.facet_solver_tool.specs.Answer.{answer_view};
 ghost use Rattle.facet_solver_tool.specs.Misuses.{TellsMisuse};
-ghost use Rattle.facet_solver_tool.specs.Questions.{question_view};
+ghost use Rattle.facet_solver_tool.specs.Questions.{lines_view, question_view};
 ghost use Rattle.facet_solver_tool.specs.Requests.{misuse_view};
-ghost use Rattle.facet_solver_tool.specs.Runs.{AnswersFile, AnswersQuestion, AnswersRun, AnswersWords, IsRun, Writes, document_of};
+ghost use Rattle.facet_solver_tool.specs.Runs.{AnswersFile, AnswersQuestion, EndsLines, EndsRun, EndsWords, document_of};
+ghost use Rattle.facet_solver_tool.specs.Streams.{ran, streams};
 
-use crate::answer::Answer;
+use crate::answer::{Answer, unread};
 use crate::arguments::{ArgumentError, Request, requested};
 use crate::help::{HELP, VERSION};
-use crate::question::{Question, Task};
-use crate::reply::reply;
+use crate::question::{LinesQuestion, Question, Task};
+use crate::reply::tell;
 use crate::status::Status;
-use crate::types;
+use crate::{lines, types};
 use std::alloc::{AllocError, Global};
-use std::io::{self, ErrorKind, Read, Write};
+use std::io::{self, IsTerminal, Read, Write};
 use std::rt::{Env, Files};
 use std::{env, fs};
 
 /// Answers what the arguments of the program ask, and gives how the run ends.
-pub fn run<R: Env + Files + AllocGlobal, I: Read, O: Write, E: Write>(
+pub fn run<R: Env + Files + AllocGlobal, I: Read, O: Write, E: Write + IsTerminal>(
     rt: &R,
     input: &mut I,
     output: &mut O,
     errors: &mut E,
 ) -> Status
-    ensures { result ≢ Unwritten → (a : answers.Answer) × (a.status ≡ result)
-        × IsRun (I.remaining input.old) a × Writes
-        (record { output = O.contents output.old; errors = E.contents errors.old })
-        (record { output = O.contents output.new; errors = E.contents errors.new }) a }
-{
-    match answer_run(rt, input) {
-        Ok(answer) => reply(output, errors, answer.status, answer.text.as_str()),
-        Err(AllocError) => reply(output, errors, Status::OutOfMemory, "out of memory"),
-    }
-}
-
-/// The answer to the arguments of the program.
-fn answer_run<R: Env + Files + AllocGlobal, I: Read>(
-    rt: &R,
-    input: &mut I,
-) -> Result<Answer, AllocError>
-    ensures { IfOk result (λ a. AnswersRun (I.remaining input.old) (answer_view a)) }
+    ensures { result ≢ Unwritten → EndsRun (ran (I.remaining input.old)
+        (streams (O.contents output.old) (E.contents errors.old))
+        (streams (O.contents output.new) (E.contents errors.new)) result) }
 {
     match arguments(rt) {
-        Ok(arguments) => answer_arguments(rt, input, &arguments),
-        Err(error) => unread(rt.alloc(), "the arguments", error),
+        Ok(arguments) => run_arguments(rt, input, output, errors, &arguments),
+        Err(error) => tell(output, errors, unread(rt.alloc(), "the arguments", error)),
     }
 }
 
@@ -58,35 +44,55 @@ fn arguments<R: Env + AllocGlobal>(rt: &R) -> io::Result<Vec<String>> {
     Ok(arguments)
 }
 
-/// The answer to arguments.
-fn answer_arguments<R: Files + AllocGlobal, I: Read>(
+/// Answers what arguments ask, and gives how the run ends.
+fn run_arguments<R: Files + AllocGlobal, I: Read, O: Write, E: Write + IsTerminal>(
     rt: &R,
     input: &mut I,
+    output: &mut O,
+    errors: &mut E,
     arguments: &[String],
-) -> Result<Answer, AllocError>
-    ensures { IfOk result (λ a. (words : List Name)
-        × AnswersWords words (I.remaining input.old) (answer_view a)) }
+) -> Status
+    ensures { result ≢ Unwritten → EndsRun (ran (I.remaining input.old)
+        (streams (O.contents output.old) (E.contents errors.old))
+        (streams (O.contents output.new) (E.contents errors.new)) result) }
 {
-    let words: Vec<&str> = arguments.iter().map(String::as_str).collect(rt.alloc())?;
-    answer_words(rt, input, &words)
+    match words(rt.alloc(), arguments) {
+        Ok(words) => run_words(rt, input, output, errors, &words),
+        Err(AllocError) => tell(output, errors, Err(AllocError)),
+    }
 }
 
-/// The answer to the words of a command line.
-///
-/// The only error is out of memory.
-pub fn answer_words<R: Files + AllocGlobal, I: Read>(
+/// The words that arguments are.
+fn words<'a>(alloc: Global, arguments: &'a [String]) -> Result<Vec<&'a str>, AllocError> {
+    arguments.iter().map(String::as_str).collect(alloc)
+}
+
+/// Answers what the words of a command line ask, and gives how the run ends.
+pub fn run_words<R: Files + AllocGlobal, I: Read, O: Write, E: Write + IsTerminal>(
     rt: &R,
     input: &mut I,
+    output: &mut O,
+    errors: &mut E,
     words: &[&str],
-) -> Result<Answer, AllocError>
-    ensures { IfOk result (λ a.
-        AnswersWords (names_of words.now) (I.remaining input.old) (answer_view a)) }
+) -> Status
+    ensures { result ≢ Unwritten → EndsWords (names_of words.now) (ran (I.remaining input.old)
+        (streams (O.contents output.old) (E.contents errors.old))
+        (streams (O.contents output.new) (E.contents errors.new)) result) }
 {
-    match requested(rt.alloc(), words) {
-        Ok(Request::Help) => Answer::new(rt.alloc(), Status::Answered, HELP),
-        Ok(Request::Version) => Answer::new(rt.alloc(), Status::Answered, VERSION),
-        Ok(Request::Ask(question)) => answer_question(rt, input, &question),
-        Err(error) => misused(rt.alloc(), &error),
+    let alloc = rt.alloc();
+    match requested(alloc, words) {
+        Ok(Request::Help) => tell(output, errors, Answer::new(alloc, Status::Answered, HELP)),
+        Ok(Request::Version) => tell(
+            output,
+            errors,
+            Answer::new(alloc, Status::Answered, VERSION),
+        ),
+        Ok(Request::Ask(question)) => {
+            let answer = answer_question(rt, input, &question);
+            tell(output, errors, answer)
+        }
+        Ok(Request::Lines(question)) => answer_lines(rt, input, output, errors, &question),
+        Err(error) => tell(output, errors, misused(alloc, &error)),
     }
 }
 
@@ -100,6 +106,27 @@ fn misused(alloc: Global, error: &ArgumentError<'_>) -> Result<Answer, AllocErro
             status: Status::Misused,
             text: error.to_string(alloc)?,
         }),
+    }
+}
+
+/// Answers a question about each line of an input, about the types in a file, and gives how the run
+/// ends.
+fn answer_lines<R: Files + AllocGlobal, I: Read, O: Write, E: Write + IsTerminal>(
+    rt: &R,
+    input: &mut I,
+    output: &mut O,
+    errors: &mut E,
+    question: &LinesQuestion<'_>,
+) -> Status
+    ensures { result ≢ Unwritten → EndsLines (lines_view question.now)
+        (ran (I.remaining input.old)
+        (streams (O.contents output.old) (E.contents errors.old))
+        (streams (O.contents output.new) (E.contents errors.new)) result) }
+{
+    let alloc = rt.alloc();
+    match fs::read(rt, question.types) {
+        Ok(types) => lines::answer(alloc, input, output, errors, question, &types),
+        Err(error) => tell(output, errors, unread(alloc, question.types, error)),
     }
 }
 
@@ -148,17 +175,4 @@ fn document<I: Read>(alloc: Global, input: &mut I, task: Task) -> io::Result<Vec
         }
         Task::Check | Task::Catalogue => Ok(document),
     }
-}
-
-/// The answer where something cannot be read: what it is called, and why.
-fn unread(alloc: Global, name: &str, error: io::Error) -> Result<Answer, AllocError>
-    ensures { IfOk result (λ a. a.status ≡ Misused) }
-{
-    if error.kind() == ErrorKind::OutOfMemory {
-        return Err(AllocError);
-    }
-    Ok(Answer {
-        status: Status::Misused,
-        text: format!(in alloc; "{name}: {error}")?,
-    })
 }

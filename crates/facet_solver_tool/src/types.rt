@@ -53,7 +53,11 @@ fn answer_text(
 }
 
 /// The answer where a text declares no types: the path of its file, and why.
-fn no_types(alloc: Global, path: &str, error: &TypesError<'_>) -> Result<Answer, AllocError>
+pub(crate) fn no_types(
+    alloc: Global,
+    path: &str,
+    error: &TypesError<'_>,
+) -> Result<Answer, AllocError>
     ensures { IfOk result (λ a. (error.now ≢ errors.OutOfMemory)
         × (answer_view a ≡ says BadTypes (no_types_text path.now error.now))) }
 {
@@ -87,7 +91,7 @@ fn answer_types(
 }
 
 /// The root that is named, or where none is the only one.
-fn root_of(question: &Question<'_>, types: &Types) -> Option<ShapeId>
+pub(crate) fn root_of(question: &Question<'_>, types: &Types) -> Option<ShapeId>
     ensures { result ≡ answers.root_of (question_view question.now).root types.now }
 {
     match question.root {
@@ -97,7 +101,11 @@ fn root_of(question: &Question<'_>, types: &Types) -> Option<ShapeId>
 }
 
 /// The answer where types lack the root that is named, or have not just one.
-fn no_root(alloc: Global, question: &Question<'_>, types: &Types) -> Result<Answer, AllocError>
+pub(crate) fn no_root(
+    alloc: Global,
+    question: &Question<'_>,
+    types: &Types,
+) -> Result<Answer, AllocError>
     ensures { IfOk result (λ a. let q = question_view question.now in
         answer_view a ≡ says BadTypes (no_root_text q types.now q.root)) }
 {

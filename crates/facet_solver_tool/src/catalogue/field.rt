@@ -5,8 +5,8 @@ ghost use Rattle.facet_solver_tool.specs.FieldText as fields;
 ghost use Rattle.facet_solver_tool.specs.SeparatedTexts.{behind};
 
 use super::member::{FlagMember, TextMember, WordMember};
-use super::quoted::Quoted;
 use super::word;
+use crate::quoted::Quoted;
 use facet_solver_shape::Field;
 use std::fmt;
 

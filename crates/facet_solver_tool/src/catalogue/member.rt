@@ -2,7 +2,7 @@
 ghost use Rattle.std.specs.Prelude.{Some, option_map};
 ghost use Rattle.facet_solver_tool.specs.MemberText as members;
 
-use super::quoted::Quoted;
+use crate::quoted::Quoted;
 use facet_solver_shape::ShapeId;
 use std::fmt;
 

@@ -4,9 +4,9 @@ ghost use Rattle.facet_solver_tool.specs.ShapeText as texts;
 
 use super::field::FieldsMember;
 use super::member::{FlagMember, IndexMember, TextMember, WordMember};
-use super::quoted::Quoted;
 use super::variant::VariantsMember;
 use super::word;
+use crate::quoted::Quoted;
 use facet_solver_shape::{Shape, ShapeId, ShapeKind, Shapes};
 use std::fmt;
 

@@ -6,8 +6,8 @@ ghost use Rattle.facet_solver_tool.specs.VariantText as variants;
 
 use super::field::FieldsMember;
 use super::member::WordMember;
-use super::quoted::Quoted;
 use super::word;
+use crate::quoted::Quoted;
 use facet_solver_shape::Variant;
 use std::fmt;
 

@@ -11,7 +11,7 @@ pub returns-in-Ok : goal.returns-in-Ok
 returns-in-Ok c =
     let shapes = c.shapes-shapes.result.now in
     let root = root_at c.args.path.now c.args.types.now c.args.id in
-    let made : c.in-Ok.reader ≡ reader_of root shapes c.args.unknown =
+    let made : c.in-Ok.reader ≡ reader_of root shapes c.args.manner.unknown =
     subst (λ u. IsReaderOf shapes c.args.id u c.in-Ok.reader) c.unknown_at-unknown.ensures c.in-Ok.ensures.made in
     IfOk-weaker c.read_bytes.result _ _
     (λ a said. by_reader shapes c.shapes-shapes.ensures (subst (λ r. AnswersBytes r c.args.document.now (answer_view a)) made said))

@@ -15,5 +15,5 @@ returns c =
     IfOk-weaker c.no_json.result _ _
     (λ a said.
     answers_no_json c.args.reader.now c.args.text.now c.in-Err.error (answer_view a) said.0
-    (λ line column is. c.in-Err.ensures.invalid line column (ap Err is)) c.in-Err.ensures.place said.1)
+    (λ line column reason is. c.in-Err.ensures.invalid line column reason (ap Err is)) c.in-Err.ensures.place said.1)
     c.no_json.ensures

@@ -1,7 +1,7 @@
 use Rattle.std.proofs.Common.{refl, true, arith}
 use Rattle.std.proofs.Output.{has_written_of_eq, has_written_append}
 use Rattle.facet_solver_tool.specs.Representations.{enum_line}
-use Rattle.facet_solver_tool.proofs.Lines.{line_at_more}
+use Rattle.facet_solver_tool.proofs.ElementLines.{line_at_more}
 use Rattle.facet_solver_tool.proofs.representation.EnumLinesDisplay.fmt.Goals as goal
 
 -- one line more
