@@ -5,6 +5,7 @@ mod errors;
 mod pieces;
 
 use crate::answer::{Answer, Line};
+use crate::calling::documents_are_told;
 use crate::public_names::public_types_have_their_derives;
 use crate::readme::keys_tell_the_payload;
 use crate::types::Types;
@@ -34,10 +35,11 @@ pub enum Check {
     Pieces,
     Printed,
     Readme,
+    Calling,
 }
 
 /// The checks, by name.
-pub const CHECKS: [(&str, Check); 12] = [
+pub const CHECKS: [(&str, Check); 13] = [
     ("public_types_have_their_derives", Check::PublicTypes),
     ("keys_have_names_and_an_order", Check::Keys),
     ("a_catalogue_gives_its_shapes", Check::Catalogue),
@@ -53,6 +55,7 @@ pub const CHECKS: [(&str, Check); 12] = [
     ("texts_of_readings_are_written_in_few_pieces", Check::Pieces),
     ("schemas_and_solvers_are_printed", Check::Printed),
     ("the_sample_of_the_readme_holds", Check::Readme),
+    ("the_program_of_a_caller_holds", Check::Calling),
 ];
 
 impl Check {
@@ -71,6 +74,7 @@ impl Check {
             Check::Pieces => texts_of_readings_are_written_in_few_pieces(answer),
             Check::Printed => schemas_and_solvers_are_printed(answer),
             Check::Readme => keys_tell_the_payload(answer),
+            Check::Calling => documents_are_told(answer),
         }
     }
 }

@@ -1,5 +1,5 @@
 //! Runs the transcripts in the files that its arguments name, and, for the argument `in_code`, the
-//! checks that only code can make.
+//! checks that only code can make. Of the files behind the argument `texts` it parses each text.
 //!
 //! What it prints is the same where one request for memory is refused, whichever it is: what was
 //! refused is made again, and before that what was to change is compared with what it was.
@@ -7,6 +7,7 @@
 
 mod answer;
 mod by_hand;
+mod calling;
 mod catalogue;
 mod declarations;
 mod documents;
@@ -22,6 +23,7 @@ mod readme;
 mod resolution;
 mod runs;
 mod solving;
+mod texts;
 mod transcript;
 mod types;
 mod uses;
@@ -31,12 +33,15 @@ use answer::{Answer, Line, Outcome};
 use in_code::CHECKS;
 use std::io::ErrorKind;
 use std::process::ExitCode;
-use std::rt::{Env, Files};
+use std::rt::{Clock, Env, Files};
 use std::{env, fs, io};
 use transcript::{HEAD, lines, of_one, run as run_transcript};
 
 /// The argument that asks for the checks that only code can make.
 const IN_CODE: &str = "in_code";
+
+/// The argument behind which files have texts of types.
+const TEXTS: &str = "texts";
 
 /// The status where a transcript or a check does not hold.
 const WRONG: u8 = 1;
@@ -80,14 +85,17 @@ fn main(rt: HostRuntime) -> io::Result<ExitCode> {
     }
 }
 
-fn run<R: Env + Files + AllocGlobal + Print>(rt: &R) -> io::Result<Tally> {
+fn run<R: Clock + Env + Files + AllocGlobal + Print>(rt: &R) -> io::Result<Tally> {
     let mut tally = Tally {
         wrong: 0,
         refused: 0,
     };
+    let mut has_texts = false;
     for argument in env::args(rt)?.skip(1) {
         match argument.as_str() {
             IN_CODE => run_checks(rt, &mut tally)?,
+            TEXTS => has_texts = true,
+            file if has_texts => run_texts(rt, file)?,
             file => run_file(rt, &mut tally, file)?,
         }
     }
@@ -122,6 +130,11 @@ fn run_file<R: Files + AllocGlobal + Print>(
         }
         Err(error) => Err(error),
     }
+}
+
+fn run_texts<R: Clock + Files + AllocGlobal + Print>(rt: &R, file: &str) -> io::Result<()> {
+    let texts = read(rt, file)?;
+    texts::run(rt, texts.as_str())
 }
 
 fn read<R: Files + AllocGlobal>(rt: &R, file: &str) -> io::Result<String> {
