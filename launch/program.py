@@ -94,13 +94,15 @@ class Program:
         On a terminal it does so in place, and elsewhere in a new line each half minute.
         """
         is_terminal = sys.stderr.isatty()
+        next_line = 30
         while process.poll() is None:
             seconds = round(time.time() - begin)
             line = f"{progress(log.read_text(errors='replace'))}, {seconds} s"
             if is_terminal:
                 print(f"\r\033[K{line}", end="", file=sys.stderr, flush=True)
-            elif seconds % 30 == 29:
+            elif seconds >= next_line:
                 self.say(line)
+                next_line += 30
             time.sleep(1)
         if is_terminal:
             print("\r\033[K", end="", file=sys.stderr, flush=True)
