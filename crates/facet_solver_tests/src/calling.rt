@@ -95,7 +95,8 @@ pub fn documents_are_told(answer: &mut Answer<'static>) {
     for (text, line) in &TOLD {
         tell(TYPES, text, *line, answer);
     }
-    let line = "1:20: unknown type 'Strng': skip its field, or say 'type Strng = String;'";
+    let line = "1:20: unknown type 'Strng': skip its field, put #[facet(proxy = String)] on it, \
+                or say 'type Strng = String;'";
     tell("struct Job { name: Strng }", "{}", line, answer);
 }
 

@@ -14,7 +14,8 @@ arity_text arity.Two = codes "2 types"
 -- what is wrong with a type or a name, where this is met
 abbrev pub type_problem_text : TypeProblem → List ℕ → List ℕ
 type_problem_text problem.Unknown met =
-    codes "unknown type '" ++ (met ++ (codes "': skip its field, or say 'type "
+    codes "unknown type '" ++ (met
+    ++ (codes "': skip its field, put #[facet(proxy = String)] on it, or say 'type "
     ++ (met ++ codes " = String;'")))
 type_problem_text (problem.Takes taken) met =
     codes "'" ++ (met ++ (codes "' takes " ++ arity_text taken))

@@ -48,7 +48,8 @@ impl fmt::Display for TypeProblemAt<'_> {
             TypeProblem::Unknown => {
                 write!(
                     f,
-                    "unknown type '{met}': skip its field, or say 'type {met} = String;'"
+                    "unknown type '{met}': skip its field, put #[facet(proxy = String)] on it, \
+                     or say 'type {met} = String;'"
                 )
             }
             TypeProblem::Takes(arity) => write!(f, "'{met}' takes {arity}"),
