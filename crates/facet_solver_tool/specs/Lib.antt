@@ -8,6 +8,7 @@ pub mod ReadAnswers
 pub mod ShapeNames
 pub mod Representations
 pub mod QuotedText
+pub mod PrintableText
 pub mod SeparatedTexts
 pub mod CatalogueWords
 pub mod MemberText

@@ -10,7 +10,7 @@ ghost use Rattle.facet_solver_tool.specs.RootAnswers.{AnswersRead, root_at};
 
 use crate::answer::Answer;
 use crate::json::Json;
-use crate::printable::printable;
+use crate::printable::Printable;
 use crate::question::{Form, Manner};
 use crate::root::refused;
 use crate::status::Status;
@@ -134,7 +134,8 @@ fn text_of(alloc: Global, form: Form, reading: &Reading<'_, '_, '_>) -> Result<S
 fn unread(alloc: Global, error: &ReadError<'_, '_>) -> Result<Answer, AllocError>
     ensures { IfOk result (λ a. Some a.status ≡ status_of error.now) }
 {
-    let text = printable(alloc, error.to_string(alloc)?.as_str())?;
+    let text = error.to_string(alloc)?;
+    let text = Printable(text.as_str()).to_string(alloc)?;
     match error {
         ReadError::NoReading(_) => Ok(Answer {
             status: Status::NoReading,
