@@ -79,6 +79,30 @@ if_object_content rules reads id (number n) r is h = absurd (cc)
 if_object_content rules reads id (text x) r is h = absurd (cc)
 if_object_content rules reads id (list vs) r is h = absurd (cc)
 
+-- so it is read once by both
+pub object_end_one : (rules : Rules) (reads : Inner) (id : ListId) (v : Tree) → is_object v ≡ true
+    → Counted (ReadsObject rules reads.within id (members_in v)) counts.One
+    → Counted (ReadsEnd rules reads (types.an_object id) v) counts.One
+object_end_one rules reads id (object ms) is h =
+    count_of_object_end rules reads id ms counts.One h
+object_end_one rules reads id null is h = absurd (cc)
+object_end_one rules reads id (truth b) is h = absurd (cc)
+object_end_one rules reads id (number n) is h = absurd (cc)
+object_end_one rules reads id (text x) is h = absurd (cc)
+object_end_one rules reads id (list vs) is h = absurd (cc)
+
+-- the same as content
+pub object_content_one : (rules : Rules) (reads : Inner) (id : ListId) (v : Tree)
+    → is_object v ≡ true → Counted (ReadsObject rules reads.within id (members_in v)) counts.One
+    → Counted (ReadsContent rules reads (as_object id) v) counts.One
+object_content_one rules reads id (object ms) is h =
+    count_of_object_content rules reads id ms counts.One h
+object_content_one rules reads id null is h = absurd (cc)
+object_content_one rules reads id (truth b) is h = absurd (cc)
+object_content_one rules reads id (number n) is h = absurd (cc)
+object_content_one rules reads id (text x) is h = absurd (cc)
+object_content_one rules reads id (list vs) is h = absurd (cc)
+
 -- what the test refuses is not read
 unread : {X : Type 0} → IsTrue false × X → ⊥
 unread h = let no : false ≡ true = h.0 in absurd (cc)

@@ -1,4 +1,5 @@
 pub mod Joined
+pub mod JoinedOnce
 pub mod Counting
 pub mod Items
 pub mod Members
@@ -9,6 +10,7 @@ pub mod Selections
 pub mod CatchAlls
 pub mod Quantifiers
 pub mod Named
+pub mod NamedOnce
 pub mod NameFilters
 pub mod Objects
 pub mod Knowledge
@@ -36,6 +38,7 @@ pub mod Unrolling
 pub mod Ranks
 pub mod Within
 pub mod Depth
+pub mod ReadOnce
 pub mod Readings
 pub mod Views
 pub mod Indexed
@@ -65,6 +68,7 @@ pub mod TableRanks
 pub mod Levels
 pub mod InMemory
 pub mod CountedResults
+pub mod Picked
 pub mod PlacedKeys
 pub mod OneMore
 pub mod LeftLists
@@ -81,6 +85,7 @@ pub mod MarkedBelow
 pub mod VariantIndices
 pub mod ChosenBranch
 pub mod StepsLeft
+pub mod StepsOne
 pub mod StepsTaken
 pub mod ToldEach
 pub mod OneEach
@@ -94,7 +99,9 @@ pub mod FoundSteps
 pub mod ToldMembers
 pub mod OneObject
 pub mod OneParts
+pub mod OnlyNamed
 pub mod ToldObject
+pub mod ToldRests
 pub mod FirstRest
 pub mod Lacking
 pub mod Blaming

@@ -1,8 +1,10 @@
 -- Where a value has one reading, so has what it is read by, and what is told of that is told of it.
 use Rattle.std.proofs.Common.{◌≡◌, sym, subst, refl, ℕ, List, zip, true, false}
 use Rattle.std.proofs.Common.{length, IsTrue}
+use Rattle.std.specs.Prelude.{◌↔◌, Result}
 use Rattle.facet_solver_reader.specs.declared.count.Count.TheVariants.{One}
 use Rattle.facet_solver_reader.specs.declared.nodes.Nodes.{Nodes}
+use Rattle.facet_solver_reader.specs.declared.only.not_one.NotOne.{NotOne}
 use Rattle.facet_solver_reader.specs.declared.reading.Reading as code
 use Rattle.facet_solver_reader.specs.declared.tables.Tables.{Tables}
 use Rattle.facet_solver_reader.specs.Choices.{Reading, a_value, each_of, an_object}
@@ -14,39 +16,34 @@ use Rattle.facet_solver_reader.specs.Kinds.{is_list, is_null, is_object}
 use Rattle.facet_solver_reader.specs.Nodes.{children, members_in, value_of}
 use Rattle.facet_solver_reader.specs.Parts.{of_shape, of_content}
 use Rattle.facet_solver_reader.specs.Reached.{IsRanked}
+use Rattle.facet_solver_reader.specs.Reading.{IsCount}
 use Rattle.facet_solver_reader.specs.Readings.{ReadsValue, inner}
 use Rattle.facet_solver_reader.specs.Rules.{Content, End, Rules, a_list, a_map, a_tuple}
 use Rattle.facet_solver_reader.specs.Rules.{an_option}
 use Rattle.facet_solver_reader.specs.Tables.{rules_at}
 use Rattle.facet_solver_reader.specs.Told.{Tells, end_of_content}
-use Rattle.facet_solver_reader.specs.ToldAt.{IsToldAs, IsToldAt}
+use Rattle.facet_solver_reader.specs.ToldAt.{IsRead, IsToldAs, IsToldAt}
 use Rattle.facet_solver_reader.specs.Values.{Inner, ReadsContent, ReadsEach, ReadsEnd, ReadsEntries}
-use Rattle.facet_solver_reader.specs.Values.{ReadsItems, ReadsPlace, ReadsTarget}
-use Rattle.facet_solver_reader.proofs.Counting.{counted_same}
+use Rattle.facet_solver_reader.specs.Values.{ReadsItems, ReadsPlace}
 use Rattle.facet_solver_reader.proofs.OneEach.{one_into}
+use Rattle.facet_solver_reader.proofs.ReadOnce.{read_as, same_one}
 use Rattle.facet_solver_reader.proofs.Readings.{value_by_parts}
 
--- one reading as a shape is one by its end
-pub one_end : (rules : Rules) (n s : ℕ) (e : End) (v : Tree) → IsRanked n rules (of_shape s)
-    → rules.end_of s ≡ e → Counted (ReadsValue rules (of_shape s) v) One
-    → Counted (ReadsEnd rules (inner rules) e v) One
-one_end rules n s e v ranked is h =
-    subst (λ x. Counted (ReadsEnd rules (inner rules) x v) One) is
-    (counted_same (ReadsValue rules (of_shape s) v) (ReadsTarget rules (inner rules) (of_shape s) v)
-    One (λ r. (value_by_parts rules n (of_shape s) v ranked r).0)
-    (λ r. (value_by_parts rules n (of_shape s) v ranked r).1) h)
+-- a reading as a shape is one by its end
+pub by_end : (rules : Rules) (n s : ℕ) (e : End) (v : Tree) → IsRanked n rules (of_shape s)
+    → rules.end_of s ≡ e → (r : Reading)
+    → ReadsValue rules (of_shape s) v r ↔ ReadsEnd rules (inner rules) e v r
+by_end rules n s e v ranked is r =
+    subst (λ x. ReadsValue rules (of_shape s) v r ↔ ReadsEnd rules (inner rules) x v r) is
+    (value_by_parts rules n (of_shape s) v ranked r)
 
--- one reading as content is one by what the content is
-pub one_content : (rules : Rules) (n s k : ℕ) (x : Content) (v : Tree)
-    → IsRanked n rules (of_content s k) → rules.content_of s k ≡ x
-    → Counted (ReadsValue rules (of_content s k) v) One
-    → Counted (ReadsContent rules (inner rules) x v) One
-one_content rules n s k x v ranked is h =
-    subst (λ y. Counted (ReadsContent rules (inner rules) y v) One) is
-    (counted_same (ReadsValue rules (of_content s k) v)
-    (ReadsTarget rules (inner rules) (of_content s k) v) One
-    (λ r. (value_by_parts rules n (of_content s k) v ranked r).0)
-    (λ r. (value_by_parts rules n (of_content s k) v ranked r).1) h)
+-- a reading as content is one by what the content is
+pub by_content : (rules : Rules) (n s k : ℕ) (x : Content) (v : Tree)
+    → IsRanked n rules (of_content s k) → rules.content_of s k ≡ x → (r : Reading)
+    → ReadsValue rules (of_content s k) v r ↔ ReadsContent rules (inner rules) x v r
+by_content rules n s k x v ranked is r =
+    subst (λ y. ReadsValue rules (of_content s k) v r ↔ ReadsContent rules (inner rules) y v r) is
+    (value_by_parts rules n (of_content s k) v ranked r)
 
 -- a reading by the end of a shape is told as one of the shape
 pub told_end : (t : Tables) (nodes : Nodes) (node n s : ℕ) (e : End) (w : code.Reading)
@@ -81,6 +78,39 @@ told_content t nodes node n s k x r w ranked is reads tells =
       tells = subst (λ y. Tells rules t.shapes.now (end_of_content y) v r w.variants.items w.kind)
           (sym is) tells;
     }
+
+-- what is told by its end is told of a shape
+pub read_by_end : (t : Tables) (nodes : Nodes) (node n s : ℕ) (e : End)
+    (r : Result code.Reading NotOne) → IsRanked n (rules_at t) (of_shape s)
+    → (rules_at t).end_of s ≡ e
+    → IsRead (IsToldAs t nodes node e)
+    (Counted (ReadsEnd (rules_at t) (inner (rules_at t)) e (value_of nodes node)) One) r
+    → IsRead (IsToldAt t nodes node (of_shape s)) (IsCount t nodes node (of_shape s) One) r
+read_by_end t nodes node n s e r ranked is h =
+    let rules = rules_at t in
+    let v = value_of nodes node in
+    let same = same_one (ReadsValue rules (of_shape s) v) (ReadsEnd rules (inner rules) e v)
+    (by_end rules n s e v ranked is) in
+    read_as (IsToldAs t nodes node e) (IsToldAt t nodes node (of_shape s))
+    (Counted (ReadsEnd rules (inner rules) e v) One) (IsCount t nodes node (of_shape s) One) r
+    (λ w one told. told_end t nodes node n s e w ranked is told) same.1 same.0 h
+
+-- what is told by what it is is told of content
+pub read_by_content : (t : Tables) (nodes : Nodes) (node n s k : ℕ) (x : Content)
+    (P : code.Reading → Type 0) (C : Type 0) (r : Result code.Reading NotOne)
+    → IsRanked n (rules_at t) (of_content s k) → (rules_at t).content_of s k ≡ x
+    → ((w : code.Reading) → C → P w → IsToldAt t nodes node (of_content s k) w)
+    → (C → Counted (ReadsContent (rules_at t) (inner (rules_at t)) x (value_of nodes node)) One)
+    → (Counted (ReadsContent (rules_at t) (inner (rules_at t)) x (value_of nodes node)) One → C)
+    → IsRead P C r
+    → IsRead (IsToldAt t nodes node (of_content s k)) (IsCount t nodes node (of_content s k) One) r
+read_by_content t nodes node n s k x P C r ranked is told into back h =
+    let rules = rules_at t in
+    let v = value_of nodes node in
+    let same = same_one (ReadsValue rules (of_content s k) v)
+    (ReadsContent rules (inner rules) x v) (by_content rules n s k x v ranked is) in
+    read_as P (IsToldAt t nodes node (of_content s k)) C (IsCount t nodes node (of_content s k) One)
+    r told (λ one. same.1 (into one)) (λ one. back (same.0 one)) h
 
 -- what the test refuses is not read
 pub unread : {X : Type 0} → IsTrue false × X → ⊥

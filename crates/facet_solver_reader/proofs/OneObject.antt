@@ -45,21 +45,26 @@ module _ (rules : Rules) (reads : Reads) (members : List Member) (list : ListId)
   -- its readings by the list are all that there are
   pub reads_by_list : (n : Count) (none : Bool) → IsTrue none ↔ (n ≡ NoReading)
       → Counted (ReadsAll rules reads members list) n
-      → Counted (ReadsObject rules reads list members) One
+      → (none ≡ true → rules.strict ≡ false)
       → (c : Choice)
       → ReadsList rules reads (taken_unless none) list c
       ↔ ReadsObject rules reads list members c
-  reads_by_list n true iff h one c =
+  reads_by_list n true iff h lenient c =
       let no = subst (λ k. Counted (ReadsAll rules reads members list) k) (iff.0 refl) h in
-      let lenient : rules.strict ≡ false =
-      ⊎_elim
-      (λ (a : ReadsAll rules reads members list one.value).
-      absurd (no one.value a))
-      (λ (i : ReadsIgnoring rules reads members list one.value). i.lenient) one.has in
-      ignoring_reads rules reads members list lenient no c
-  reads_by_list NoReading false iff h one c = let is : false ≡ true = iff.1 refl in absurd (cc)
-  reads_by_list One false iff h one c = taking_reads h.value h.has c
-  reads_by_list Several false iff h one c = taking_reads h.first h.has_first c
+      ignoring_reads rules reads members list (lenient refl) no c
+  reads_by_list NoReading false iff h lenient c =
+      let is : false ≡ true = iff.1 refl in absurd (cc)
+  reads_by_list One false iff h lenient c = taking_reads h.value h.has c
+  reads_by_list Several false iff h lenient c = taking_reads h.first h.has_first c
+
+  -- a strict reader reads none of which it does not read all
+  pub none_strictly : Counted (ReadsAll rules reads members list) NoReading
+      → rules.strict ≡ true → Counted (ReadsObject rules reads list members) One → ⊥
+  none_strictly none strict one =
+      ⊎_elim (λ (a : ReadsAll rules reads members list one.value). none one.value a)
+      (λ (i : ReadsIgnoring rules reads members list one.value).
+      let lenient : rules.strict ≡ false = i.lenient in absurd (cc))
+      one.has
 
 -- where each name of an object is known
 module _ (rules : Rules) (reads : Reads) (members : List Member) (list : ListId)

@@ -28,7 +28,7 @@ use Rattle.facet_solver_reader.specs.Told.{is_absent, is_present, texts}
 use Rattle.facet_solver_reader.specs.ToldObjects.{IsToldField, IsToldRest, IsToldTaken, Rest}
 use Rattle.facet_solver_reader.proofs.CatchAlls.{catch_all_images, count_of_no_catch_all}
 use Rattle.facet_solver_reader.proofs.Counting.{only_of_images}
-use Rattle.facet_solver_reader.proofs.Members.{count_of_missing, having_images, reads_lacking}
+use Rattle.facet_solver_reader.proofs.Members.{count_of_having, count_of_missing, having_images, reads_lacking}
 use Rattle.facet_solver_reader.proofs.ToldMembers.{TakenTold}
 use Rattle.facet_solver_reader.specs.Documents as trees
 
@@ -59,6 +59,11 @@ module _ (rules : Rules) (reads : Reads) (object : Object) where
   one_of_member m v e one =
       only_of_images (reads m.target v) (ReadsPart rules reads object (a_member m)) having
       (having_images rules reads object m v e) one
+
+  -- so is the member where its value is
+  pub one_of_value : (m : MemberPart) (v : Tree) → find object.members m.name ≡ Some v
+      → IsOnly (reads m.target v) → IsOnly (ReadsPart rules reads object (a_member m))
+  one_of_value m v e one = count_of_having rules reads object m v One e one
 
   -- a member that the object lacks is read as such
   pub lacks : (m : MemberPart) → find object.members m.name ≡ None

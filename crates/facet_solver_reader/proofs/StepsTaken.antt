@@ -243,13 +243,6 @@ module _ (t : Tables) (nodes : Nodes) (o : read.Object) where
       (sym (k.only.1 without r)))
       k.left
 
-  -- a part that is taken is served
-  pub part_served : AreTables t → (fs : List Frame) (f : Frame) (p : Part) (all : List Step)
-      → IsTaken fs f p all → PartIsServed t p
-  part_served tables fs f p all taken =
-      all_at (PartIsServed t) (parts_view f.list.now.parts.items) f.next p
-      (tables.lists taken.below.index f.list.now taken.below.listed).served taken.at
-
   -- what stands before a position stands before a later one
   branch_before : (below : List ℕ) (q n : ℕ) → q ≤ n → (id : ListId)
       → BranchIsBefore t below q id → BranchIsBefore t below n id
@@ -270,13 +263,11 @@ module _ (t : Tables) (nodes : Nodes) (o : read.Object) where
       branch_before below q n le id (all_at (BranchIsBefore t below q) s.branches k id h at))
   part_before_later below q n le (a_catch_all c) h = h
 
-  -- its branches are among the lists that the choices go through
-  pub part_before : AreTables t → IsObject t nodes o → (fs : List Frame) (f : Frame) (p : Part)
-      (steps : List Step) → IsTaken fs f p steps
+  -- the branches of a part of such a list are among the lists that the choices go through
+  pub part_before : AreTables t → IsObject t nodes o → (l : ListEntry) → IsBelow t o l → (i : ℕ)
+      (p : Part) → slice_get (parts_view l.parts.items) i ≡ Some p
       → PartIsBefore t o.list.now.below.items (length o.list.now.below.items) p
-  part_before tables listed fs f p steps taken =
-      let l = f.list.now in
-      let below = taken.below in
+  part_before tables listed l below i p at =
       let all = o.list.now.below.items in
       let a = (tables.lists listed.index o.list.now listed.listed).in_order below.position
       below.index below.is_below in
@@ -288,8 +279,7 @@ module _ (t : Tables) (nodes : Nodes) (o : read.Object) where
       one a.2 in
       let within = slice_get_within all below.position below.index below.is_below in
       part_before_later all below.position (length all) (omega (arith, within)) p
-      (all_at (PartIsBefore t all below.position) (parts_view l.parts.items) f.next p before
-      taken.at)
+      (all_at (PartIsBefore t all below.position) (parts_view l.parts.items) i p before at)
 
   -- what a branch selects is read in one way
   only_selected : (path : Path) (id : ListId)
@@ -303,7 +293,7 @@ module _ (t : Tables) (nodes : Nodes) (o : read.Object) where
   only_selected path (of_fields s k) = all_of_none (IsOnlyStep rules reads object)
 
   -- and is served
-  served_selected : (path : Path) (id : ListId)
+  pub served_selected : (path : Path) (id : ListId)
       → All (StepIsServed t) (map planned_of (selected path id))
   served_selected path (of_branch s k) =
       all_of_one (StepIsServed t) (planned.a_variant path s k) tt

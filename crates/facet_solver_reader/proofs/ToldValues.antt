@@ -2,11 +2,14 @@
 use Rattle.std.proofs.Common.{◌≡◌, sym, subst, refl, ℕ, List, [], true, Vec}
 use Rattle.std.proofs.Common.{Global, inl}
 use Rattle.std.specs.Borrow.{Bor}
+use Rattle.std.specs.Prelude.{◌↔◌, Result}
 use Rattle.facet_solver_shape.specs.Catalogues.{Catalogue}
 use Rattle.facet_solver_shape.specs.Names.{Name}
+use Rattle.facet_solver_reader.specs.declared.count.Count.{Count}
 use Rattle.facet_solver_reader.specs.declared.count.Count.TheVariants.{One}
 use Rattle.facet_solver_reader.specs.declared.document.Document.{Document}
 use Rattle.facet_solver_reader.specs.declared.nodes.Nodes.{Nodes}
+use Rattle.facet_solver_reader.specs.declared.only.not_one.NotOne.{NotOne}
 use Rattle.facet_solver_reader.specs.declared.reading.ObjectReading.{ObjectReading}
 use Rattle.facet_solver_reader.specs.declared.reading.Reading as code
 use Rattle.facet_solver_reader.specs.declared.reading.ReadingKind.{ReadingKind}
@@ -22,6 +25,7 @@ use Rattle.facet_solver_reader.specs.Kinds.{is_object}
 use Rattle.facet_solver_reader.specs.Nodes.{members_in, value_of}
 use Rattle.facet_solver_reader.specs.Objects.{ReadsObject}
 use Rattle.facet_solver_reader.specs.Parts.{ListId, Target, of_tag}
+use Rattle.facet_solver_reader.specs.Reading.{IsCount}
 use Rattle.facet_solver_reader.specs.Readings.{ReadsValue}
 use Rattle.facet_solver_reader.specs.Rules as types
 use Rattle.facet_solver_reader.specs.Rules.{Alternative, End, Rules, a_character, a_text, a_truth}
@@ -29,11 +33,12 @@ use Rattle.facet_solver_reader.specs.Rules.{an_untagged_variant, anything, as_ob
 use Rattle.facet_solver_reader.specs.Tables.{rules_at}
 use Rattle.facet_solver_reader.specs.Told.{Tells, TellsObject, as_it_is, by_joined}
 use Rattle.facet_solver_reader.specs.Told.{by_parts, end_of_target}
-use Rattle.facet_solver_reader.specs.ToldAt.{IsToldAt}
+use Rattle.facet_solver_reader.specs.ToldAt.{IsAsItIs, IsRead, IsToldAt}
 use Rattle.facet_solver_reader.specs.Values.{Inner, ReadsContent, ReadsEnd, ReadsTag, is_scalar_end}
 use Rattle.facet_solver_reader.proofs.OneEach.{one_into}
 use Rattle.facet_solver_reader.proofs.OneEnds.{unread}
 use Rattle.facet_solver_reader.proofs.Ranks.{ranked_tag}
+use Rattle.facet_solver_reader.proofs.ReadOnce.{is_one, read_as, same_one}
 use Rattle.facet_solver_reader.proofs.Readings.{value_by_parts}
 
 -- a value that is read as it is is told so
@@ -59,6 +64,24 @@ told_as_it_is t nodes node target w d r seen reads plain none is =
           (value_of nodes node) r w.variants.items w.kind d seen plain none is;
     }
 
+-- a value that is read as it is, as often as is counted
+pub read_counted : (t : Tables) (nodes : Nodes) (node : ℕ) (target : Target)
+    (P : Reading → Type 0) (n : Count) (d : Bor Document) (r : Result code.Reading NotOne)
+    → view d.now ≡ value_of nodes node
+    → ((q : Reading) → ReadsValue (rules_at t) target (value_of nodes node) q ↔ P q)
+    → ((q : Reading) → P q → q ≡ a_value) → Counted P n
+    → IsRead (IsAsItIs d) (n ≡ One) r
+    → IsRead (IsToldAt t nodes node target) (IsCount t nodes node target One) r
+read_counted t nodes node target P n d r seen same plain counted h =
+    let R = ReadsValue (rules_at t) target (value_of nodes node) in
+    read_as (IsAsItIs d) (IsToldAt t nodes node target) (n ≡ One) (IsCount t nodes node target One) r
+    (λ w is plainly.
+    let one : Counted P One = subst (Counted P) is counted in
+    told_as_it_is t nodes node target w d one.value seen ((same one.value).1 one.has)
+    (plain one.value one.has) plainly.0 plainly.1)
+    (λ is. (same_one R P same).1 (subst (Counted P) is counted))
+    (λ one. is_one P n counted ((same_one R P same).0 one)) h
+
 -- an end that reads values as they are reads them as they are
 pub scalar_value : (rules : Rules) (reads : Inner) (e : End) (v : Tree) (r : Reading)
     → is_scalar_end e ≡ true → ReadsEnd rules reads e v r → r ≡ a_value
@@ -72,7 +95,7 @@ scalar_value rules reads anything v r scalar h = h.1
 scalar_value rules reads e v r scalar h = absurd (cc)
 
 -- so does the text of a tag
-tag_text : (name : Name) (v : Tree) (r : Reading) → ReadsTag name v r → r ≡ a_value
+pub tag_text : (name : Name) (v : Tree) (r : Reading) → ReadsTag name v r → r ≡ a_value
 tag_text name (text x) a_value h = refl
 tag_text name (text x) (each_of rs) h = absurd h
 tag_text name (text x) (an_object c) h = absurd h

@@ -1,5 +1,6 @@
 -- What the only reading of an object goes through, as it is found before the values of its members.
 use Rattle.std.specs.Prelude.{◌≡◌, ℕ, All, List, map, Option, Some, None, ⊤}
+use Rattle.facet_solver_reader.specs.declared.count.Count.TheVariants.{One}
 use Rattle.facet_solver_reader.specs.declared.nodes.Nodes.{Nodes}
 use Rattle.facet_solver_reader.specs.declared.only.steps.Step as code
 use Rattle.facet_solver_reader.specs.declared.read.object.Object as read
@@ -10,7 +11,7 @@ use Rattle.facet_solver_reader.specs.Counted.{IsOnly}
 use Rattle.facet_solver_reader.specs.FieldPlaces.{Path}
 use Rattle.facet_solver_reader.specs.Objects.{Object, Reads}
 use Rattle.facet_solver_reader.specs.Parts.{CatchAll, MemberPart, Part, a_member, a_catch_all}
-use Rattle.facet_solver_reader.specs.Reading.{object_view}
+use Rattle.facet_solver_reader.specs.Reading.{IsListCount, IsPartCount, object_view}
 use Rattle.facet_solver_reader.specs.Readings.{ReadsValue}
 use Rattle.facet_solver_reader.specs.Rules.{Rules}
 use Rattle.facet_solver_reader.specs.Steps as steps
@@ -55,6 +56,12 @@ IsOnlyStep rules reads object (steps.a_variant path id k) = ⊤
 IsOnlyStep rules reads object (steps.a_rest k t) =
     IsOnlyAt rules reads object (a_catch_all k) (taking t)
 
+-- a numbered object has one reading by the part of a planned step
+abbrev pub IsOnlyPlanned : Tables → Nodes → read.Object → Planned → Type 0
+IsOnlyPlanned t nodes o (a_field path m) = IsPartCount t nodes o (a_member m) One
+IsOnlyPlanned t nodes o (a_variant path id k) = ⊤
+IsOnlyPlanned t nodes o (a_rest k) = IsPartCount t nodes o (a_catch_all k) One
+
 -- the tables have what a step leads to
 abbrev pub StepIsServed : Tables → Planned → Type 0
 StepIsServed t (a_field path m) = PartIsServed t (a_member m)
@@ -78,3 +85,12 @@ pub record IsPlan (t : Tables) (nodes : Nodes) (o : read.Object) (found : List c
   pub planned : map planned_of steps ≡ map step_view found
   pub only : All (IsOnlyStep (rules_at t) (ReadsValue (rules_at t)) (object_view nodes o)) steps
   pub served : All (StepIsServed t) (map step_view found)
+
+-- steps in memory are those of the reading of an object by its list, where it has one; and it has
+-- one where it has one at each step
+pub record IsPlanIfOne (t : Tables) (nodes : Nodes) (o : read.Object) (found : List code.Step)
+    : Type 0 where
+  pub served : All (StepIsServed t) (map step_view found)
+  pub plan : IsListCount t nodes o o.list.now One → IsPlan t nodes o found
+  pub one :
+      All (IsOnlyPlanned t nodes o) (map step_view found) → IsListCount t nodes o o.list.now One

@@ -1,9 +1,15 @@
 -- What a reading tells of a numbered value.
-use Rattle.std.specs.Prelude.{◌≡◌, ⊤, ℕ, List, [], ◌∷◌, Option, Some, None, Vec}
+use Rattle.std.specs.Prelude.{◌≡◌, ◌<◌, ⊤, ℕ, List, [], ◌∷◌, Option, Some, None, Vec, Result, Ok, Err}
+use Rattle.std.specs.Prelude.{Bool, true, false, length, slice_get}
+use Rattle.std.specs.Borrow.{Bor}
 use Rattle.std.specs.Global.{Global}
 use Rattle.facet_solver_shape.specs.Catalogues.{Catalogue}
+use Rattle.facet_solver_shape.specs.Names.{Name}
 use Rattle.facet_solver_reader.specs.declared.count.Count.TheVariants.{One}
+use Rattle.facet_solver_reader.specs.declared.document.Document.{Document}
 use Rattle.facet_solver_reader.specs.declared.nodes.Nodes.{Nodes}
+use Rattle.facet_solver_reader.specs.declared.only.not_one.NotOne.{NotOne}
+use Rattle.facet_solver_reader.specs.declared.only.not_one.NotOne.TheVariants.{NoneOrSeveral, OutOfMemory}
 use Rattle.facet_solver_reader.specs.declared.reading.ObjectReading.{ObjectReading}
 use Rattle.facet_solver_reader.specs.declared.reading.Reading as code
 use Rattle.facet_solver_reader.specs.declared.reading.ReadingKind.TheVariants as kinds
@@ -17,11 +23,25 @@ use Rattle.facet_solver_reader.specs.Parts.{ListId, Target}
 use Rattle.facet_solver_reader.specs.Reading.{IsCount}
 use Rattle.facet_solver_reader.specs.Readings.{ReadsValue, inner}
 use Rattle.facet_solver_reader.specs.Rules as types
-use Rattle.facet_solver_reader.specs.Rules.{Alternative, AlternativeKind, End, Rules}
+use Rattle.facet_solver_reader.specs.Rules.{Alternative, AlternativeKind, End, NamedVariant, Rules}
 use Rattle.facet_solver_reader.specs.Tables.{rules_at}
 use Rattle.facet_solver_reader.specs.Told.{IsTold, Tells, TellsObject, end_of_target, names_of}
 use Rattle.facet_solver_reader.specs.Told.{names_view}
-use Rattle.facet_solver_reader.specs.Values.{ReadsEnd}
+use Rattle.facet_solver_reader.specs.Values.{ReadsEnd, ReadsNamedVariant}
+
+-- there is not one, unless memory was refused
+abbrev pub IsNotOne : NotOne → Type 0 → Type 0
+IsNotOne NoneOrSeveral one = one → ⊥
+IsNotOne OutOfMemory one = ⊤
+
+-- there is one, and what is given tells it; or there is not one, unless memory was refused
+abbrev pub IsRead : {X : Type 0} → (X → Type 0) → Type 0 → Result X NotOne → Type 0
+IsRead told one (Ok w) = one × told w
+IsRead told one (Err e) = IsNotOne e one
+
+-- a value in memory as it is
+abbrev pub IsAsItIs : Bor Document → code.Reading → Type 0
+IsAsItIs d w = (w.variants.items ≡ []) × (w.kind ≡ kinds.Value d)
 
 -- a reading of a numbered value as a target is told
 abbrev pub IsToldAt : Tables → Nodes → ℕ → Target → code.Reading → Type 0
@@ -50,10 +70,28 @@ pub record IsToldBy (t : Tables) (nodes : Nodes) (node : ℕ) (id : ListId) (w :
       TellsObject (rules_at t) t.shapes.now id (members_in (value_of nodes node)) choice object
       values.items rest.items
 
+-- the variant of an index alone has a name
+pub record IsOnlyNamed (vs : List NamedVariant) (x : Name) (k : ℕ) : Type 0 where
+  pub variant : NamedVariant
+  pub is_at : slice_get vs k ≡ Some variant
+  pub named : variant.name ≡ x
+  pub alone : (j : ℕ) (v : NamedVariant) → slice_get vs j ≡ Some v → v.name ≡ x → j ≡ k
+
+-- a numbered value is read as the variant of an index, which it names
+abbrev pub IsReadAsNamed : Tables → Nodes → ℕ → List NamedVariant → ℕ → Type 0
+IsReadAsNamed t nodes node vs k =
+    (k < length vs) × (r : Reading)
+    × ReadsNamedVariant (ReadsValue (rules_at t)) vs (value_of nodes node) (a_variant k r)
+
 -- a value is read as an untagged enum: by those of its variants that join, or by the one at an index
 abbrev pub IsUntagged : Rules → End → Tree → Option ℕ → Type 0
 IsUntagged rules e v None = (c : Choice) × ReadsEnd rules (inner rules) e v (an_object c)
 IsUntagged rules e v (Some k) = (r : Reading) × ReadsEnd rules (inner rules) e v (a_variant k r)
+
+-- whether a variant of a kind reads objects by parts alone
+abbrev pub is_joined : AlternativeKind → Bool
+is_joined types.joins = true
+is_joined _ = false
 
 -- a reading of content becomes one of the variant whose content a target is
 pub record IsWithin (shapes : Catalogue) (content : Target) (old new : code.Reading) : Type 0 where

@@ -1,5 +1,6 @@
 -- What readings tell of the members of a numbered object.
-use Rattle.std.specs.Prelude.{⊤, All, List, [], ◌∷◌, Option, Vec, if◌then◌else◌}
+use Rattle.std.specs.Prelude.{◌≡◌, ⊤, All, List, [], ◌∷◌, Option, Some, None, Vec, if◌then◌else◌}
+use Rattle.facet_solver_reader.specs.declared.count.Count.TheVariants.{One}
 use Rattle.std.specs.Borrow.{Bor}
 use Rattle.std.specs.Global.{Global}
 use Rattle.facet_solver_shape.specs.Names.{Name}
@@ -16,8 +17,9 @@ use Rattle.facet_solver_reader.specs.Known.{named}
 use Rattle.facet_solver_reader.specs.Nodes.{members_in, value_of}
 use Rattle.facet_solver_reader.specs.Objects.{Takes}
 use Rattle.facet_solver_reader.specs.Parts.{CatchAll, MemberPart, Part, a_catch_all, a_member}
-use Rattle.facet_solver_reader.specs.Planned.{IsOnlyAt, choice_of}
-use Rattle.facet_solver_reader.specs.Reading.{object_view}
+use Rattle.facet_solver_reader.specs.Planned.{IsOnlyAt, Planned, a_rest, choice_of}
+use Rattle.facet_solver_reader.specs.Found.{catch_all_in}
+use Rattle.facet_solver_reader.specs.Reading.{IsPartCount, object_view}
 use Rattle.facet_solver_reader.specs.Readings.{ReadsValue}
 use Rattle.facet_solver_reader.specs.Tables.{knows, rules_at}
 use Rattle.facet_solver_reader.specs.Told.{Tells, TellsField, TellsTaken, end_taken, texts}
@@ -74,3 +76,27 @@ abbrev pub unknown_names : ListEntry → List Member → List Name
 unknown_names l [] = []
 unknown_names l (m ∷ ms) =
     if knows l (named m.name) then unknown_names l ms else m.name ∷ unknown_names l ms
+
+-- a numbered object has one reading by the catch-all of a step, if it is one
+abbrev pub IsOnlyRest : Tables → Nodes → read.Object → Planned → Type 0
+IsOnlyRest t nodes o (a_rest k) = IsPartCount t nodes o (a_catch_all k) One
+IsOnlyRest t nodes o _ = ⊤
+
+-- the same of each step
+abbrev pub AreOnlyRests : Tables → Nodes → read.Object → List Planned → Type 0
+AreOnlyRests t nodes o ss = All (IsOnlyRest t nodes o) ss
+
+-- what a catch-all takes is told; nothing where there is none
+abbrev pub IsToldFirst : Tables → Nodes → read.Object → Option CatchAll → Rest → Type 0
+IsToldFirst t nodes o None rest = (rest.0.items ≡ []) × (rest.1.items ≡ [])
+IsToldFirst t nodes o (Some k) rest = IsToldRest t nodes o k rest
+
+-- the same of the first catch-all among steps
+abbrev pub AreToldRests : Tables → Nodes → read.Object → List Planned → Rest → Type 0
+AreToldRests t nodes o ss rest = IsToldFirst t nodes o (catch_all_in ss) rest
+
+-- what the first catch-all takes is told, if there is one
+abbrev pub IsToldSoFar : Tables → Nodes → read.Object → Option CatchAll → Option Rest → Type 0
+IsToldSoFar t nodes o None None = ⊤
+IsToldSoFar t nodes o (Some k) (Some rest) = IsToldRest t nodes o k rest
+IsToldSoFar t nodes o _ _ = ⊥

@@ -3,6 +3,7 @@ use Rattle.std.specs.Prelude.{◌≡◌, ◌⊎◌, ⊤, ℕ, All, List, [], ◌
 use Rattle.std.specs.Prelude.{Some, Vec, slice_get}
 use Rattle.std.specs.Global.{Global}
 use Rattle.facet_solver_reader.specs.declared.count.Count.{Count}
+use Rattle.facet_solver_reader.specs.declared.count.Count.TheVariants.{One}
 use Rattle.facet_solver_reader.specs.declared.nodes.Nodes.{Nodes}
 use Rattle.facet_solver_reader.specs.declared.only.steps.Frame.{Frame}
 use Rattle.facet_solver_reader.specs.declared.only.steps.Step as code
@@ -14,9 +15,9 @@ use Rattle.facet_solver_reader.specs.Choices.{Choice}
 use Rattle.facet_solver_reader.specs.Counted.{IsOnly}
 use Rattle.facet_solver_reader.specs.FieldPlaces.{Path}
 use Rattle.facet_solver_reader.specs.Parts.{ListId, Part}
-use Rattle.facet_solver_reader.specs.Planned.{IsOnlyStep, StepIsServed, planned_of, step_view}
-use Rattle.facet_solver_reader.specs.Planned.{walk_at}
-use Rattle.facet_solver_reader.specs.Reading.{AreListCounts, object_view}
+use Rattle.facet_solver_reader.specs.Planned.{IsOnlyPlanned, IsOnlyStep, StepIsServed, planned_of}
+use Rattle.facet_solver_reader.specs.Planned.{step_view, walk_at}
+use Rattle.facet_solver_reader.specs.Reading.{AreListCounts, IsListCount, object_view}
 use Rattle.facet_solver_reader.specs.Readings.{ReadsValue}
 use Rattle.facet_solver_reader.specs.Slots.{index_of}
 use Rattle.facet_solver_reader.specs.Steps.{Placed, Step, placed_from, selected}
@@ -112,3 +113,19 @@ pub record IsEntered (t : Tables) (id : ListId) (place : Path) (old new : List F
 abbrev pub IsInnermost : Tables → ListId → Path → Option Frame → Type 0
 IsInnermost t id place inner =
     (outer : List Frame) → IsEntered t id place outer (with_inner outer inner)
+
+-- an object has one reading by the parts of a list that are still to come
+abbrev pub IsOnlyLeft : Tables → Nodes → read.Object → Frame → Type 0
+IsOnlyLeft t nodes o f =
+    IsOnly (ReadsParts (rules_at t) (ReadsValue (rules_at t)) (object_view nodes o) (parts_left f))
+
+-- steps in memory are the first ones of the reading of an object by its list, where it has one; and
+-- it has one where it has one at each of them, and by each list that is under way
+pub record IsGoing (t : Tables) (nodes : Nodes) (o : read.Object) (frames : List Frame)
+    (found : List code.Step) : Type 0 where
+  pub below : All (λ f. IsBelow t o f.list.now) frames
+  pub served : All (StepIsServed t) (map step_view found)
+  pub under_way : IsListCount t nodes o o.list.now One → IsUnderWay t nodes o frames found
+  pub one :
+      All (IsOnlyLeft t nodes o) frames → All (IsOnlyPlanned t nodes o) (map step_view found)
+      → IsListCount t nodes o o.list.now One

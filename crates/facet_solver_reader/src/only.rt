@@ -6,6 +6,7 @@ mod content;
 mod each;
 mod found;
 mod members;
+mod not_one;
 mod object;
 mod steps;
 mod target;
@@ -13,4 +14,5 @@ mod tells;
 mod untagged;
 mod variant;
 
+pub(crate) use not_one::NotOne;
 pub(crate) use target::read_target;

@@ -15,13 +15,13 @@ mod error;
 use crate::count::Count;
 use crate::document::Document;
 use crate::nodes::{DocumentError, Nodes};
-use crate::only::read_target;
+use crate::only::{NotOne, read_target};
 use crate::part::Target;
 use crate::read::{Memo, count_target};
 use crate::read_error::ReadError;
 use crate::reading::Reading;
 use crate::tables::Tables;
-use crate::why::{why_none, why_several};
+use crate::why::why_not_one;
 pub use error::TypeError;
 use error::type_error_of;
 use facet_solver_shape::{ShapeId, Shapes};
@@ -130,20 +130,12 @@ impl<'c> Reader<'c> {
         };
         let root = Target::Shape(self.root);
         let steps = self.tables.steps;
-        match count_target(&self.tables, nodes, &mut memo, 0, &root, steps) {
-            Ok(Count::One) => match read_target(&self.tables, nodes, &mut memo, 0, &root, steps) {
-                Ok(reading) => Ok(reading),
-                Err(_) => Err(ReadError::OutOfMemory),
-            },
-            Ok(Count::None) => match why_none(&self.tables, nodes, &mut memo, self.root) {
-                Ok(none) => Err(ReadError::NoReading(none)),
-                Err(_) => Err(ReadError::OutOfMemory),
-            },
-            Ok(Count::Several) => match why_several(&self.tables, nodes, &mut memo, self.root) {
-                Ok(several) => Err(ReadError::Several(several)),
-                Err(_) => Err(ReadError::OutOfMemory),
-            },
-            Err(_) => Err(ReadError::OutOfMemory),
+        match read_target(&self.tables, nodes, &mut memo, 0, &root, steps) {
+            Ok(reading) => Ok(reading),
+            Err(NotOne::NoneOrSeveral) => {
+                Err(why_not_one(&self.tables, nodes, &mut memo, self.root))
+            }
+            Err(NotOne::OutOfMemory) => Err(ReadError::OutOfMemory),
         }
     }
 

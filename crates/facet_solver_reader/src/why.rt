@@ -6,12 +6,13 @@ ghost use Rattle.std.specs.Prelude.{◌≡◌, [], IfOk};
 ghost use Rattle.facet_solver_reader.specs.Documents.{view};
 ghost use Rattle.facet_solver_reader.specs.Nodes.{value_of};
 ghost use Rattle.facet_solver_reader.specs.Parts.{of_shape};
+ghost use Rattle.facet_solver_reader.specs.Reached.{IsRanked};
 ghost use Rattle.facet_solver_reader.specs.Reading.{AreSound, IsCount};
 ghost use Rattle.facet_solver_reader.specs.Tables.{ShapeIsServed, rules_at};
 ghost use Rattle.facet_solver_reader.specs.Views.{target_view};
 ghost use Rattle.facet_solver_reader.specs.Blaming.{IsUnreadAt};
-ghost use Rattle.facet_solver_reader.specs.Why.{IsWhyNone, IsWhySeveral};
-ghost use Rattle.facet_solver_reader.specs.declared.count.Count.TheVariants.{None as NoCount, Several as TwoCount};
+ghost use Rattle.facet_solver_reader.specs.Why.{IsWhyNone, IsWhyNot, IsWhySeveral};
+ghost use Rattle.facet_solver_reader.specs.declared.count.Count.TheVariants.{None as NoCount, One as OneReading, Several as TwoCount};
 
 mod asked;
 mod branch;
@@ -33,16 +34,43 @@ use crate::document::Document;
 use crate::nodes::Nodes;
 use crate::part::Target;
 use crate::place::Place;
-use crate::read::Memo;
-use crate::read_error::{NoReading, Obstacle, Several};
+use crate::read::{Memo, count_shape};
+use crate::read_error::{NoReading, Obstacle, ReadError, Several};
 use crate::tables::Tables;
 use facet_solver_shape::ShapeId;
 use name::{same_target, unread};
 use std::alloc::AllocError;
 use walk::{Blamed, Here, walk};
 
+/// Why a document has not one reading as a shape.
+pub(crate) fn why_not_one<'c, 'd>(
+    tables: &Tables<'c>,
+    nodes: &Nodes<'_, 'd>,
+    memo: &mut Memo,
+    root: ShapeId,
+) -> ReadError<'c, 'd>
+    requires sound { AreSound tables.now nodes.now memo.old.entries.items }
+    requires served { ShapeIsServed tables.now root }
+    requires ranked { IsRanked tables.now.steps (rules_at tables.now) (of_shape root) }
+    requires not_one { IsCount tables.now nodes.now 0 (of_shape root) OneReading → ⊥ }
+    ensures { IsWhyNot (rules_at tables.now) (of_shape root) (value_of nodes.now 0) result }
+{
+    match count_shape(tables, nodes, memo, 0, root, tables.steps) {
+        Ok(Count::One) => unreachable!(),
+        Ok(Count::None) => match why_none(tables, nodes, memo, root) {
+            Ok(none) => ReadError::NoReading(none),
+            Err(_) => ReadError::OutOfMemory,
+        },
+        Ok(Count::Several) => match why_several(tables, nodes, memo, root) {
+            Ok(several) => ReadError::Several(several),
+            Err(_) => ReadError::OutOfMemory,
+        },
+        Err(_) => ReadError::OutOfMemory,
+    }
+}
+
 /// Why a document has no reading as a shape.
-pub(crate) fn why_none<'c, 'd>(
+fn why_none<'c, 'd>(
     tables: &Tables<'c>,
     nodes: &Nodes<'_, 'd>,
     memo: &mut Memo,
@@ -83,7 +111,7 @@ fn unread_at<'c, 'd>(
 }
 
 /// Where two readings of a document as a shape differ, and by what.
-pub(crate) fn why_several<'c, 'd>(
+fn why_several<'c, 'd>(
     tables: &Tables<'c>,
     nodes: &Nodes<'_, 'd>,
     memo: &mut Memo,

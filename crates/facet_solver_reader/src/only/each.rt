@@ -1,5 +1,5 @@
 //! The only readings of several values.
-ghost use Rattle.std.specs.Prelude.{◌≡◌, ◌++◌, ◌∷◌, ◌<◌, [], All, IfOk, OnOk};
+ghost use Rattle.std.specs.Prelude.{◌≡◌, ◌++◌, ◌∷◌, ◌<◌, [], All, OnOk};
 ghost use Rattle.facet_solver_reader.specs.declared.count.Count.TheVariants.{One};
 ghost use Rattle.facet_solver_reader.specs.Counted.{Counted};
 ghost use Rattle.facet_solver_reader.specs.Nodes.{count, value_of};
@@ -7,11 +7,13 @@ ghost use Rattle.facet_solver_reader.specs.Reading.{AreSound};
 ghost use Rattle.facet_solver_reader.specs.Readings.{inner};
 ghost use Rattle.facet_solver_reader.specs.Rules.{a_list, a_map, a_tuple};
 ghost use Rattle.facet_solver_reader.specs.Tables.{ShapeIsServed, rules_at};
-ghost use Rattle.facet_solver_reader.specs.ToldAt.{IsToldAs};
+ghost use Rattle.facet_solver_reader.specs.ToldAt.{IsRead, IsToldAs};
 ghost use Rattle.facet_solver_reader.specs.Values.{ReadsEnd};
 
+use super::not_one::NotOne;
 use super::target::read_shape;
 use crate::document::Document;
+use crate::key::is_key;
 use crate::nodes::Nodes;
 use crate::read::Memo;
 use crate::reading::{Reading, ReadingKind};
@@ -27,17 +29,17 @@ pub(super) fn read_items<'c, 'v, 'd>(
     memo: &mut Memo,
     node: usize,
     shape: ShapeId,
-) -> Result<Reading<'c, 'v, 'd>, AllocError>
+) -> Result<Reading<'c, 'v, 'd>, NotOne>
     requires sound { AreSound tables.now nodes.now memo.old.entries.items }
     requires inside { node < count nodes.now }
     requires served { ShapeIsServed tables.now shape }
-    requires one { Counted (ReadsEnd (rules_at tables.now) (inner (rules_at tables.now))
-        (a_list shape) (value_of nodes.now node)) One }
     ensures sound { AreSound tables.now nodes.now memo.new.entries.items }
-    ensures told { IfOk result (IsToldAs tables.now nodes.now node (a_list shape)) }
+    ensures told { IsRead (IsToldAs tables.now nodes.now node (a_list shape))
+        (Counted (ReadsEnd (rules_at tables.now) (inner (rules_at tables.now)) (a_list shape)
+        (value_of nodes.now node)) One) result }
 {
     let Document::List(items) = nodes.value(node) else {
-        unreachable!()
+        return Err(NotOne::NoneOrSeveral);
     };
     let mut readings = Vec::with_capacity(tables.alloc, items.len())?;
     for index in 0..items.len() {
@@ -56,15 +58,21 @@ pub(super) fn read_tuple<'c, 'v, 'd>(
     memo: &mut Memo,
     node: usize,
     shapes: &[ShapeId],
-) -> Result<Reading<'c, 'v, 'd>, AllocError>
+) -> Result<Reading<'c, 'v, 'd>, NotOne>
     requires sound { AreSound tables.now nodes.now memo.old.entries.items }
     requires inside { node < count nodes.now }
     requires served { All (ShapeIsServed tables.now) shapes.now }
-    requires one { Counted (ReadsEnd (rules_at tables.now) (inner (rules_at tables.now))
-        (a_tuple shapes.now) (value_of nodes.now node)) One }
     ensures sound { AreSound tables.now nodes.now memo.new.entries.items }
-    ensures told { IfOk result (IsToldAs tables.now nodes.now node (a_tuple shapes.now)) }
+    ensures told { IsRead (IsToldAs tables.now nodes.now node (a_tuple shapes.now))
+        (Counted (ReadsEnd (rules_at tables.now) (inner (rules_at tables.now))
+        (a_tuple shapes.now) (value_of nodes.now node)) One) result }
 {
+    let Document::List(items) = nodes.value(node) else {
+        return Err(NotOne::NoneOrSeveral);
+    };
+    if shapes.len() != items.len() {
+        return Err(NotOne::NoneOrSeveral);
+    }
     let mut readings = Vec::with_capacity(tables.alloc, shapes.len())?;
     for index in 0..shapes.len() {
         let item = nodes.child(node, index);
@@ -83,22 +91,26 @@ pub(super) fn read_entries<'c, 'v, 'd>(
     node: usize,
     key: ShapeId,
     value: ShapeId,
-) -> Result<Reading<'c, 'v, 'd>, AllocError>
+) -> Result<Reading<'c, 'v, 'd>, NotOne>
     requires sound { AreSound tables.now nodes.now memo.old.entries.items }
     requires inside { node < count nodes.now }
     requires served { ShapeIsServed tables.now value }
-    requires one { Counted (ReadsEnd (rules_at tables.now) (inner (rules_at tables.now))
-        (a_map key value) (value_of nodes.now node)) One }
     ensures sound { AreSound tables.now nodes.now memo.new.entries.items }
-    ensures told { IfOk result (IsToldAs tables.now nodes.now node (a_map key value)) }
+    ensures told { IsRead (IsToldAs tables.now nodes.now node (a_map key value))
+        (Counted (ReadsEnd (rules_at tables.now) (inner (rules_at tables.now)) (a_map key value)
+        (value_of nodes.now node)) One) result }
 {
     let Document::Object(members) = nodes.value(node) else {
-        unreachable!()
+        return Err(NotOne::NoneOrSeveral);
     };
     let mut names = Vec::with_capacity(tables.alloc, members.len())?;
     let mut values = Vec::with_capacity(tables.alloc, members.len())?;
     for index in 0..members.len() {
-        names.push(members[index].0)?;
+        let name = members[index].0;
+        if !is_key(tables.shapes, key, name) {
+            return Err(NotOne::NoneOrSeveral);
+        }
+        names.push(name)?;
         let member = nodes.child(node, index);
         let reading = read_shape(tables, nodes, memo, member, value, tables.steps)?;
         push(&mut values, reading)?;

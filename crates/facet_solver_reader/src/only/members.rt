@@ -13,13 +13,15 @@ ghost use Rattle.facet_solver_reader.specs.Reading.{AreSound, IsObject, IsPartCo
 ghost use Rattle.facet_solver_reader.specs.Readings.{ReadsValue};
 ghost use Rattle.facet_solver_reader.specs.Tables.{PartIsServed, has_unknown, rules_at};
 ghost use Rattle.facet_solver_reader.specs.Told.{texts};
-ghost use Rattle.facet_solver_reader.specs.ToldObjects.{AreOnlyMembers, AreToldFields, IsToldField, IsToldRest, IsToldTaken, unknown_names};
+ghost use Rattle.facet_solver_reader.specs.ToldAt.{IsRead};
+ghost use Rattle.facet_solver_reader.specs.ToldObjects.{AreOnlyMembers, AreOnlyRests, AreToldFields, AreToldRests, IsToldField, IsToldRest, IsToldTaken, unknown_names};
 ghost use Rattle.facet_solver_reader.specs.Views.{catch_all_view, member_view};
 
 use super::each::push;
+use super::not_one::NotOne;
 use super::steps::Step;
 use super::target::{read_shape, read_target};
-use crate::document::Document;
+use crate::key::is_key;
 use crate::nodes::Nodes;
 use crate::part::{CatchAll, MemberPart};
 use crate::read::{Memo, Object, members_of};
@@ -35,15 +37,15 @@ pub(super) fn read_fields<'c, 'v, 'd>(
     memo: &mut Memo,
     object: &Object<'_, 'c>,
     steps: &[Step<'_, 'c>],
-) -> Result<Vec<Reading<'c, 'v, 'd>>, AllocError>
+) -> Result<Vec<Reading<'c, 'v, 'd>>, NotOne>
     requires sound { AreSound tables.now nodes.now memo.old.entries.items }
     requires object { IsObject tables.now nodes.now object.now }
     requires served { All (StepIsServed tables.now) (map step_view steps.now) }
-    requires only { AreOnlyMembers tables.now nodes.now object.now
-        (found.members_in (map step_view steps.now)) }
     ensures sound { AreSound tables.now nodes.now memo.new.entries.items }
-    ensures told { IfOk result (λ values. AreToldFields tables.now nodes.now object.now
-        (found.members_in (map step_view steps.now)) values.items) }
+    ensures told { IsRead (λ values. AreToldFields tables.now nodes.now object.now
+        (found.members_in (map step_view steps.now)) values.items)
+        (AreOnlyMembers tables.now nodes.now object.now
+        (found.members_in (map step_view steps.now))) result }
 {
     let mut values = Vec::with_capacity(tables.alloc, members_among(steps))?;
     for step in steps {
@@ -73,49 +75,83 @@ fn read_field<'c, 'v, 'd>(
     memo: &mut Memo,
     object: &Object<'_, 'c>,
     member: &MemberPart<'c>,
-) -> Result<Reading<'c, 'v, 'd>, AllocError>
+) -> Result<Reading<'c, 'v, 'd>, NotOne>
     requires sound { AreSound tables.now nodes.now memo.old.entries.items }
     requires object { IsObject tables.now nodes.now object.now }
     requires served { PartIsServed tables.now (a_member (member_view member.now)) }
-    requires one { IsPartCount tables.now nodes.now object.now
-        (a_member (member_view member.now)) One }
     ensures sound { AreSound tables.now nodes.now memo.new.entries.items }
-    ensures told { IfOk result
-        (IsToldField tables.now nodes.now object.now (member_view member.now)) }
+    ensures told { IsRead (IsToldField tables.now nodes.now object.now (member_view member.now))
+        (IsPartCount tables.now nodes.now object.now (a_member (member_view member.now)) One)
+        result }
 {
     match nodes.member(object.node, member.name) {
         Some(value) => read_target(tables, nodes, memo, value, &member.target, tables.steps),
+        None if member.required => Err(NotOne::NoneOrSeveral),
         None => Ok(Reading::plain(tables.alloc, ReadingKind::Absent)),
+    }
+}
+
+/// What the first catch-all among steps takes; nothing where there is none. There is one way in
+/// which each takes.
+#[cycle(only)]
+pub(super) fn read_rests<'c, 'v, 'd>(
+    tables: &Tables<'c>,
+    nodes: &Nodes<'v, 'd>,
+    memo: &mut Memo,
+    object: &Object<'_, 'c>,
+    steps: &[Step<'_, 'c>],
+) -> Result<(Vec<&'d str>, Vec<Reading<'c, 'v, 'd>>), NotOne>
+    requires sound { AreSound tables.now nodes.now memo.old.entries.items }
+    requires object { IsObject tables.now nodes.now object.now }
+    requires served { All (StepIsServed tables.now) (map step_view steps.now) }
+    ensures sound { AreSound tables.now nodes.now memo.new.entries.items }
+    ensures told { IsRead (AreToldRests tables.now nodes.now object.now (map step_view steps.now))
+        (AreOnlyRests tables.now nodes.now object.now (map step_view steps.now)) result }
+{
+    let mut first = None;
+    for step in steps {
+        if let Step::Rest(catch_all) = step {
+            let rest = read_rest(tables, nodes, memo, object, catch_all)?;
+            if first.is_none() {
+                first = Some(rest);
+            }
+        }
+    }
+    match first {
+        Some(rest) => Ok(rest),
+        None => Ok((Vec::new(tables.alloc), Vec::new(tables.alloc))),
     }
 }
 
 /// The members of no known name that a catch-all takes: their names, and their only readings.
 #[cycle(only)]
-pub(super) fn read_rest<'c, 'v, 'd>(
+fn read_rest<'c, 'v, 'd>(
     tables: &Tables<'c>,
     nodes: &Nodes<'v, 'd>,
     memo: &mut Memo,
     object: &Object<'_, 'c>,
     catch_all: &CatchAll,
-) -> Result<(Vec<&'d str>, Vec<Reading<'c, 'v, 'd>>), AllocError>
+) -> Result<(Vec<&'d str>, Vec<Reading<'c, 'v, 'd>>), NotOne>
     requires sound { AreSound tables.now nodes.now memo.old.entries.items }
     requires object { IsObject tables.now nodes.now object.now }
     requires served { PartIsServed tables.now (a_catch_all (catch_all_view catch_all.now)) }
-    requires one { IsPartCount tables.now nodes.now object.now
-        (a_catch_all (catch_all_view catch_all.now)) One }
     ensures sound { AreSound tables.now nodes.now memo.new.entries.items }
-    ensures told { IfOk result (λ rest. IsToldRest tables.now nodes.now object.now
-        (catch_all_view catch_all.now) rest) }
+    ensures told { IsRead (IsToldRest tables.now nodes.now object.now
+        (catch_all_view catch_all.now))
+        (IsPartCount tables.now nodes.now object.now
+        (a_catch_all (catch_all_view catch_all.now)) One) result }
 {
-    let Document::Object(members) = nodes.value(object.node) else {
-        return Ok((Vec::new(tables.alloc), Vec::new(tables.alloc)));
-    };
+    if !object.takes {
+        return Err(NotOne::NoneOrSeveral);
+    }
+    let members = members_of(nodes.value(object.node));
     let mut names = Vec::new(tables.alloc);
     let mut readings = Vec::new(tables.alloc);
     for index in 0..members.len() {
         let name = members[index].0;
         if !object.list.has_name(name) {
-            let reading = read_taken(tables, nodes, memo, object.node, index, catch_all)?;
+            let node = object.node;
+            let reading = read_taken(tables, nodes, memo, node, index, name, catch_all)?;
             names.push(name)?;
             push(&mut readings, reading)?;
         }
@@ -131,22 +167,25 @@ fn read_taken<'c, 'v, 'd>(
     memo: &mut Memo,
     node: usize,
     index: usize,
+    name: &str,
     catch_all: &CatchAll,
-) -> Result<Reading<'c, 'v, 'd>, AllocError>
+) -> Result<Reading<'c, 'v, 'd>, NotOne>
     requires sound { AreSound tables.now nodes.now memo.old.entries.items }
     requires inside { node < count nodes.now }
     requires within { index < length (members_in (value_of nodes.now node)) }
     requires served { PartIsServed tables.now (a_catch_all (catch_all_view catch_all.now)) }
-    requires one { (m : Member) → slice_get (members_in (value_of nodes.now node)) index ≡ Some m
-        → Counted (Takes (rules_at tables.now) (ReadsValue (rules_at tables.now))
-        (catch_all_view catch_all.now) m) One }
+    requires member { (m : Member) → slice_get (members_in (value_of nodes.now node)) index ≡ Some m
+        → m.name ≡ name.now }
     ensures sound { AreSound tables.now nodes.now memo.new.entries.items }
     ensures told { (m : Member) → slice_get (members_in (value_of nodes.now node)) index ≡ Some m
-        → IfOk result (IsToldTaken tables.now (catch_all_view catch_all.now) m) }
+        → IsRead (IsToldTaken tables.now (catch_all_view catch_all.now) m)
+        (Counted (Takes (rules_at tables.now) (ReadsValue (rules_at tables.now))
+        (catch_all_view catch_all.now) m) One) result }
 {
     let member = nodes.child(node, index);
     match catch_all {
         CatchAll::Anything => Ok(Reading::as_it_is(tables.alloc, nodes.value(member))),
+        CatchAll::Map(key, _) if !is_key(tables.shapes, *key, name) => Err(NotOne::NoneOrSeveral),
         CatchAll::Map(_, value) => read_shape(tables, nodes, memo, member, *value, tables.steps),
     }
 }

@@ -1,24 +1,29 @@
 //! What the only reading of an object goes through.
-ghost use Rattle.std.specs.Prelude.{◌≡◌, ◌+◌, ◌*◌, ◌<◌, ◌≤◌, ◌^◌, ◌++◌, ◌∷◌, [], All, IfOk, IsNone, OnOk, length, max};
+ghost use Rattle.std.specs.Prelude.{◌≡◌, ◌+◌, ◌*◌, ◌<◌, ◌≤◌, ◌^◌, ◌++◌, ◌∷◌, [], ℕ, All, IfErr, IfOk, IsNone, IsTrue, OnOk, Some, length, max, slice_get};
 ghost use Rattle.facet_solver_reader.specs.declared.count.Count.TheVariants.{One};
-ghost use Rattle.facet_solver_reader.specs.Chosen.{IsChosen};
+ghost use Rattle.facet_solver_reader.specs.Chosen.{IsPicked, IsSure};
 ghost use Rattle.facet_solver_reader.specs.FieldPlaces.{path_at};
 ghost use Rattle.facet_solver_reader.specs.Known.{Chooses, HasChoice};
+ghost use Rattle.facet_solver_reader.specs.Nodes.{IsNumbering};
 ghost use Rattle.facet_solver_reader.specs.Parts.{a_selection};
-ghost use Rattle.facet_solver_reader.specs.Planned.{IsPlan};
+ghost use Rattle.facet_solver_reader.specs.Planned.{IsPlanIfOne};
 ghost use Rattle.facet_solver_reader.specs.Reading.{AreSound, IsListCount, IsObject, IsPartCount};
 ghost use Rattle.facet_solver_reader.specs.Steps.{place_below};
 ghost use Rattle.facet_solver_reader.specs.SureSteps.{is_selection, sure_steps};
 ghost use Rattle.facet_solver_reader.specs.Tables.{AreTables, ListIsServed, PartIsBefore, rules_at};
-ghost use Rattle.facet_solver_reader.specs.UnderWay.{AreKnownCounts, IsInnermost, IsSelected, IsUnderWay, with_inner};
+ghost use Rattle.facet_solver_reader.specs.UnderWay.{AreKnownCounts, IsGoing, IsInnermost, IsSelected, with_inner};
+ghost use Rattle.facet_solver_reader.specs.ToldAt.{IsNotOne};
 ghost use Rattle.facet_solver_reader.specs.Views.{list_view, selection_view};
 
+use super::not_one::NotOne;
 use super::tells::tells;
 use crate::count::Count;
 use crate::field_at::{field_name, path_at, place_below};
 use crate::nodes::Nodes;
 use crate::part::{CatchAll, ListId, MemberPart, Part, Selection};
-use crate::read::{Memo, Object, chosen_branch, list_counts, lone_branch, touches};
+use crate::read::{
+    Memo, Object, chosen_branch, count_selection, fits, list_counts, lone_branch, touches,
+};
 use crate::tables::{List, Tables};
 use facet_solver_shape::{FieldPath, ShapeId};
 use std::alloc::AllocError;
@@ -62,12 +67,14 @@ pub(super) fn steps_of<'r, 'c>(
     nodes: &Nodes<'_, '_>,
     memo: &mut Memo,
     object: &Object<'r, 'c>,
-) -> Result<Vec<Step<'r, 'c>>, AllocError>
+) -> Result<Vec<Step<'r, 'c>>, NotOne>
     requires sound { AreSound tables.now nodes.now memo.old.entries.items }
     requires object { IsObject tables.now nodes.now object.now }
-    requires one { IsListCount tables.now nodes.now object.now object.now.list.now One }
     ensures sound { AreSound tables.now nodes.now memo.new.entries.items }
-    ensures plan { IfOk result (λ steps. IsPlan tables.now nodes.now object.now steps.items) }
+    ensures plan { IfOk result (λ steps.
+        IsPlanIfOne tables.now nodes.now object.now steps.items) }
+    ensures none { IfErr result (λ e.
+        IsNotOne e (IsListCount tables.now nodes.now object.now object.now.list.now One)) }
 {
     let steps = Vec::with_capacity(tables.alloc, room_for(&object.list.parts))?;
     let mut way = Way {
@@ -87,7 +94,7 @@ pub(super) fn steps_of<'r, 'c>(
             None => return Ok(way.steps),
         }
     }
-    Err(AllocError)
+    Err(NotOne::OutOfMemory)
 }
 
 /// For how many steps of a list there is room at first. It is held while the members of an object
@@ -120,33 +127,68 @@ fn choose(
     object: &Object<'_, '_>,
     selection: &Selection,
     counts: &mut Option<Vec<Count>>,
-) -> Result<Option<usize>, AllocError>
+) -> Result<Option<usize>, NotOne>
     requires sound { AreSound tables.now nodes.now memo.old.entries.items }
     requires object { IsObject tables.now nodes.now object.now }
     requires counts { AreKnownCounts tables.now nodes.now object.now counts.old }
     requires served { All (ListIsServed tables.now) (selection_view selection.now).branches }
     requires before { PartIsBefore tables.now object.now.list.now.below.items
         (length object.now.list.now.below.items) (a_selection (selection_view selection.now)) }
-    requires one { IsPartCount tables.now nodes.now object.now
-        (a_selection (selection_view selection.now)) One }
     ensures sound { AreSound tables.now nodes.now memo.new.entries.items }
     ensures counts { OnOk result (AreKnownCounts tables.now nodes.now object.now counts.new) }
     ensures chosen { IfOk result
-        (IsChosen tables.now nodes.now object.now (selection_view selection.now)) }
+        (IsPicked tables.now nodes.now object.now (selection_view selection.now)) }
+    ensures none { IfErr result (λ e. IsNotOne e (IsPartCount tables.now nodes.now object.now
+        (a_selection (selection_view selection.now)) One)) }
 {
     if selection.optional && !touches(tables, nodes, object, selection) {
         return Ok(None);
     }
     if let Some(k) = lone_branch(tables, nodes, object, selection) {
-        return Ok(Some(k));
+        if is_sure(tables, nodes, object, selection, selection.branches[k]) {
+            return Ok(Some(k));
+        }
     }
     let known = match counts.take() {
         Some(known) => known,
         None => list_counts(tables, nodes, memo, object)?,
     };
+    match count_selection(tables, nodes, object, selection, &known) {
+        Count::One => {}
+        _ => return Err(NotOne::NoneOrSeveral),
+    }
     let chosen = chosen_branch(tables, nodes, object, selection, &known);
     *counts = Some(known);
     Ok(chosen)
+}
+
+/// Whether an object that is read by a branch alone is so if its members are: the list of the branch
+/// has something to tell, and each member of the object that the selection knows.
+fn is_sure(
+    tables: &Tables<'_>,
+    nodes: &Nodes<'_, '_>,
+    object: &Object<'_, '_>,
+    selection: &Selection,
+    branch: ListId,
+) -> bool
+    requires tables { AreTables tables.now }
+    requires numbering { IsNumbering nodes.now }
+    requires object { IsObject tables.now nodes.now object.now }
+    requires served { All (ListIsServed tables.now) (selection_view selection.now).branches }
+    requires branch { ListIsServed tables.now (list_view branch) }
+    requires at { (k : ℕ)
+        × (slice_get (selection_view selection.now).branches k ≡ Some (list_view branch)) }
+    ensures { IsTrue result → IsSure tables.now nodes.now object.now
+        (selection_view selection.now) (list_view branch) }
+{
+    let Some(index) = tables.slots.index_of(branch) else {
+        return false;
+    };
+    let list = &tables.lists[index];
+    if !tells(tables, list) {
+        return false;
+    }
+    selection.branches.len() == 1 || fits(tables, nodes, object, selection, list)
 }
 
 impl<'c> Frame<'_, 'c> {
@@ -187,17 +229,19 @@ impl<'r, 'c> Way<'r, 'c> {
         memo: &mut Memo,
         object: &Object<'r, 'c>,
         frame: Frame<'r, 'c>,
-    ) -> Result<Option<Frame<'r, 'c>>, AllocError>
+    ) -> Result<Option<Frame<'r, 'c>>, NotOne>
         requires sound { AreSound tables.now nodes.now memo.old.entries.items }
         requires object { IsObject tables.now nodes.now object.now }
         requires counts { AreKnownCounts tables.now nodes.now object.now self.old.counts }
-        requires under_way { IsUnderWay tables.now nodes.now object.now
+        requires under_way { IsGoing tables.now nodes.now object.now
             (self.old.frames.items ++ frame ∷ []) self.old.steps.items }
         ensures sound { AreSound tables.now nodes.now memo.new.entries.items }
         ensures counts { OnOk result
             (AreKnownCounts tables.now nodes.now object.now self.new.counts) }
-        ensures under_way { IfOk result (λ inner. IsUnderWay tables.now nodes.now object.now
+        ensures under_way { IfOk result (λ inner. IsGoing tables.now nodes.now object.now
             (with_inner self.new.frames.items inner) self.new.steps.items) }
+        ensures not_one { IfErr result (λ e.
+            IsNotOne e (IsListCount tables.now nodes.now object.now object.now.list.now One)) }
         ensures none { IfOk result (λ inner. IsNone inner → self.new.frames.items ≡ []) }
     {
         let list = frame.list;

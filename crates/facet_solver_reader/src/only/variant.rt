@@ -1,5 +1,5 @@
 //! The only reading of a value as a variant that it names.
-ghost use Rattle.std.specs.Prelude.{◌≡◌, ◌<◌, ℕ, All, IfOk, OnOk, length, map, slice_get};
+ghost use Rattle.std.specs.Prelude.{◌≡◌, ◌<◌, ℕ, All, IfOk, IfSome, OnOk, length, map, slice_get};
 ghost use Rattle.facet_solver_reader.specs.declared.count.Count.TheVariants.{One};
 ghost use Rattle.facet_solver_reader.specs.Choices as choices;
 ghost use Rattle.facet_solver_reader.specs.Counted.{Counted};
@@ -10,17 +10,19 @@ ghost use Rattle.facet_solver_reader.specs.Readings.{ReadsValue, inner};
 ghost use Rattle.facet_solver_reader.specs.Rules.{a_named_variant};
 ghost use Rattle.facet_solver_reader.specs.Tables.{IsServed, rules_at};
 ghost use Rattle.facet_solver_reader.specs.Told.{names_of, names_view};
-ghost use Rattle.facet_solver_reader.specs.ToldAt.{IsToldAs, IsWithin};
+ghost use Rattle.facet_solver_reader.specs.ToldAt.{IsOnlyNamed, IsRead, IsReadAsNamed, IsToldAs, IsWithin};
 ghost use Rattle.facet_solver_reader.specs.Values.{NamesUnit, ReadsEnd, ReadsNamedVariant};
 ghost use Rattle.facet_solver_reader.specs.Views.{named_view, target_view};
 
+use super::not_one::NotOne;
 use super::target::read_target;
 use crate::document::Document;
 use crate::end::NamedVariant;
 use crate::field_at::{shape_name, variant_name};
 use crate::nodes::Nodes;
 use crate::part::Target;
-use crate::read::{Memo, count_target};
+use crate::count::Count;
+use crate::read::{Memo, count_contents, count_target, count_units};
 use crate::reading::{Reading, ReadingKind, VariantName};
 use crate::tables::Tables;
 use facet_solver_shape::Shapes;
@@ -34,38 +36,93 @@ pub(super) fn read_named<'c, 'v, 'd>(
     memo: &mut Memo,
     node: usize,
     variants: &[NamedVariant<'c>],
-) -> Result<Reading<'c, 'v, 'd>, AllocError>
+) -> Result<Reading<'c, 'v, 'd>, NotOne>
     requires sound { AreSound tables.now nodes.now memo.old.entries.items }
     requires inside { node < count nodes.now }
     requires served { All (λ v. IsServed tables.now v.content) (map named_view variants.now) }
-    requires one { Counted (ReadsEnd (rules_at tables.now) (inner (rules_at tables.now))
-        (a_named_variant (map named_view variants.now)) (value_of nodes.now node)) One }
     ensures sound { AreSound tables.now nodes.now memo.new.entries.items }
-    ensures told { IfOk result
-        (IsToldAs tables.now nodes.now node (a_named_variant (map named_view variants.now))) }
+    ensures told { IsRead
+        (IsToldAs tables.now nodes.now node (a_named_variant (map named_view variants.now)))
+        (Counted (ReadsEnd (rules_at tables.now) (inner (rules_at tables.now))
+        (a_named_variant (map named_view variants.now)) (value_of nodes.now node)) One) result }
 {
-    let value = nodes.value(node);
-    let k = named_index(tables, nodes, memo, node, variants)?;
-    let variant = &variants[k];
-    let kind = match value {
-        Document::Object(_) => {
-            let content = nodes.child(node, 0);
-            let reading = read_target(
-                tables,
-                nodes,
-                memo,
-                content,
-                &variant.content,
-                tables.steps,
-            )?;
-            ReadingKind::Content(Box::new(tables.alloc, reading)?)
+    match nodes.value(node) {
+        Document::Text(text) => read_unit(tables, nodes, node, variants, text),
+        Document::Object(members) => {
+            if members.len() != 1 {
+                return Err(NotOne::NoneOrSeveral);
+            }
+            read_member(tables, nodes, memo, node, variants, members[0].0)
         }
-        _ => ReadingKind::Value(value),
-    };
+        _ => Err(NotOne::NoneOrSeveral),
+    }
+}
+
+/// The only reading of a text as a variant without content.
+fn read_unit<'c, 'v, 'd>(
+    tables: &Tables<'c>,
+    nodes: &Nodes<'v, 'd>,
+    node: usize,
+    variants: &[NamedVariant<'c>],
+    name: &str,
+) -> Result<Reading<'c, 'v, 'd>, NotOne>
+    requires inside { node < count nodes.now }
+    requires named { value_of nodes.now node ≡ text name.now }
+    ensures told { IsRead
+        (IsToldAs tables.now nodes.now node (a_named_variant (map named_view variants.now)))
+        (Counted (ReadsEnd (rules_at tables.now) (inner (rules_at tables.now))
+        (a_named_variant (map named_view variants.now)) (value_of nodes.now node)) One) result }
+{
+    match count_units(tables, variants, name) {
+        Count::One => {}
+        _ => return Err(NotOne::NoneOrSeveral),
+    }
+    let variant = &variants[unit_index(variants, name)];
     let name = name_of(tables.shapes, &variant.content);
     Ok(Reading {
         variants: vec![in tables.alloc; name]?,
-        kind,
+        kind: ReadingKind::Value(nodes.value(node)),
+    })
+}
+
+/// The only reading of an object of one member as the variant that the member names.
+#[cycle(only)]
+fn read_member<'c, 'v, 'd>(
+    tables: &Tables<'c>,
+    nodes: &Nodes<'v, 'd>,
+    memo: &mut Memo,
+    node: usize,
+    variants: &[NamedVariant<'c>],
+    name: &str,
+) -> Result<Reading<'c, 'v, 'd>, NotOne>
+    requires sound { AreSound tables.now nodes.now memo.old.entries.items }
+    requires inside { node < count nodes.now }
+    requires single { IsOnlyMember (value_of nodes.now node) name.now }
+    requires served { All (λ v. IsServed tables.now v.content) (map named_view variants.now) }
+    ensures sound { AreSound tables.now nodes.now memo.new.entries.items }
+    ensures told { IsRead
+        (IsToldAs tables.now nodes.now node (a_named_variant (map named_view variants.now)))
+        (Counted (ReadsEnd (rules_at tables.now) (inner (rules_at tables.now))
+        (a_named_variant (map named_view variants.now)) (value_of nodes.now node)) One) result }
+{
+    let k = match only_named(variants, name) {
+        Some(k) => k,
+        None => counted_index(tables, nodes, memo, node, variants, name)?,
+    };
+    let variant = &variants[k];
+    let content = nodes.child(node, 0);
+    let reading = read_target(
+        tables,
+        nodes,
+        memo,
+        content,
+        &variant.content,
+        tables.steps,
+    )?;
+    let name = name_of(tables.shapes, &variant.content);
+    Ok(Reading {
+        variants: vec![in tables.alloc; name]?,
+        kind: ReadingKind::Content(Box::new(tables.alloc, reading)?),
     })
 }
 
@@ -98,33 +155,47 @@ pub(super) fn put_within<'c>(
     Ok(())
 }
 
-/// Which variant a value is read as by its name, by its index.
-fn named_index(
+/// Which variant alone has a name, by its index; `None` where none or several have it.
+fn only_named(variants: &[NamedVariant<'_>], name: &str) -> Option<usize>
+    ensures { IfSome result (IsOnlyNamed (map named_view variants.now) name.now) }
+{
+    let mut found = None;
+    for (k, variant) in variants.iter().enumerate() {
+        if variant.name == name {
+            if found.is_some() {
+                return None;
+            }
+            found = Some(k);
+        }
+    }
+    found
+}
+
+/// Which variant the only member of an object names whose value has one reading as its content, by
+/// its index, where it has none as that of another variant of the name.
+fn counted_index(
     tables: &Tables<'_>,
     nodes: &Nodes<'_, '_>,
     memo: &mut Memo,
     node: usize,
     variants: &[NamedVariant<'_>],
-) -> Result<usize, AllocError>
+    name: &str,
+) -> Result<usize, NotOne>
     requires sound { AreSound tables.now nodes.now memo.old.entries.items }
     requires inside { node < count nodes.now }
+    requires single { IsOnlyMember (value_of nodes.now node) name.now }
     requires served { All (λ v. IsServed tables.now v.content) (map named_view variants.now) }
-    requires one { Counted (ReadsEnd (rules_at tables.now) (inner (rules_at tables.now))
-        (a_named_variant (map named_view variants.now)) (value_of nodes.now node)) One }
     ensures sound { AreSound tables.now nodes.now memo.new.entries.items }
-    ensures within { IfOk result (λ k. k < length variants.now) }
-    ensures chosen { IfOk result (λ k. (r : choices.Reading) × ReadsEnd (rules_at tables.now)
-        (inner (rules_at tables.now)) (a_named_variant (map named_view variants.now))
-        (value_of nodes.now node) (choices.a_variant k r)) }
+    ensures chosen { IsRead (IsReadAsNamed tables.now nodes.now node
+        (map named_view variants.now)) (Counted (ReadsNamedVariant
+        (ReadsValue (rules_at tables.now)) (map named_view variants.now)
+        (value_of nodes.now node)) One) result }
 {
-    match nodes.value(node) {
-        Document::Text(text) => Ok(unit_index(variants, text)),
-        // An object that is read so has one member.
-        Document::Object(members) => {
-            content_index(tables, nodes, memo, node, variants, members[0].0)
-        }
-        _ => unreachable!(),
+    match count_contents(tables, nodes, memo, node, variants, name)? {
+        Count::One => {}
+        _ => return Err(NotOne::NoneOrSeveral),
     }
+    Ok(content_index(tables, nodes, memo, node, variants, name)?)
 }
 
 /// Which variant without content a text names, by its index.

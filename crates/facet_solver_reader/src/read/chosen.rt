@@ -1,5 +1,5 @@
 //! The branch by which an object is read, where it is read by a selection in one way.
-ghost use Rattle.std.specs.Prelude.{All, IfSome, IsTrue, length};
+ghost use Rattle.std.specs.Prelude.{◌<◌, All, IfSome, IsTrue, length};
 ghost use Rattle.facet_solver_reader.specs.declared.count.Count.TheVariants.{One};
 ghost use Rattle.facet_solver_reader.specs.Branches.{ReadsList};
 ghost use Rattle.facet_solver_reader.specs.Choices.{Choice};
@@ -75,7 +75,8 @@ pub(crate) fn lone_branch(
     requires numbering { IsNumbering nodes.now }
     requires object { IsObject tables.now nodes.now object.now }
     requires served { All (ListIsServed tables.now) (selection_view selection.now).branches }
-    ensures { IfSome result
+    ensures within { IfSome result (λ k. k < length selection.now.branches.items) }
+    ensures alone { IfSome result
         (IsAlone tables.now nodes.now object.now (selection_view selection.now)) }
 {
     if selection.branches.len() == 1 {

@@ -83,7 +83,7 @@ fn count_by_content(
 }
 
 /// How often a value is read as no content: null, or an object without members.
-fn count_no_content(value: &Document<'_>) -> Count
+pub(crate) fn count_no_content(value: &Document<'_>) -> Count
     ensures { Counted (ReadsNoContent (view value.now)) result }
 {
     match value {

@@ -27,7 +27,7 @@ pub(super) fn is_told_at_once(end: &End<'_>) -> bool {
 }
 
 /// How often a value is read by what asks nothing else of it.
-pub(super) fn count_scalar(end: &End<'_>, value: &Document<'_>) -> Count
+pub(crate) fn count_scalar(end: &End<'_>, value: &Document<'_>) -> Count
     ensures { Counted (ReadsScalar (end_view end.now) (view value.now)) result }
 {
     Count::from(is_scalar_of(end, value))

@@ -54,7 +54,7 @@ pub(crate) fn count_target(
 }
 
 /// How often a value is the text of a tag.
-fn count_tag(value: &Document<'_>, name: &str) -> Count
+pub(crate) fn count_tag(value: &Document<'_>, name: &str) -> Count
     ensures { Counted (ReadsTag name.now (view value.now)) result }
 {
     match value {

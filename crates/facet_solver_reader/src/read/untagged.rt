@@ -27,7 +27,7 @@ use std::alloc::AllocError;
 /// How often a value is read as an untagged enum: by the variants that join and those that read it
 /// by themselves, or, where none does, by the fallbacks.
 #[cycle(count)]
-pub(super) fn count_untagged(
+pub(crate) fn count_untagged(
     tables: &Tables<'_>,
     nodes: &Nodes<'_, '_>,
     memo: &mut Memo,

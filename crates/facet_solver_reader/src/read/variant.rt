@@ -48,7 +48,7 @@ pub(super) fn count_named(
 }
 
 /// How often a text names a variant without content.
-fn count_units(tables: &Tables<'_>, variants: &[NamedVariant<'_>], name: &str) -> Count
+pub(crate) fn count_units(tables: &Tables<'_>, variants: &[NamedVariant<'_>], name: &str) -> Count
     ensures { Counted (ReadsNamedVariant (ReadsValue (rules_at tables.now))
         (map named_view variants.now) (text name.now)) result }
 {
@@ -61,7 +61,7 @@ fn count_units(tables: &Tables<'_>, variants: &[NamedVariant<'_>], name: &str) -
 
 /// How often an object of one member names a variant, and its value is read as the content.
 #[cycle(count)]
-fn count_contents(
+pub(crate) fn count_contents(
     tables: &Tables<'_>,
     nodes: &Nodes<'_, '_>,
     memo: &mut Memo,

@@ -1,6 +1,6 @@
 use Rattle.std.proofs.Common.{◌++◌, ◌∷◌, []}
 use Rattle.facet_solver_reader.specs.Reading.{AreSound}
-use Rattle.facet_solver_reader.specs.UnderWay.{AreKnownCounts, IsUnderWay}
+use Rattle.facet_solver_reader.specs.UnderWay.{AreKnownCounts, IsGoing}
 use Rattle.facet_solver_reader.proofs.only.steps.steps_of.Given as goal
 
 -- the steps so far, and the lists that are under way
@@ -10,6 +10,6 @@ invariant-parts l =
       sound : AreSound l.tables l.nodes l.memo.entries.items;
       counts : AreKnownCounts l.tables l.nodes l.object l.way.counts;
       under_way :
-          IsUnderWay l.tables l.nodes l.object (l.way.frames.items ++ l.frame ∷ [])
+          IsGoing l.tables l.nodes l.object (l.way.frames.items ++ l.frame ∷ [])
           l.way.steps.items;
     }

@@ -26,6 +26,7 @@ loop-k-preserved-then-fails_by_branch c =
     c.branch-item.result (ap (map list_view) c.deref-branch-items.ensures.value)
     c.loop-k-test.true c.branch-item.is in
     record {
+      within = c.loop-k.invariant.within;
       last = c.fails_by_branch.ensures.last;
       alone =
           alone_more rules (ReadsValue rules) object s c.loop-k.found c.loop-k.k
@@ -41,6 +42,8 @@ loop-k-preserved c =
     let s = selection_view c.args.selection.now in
     let none = is_none c.loop-k.found (sym c.is_some.ensures ∙ c.if-is_some.false) in
     record {
+      within =
+          omega (arith, c.loop-k-test.true, ap length c.deref-branch-items.ensures.value);
       last = c.fails_by_branch.ensures.last;
       alone =
           alone_here rules (ReadsValue rules) object s c.loop-k.k
@@ -48,8 +51,8 @@ loop-k-preserved c =
           c.loop-k.invariant.alone);
     }
 
-pub returns : goal.returns
-returns c =
+pub returns-clause-alone : goal.returns-clause-alone
+returns-clause-alone c =
     let rules = rules_at c.args.tables.now in
     let object = object_view c.args.nodes.now c.args.object.now in
     let s = selection_view c.args.selection.now in

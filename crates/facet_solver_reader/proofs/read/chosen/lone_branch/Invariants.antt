@@ -1,4 +1,5 @@
-use Rattle.std.proofs.Common.{◌≡◌, ℕ, ◌<◌, Some}
+use Rattle.std.proofs.Common.{◌≡◌, ℕ, ◌<◌, Some, length}
+use Rattle.std.specs.Prelude.{IfSome}
 use Rattle.facet_solver_reader.specs.Choices.{Choice, choosing}
 use Rattle.facet_solver_reader.specs.Chosen.{ReadsChosen}
 use Rattle.facet_solver_reader.specs.LookedUp.{IsLast}
@@ -10,6 +11,7 @@ use Rattle.facet_solver_reader.proofs.read.chosen.lone_branch.Given as goal
 abbrev pub invariant-loop-k : goal.invariant-loop-k
 invariant-loop-k l =
     record {
+      within : IfSome l.found (λ k. k < length l.selection.branches.items);
       last : IsLast (members_in (value_of l.nodes l.object.node)) l.last;
       alone :
           (j : ℕ) (c : Choice) → j < l.k
