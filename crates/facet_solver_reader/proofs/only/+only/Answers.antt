@@ -1096,6 +1096,7 @@ object::read_steps-returns-clause-told t c =
     let x : ObjectReading =
     record {
       selections = c.in_ok-found.found.selections;
+      absent = c.in_ok-found.found.absent;
       fields = c.in_ok-found.found.fields;
       taken = r.0;
       ignored = c.match-catch_all_in-2.ignored;
@@ -1143,7 +1144,7 @@ object::read_steps-returns-clause-told t c =
     ] in
     told_by_plan tb nodes o steps plan c.plain.result x c.in_ok-values.values r.1 c.requires.reads
     c.plain.ensures.variants c.plain.ensures.kind c.in_ok-found.ensures.selections
-    c.in_ok-found.ensures.fields
+    c.in_ok-found.ensures.absent c.in_ok-found.ensures.fields
     values rest
 
 pub target::read_end-read_shape-requires : goal.target::read_end-read_shape-requires

@@ -226,11 +226,16 @@ returns-in_default-2-clause-under_way c =
     let x = taken_at t nodes o c.requires.sound.tables fs f old h c.deref.result.now
     c.in-Some.part.now (code_part.TheVariants.Selection s) c.deref.ensures.value look.3.0 look.1
     c.in-Selection.is in
-    moved t nodes o (fs ++ behind_next f ∷ []) (fs ++ c.behind-in_default-2.result ∷ []) old old
-    (ap (λ (g : Frame). fs ++ g ∷ []) c.behind-in_default-2.ensures) refl
-    (absent_taken t nodes o fs f (selection_view s) old h x
+    let new = c.pass.new.self.steps.items in
+    moved t nodes o (fs ++ behind_next f ∷ [])
+    (c.pass.new.self.frames.items ++ c.behind-in_ok-pass.result ∷ []) new new
+    (ap (λ (gs : List Frame). gs ++ c.behind-in_ok-pass.result ∷ []) c.in_ok-pass.ensures.frames
+    ∙ ap (λ (g : Frame). fs ++ g ∷ []) c.behind-in_ok-pass.ensures)
+    refl
+    (absent_taken t nodes o fs f (selection_view s) old new h x
     (subst (IsChosen t nodes o (selection_view s)) c.in_default-2.is
-    c.in_ok-k-in-Selection.ensures.chosen))
+    c.in_ok-k-in-Selection.ensures.chosen)
+    c.in_ok-pass.ensures.steps)
 
 pub index-requires : goal.index-requires
 index-requires c =
