@@ -228,14 +228,14 @@ returns-in_default-2-clause-under_way c =
     c.in-Selection.is in
     let new = c.pass.new.self.steps.items in
     moved t nodes o (fs ++ behind_next f ∷ [])
-    (c.pass.new.self.frames.items ++ c.behind-in_ok-pass.result ∷ []) new new
-    (ap (λ (gs : List Frame). gs ++ c.behind-in_ok-pass.result ∷ []) c.in_ok-pass.ensures.frames
-    ∙ ap (λ (g : Frame). fs ++ g ∷ []) c.behind-in_ok-pass.ensures)
+    (c.pass.new.self.frames.items ++ c.behind-in_default-2.result ∷ []) new new
+    (ap (λ (gs : List Frame). gs ++ c.behind-in_default-2.result ∷ []) c.in_ok-pass-in-Selection.ensures.frames
+    ∙ ap (λ (g : Frame). fs ++ g ∷ []) c.behind-in_default-2.ensures)
     refl
     (absent_taken t nodes o fs f (selection_view s) old new h x
     (subst (IsChosen t nodes o (selection_view s)) c.in_default-2.is
     c.in_ok-k-in-Selection.ensures.chosen)
-    c.in_ok-pass.ensures.steps)
+    c.in_ok-pass-in-Selection.ensures.steps)
 
 pub index-requires : goal.index-requires
 index-requires c =
