@@ -1,7 +1,6 @@
 -- A choice that has no key, and goes through no list that tells of an enum, has no steps.
 use Rattle.std.proofs.Common.{◌≡◌, ◌∙◌, sym, ap, subst, refl, inl, ℕ, suc, ◌<◌, List, [], ◌∷◌}
-use Rattle.std.proofs.Common.{◌++◌, Bool, Option, Some, None, true, false, slice_get}
-use Rattle.std.proofs.Common.{◌||◌, if◌then◌else◌}
+use Rattle.std.proofs.Common.{◌++◌, ◌||◌, Bool, Option, Some, None, true, false, slice_get}
 use Rattle.std.proofs.lemmas.List.Folds.{list_any-from_Any}
 use Rattle.std.specs.Prelude.{MatchOption, ⊤}
 use Rattle.std.specs.List.{All}
@@ -18,7 +17,7 @@ use Rattle.facet_solver_reader.specs.Parts.{a_selection, a_catch_all}
 use Rattle.facet_solver_reader.specs.Parts.{of_struct, of_enum, of_joined, of_branch, of_fields}
 use Rattle.facet_solver_reader.specs.Planned.{walk_at}
 use Rattle.facet_solver_reader.specs.Slots.{index_of}
-use Rattle.facet_solver_reader.specs.Steps.{Placed, Step, Walk, absence, an_absence, is_branch}
+use Rattle.facet_solver_reader.specs.Steps.{Placed, Step, Walk, absence, is_branch}
 use Rattle.facet_solver_reader.specs.Steps.{is_of_enum, place_below, placed, placed_from}
 use Rattle.facet_solver_reader.specs.Steps.{selected, step_at, steps_of, through}
 use Rattle.facet_solver_reader.specs.Tables.{AreTables, BranchIsBefore, IsListAt, ListIsServed}
@@ -72,8 +71,8 @@ module _ (t : Tables) (tables : AreTables t) (index : ℕ) (l : ListEntry)
   abbrev walk : Walk
   walk = walk_at t
 
-  -- a part whose branches are among the lists that the choices go through, and which is no enum that
-  -- may be absent
+  -- a part whose branches are among the lists that the choices go through, and which is no enum
+  -- that may be absent
   record IsWithin (p : Part) : Type 0 where
     served : PartIsServed t p
     other : may_lack_enum p ≡ true → ⊥

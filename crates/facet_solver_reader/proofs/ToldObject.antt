@@ -36,8 +36,8 @@ use Rattle.facet_solver_reader.specs.ToldAt.{IsToldBy}
 use Rattle.facet_solver_reader.specs.ToldObjects.{AreOnlyMembers, AreToldFields, IsOnlyOf}
 use Rattle.facet_solver_reader.specs.ToldObjects.{IsToldRest, Rest}
 use Rattle.facet_solver_reader.specs.Views.{list_view}
-use Rattle.facet_solver_reader.proofs.FoundSteps.{absences_planned, all_rest, no_rest, places_planned}
-use Rattle.facet_solver_reader.proofs.FoundSteps.{selections_planned, some_rest}
+use Rattle.facet_solver_reader.proofs.FoundSteps.{absences_planned, all_rest, no_rest}
+use Rattle.facet_solver_reader.proofs.FoundSteps.{places_planned, selections_planned, some_rest}
 use Rattle.facet_solver_reader.proofs.ToldMembers.{fields_told, same_taken}
 
 -- what each member among steps has, the one of a step has

@@ -14,8 +14,8 @@ use crate::reading::FieldPlace;
 use facet_solver_shape::{FieldPath, Shapes, VariantSelection};
 use std::alloc::{AllocError, Global};
 
-/// What steps tell: the variants that they select, with their paths, the paths of the enums that are
-/// absent, and where their members stand.
+/// What steps tell: the variants that they select, with their paths, the paths of the enums that
+/// are absent, and where their members stand.
 #[derive(Drop)]
 pub(super) struct Found<'c> {
     pub(super) selections: Vec<VariantSelection<'c>>,

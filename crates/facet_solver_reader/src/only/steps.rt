@@ -235,8 +235,8 @@ impl<'r, 'c> Way<'r, 'c> {
         }
     }
 
-    /// The absence of a selection, which is the next part of a list, goes behind the steps, if it is
-    /// of an enum.
+    /// The absence of a selection, which is the next part of a list, goes behind the steps, if it
+    /// is of an enum.
     fn pass(
         &mut self,
         tables: &Tables<'c>,

@@ -12,6 +12,6 @@ pub returns : goal.returns
 returns c =
     let branches = c.args.selection.now.branches.items in
     let asked : c.any.result ≡ list_any (λ (b : ListId). is_branch (list_view b)) branches =
-    any_from_yields_List (λ (b : ListId). is_branch (list_view b)) _ _ c.any.result c.any.ensures.ran
-    (YieldsList-from_slice branches cc) (λ b r q k. search (rules, tests)) in
+    any_from_yields_List (λ (b : ListId). is_branch (list_view b)) _ _ c.any.result
+    c.any.ensures.ran (YieldsList-from_slice branches cc) (λ b r q k. search (rules, tests)) in
     asked ∙ sym (list_any-map is_branch list_view branches)

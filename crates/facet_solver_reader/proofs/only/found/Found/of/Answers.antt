@@ -55,7 +55,8 @@ pub returns-clause-absent : goal.returns-clause-absent
 returns-clause-absent c =
     let at = c.loop-step in
     let empty : into_iter_items at.step-iterator ≡ [] =
-    none_left (into_iter_items at.step-iterator) (sym at.invariant.len ∙ c.in-None.ensures.steps.0) in
+    none_left (into_iter_items at.step-iterator)
+    (sym at.invariant.len ∙ c.in-None.ensures.steps.0) in
     let all : at.yielded ≡ c.args.steps.items =
     sym (append-nil at.yielded) ∙ (rw empty at at.invariant.all
     ∙ c.into_iter-step-iterator.ensures.into_iter_gives.0) in

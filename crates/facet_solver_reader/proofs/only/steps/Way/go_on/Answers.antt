@@ -229,7 +229,8 @@ returns-in_default-2-clause-under_way c =
     let new = c.pass.new.self.steps.items in
     moved t nodes o (fs ++ behind_next f ∷ [])
     (c.pass.new.self.frames.items ++ c.behind-in_default-2.result ∷ []) new new
-    (ap (λ (gs : List Frame). gs ++ c.behind-in_default-2.result ∷ []) c.in_ok-pass-in-Selection.ensures.frames
+    (ap (λ (gs : List Frame). gs ++ c.behind-in_default-2.result ∷ [])
+    c.in_ok-pass-in-Selection.ensures.frames
     ∙ ap (λ (g : Frame). fs ++ g ∷ []) c.behind-in_default-2.ensures)
     refl
     (absent_taken t nodes o fs f (selection_view s) old new h x
