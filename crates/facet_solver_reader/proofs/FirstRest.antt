@@ -8,7 +8,8 @@ use Rattle.facet_solver_reader.specs.declared.only.steps.Step as code
 use Rattle.facet_solver_reader.specs.declared.part.CatchAll as code_catch_all
 use Rattle.facet_solver_reader.specs.Found.{catch_all_in}
 use Rattle.facet_solver_reader.specs.Parts.{CatchAll}
-use Rattle.facet_solver_reader.specs.Planned.{Planned, a_field, a_rest, a_variant, step_view}
+use Rattle.facet_solver_reader.specs.Planned.{Planned, a_field, a_rest, a_variant, an_absence}
+use Rattle.facet_solver_reader.specs.Planned.{step_view}
 use Rattle.facet_solver_reader.proofs.FoundSteps.{catch_all_in-append}
 
 -- where none stands before it, a catch-all is the first
@@ -20,6 +21,7 @@ first_rest (s ∷ ss) zero k before e =
     let same : s ≡ a_rest k = cc in ap (λ x. catch_all_in (x ∷ ss)) same
 first_rest (a_field path m ∷ ss) (suc i) k before e = first_rest ss i k before e
 first_rest (a_variant path id j ∷ ss) (suc i) k before e = first_rest ss i k before e
+first_rest (an_absence path ∷ ss) (suc i) k before e = first_rest ss i k before e
 first_rest (a_rest j ∷ ss) (suc i) k before e = absurd (cc)
 
 -- a step that is none
@@ -28,6 +30,7 @@ pub no_rest_at : (s : code.Step)
     → catch_all_in (step_view s ∷ []) ≡ None
 no_rest_at (code.TheVariants.Field path m) f = refl
 no_rest_at (code.TheVariants.Variant path id k) f = refl
+no_rest_at (code.TheVariants.Absence path) f = refl
 no_rest_at (code.TheVariants.Rest k) f = absurd (f k refl)
 
 -- one step more that is none

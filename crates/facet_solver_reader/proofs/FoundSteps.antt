@@ -6,11 +6,12 @@ use Rattle.std.specs.List.{All}
 use Rattle.std.specs.Option.{option_map, option_or}
 use Rattle.facet_solver_shape.specs.Catalogues.{Catalogue}
 use Rattle.facet_solver_reader.specs.Choices.{Taken}
-use Rattle.facet_solver_reader.specs.Found.{catch_all_in, members_in, places_in, selections_in}
+use Rattle.facet_solver_reader.specs.Found.{absences_in, catch_all_in, members_in, places_in}
+use Rattle.facet_solver_reader.specs.Found.{selections_in}
 use Rattle.facet_solver_reader.specs.Parts.{CatchAll}
 use Rattle.facet_solver_reader.specs.Planned as planned
 use Rattle.facet_solver_reader.specs.Planned.{Planned, planned_of}
-use Rattle.facet_solver_reader.specs.Steps.{Step, a_field, a_rest, a_variant}
+use Rattle.facet_solver_reader.specs.Steps.{Step, a_field, a_rest, a_variant, an_absence}
 use Rattle.facet_solver_reader.specs.Told as told
 use Rattle.facet_solver_reader.specs.Told.{FieldStep, fields_in, place_of, rest_in}
 
@@ -21,7 +22,18 @@ selections_in-append shapes [] ts = refl
 selections_in-append shapes (planned.a_variant path id k ∷ ss) ts =
     rw (selections_in-append shapes ss ts)
 selections_in-append shapes (planned.a_field path m ∷ ss) ts = selections_in-append shapes ss ts
+selections_in-append shapes (planned.an_absence path ∷ ss) ts = selections_in-append shapes ss ts
 selections_in-append shapes (planned.a_rest k ∷ ss) ts = selections_in-append shapes ss ts
+
+-- the paths of the enums that are absent
+pub absences_in-append : (ss ts : List Planned)
+    → absences_in (ss ++ ts) ≡ absences_in ss ++ absences_in ts
+absences_in-append [] ts = refl
+absences_in-append (planned.an_absence path ∷ ss) ts =
+    ap (λ xs. path ∷ xs) (absences_in-append ss ts)
+absences_in-append (planned.a_field path m ∷ ss) ts = absences_in-append ss ts
+absences_in-append (planned.a_variant path id k ∷ ss) ts = absences_in-append ss ts
+absences_in-append (planned.a_rest k ∷ ss) ts = absences_in-append ss ts
 
 -- the places
 pub places_in-append : (ss ts : List Planned)
@@ -30,6 +42,7 @@ places_in-append [] ts = refl
 places_in-append (planned.a_field path m ∷ ss) ts =
     ap (λ xs. (path, m.name) ∷ xs) (places_in-append ss ts)
 places_in-append (planned.a_variant path id k ∷ ss) ts = places_in-append ss ts
+places_in-append (planned.an_absence path ∷ ss) ts = places_in-append ss ts
 places_in-append (planned.a_rest k ∷ ss) ts = places_in-append ss ts
 
 -- the members
@@ -39,6 +52,7 @@ members_in-append [] ts = refl
 members_in-append (planned.a_field path m ∷ ss) ts =
     ap (λ xs. m ∷ xs) (members_in-append ss ts)
 members_in-append (planned.a_variant path id k ∷ ss) ts = members_in-append ss ts
+members_in-append (planned.an_absence path ∷ ss) ts = members_in-append ss ts
 members_in-append (planned.a_rest k ∷ ss) ts = members_in-append ss ts
 
 -- the first catch-all
@@ -48,6 +62,7 @@ catch_all_in-append [] ts = refl
 catch_all_in-append (planned.a_rest k ∷ ss) ts = refl
 catch_all_in-append (planned.a_field path m ∷ ss) ts = catch_all_in-append ss ts
 catch_all_in-append (planned.a_variant path id k ∷ ss) ts = catch_all_in-append ss ts
+catch_all_in-append (planned.an_absence path ∷ ss) ts = catch_all_in-append ss ts
 
 -- the variants are selected whatever is read
 pub selections_planned : (shapes : Catalogue) (ss : List Step)
@@ -56,7 +71,17 @@ selections_planned shapes [] = refl
 selections_planned shapes (a_variant path id k ∷ ss) =
     rw (selections_planned shapes ss)
 selections_planned shapes (a_field path m r ∷ ss) = selections_planned shapes ss
+selections_planned shapes (an_absence path ∷ ss) = selections_planned shapes ss
 selections_planned shapes (a_rest k t ∷ ss) = selections_planned shapes ss
+
+-- the same enums are absent
+pub absences_planned : (ss : List Step)
+    → told.absences_in ss ≡ absences_in (map planned_of ss)
+absences_planned [] = refl
+absences_planned (an_absence path ∷ ss) = ap (λ xs. path ∷ xs) (absences_planned ss)
+absences_planned (a_field path m r ∷ ss) = absences_planned ss
+absences_planned (a_variant path id k ∷ ss) = absences_planned ss
+absences_planned (a_rest k t ∷ ss) = absences_planned ss
 
 -- the places are those of the members with what is read
 pub places_planned : (ss : List Step)
@@ -64,6 +89,7 @@ pub places_planned : (ss : List Step)
 places_planned [] = refl
 places_planned (a_field path m r ∷ ss) = ap (λ xs. (path, m.name) ∷ xs) (places_planned ss)
 places_planned (a_variant path id k ∷ ss) = places_planned ss
+places_planned (an_absence path ∷ ss) = places_planned ss
 places_planned (a_rest k t ∷ ss) = places_planned ss
 
 -- the members are those with what is read
@@ -72,6 +98,7 @@ pub members_planned : (ss : List Step)
 members_planned [] = refl
 members_planned (a_field path m r ∷ ss) = ap (λ xs. m ∷ xs) (members_planned ss)
 members_planned (a_variant path id k ∷ ss) = members_planned ss
+members_planned (an_absence path ∷ ss) = members_planned ss
 members_planned (a_rest k t ∷ ss) = members_planned ss
 
 -- the first catch-all is the one with what it takes
@@ -81,6 +108,7 @@ rest_planned [] = refl
 rest_planned (a_rest k t ∷ ss) = refl
 rest_planned (a_field path m r ∷ ss) = rest_planned ss
 rest_planned (a_variant path id k ∷ ss) = rest_planned ss
+rest_planned (an_absence path ∷ ss) = rest_planned ss
 
 -- nothing is taken where there is no catch-all
 pub no_rest : (ss : List Step) → catch_all_in (map planned_of ss) ≡ None → rest_in ss ≡ None
@@ -88,6 +116,7 @@ no_rest [] e = refl
 no_rest (a_rest k t ∷ ss) e = absurd (cc)
 no_rest (a_field path m r ∷ ss) e = no_rest ss e
 no_rest (a_variant path id k ∷ ss) e = no_rest ss e
+no_rest (an_absence path ∷ ss) e = no_rest ss e
 
 -- something is taken where there is one
 pub some_rest : (ss : List Step) (k : CatchAll) → catch_all_in (map planned_of ss) ≡ Some k
@@ -96,6 +125,7 @@ some_rest [] k e = absurd (cc)
 some_rest (a_rest j t ∷ ss) k e = let is : j ≡ k = cc in (t, ap (λ i. Some (i, t)) is)
 some_rest (a_field path m r ∷ ss) k e = some_rest ss k e
 some_rest (a_variant path id j ∷ ss) k e = some_rest ss k e
+some_rest (an_absence path ∷ ss) k e = some_rest ss k e
 
 module _ (P : Step → Type 0) where
   -- what each step has, that of each member has
@@ -108,6 +138,7 @@ module _ (P : Step → Type 0) where
       (All-head P (a_field path m r) ss h)
       (all_fields ss (All-tail P (a_field path m r) ss h))
   all_fields (a_variant path id k ∷ ss) h = all_fields ss (All-tail P (a_variant path id k) ss h)
+  all_fields (an_absence path ∷ ss) h = all_fields ss (All-tail P (an_absence path) ss h)
   all_fields (a_rest k t ∷ ss) h = all_fields ss (All-tail P (a_rest k t) ss h)
 
   -- so has that of the catch-all
@@ -120,3 +151,5 @@ module _ (P : Step → Type 0) where
   all_rest (a_field path m r ∷ ss) k t h e = all_rest ss k t (All-tail P (a_field path m r) ss h) e
   all_rest (a_variant path id j ∷ ss) k t h e =
       all_rest ss k t (All-tail P (a_variant path id j) ss h) e
+  all_rest (an_absence path ∷ ss) k t h e =
+      all_rest ss k t (All-tail P (an_absence path) ss h) e

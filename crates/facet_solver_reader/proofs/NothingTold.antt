@@ -1,6 +1,7 @@
--- A choice that has no key, and goes through no branch of an enum, has no steps.
+-- A choice that has no key, and goes through no list that tells of an enum, has no steps.
 use Rattle.std.proofs.Common.{◌≡◌, ◌∙◌, sym, ap, subst, refl, inl, ℕ, suc, ◌<◌, List, [], ◌∷◌}
-use Rattle.std.proofs.Common.{◌++◌, Option, Some, None, true, slice_get}
+use Rattle.std.proofs.Common.{◌++◌, ◌||◌, Bool, Option, Some, None, true, false, slice_get}
+use Rattle.std.proofs.lemmas.List.Folds.{list_any-from_Any}
 use Rattle.std.specs.Prelude.{MatchOption, ⊤}
 use Rattle.std.specs.List.{All}
 use Rattle.std.specs.Option.{unwrap_or}
@@ -16,14 +17,15 @@ use Rattle.facet_solver_reader.specs.Parts.{a_selection, a_catch_all}
 use Rattle.facet_solver_reader.specs.Parts.{of_struct, of_enum, of_joined, of_branch, of_fields}
 use Rattle.facet_solver_reader.specs.Planned.{walk_at}
 use Rattle.facet_solver_reader.specs.Slots.{index_of}
-use Rattle.facet_solver_reader.specs.Steps.{Placed, Step, Walk, place_below, placed, placed_from}
+use Rattle.facet_solver_reader.specs.Steps.{Placed, Step, Walk, absence, is_branch}
+use Rattle.facet_solver_reader.specs.Steps.{is_of_enum, place_below, placed, placed_from}
 use Rattle.facet_solver_reader.specs.Steps.{selected, step_at, steps_of, through}
 use Rattle.facet_solver_reader.specs.Tables.{AreTables, BranchIsBefore, IsListAt, ListIsServed}
 use Rattle.facet_solver_reader.specs.Tables.{PartIsBefore, PartIsServed, rules_at}
-use Rattle.facet_solver_reader.specs.Tells.{TellsNothing, is_branch}
+use Rattle.facet_solver_reader.specs.Tells.{TellsNothing, may_lack_enum, tells_of_enum}
 use Rattle.facet_solver_reader.specs.Views.{list_view, parts_view}
 use Rattle.facet_solver_reader.proofs.Items.{HasKey-left, HasKey-right}
-use Rattle.facet_solver_reader.proofs.Quantifiers.{all_at, all_from, all_of_more}
+use Rattle.facet_solver_reader.proofs.Quantifiers.{all_at, all_from, all_of_more, any_at}
 
 -- what is no branch of an enum selects no variant
 none_selected : (path : Path) (id : ListId) → (is_branch id ≡ true → ⊥) → selected path id ≡ []
@@ -32,6 +34,30 @@ none_selected path (of_struct s) other = refl
 none_selected path (of_enum s) other = refl
 none_selected path (of_joined s) other = refl
 none_selected path (of_fields s k) other = refl
+
+-- a list that is a branch of an enum tells of one
+branch_tells : (id : ListId) (ps : List Part) → is_branch id ≡ true → tells_of_enum id ps ≡ true
+branch_tells id ps branch = rw branch refl
+
+-- and so does a list where one may be absent
+lack_tells : (id : ListId) (ps : List Part) (k : ℕ) (p : Part) → slice_get ps k ≡ Some p
+    → may_lack_enum p ≡ true → tells_of_enum id ps ≡ true
+lack_tells id ps k p at lacks =
+    either (is_branch id)
+    (list_any-from_Any may_lack_enum ps (any_at (λ q. may_lack_enum q ≡ true) ps k p at lacks))
+  where
+    either : (b : Bool) {c : Bool} → c ≡ true → (b || c) ≡ true
+    either true h = refl
+    either false h = h
+
+-- an optional selection that is of no enum has no absence
+no_absence : (path : Path) (s : Selection) → s.optional ≡ true
+    → (may_lack_enum (a_selection s) ≡ true → ⊥) → absence path s ≡ []
+no_absence path s optional other = go (is_of_enum s) refl
+  where
+    go : (b : Bool) → is_of_enum s ≡ b → absence path s ≡ []
+    go true e = absurd (other (rw (optional, e) refl))
+    go false e = rw e refl
 
 -- items without a key
 abbrev HaveNone : List Item → Type 0
@@ -45,9 +71,11 @@ module _ (t : Tables) (tables : AreTables t) (index : ℕ) (l : ListEntry)
   abbrev walk : Walk
   walk = walk_at t
 
-  -- a part whose branches are among the lists that the choices go through
+  -- a part whose branches are among the lists that the choices go through, and which is no enum
+  -- that may be absent
   record IsWithin (p : Part) : Type 0 where
     served : PartIsServed t p
+    other : may_lack_enum p ≡ true → ⊥
     position : ℕ
     before : PartIsBefore t l.below.items position p
 
@@ -67,6 +95,15 @@ module _ (t : Tables) (tables : AreTables t) (index : ℕ) (l : ListEntry)
         served =
             all_at (PartIsServed t) (parts_view e.parts.items) k p (tables.lists i e at).served
             here;
+        other = λ lacks.
+            nothing.no_enum (record {
+              position = position;
+              index = i;
+              entry = e;
+              is_below = below;
+              listed = at;
+              tells = lack_tells (list_view e.id) (parts_view e.parts.items) k p here lacks;
+            });
         position = position;
         before =
             all_at (PartIsBefore t l.below.items position) (parts_view e.parts.items) k p before
@@ -98,13 +135,14 @@ module _ (t : Tables) (tables : AreTables t) (index : ℕ) (l : ListEntry)
           let same : parts_view e.parts.items ≡ ps = cc in
           record {
             other = λ branch.
-                nothing.no_branch (record {
+                nothing.no_enum (record {
                   position = before.0;
                   index = i;
                   entry = e;
                   is_below = before.2;
                   listed = h.is_there;
-                  branch = ap is_branch h.same ∙ branch;
+                  tells = branch_tells (list_view e.id) (parts_view e.parts.items)
+                      (ap is_branch h.same ∙ branch);
                 });
             parts = subst (All IsWithin) same (within_at before.0 i e before.2 h.is_there);
           }
@@ -154,7 +192,8 @@ module _ (t : Tables) (tables : AreTables t) (index : ℕ) (l : ListEntry)
         absurd (none rest (subst (λ is. HasKey is rest) (sym h) (inl refl)))
     no_steps_at lacking (a_selection s) items within h none pl = absurd h
     no_steps_at (having r) (a_selection s) items within h none pl = absurd h
-    no_steps_at without (a_selection s) items within h none pl = refl
+    no_steps_at without (a_selection s) items within h none pl =
+        no_absence pl.path s h.0 within.other
     no_steps_at (taking u) (a_selection s) items within h none pl = absurd h
     no_steps_at (choosing k c) (a_selection s) items within h none pl =
         let b = h.chooses in

@@ -32,7 +32,7 @@ use Rattle.facet_solver_reader.specs.Tables.{AreTables, BranchIsBefore, PartIsBe
 use Rattle.facet_solver_reader.specs.Tables.{PartIsServed, rules_at}
 use Rattle.facet_solver_reader.specs.Tells.{TellsNothing}
 use Rattle.facet_solver_reader.specs.UnderWay.{IsBelow, IsEntered, IsGoing, IsOnlyLeft}
-use Rattle.facet_solver_reader.specs.UnderWay.{IsSelected, IsUnderWay}
+use Rattle.facet_solver_reader.specs.UnderWay.{IsPassed, IsSelected, IsUnderWay}
 use Rattle.facet_solver_reader.specs.Views.{list_view, parts_view}
 use Rattle.facet_solver_reader.proofs.Alone.{read_alone}
 use Rattle.facet_solver_reader.proofs.CountingObjects.{before_at}
@@ -45,7 +45,7 @@ use Rattle.facet_solver_reader.proofs.StepsLeft.{behind_next, placed_next}
 use Rattle.facet_solver_reader.proofs.StepsTaken.{absent_taken, all_found, branch_taken, catch_all_taken}
 use Rattle.facet_solver_reader.proofs.StepsTaken.{first_under_way}
 use Rattle.facet_solver_reader.proofs.StepsTaken.{member_taken, none_more, part_before}
-use Rattle.facet_solver_reader.proofs.StepsTaken.{part_taken, served_selected}
+use Rattle.facet_solver_reader.proofs.StepsTaken.{part_taken, served_absence, served_selected}
 
 -- what each of two lists together has, each of both has
 pub all_split : {A : Type 0} (P : A → Type 0) (xs ys : List A) → All P (xs ++ ys)
@@ -208,24 +208,6 @@ module _ (t : Tables) (nodes : Nodes) (o : read.Object) where
                 ss.0;
           }
 
-      -- nothing is found there
-      pub going_past : IsPartCount t nodes o p One
-          → (IsListCount t nodes o o.list.now One
-          → IsUnderWay t nodes o (fs ++ behind_next f ∷ []) old)
-          → IsGoing t nodes o (fs ++ behind_next f ∷ []) old
-      going_past part under_way =
-          record {
-            below = below_next;
-            served = g.served;
-            under_way = under_way;
-            one = λ lefts steps.
-                let ls = all_but_last (IsOnlyLeft t nodes o) fs (behind_next f) lefts in
-                g.one
-                (all_of_last (IsOnlyLeft t nodes o) fs f ls.0
-                (one_more tables f p below_last at part ls.1))
-                steps;
-          }
-
     -- a member is taken
     pub going_member : (m : MemberPart) (s : code.Step)
         → slice_get (parts_view f.list.now.parts.items) f.next ≡ Some (a_member m)
@@ -257,14 +239,33 @@ module _ (t : Tables) (nodes : Nodes) (o : read.Object) where
     -- a selection is absent
     pub going_absent : (s : Selection)
         → slice_get (parts_view f.list.now.parts.items) f.next ≡ Some (a_selection s)
-        → ReadsChosen t nodes o s without → IsPartCount t nodes o (a_selection s) One
-        → IsGoing t nodes o (fs ++ behind_next f ∷ []) old
-    going_absent s at absent part =
-        going_past (a_selection s) at part
-        (λ one.
-        let h = g.under_way one in
-        absent_taken t nodes o fs f s old h
-        (part_taken t nodes o tables fs f (a_selection s) old h at) absent)
+        → (new : List code.Step) → ReadsChosen t nodes o s without
+        → IsPartCount t nodes o (a_selection s) One
+        → IsPassed (placed_next t f (a_selection s)).path s old new
+        → IsGoing t nodes o (fs ++ behind_next f ∷ []) new
+    going_absent s at new absent part passed =
+        let views : map step_view new ≡ map step_view old ++ map step_view passed.taken =
+        ap (map step_view) passed.steps_are ∙ map-append step_view old passed.taken in
+        record {
+          below = below_next;
+          served =
+              subst (All (StepIsServed t)) (sym views)
+              (All-append (StepIsServed t) (map step_view old) (map step_view passed.taken) g.served
+              (subst (All (StepIsServed t)) passed.taken_are
+              (served_absence t nodes o (placed_next t f (a_selection s)).path s)));
+          under_way = λ one.
+              let h = g.under_way one in
+              absent_taken t nodes o fs f s old new h
+              (part_taken t nodes o tables fs f (a_selection s) old h at) absent passed;
+          one = λ lefts steps.
+              let ss = all_split (IsOnlyPlanned t nodes o) (map step_view old)
+              (map step_view passed.taken) (subst (All (IsOnlyPlanned t nodes o)) views steps) in
+              let ls = all_but_last (IsOnlyLeft t nodes o) fs (behind_next f) lefts in
+              g.one
+              (all_of_last (IsOnlyLeft t nodes o) fs f ls.0
+              (one_more tables f (a_selection s) below_last at part ls.1))
+              ss.0;
+        }
 
     -- a selection is read by a branch, of which the list, if it tells anything, is under way
     pub going_branch : IsObject t nodes o → (s : Selection)

@@ -1,7 +1,7 @@
 -- The next part of the innermost list is taken, and what it is goes behind the steps so far.
 use Rattle.std.proofs.Common.{◌≡◌, ◌∙◌, sym, ap, subst, refl, ℕ, ◌<◌, ◌≤◌, List, [], ◌∷◌, ◌++◌}
 use Rattle.std.proofs.Common.{⊎_elim, append_assoc, drop, length, map, Option, Some, None}
-use Rattle.std.proofs.Common.{slice_get, arith}
+use Rattle.std.proofs.Common.{slice_get, arith, Bool, true, false, if◌then◌else◌}
 use Rattle.std.proofs.lemmas.List.{append-nil, map-append}
 use Rattle.std.proofs.lemmas.List.Elements.{All-append}
 use Rattle.std.proofs.lemmas.Option.{slice_get_within}
@@ -33,12 +33,12 @@ use Rattle.facet_solver_reader.specs.Readings.{ReadsValue}
 use Rattle.facet_solver_reader.specs.Rules.{Rules}
 use Rattle.facet_solver_reader.specs.Slots.{index_of}
 use Rattle.facet_solver_reader.specs.Steps.{Placed, Step, Walk, a_field, a_rest, a_variant}
-use Rattle.facet_solver_reader.specs.Steps.{place_below, placed}
+use Rattle.facet_solver_reader.specs.Steps.{absence, an_absence, is_of_enum, place_below, placed}
 use Rattle.facet_solver_reader.specs.Steps.{placed_from, selected, step_at, steps_of, through}
 use Rattle.facet_solver_reader.specs.Tables.{AreTables, BranchIsBefore, PartIsBefore}
 use Rattle.facet_solver_reader.specs.Tables.{PartIsServed, rules_at}
 use Rattle.facet_solver_reader.specs.Tells.{TellsNothing}
-use Rattle.facet_solver_reader.specs.UnderWay.{AreLeft, IsBelow, IsEntered, IsSelected}
+use Rattle.facet_solver_reader.specs.UnderWay.{AreLeft, IsBelow, IsEntered, IsPassed, IsSelected}
 use Rattle.facet_solver_reader.specs.UnderWay.{IsUnderWay}
 use Rattle.facet_solver_reader.specs.Views.{list_view, parts_view}
 use Rattle.facet_solver_reader.proofs.ChosenBranch.{only_of_branch}
@@ -230,18 +230,45 @@ module _ (t : Tables) (nodes : Nodes) (o : read.Object) where
       go (choosing j d) e r =
           absurd (subst (λ b. ReadsPart rules reads object (a_catch_all c) b) e r).chooses
 
-  -- a selection that is absent has no steps
-  pub absent_taken : (fs : List Frame) (f : Frame) (s : Selection) (old : List code.Step)
+  -- an absence is read in one way
+  only_absence : (path : Path) (s : Selection)
+      → All (IsOnlyStep (rules_at t) (ReadsValue (rules_at t)) (object_view nodes o))
+      (absence path s)
+  only_absence path s = go (is_of_enum s)
+    where
+      go : (b : Bool)
+          → All (IsOnlyStep (rules_at t) (ReadsValue (rules_at t)) (object_view nodes o))
+          (if b then an_absence path ∷ [] else [])
+      go true = all_of_one (IsOnlyStep rules reads object) (an_absence path) tt
+      go false = all_of_none (IsOnlyStep rules reads object)
+
+  -- and is served
+  pub served_absence : (path : Path) (s : Selection)
+      → All (StepIsServed t) (map planned_of (absence path s))
+  served_absence path s = go (is_of_enum s)
+    where
+      go : (b : Bool)
+          → All (StepIsServed t) (map planned_of (if b then an_absence path ∷ [] else []))
+      go true = all_of_one (StepIsServed t) (planned.an_absence path) tt
+      go false = all_of_none (StepIsServed t)
+
+  -- a selection that is absent has no steps but its absence, if it is of an enum
+  pub absent_taken : (fs : List Frame) (f : Frame) (s : Selection) (old new : List code.Step)
       (h : IsUnderWay t nodes o (fs ++ f ∷ []) old) → IsTaken fs f (a_selection s) h.others
       → ReadsPart (rules_at t) (ReadsValue (rules_at t)) (object_view nodes o) (a_selection s)
       without
-      → IsUnderWay t nodes o (fs ++ behind_next f ∷ []) old
-  absent_taken fs f s old h k r =
-      same_steps (fs ++ f ∷ []) (fs ++ behind_next f ∷ []) old h k.others
+      → IsPassed (placed_next t f (a_selection s)).path s old new
+      → IsUnderWay t nodes o (fs ++ behind_next f ∷ []) new
+  absent_taken fs f s old new h k r passed =
+      let here = placed_next t f (a_selection s) in
+      subst (λ (x : List code.Step). IsUnderWay t nodes o (fs ++ behind_next f ∷ []) x)
+      (sym passed.steps_are)
+      (more_steps (fs ++ f ∷ []) (fs ++ behind_next f ∷ []) old passed.taken h
+      (absence here.path s) k.others
       (k.steps_are
-      ∙ ap (λ b. step_at walk b (placed_next t f (a_selection s)) (a_selection s) ++ k.others)
-      (sym (k.only.1 without r)))
-      k.left
+      ∙ ap (λ b. step_at walk b here (a_selection s) ++ k.others) (sym (k.only.1 without r)))
+      passed.taken_are (only_absence here.path s)
+      (subst (All (StepIsServed t)) passed.taken_are (served_absence here.path s)) k.left)
 
   -- what stands before a position stands before a later one
   branch_before : (below : List ℕ) (q n : ℕ) → q ≤ n → (id : ListId)

@@ -25,7 +25,7 @@ use Rattle.facet_solver_reader.specs.Planned.{IsOnlyAt, IsOnlyStep, Planned, cho
 use Rattle.facet_solver_reader.specs.Reading.{object_view}
 use Rattle.facet_solver_reader.specs.Readings.{ReadsValue}
 use Rattle.facet_solver_reader.specs.Rules.{Rules}
-use Rattle.facet_solver_reader.specs.Steps.{Step, a_field, a_rest, a_variant}
+use Rattle.facet_solver_reader.specs.Steps.{Step, a_field, a_rest, a_variant, an_absence}
 use Rattle.facet_solver_reader.specs.Tables.{rules_at}
 use Rattle.facet_solver_reader.specs.Told.{Tells, TellsField, TellsFields, TellsTaken, end_taken}
 use Rattle.facet_solver_reader.specs.Told.{fields_in, no_fields, none_taken, one_field, one_passed}
@@ -257,6 +257,9 @@ module _ (t : Tables) (nodes : Nodes) (o : read.Object) where
   fields_told (a_variant path id k ∷ ss) ws only h =
       let P = IsOnlyStep (rules_at t) (ReadsValue (rules_at t)) (object_view nodes o) in
       fields_told ss ws (All-tail P (a_variant path id k) ss only) h
+  fields_told (an_absence path ∷ ss) ws only h =
+      let P = IsOnlyStep (rules_at t) (ReadsValue (rules_at t)) (object_view nodes o) in
+      fields_told ss ws (All-tail P (an_absence path) ss only) h
   fields_told (a_rest k u ∷ ss) ws only h =
       let P = IsOnlyStep (rules_at t) (ReadsValue (rules_at t)) (object_view nodes o) in
       fields_told ss ws (All-tail P (a_rest k u) ss only) h

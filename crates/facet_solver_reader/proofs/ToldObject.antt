@@ -27,16 +27,17 @@ use Rattle.facet_solver_reader.specs.Planned.{IsOnlyStep, IsPlan, Planned, StepI
 use Rattle.facet_solver_reader.specs.Planned.{planned_of, step_view}
 use Rattle.facet_solver_reader.specs.Reading.{object_view}
 use Rattle.facet_solver_reader.specs.Readings.{ReadsValue}
-use Rattle.facet_solver_reader.specs.Steps.{Step, a_field, a_rest, a_variant}
+use Rattle.facet_solver_reader.specs.Steps.{Step, a_field, a_rest, a_variant, an_absence}
 use Rattle.facet_solver_reader.specs.Tables.{PartIsServed, rules_at}
 use Rattle.facet_solver_reader.specs.Told.{AreUnknown, TellsRest, TellsTaken, all_ignored}
-use Rattle.facet_solver_reader.specs.Told.{all_taken, end_taken, place_view, rest_in, steps_told, texts}
+use Rattle.facet_solver_reader.specs.Told.{all_taken, end_taken, paths_view, place_view, rest_in}
+use Rattle.facet_solver_reader.specs.Told.{steps_told, texts}
 use Rattle.facet_solver_reader.specs.ToldAt.{IsToldBy}
 use Rattle.facet_solver_reader.specs.ToldObjects.{AreOnlyMembers, AreToldFields, IsOnlyOf}
 use Rattle.facet_solver_reader.specs.ToldObjects.{IsToldRest, Rest}
 use Rattle.facet_solver_reader.specs.Views.{list_view}
-use Rattle.facet_solver_reader.proofs.FoundSteps.{all_rest, no_rest, places_planned}
-use Rattle.facet_solver_reader.proofs.FoundSteps.{selections_planned, some_rest}
+use Rattle.facet_solver_reader.proofs.FoundSteps.{absences_planned, all_rest, no_rest}
+use Rattle.facet_solver_reader.proofs.FoundSteps.{places_planned, selections_planned, some_rest}
 use Rattle.facet_solver_reader.proofs.ToldMembers.{fields_told, same_taken}
 
 -- what each member among steps has, the one of a step has
@@ -52,6 +53,7 @@ member_at P (s ∷ ss) zero path m e h =
 member_at P (planned.a_field p n ∷ ss) (suc i) path m e h =
     member_at P ss i path m e (All-tail P n (found.members_in ss) h)
 member_at P (planned.a_variant p id k ∷ ss) (suc i) path m e h = member_at P ss i path m e h
+member_at P (planned.an_absence p ∷ ss) (suc i) path m e h = member_at P ss i path m e h
 member_at P (planned.a_rest k ∷ ss) (suc i) path m e h = member_at P ss i path m e h
 
 -- the catch-all among steps is served
@@ -66,6 +68,8 @@ rest_served t (planned.a_field p m ∷ ss) k h e =
     rest_served t ss k (All-tail (StepIsServed t) (planned.a_field p m) ss h) e
 rest_served t (planned.a_variant p id j ∷ ss) k h e =
     rest_served t ss k (All-tail (StepIsServed t) (planned.a_variant p id j) ss h) e
+rest_served t (planned.an_absence p ∷ ss) k h e =
+    rest_served t ss k (All-tail (StepIsServed t) (planned.an_absence p) ss h) e
 
 -- a step that is no field has no member
 pub no_member : (s : code_step.Step)
@@ -74,6 +78,7 @@ pub no_member : (s : code_step.Step)
     → found.members_in (step_view s ∷ []) ≡ []
 no_member (code_step.TheVariants.Field path m) f = absurd (f path m refl)
 no_member (code_step.TheVariants.Variant path id k) f = refl
+no_member (code_step.TheVariants.Absence path) f = refl
 no_member (code_step.TheVariants.Rest k) f = refl
 
 module _ (t : Tables) (nodes : Nodes) (o : read.Object) where
@@ -92,6 +97,9 @@ module _ (t : Tables) (nodes : Nodes) (o : read.Object) where
   members_of_steps (a_variant path id k ∷ ss) h =
       let P = IsOnlyStep (rules_at t) (ReadsValue (rules_at t)) (object_view nodes o) in
       members_of_steps ss (All-tail P (a_variant path id k) ss h)
+  members_of_steps (an_absence path ∷ ss) h =
+      let P = IsOnlyStep (rules_at t) (ReadsValue (rules_at t)) (object_view nodes o) in
+      members_of_steps ss (All-tail P (an_absence path) ss h)
   members_of_steps (a_rest k u ∷ ss) h =
       let P = IsOnlyStep (rules_at t) (ReadsValue (rules_at t)) (object_view nodes o) in
       members_of_steps ss (All-tail P (a_rest k u) ss h)
@@ -172,12 +180,13 @@ module _ (t : Tables) (nodes : Nodes) (o : read.Object) where
         → w.variants.items ≡ [] → w.kind ≡ kinds.Object x values rest
         → map selection_view x.selections.items
         ≡ found.selections_in t.shapes.now (map step_view steps)
+        → paths_view x.absent ≡ found.absences_in (map step_view steps)
         → map place_view x.fields.items ≡ found.places_in (map step_view steps)
         → AreToldFields t nodes o (found.members_in (map step_view steps)) values.items
         → TellsRest (rules_at t) t.shapes.now (list_view o.list.now.id)
         (members_in (value_of nodes o.node)) (rest_in plan.steps) x rest.items
         → IsToldBy t nodes o.node (list_view o.list.now.id) w
-    told_by_plan w x values rest reads variants kind selections places fields unknown =
+    told_by_plan w x values rest reads variants kind selections absences places fields unknown =
         let shapes = t.shapes.now in
         let ms = members_in (value_of nodes o.node) in
         let of_plan = subst
@@ -195,6 +204,8 @@ module _ (t : Tables) (nodes : Nodes) (o : read.Object) where
               rest.items plan.steps_are
               (selections ∙ (ap (found.selections_in shapes) (sym plan.planned)
               ∙ sym (selections_planned shapes plan.steps)))
+              (absences
+              ∙ (ap found.absences_in (sym plan.planned) ∙ sym (absences_planned plan.steps)))
               (places ∙ (ap found.places_in (sym plan.planned) ∙ sym (places_planned plan.steps)))
               (fields_told t nodes o plan.steps values.items plan.only of_plan) unknown;
         }

@@ -21,7 +21,7 @@ use Rattle.facet_solver_reader.specs.Planned.{step_view}
 use Rattle.facet_solver_reader.specs.Reading.{IsPartCount, object_view}
 use Rattle.facet_solver_reader.specs.Readings.{ReadsValue}
 use Rattle.facet_solver_reader.specs.Parts.{a_member}
-use Rattle.facet_solver_reader.specs.Steps.{Step, a_field, a_rest, a_variant}
+use Rattle.facet_solver_reader.specs.Steps.{Step, a_field, a_rest, a_variant, an_absence}
 use Rattle.facet_solver_reader.specs.Tables.{rules_at}
 use Rattle.facet_solver_reader.specs.ToldObjects.{AreOnlyMembers, AreOnlyRests, AreToldFields}
 use Rattle.facet_solver_reader.specs.ToldObjects.{IsOnlyRest, IsToldRest, IsToldSoFar, Rest}
@@ -78,6 +78,7 @@ module _ (t : Tables) (nodes : Nodes) (o : read.Object) where
   pub no_rest_only : (s : Planned) → catch_all_in (s ∷ []) ≡ None → IsOnlyRest t nodes o s
   no_rest_only (planned.a_field path m) e = tt
   no_rest_only (planned.a_variant path id k) e = tt
+  no_rest_only (planned.an_absence path) e = tt
   no_rest_only (planned.a_rest k) e = absurd (cc)
 
   -- members that are told are read in one way
@@ -104,6 +105,10 @@ module _ (t : Tables) (nodes : Nodes) (o : read.Object) where
       let other = (all_of_more (IsOnlyRest t nodes o) (planned.a_variant path id k) ss).0 rests in
       (all_of_more (IsOnlyPlanned t nodes o) (planned.a_variant path id k) ss).1
       (tt, steps_only ss ms other.1)
+  steps_only (planned.an_absence path ∷ ss) ms rests =
+      let other = (all_of_more (IsOnlyRest t nodes o) (planned.an_absence path) ss).0 rests in
+      (all_of_more (IsOnlyPlanned t nodes o) (planned.an_absence path) ss).1
+      (tt, steps_only ss ms other.1)
   steps_only (planned.a_rest k ∷ ss) ms rests =
       let other = (all_of_more (IsOnlyRest t nodes o) (planned.a_rest k) ss).0 rests in
       (all_of_more (IsOnlyPlanned t nodes o) (planned.a_rest k) ss).1
@@ -122,6 +127,10 @@ module _ (t : Tables) (nodes : Nodes) (o : read.Object) where
       let P = IsOnlyStep (rules_at t) (ReadsValue (rules_at t)) (object_view nodes o) in
       (all_of_more (IsOnlyRest t nodes o) (planned.a_variant path id k) (map planned_of ss)).1
       (tt, rests_of_steps ss (All-tail P (a_variant path id k) ss h))
+  rests_of_steps (an_absence path ∷ ss) h =
+      let P = IsOnlyStep (rules_at t) (ReadsValue (rules_at t)) (object_view nodes o) in
+      (all_of_more (IsOnlyRest t nodes o) (planned.an_absence path) (map planned_of ss)).1
+      (tt, rests_of_steps ss (All-tail P (an_absence path) ss h))
   rests_of_steps (a_rest k u ∷ ss) h =
       let P = IsOnlyStep (rules_at t) (ReadsValue (rules_at t)) (object_view nodes o) in
       (all_of_more (IsOnlyRest t nodes o) (planned.a_rest k) (map planned_of ss)).1

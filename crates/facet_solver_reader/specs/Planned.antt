@@ -23,18 +23,21 @@ use Rattle.facet_solver_reader.specs.Views.{catch_all_view, list_view, member_vi
 pub data Planned : Type 0 where
   a_field : Path → MemberPart → Planned
   a_variant : Path → ℕ → ℕ → Planned
+  an_absence : Path → Planned
   a_rest : CatchAll → Planned
 
 -- a step of a choice, whatever is read there
 abbrev pub planned_of : Step → Planned
 planned_of (steps.a_field path m r) = a_field path m
 planned_of (steps.a_variant path id k) = a_variant path id k
+planned_of (steps.an_absence path) = an_absence path
 planned_of (steps.a_rest k t) = a_rest k
 
 -- a step in memory
 abbrev pub step_view : code.Step → Planned
 step_view (code.TheVariants.Field path m) = a_field path (member_view m.now)
 step_view (code.TheVariants.Variant path id k) = a_variant path id k
+step_view (code.TheVariants.Absence path) = an_absence path
 step_view (code.TheVariants.Rest k) = a_rest (catch_all_view k.now)
 
 -- how a member is chosen, by how it is read if the object has it
@@ -53,6 +56,7 @@ abbrev pub IsOnlyStep : Rules → Reads → Object → Step → Type 0
 IsOnlyStep rules reads object (steps.a_field path m r) =
     IsOnlyAt rules reads object (a_member m) (choice_of r)
 IsOnlyStep rules reads object (steps.a_variant path id k) = ⊤
+IsOnlyStep rules reads object (steps.an_absence path) = ⊤
 IsOnlyStep rules reads object (steps.a_rest k t) =
     IsOnlyAt rules reads object (a_catch_all k) (taking t)
 
@@ -60,12 +64,14 @@ IsOnlyStep rules reads object (steps.a_rest k t) =
 abbrev pub IsOnlyPlanned : Tables → Nodes → read.Object → Planned → Type 0
 IsOnlyPlanned t nodes o (a_field path m) = IsPartCount t nodes o (a_member m) One
 IsOnlyPlanned t nodes o (a_variant path id k) = ⊤
+IsOnlyPlanned t nodes o (an_absence path) = ⊤
 IsOnlyPlanned t nodes o (a_rest k) = IsPartCount t nodes o (a_catch_all k) One
 
 -- the tables have what a step leads to
 abbrev pub StepIsServed : Tables → Planned → Type 0
 StepIsServed t (a_field path m) = PartIsServed t (a_member m)
 StepIsServed t (a_variant path id k) = ⊤
+StepIsServed t (an_absence path) = ⊤
 StepIsServed t (a_rest k) = PartIsServed t (a_catch_all k)
 
 -- the shapes and lists of tables

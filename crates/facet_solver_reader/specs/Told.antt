@@ -29,7 +29,7 @@ use Rattle.facet_solver_reader.specs.Rules.{Alternative, Content, End, NamedVari
 use Rattle.facet_solver_reader.specs.Rules.{a_list, a_map, a_named_variant, a_text, a_tuple}
 use Rattle.facet_solver_reader.specs.Rules.{an_option, an_untagged_variant, anything}
 use Rattle.facet_solver_reader.specs.Rules.{as_object, as_shape, as_tuple, no_content}
-use Rattle.facet_solver_reader.specs.Steps.{Step, a_field, a_rest, steps_through, Walk}
+use Rattle.facet_solver_reader.specs.Steps.{Step, a_field, a_rest, an_absence, steps_through, Walk}
 use Rattle.facet_solver_reader.specs.Steps as steps
 
 -- the end as which content is told: what is within stands for it
@@ -85,7 +85,21 @@ selections_in shapes (steps.a_variant path id k ∷ ss) =
     record { path = path; enum_name = shape_name shapes id; variant_name = variant_name shapes id k }
     ∷ selections_in shapes ss
 selections_in shapes (a_field path m r ∷ ss) = selections_in shapes ss
+selections_in shapes (an_absence path ∷ ss) = selections_in shapes ss
 selections_in shapes (a_rest k t ∷ ss) = selections_in shapes ss
+
+-- the paths of the enums that are absent among steps
+abbrev pub absences_in : List Step → List Path
+absences_in [] = []
+absences_in (an_absence path ∷ ss) = path ∷ absences_in ss
+absences_in (a_field path m r ∷ ss) = absences_in ss
+absences_in (steps.a_variant path id k ∷ ss) = absences_in ss
+absences_in (a_rest k t ∷ ss) = absences_in ss
+
+-- paths in memory; where there are none, nothing need be there
+abbrev pub paths_view : Option (Box (Vec Path Global) Global) → List Path
+paths_view None = []
+paths_view (Some paths) = paths.value.items
 
 -- a member of a choice, with its path, and how it is read if the object has it
 pub record FieldStep : Type 0 where
@@ -98,6 +112,7 @@ abbrev pub fields_in : List Step → List FieldStep
 fields_in [] = []
 fields_in (a_field path m r ∷ ss) = record { path = path; part = m; read = r } ∷ fields_in ss
 fields_in (steps.a_variant path id k ∷ ss) = fields_in ss
+fields_in (an_absence path ∷ ss) = fields_in ss
 fields_in (a_rest k t ∷ ss) = fields_in ss
 
 -- the catch-all among steps, with what it takes
@@ -106,6 +121,7 @@ rest_in [] = None
 rest_in (a_rest k t ∷ ss) = Some (k, t)
 rest_in (a_field path m r ∷ ss) = rest_in ss
 rest_in (steps.a_variant path id k ∷ ss) = rest_in ss
+rest_in (an_absence path ∷ ss) = rest_in ss
 
 -- where a member stands, in memory
 abbrev pub place_view : FieldPlace → Path × Name
@@ -203,6 +219,7 @@ mutual
         (values rest : List code.Reading)
         → ss ≡ steps_through (record { shapes = shapes; lists = rules.lists }) id c
         → map selection_view o.selections.items ≡ selections_in shapes ss
+        → paths_view o.absent ≡ absences_in ss
         → map place_view o.fields.items ≡ map place_of (fields_in ss)
         → TellsFields rules shapes ms (fields_in ss) values
         → TellsRest rules shapes id ms (rest_in ss) o rest

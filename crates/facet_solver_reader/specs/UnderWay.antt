@@ -14,13 +14,13 @@ use Rattle.facet_solver_reader.specs.Branches.{ReadsList, ReadsParts}
 use Rattle.facet_solver_reader.specs.Choices.{Choice}
 use Rattle.facet_solver_reader.specs.Counted.{IsOnly}
 use Rattle.facet_solver_reader.specs.FieldPlaces.{Path}
-use Rattle.facet_solver_reader.specs.Parts.{ListId, Part}
+use Rattle.facet_solver_reader.specs.Parts.{ListId, Part, Selection}
 use Rattle.facet_solver_reader.specs.Planned.{IsOnlyPlanned, IsOnlyStep, StepIsServed, planned_of}
 use Rattle.facet_solver_reader.specs.Planned.{step_view, walk_at}
 use Rattle.facet_solver_reader.specs.Reading.{AreListCounts, IsListCount, object_view}
 use Rattle.facet_solver_reader.specs.Readings.{ReadsValue}
 use Rattle.facet_solver_reader.specs.Slots.{index_of}
-use Rattle.facet_solver_reader.specs.Steps.{Placed, Step, placed_from, selected}
+use Rattle.facet_solver_reader.specs.Steps.{Placed, Step, absence, placed_from, selected}
 use Rattle.facet_solver_reader.specs.Steps.{steps_of, steps_through}
 use Rattle.facet_solver_reader.specs.Tables.{rules_at}
 use Rattle.facet_solver_reader.specs.Tells.{TellsNothing}
@@ -92,11 +92,19 @@ pub record IsUnderWay (t : Tables) (nodes : Nodes) (o : read.Object) (frames : L
   pub served : All (StepIsServed t) (map step_view found)
   pub left : AreLeft t nodes o frames others
 
--- the variant that a branch at a path selects, if it is one, comes behind the steps in memory
-pub record IsSelected (path : Path) (id : ListId) (old new : List code.Step) : Type 0 where
+-- steps come behind those in memory
+pub record ComeBehind (more : List Step) (old new : List code.Step) : Type 0 where
   pub taken : List code.Step
-  pub taken_are : map planned_of (selected path id) ≡ map step_view taken
+  pub taken_are : map planned_of more ≡ map step_view taken
   pub steps_are : new ≡ old ++ taken
+
+-- the variant that a branch at a path selects, if it is one, comes behind the steps in memory
+abbrev pub IsSelected : Path → ListId → List code.Step → List code.Step → Type 0
+IsSelected path id old new = ComeBehind (selected path id) old new
+
+-- the absence of a selection at a path, if it is of an enum, comes behind the steps in memory
+abbrev pub IsPassed : Path → Selection → List code.Step → List code.Step → Type 0
+IsPassed path s old new = ComeBehind (absence path s) old new
 
 -- the list of a branch at a place comes behind those that are under way, unless it tells nothing
 pub record IsEntered (t : Tables) (id : ListId) (place : Path) (old new : List Frame) : Type 0 where

@@ -1,6 +1,7 @@
 //! The reading of a document.
 ghost use Rattle.std.specs.Prelude.{◌≡◌, []};
 ghost use Rattle.facet_solver_reader.specs.declared.reading.ReadingKind.TheVariants as kinds;
+ghost use Rattle.facet_solver_reader.specs.Told.{paths_view};
 
 mod look_up;
 mod path_text;
@@ -36,12 +37,27 @@ pub struct FieldPlace<'c> {
 pub struct ObjectReading<'c, 'd> {
     /// The selected variants of enums whose members stand in the object.
     pub selections: Vec<VariantSelection<'c>>,
+    /// The paths of the optional enums that are absent. Where there are none it takes no memory.
+    pub(crate) absent: Option<Box<Vec<FieldPath<'c>>>>,
     /// The members that the choice has, tags among them.
     pub fields: Vec<FieldPlace<'c>>,
     /// The names that a catch-all takes, in the order of the object.
     pub taken: Vec<&'d str>,
     /// The names that nothing takes, in the order of the object.
     pub ignored: Vec<&'d str>,
+}
+
+impl<'c> ObjectReading<'c, '_> {
+    /// The paths of the optional enums that are absent: the object has no variant of them. They
+    /// stand in the order of the type.
+    pub fn absent(&self) -> &[FieldPath<'c>]
+        ensures { result.now ≡ paths_view self.now.absent }
+    {
+        match &self.absent {
+            Some(paths) => paths,
+            None => &[],
+        }
+    }
 }
 
 /// How a value of a document is read.

@@ -4,7 +4,7 @@ use crate::answer::Answer;
 use crate::catalogue::Catalogue;
 use facet_solver::ShapeId;
 use facet_solver_json::{JsonError, Scratch, parse};
-use facet_solver_reader::{Document, ReadError, Reader, Reading, TypeError, Unknown};
+use facet_solver_reader::{Document, ReadError, Reader, Reading, ReadingKind, TypeError, Unknown};
 
 /// Tells what is looked up in the reading of a document, as the words behind it say.
 pub fn of_reading(catalogue: Catalogue<'_>, answer: &mut Answer<'_>) {
@@ -50,7 +50,20 @@ fn add_found(reading: &Reading<'_, '_, '_>, answer: &mut Answer<'_>) {
             None => answer.add("none"),
         },
         "block" => answer.add_yes_or_no(reading.has_block(text)),
+        "absent" => add_absent(&reading.kind, answer),
         _ => answer.unread(),
+    }
+}
+
+/// Tells the paths of the enums that are absent in an object.
+fn add_absent(kind: &ReadingKind<'_, '_, '_>, answer: &mut Answer<'_>) {
+    match kind {
+        ReadingKind::Object { object, .. } if !object.absent().is_empty() => {
+            for path in object.absent() {
+                answer.add_value(path);
+            }
+        }
+        _ => answer.add("none"),
     }
 }
 

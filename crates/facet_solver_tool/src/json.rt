@@ -7,12 +7,13 @@ use crate::quoted::Quoted;
 use document::write_document;
 use facet_solver_reader::{FieldPlace, Reading, ReadingKind, VariantName};
 use std::fmt;
-use variants::{selections_of, write_variants};
+use variants::{absent_of, selections_of, write_variants};
 
 /// A reading, to be printed as JSON in one line.
 ///
 /// It prints as the document without what nothing takes, and each value that has variants stands
-/// in an object with them, as `{"variants": {"": "Mode::Fast"}, "value": "Fast"}`.
+/// in an object with them, as `{"variants": {"": "Mode::Fast"}, "value": "Fast"}`. An optional enum
+/// that is absent in an object is null among them.
 #[derive(Clone, Copy, Drop)]
 pub struct Json<'r, 'c, 'v, 'd>(pub &'r Reading<'c, 'v, 'd>);
 
@@ -29,11 +30,12 @@ fn write_reading<W: fmt::Write>(
     f: &mut fmt::Formatter<W>,
 ) -> fmt::Result {
     let selections = selections_of(&reading.kind);
-    if reading.variants.is_empty() && selections.is_empty() {
+    let absent = absent_of(&reading.kind);
+    if reading.variants.is_empty() && selections.is_empty() && absent.is_empty() {
         return write_kind(&reading.kind, &reading.variants, f);
     }
     f.write_str("{\"variants\": {")?;
-    write_variants(&reading.variants, selections, f)?;
+    write_variants(&reading.variants, selections, absent, f)?;
     f.write_str("}, \"value\": ")?;
     write_kind(&reading.kind, &reading.variants, f)?;
     f.write_str("}")

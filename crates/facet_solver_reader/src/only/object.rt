@@ -126,6 +126,7 @@ fn read_steps<'c, 'v, 'd>(
     let kind = ReadingKind::Object {
         object: ObjectReading {
             selections: found.selections,
+            absent: found.absent,
             fields: found.fields,
             taken,
             ignored,

@@ -11,12 +11,12 @@ ghost use Rattle.facet_solver_reader.specs.Reading.{AreSound, IsListCount, IsObj
 ghost use Rattle.facet_solver_reader.specs.Steps.{place_below};
 ghost use Rattle.facet_solver_reader.specs.SureSteps.{is_selection, sure_steps};
 ghost use Rattle.facet_solver_reader.specs.Tables.{AreTables, ListIsServed, PartIsBefore, rules_at};
-ghost use Rattle.facet_solver_reader.specs.UnderWay.{AreKnownCounts, IsGoing, IsInnermost, IsSelected, with_inner};
+ghost use Rattle.facet_solver_reader.specs.UnderWay.{AreKnownCounts, IsGoing, IsInnermost, IsPassed, IsSelected, with_inner};
 ghost use Rattle.facet_solver_reader.specs.ToldAt.{IsNotOne};
 ghost use Rattle.facet_solver_reader.specs.Views.{list_view, selection_view};
 
 use super::not_one::NotOne;
-use super::tells::tells;
+use super::tells::{is_of_enum, tells};
 use crate::count::Count;
 use crate::field_at::{field_name, path_at, place_below};
 use crate::nodes::Nodes;
@@ -38,6 +38,8 @@ pub(super) enum Step<'r, 'c> {
     Field(FieldPath<'c>, &'r MemberPart<'c>),
     /// A variant that is selected, by its index, with the path of its enum.
     Variant(FieldPath<'c>, ShapeId, usize),
+    /// An optional enum that is absent, by its path.
+    Absence(FieldPath<'c>),
     /// What takes the members of no known name.
     Rest(&'r CatchAll),
 }
@@ -261,6 +263,7 @@ impl<'r, 'c> Way<'r, 'c> {
             Part::Selection(selection) => {
                 let counts = &mut self.counts;
                 let Some(k) = choose(tables, nodes, memo, object, selection, counts)? else {
+                    self.pass(tables, &frame, selection)?;
                     return Ok(Some(frame.behind()));
                 };
                 let path = frame.path(tables)?;
@@ -274,6 +277,27 @@ impl<'r, 'c> Way<'r, 'c> {
                 }
             }
         }
+    }
+
+    /// The absence of a selection, which is the next part of a list, goes behind the steps, if it
+    /// is of an enum.
+    fn pass(
+        &mut self,
+        tables: &Tables<'c>,
+        frame: &Frame<'r, 'c>,
+        selection: &Selection,
+    ) -> Result<(), AllocError>
+        ensures steps { OnOk result (IsPassed (path_at tables.now.shapes.now frame.now.place
+            (list_view frame.now.list.now.id) frame.now.next) (selection_view selection.now)
+            self.old.steps.items self.new.steps.items) }
+        ensures frames { self.new.frames.items ≡ self.old.frames.items }
+        ensures counts { self.new.counts ≡ self.old.counts }
+    {
+        if is_of_enum(selection) {
+            let path = frame.path(tables)?;
+            self.steps.push(Step::Absence(path))?;
+        }
+        Ok(())
     }
 
     /// The variant that a branch at a path selects, if it is one, goes behind the steps.

@@ -3,7 +3,7 @@
 use super::write_comma;
 use crate::quoted::BetweenQuotes;
 use facet_solver_reader::{ReadingKind, VariantName};
-use facet_solver_shape::{PathSegment, VariantSelection};
+use facet_solver_shape::{FieldPath, PathSegment, VariantSelection};
 use std::fmt;
 
 /// The variants that are selected in an object; of what is no object, none.
@@ -16,11 +16,21 @@ pub(super) fn selections_of<'r, 'c>(
     }
 }
 
+/// The paths of the optional enums that are absent in an object; of what is no object, none.
+pub(super) fn absent_of<'r, 'c>(kind: &'r ReadingKind<'c, '_, '_>) -> &'r [FieldPath<'c>] {
+    match kind {
+        ReadingKind::Object { object, .. } => object.absent(),
+        _ => &[],
+    }
+}
+
 /// Writes variants with their paths, as members of an object: first those that a value is read as,
-/// then those that are selected within the last of them.
+/// then those that are selected within the last of them, and null for each enum that is absent
+/// there.
 pub(super) fn write_variants<W: fmt::Write>(
     variants: &[VariantName<'_>],
     selections: &[VariantSelection<'_>],
+    absent: &[FieldPath<'_>],
     f: &mut fmt::Formatter<W>,
 ) -> fmt::Result {
     for index in 0..variants.len() {
@@ -33,6 +43,12 @@ pub(super) fn write_variants<W: fmt::Write>(
         write_comma(index == 0 && variants.is_empty(), f)?;
         write_path(variants, selection.path.segments(), f)?;
         write_variant(selection.enum_name, selection.variant_name, f)?;
+    }
+    for (index, path) in absent.iter().enumerate() {
+        let is_first = index == 0 && variants.is_empty() && selections.is_empty();
+        write_comma(is_first, f)?;
+        write_path(variants, path.segments(), f)?;
+        f.write_str("null")?;
     }
     Ok(())
 }

@@ -1449,6 +1449,7 @@ object::read_steps-returns-clause-told t c =
     let x : ObjectReading =
     record {
       selections = c.in_ok-found.found.selections;
+      absent = c.in_ok-found.found.absent;
       fields = c.in_ok-found.found.fields;
       taken = c.in_ok-taken.taken;
       ignored = c.match-catch_all_in.ignored;
@@ -1477,7 +1478,8 @@ object::read_steps-returns-clause-told t c =
     ] in
     (one, told_by_plan tb nodes o steps plan c.plain.result x c.in_ok-values.values ws
     c.requires.reads c.plain.ensures.variants c.plain.ensures.kind
-    c.in_ok-found.ensures.selections c.in_ok-found.ensures.fields fields.1 rest)
+    c.in_ok-found.ensures.selections c.in_ok-found.ensures.absent c.in_ok-found.ensures.fields
+    fields.1 rest)
 
 pub target::read_end-read_shape-requires :
     goal.target::read_end-read_shape-requires

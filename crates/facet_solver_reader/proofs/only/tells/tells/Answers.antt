@@ -80,7 +80,7 @@ returns-else-list-clause-nothing c = λ h.
                 nothing_known l (nil_from_length l.names.items (sym l.names.ok.0 ∙ empty))
                 (sym w.value-is ∙ value) x ((is.known x).1 k)
           ];
-      no_branch = λ b.
-          let yes : c.has_branch_below.result ≡ true = c.has_branch_below.ensures.1 b in
+      no_enum = λ b.
+          let yes : c.has_enum_below.result ≡ true = c.has_enum_below.ensures.1 b in
           absurd (cc);
     }

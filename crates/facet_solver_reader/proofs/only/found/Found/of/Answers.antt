@@ -5,7 +5,8 @@ use Rattle.std.proofs.lemmas.List.{map-append}
 use Rattle.facet_solver_reader.specs.declared.only.steps.Step.{Step}
 use Rattle.facet_solver_reader.specs.Found as spec
 use Rattle.facet_solver_reader.specs.Planned.{step_view}
-use Rattle.facet_solver_reader.proofs.FoundSteps.{places_in-append, selections_in-append}
+use Rattle.facet_solver_reader.proofs.FoundSteps.{absences_in-append, places_in-append}
+use Rattle.facet_solver_reader.proofs.FoundSteps.{selections_in-append}
 use Rattle.facet_solver_reader.proofs.only.found.Found.of.Goals as goal
 
 -- a list of no length has nothing
@@ -31,6 +32,9 @@ loop-step-preserved c =
       selections = c.in_ok-add.ensures.selections
           ∙ (ap (λ xs. xs ++ spec.selections_in shapes (s ∷ [])) at.invariant.selections
           ∙ sym (ap (spec.selections_in shapes) more ∙ selections_in-append shapes ss (s ∷ [])));
+      absent = c.in_ok-add.ensures.absent
+          ∙ (ap (λ xs. xs ++ spec.absences_in (s ∷ [])) at.invariant.absent
+          ∙ sym (ap spec.absences_in more ∙ absences_in-append ss (s ∷ [])));
       fields = c.in_ok-add.ensures.fields
           ∙ (ap (λ xs. xs ++ spec.places_in (s ∷ [])) at.invariant.fields
           ∙ sym (ap spec.places_in more ∙ places_in-append ss (s ∷ [])));
@@ -46,6 +50,17 @@ returns-clause-selections c =
     ∙ c.into_iter-step-iterator.ensures.into_iter_gives.0) in
     at.invariant.selections
     ∙ ap (λ xs. spec.selections_in c.args.shapes.now (map step_view xs)) all
+
+pub returns-clause-absent : goal.returns-clause-absent
+returns-clause-absent c =
+    let at = c.loop-step in
+    let empty : into_iter_items at.step-iterator ≡ [] =
+    none_left (into_iter_items at.step-iterator)
+    (sym at.invariant.len ∙ c.in-None.ensures.steps.0) in
+    let all : at.yielded ≡ c.args.steps.items =
+    sym (append-nil at.yielded) ∙ (rw empty at at.invariant.all
+    ∙ c.into_iter-step-iterator.ensures.into_iter_gives.0) in
+    at.invariant.absent ∙ ap (λ xs. spec.absences_in (map step_view xs)) all
 
 pub returns-clause-fields : goal.returns-clause-fields
 returns-clause-fields c =

@@ -228,9 +228,15 @@ returns-in_default-2-clause-under_way c =
     c.deref.ensures.value look.3.0 look.1 c.in-Selection.is in
     let picked = subst (IsPicked t nodes o (selection_view s)) c.in_default-2.is
     c.in_ok-k-in-Selection.ensures.chosen in
-    moved t nodes o (fs ++ behind_next f ∷ []) (fs ++ c.behind-in_default-2.result ∷ []) old old
-    (ap (λ (g : Frame). fs ++ g ∷ []) c.behind-in_default-2.ensures) refl
-    (going_absent t nodes o tables fs f old g (selection_view s) at picked.0 picked.1)
+    let new = c.pass.new.self.steps.items in
+    moved t nodes o (fs ++ behind_next f ∷ [])
+    (c.pass.new.self.frames.items ++ c.behind-in_default-2.result ∷ []) new new
+    (ap (λ (gs : List Frame). gs ++ c.behind-in_default-2.result ∷ [])
+    c.in_ok-pass-in-Selection.ensures.frames
+    ∙ ap (λ (g : Frame). fs ++ g ∷ []) c.behind-in_default-2.ensures)
+    refl
+    (going_absent t nodes o tables fs f old g (selection_view s) at new picked.0 picked.1
+    c.in_ok-pass-in-Selection.ensures.steps)
 
 pub index-requires : goal.index-requires
 index-requires c =

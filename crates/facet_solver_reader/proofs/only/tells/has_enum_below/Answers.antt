@@ -5,9 +5,9 @@ use Rattle.facet_solver_reader.specs.declared.tables.List.{List as ListEntry}
 use Rattle.facet_solver_reader.specs.declared.tables.Tables.{Tables}
 use Rattle.facet_solver_reader.specs.Reading.{IsListed}
 use Rattle.facet_solver_reader.specs.Tables.{AreTables}
-use Rattle.facet_solver_reader.specs.Tells.{HasBranchBelow, is_branch}
-use Rattle.facet_solver_reader.specs.Views.{list_view}
-use Rattle.facet_solver_reader.proofs.only.tells.has_branch_below.Goals as goal
+use Rattle.facet_solver_reader.specs.Tells.{HasEnumBelow, tells_of_enum}
+use Rattle.facet_solver_reader.specs.Views.{list_view, parts_view}
+use Rattle.facet_solver_reader.proofs.only.tells.has_enum_below.Goals as goal
 
 -- the index that is read at a position, and the list that stands there
 list_below : (t : Tables) → AreTables t → (l : ListEntry) → IsListed t l → (xs : List ℕ)
@@ -28,8 +28,8 @@ index-requires c =
     c.deref-index-items.ensures.value c.loop-index.index-index c.loop-index-test.true in
     omega (arith, slice_get_within t.lists.items (get_or xs c.loop-index.index-index 0) b.0 b.2)
 
-pub returns-then-is_branch : goal.returns-then-is_branch
-returns-then-is_branch c =
+pub returns-then-tells_of_enum : goal.returns-then-tells_of_enum
+returns-then-tells_of_enum c =
     let t = c.args.tables.now in
     let xs = c.deref-index-items.result.now in
     let position = c.loop-index.index-index in
@@ -45,7 +45,7 @@ returns-then-is_branch c =
             entry = c.index.result.now;
             is_below = b.1;
             listed = at;
-            branch = sym c.is_branch.ensures ∙ c.if-is_branch.true;
+            tells = sym c.tells_of_enum.ensures ∙ c.if-tells_of_enum.true;
           },
       λ h. refl,
     )
@@ -68,10 +68,11 @@ loop-index-preserved c = λ b within.
     let one : b.index ≡ index = cc in
     let twice : Some b.entry ≡ Some e = sym b.listed ∙ ap (slice_get t.lists.items) one ∙ at in
     let entry : b.entry ≡ e = cc in
-    let is : is_branch (list_view e.id) ≡ true =
-    ap (λ (x : ListEntry). is_branch (list_view x.id)) (sym entry) ∙ b.branch in
-    let isnt : is_branch (list_view e.id) ≡ false =
-    sym c.is_branch.ensures ∙ c.if-is_branch.false in
+    let is : tells_of_enum (list_view e.id) (parts_view e.parts.items) ≡ true =
+    ap (λ (x : ListEntry). tells_of_enum (list_view x.id) (parts_view x.parts.items)) (sym entry)
+    ∙ b.tells in
+    let isnt : tells_of_enum (list_view e.id) (parts_view e.parts.items) ≡ false =
+    sym c.tells_of_enum.ensures ∙ c.if-tells_of_enum.false in
     absurd (cc))
     (less_or_here b.position position within)
   where
@@ -81,7 +82,7 @@ loop-index-preserved c = λ b within.
 pub returns : goal.returns
 returns c = (
   λ h. let no : false ≡ true = h in absurd (cc),
-  λ (b : HasBranchBelow c.args.tables.now c.args.list.now).
+  λ (b : HasEnumBelow c.args.tables.now c.args.list.now).
       let within = slice_get_within c.args.list.now.below.items b.position b.index b.is_below in
       absurd (c.loop-index.invariant b
       (omega (
