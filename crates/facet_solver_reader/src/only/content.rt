@@ -9,8 +9,8 @@ ghost use Rattle.facet_solver_reader.specs.Tables.{IsServed, rules_at};
 ghost use Rattle.facet_solver_reader.specs.ToldAt.{IsRead, IsToldAt};
 
 use super::each::read_tuple;
-use super::object::read_object;
 use super::not_one::NotOne;
+use super::object::read_object;
 use super::target::{as_counted, read_shape};
 use crate::content::content_at;
 use crate::document::Document;

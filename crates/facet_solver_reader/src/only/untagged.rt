@@ -17,11 +17,11 @@ use super::not_one::NotOne;
 use super::object::read_object;
 use super::target::read_target;
 use super::variant::put_within;
+use crate::count::Count;
 use crate::document::Document;
 use crate::end::{Alternative, AlternativeKind};
 use crate::nodes::Nodes;
 use crate::part::ListId;
-use crate::count::Count;
 use crate::read::{Memo, count_alternative, count_object, count_target, count_untagged};
 use crate::reading::Reading;
 use crate::tables::Tables;
@@ -69,9 +69,7 @@ pub(super) fn read_untagged<'c, 'v, 'd>(
 fn all_join(alone: &[Alternative<'_>]) -> bool
     ensures { result ≡ list_all (λ a. is_joined (alternative_view a).kind) alone.now }
 {
-    alone
-        .iter()
-        .all(|alternative| matches!(alternative.kind, AlternativeKind::Joins))
+    alone.iter().all(|alternative| matches!(alternative.kind, AlternativeKind::Joins))
 }
 
 /// The only reading of a value as the content of a variant that reads it by itself.

@@ -16,12 +16,12 @@ ghost use Rattle.facet_solver_reader.specs.Views.{named_view, target_view};
 
 use super::not_one::NotOne;
 use super::target::read_target;
+use crate::count::Count;
 use crate::document::Document;
 use crate::end::NamedVariant;
 use crate::field_at::{shape_name, variant_name};
 use crate::nodes::Nodes;
 use crate::part::Target;
-use crate::count::Count;
 use crate::read::{Memo, count_contents, count_target, count_units};
 use crate::reading::{Reading, ReadingKind, VariantName};
 use crate::tables::Tables;
@@ -111,14 +111,7 @@ fn read_member<'c, 'v, 'd>(
     };
     let variant = &variants[k];
     let content = nodes.child(node, 0);
-    let reading = read_target(
-        tables,
-        nodes,
-        memo,
-        content,
-        &variant.content,
-        tables.steps,
-    )?;
+    let reading = read_target(tables, nodes, memo, content, &variant.content, tables.steps)?;
     let name = name_of(tables.shapes, &variant.content);
     Ok(Reading {
         variants: vec![in tables.alloc; name]?,

@@ -129,7 +129,6 @@ use Rattle.facet_solver_reader.specs.Rules as types
 use Rattle.facet_solver_reader.proofs.only.+only.Goals as goal
 use Rattle.facet_solver_reader.specs.Found as found
 use Rattle.facet_solver_reader.specs.declared.count.Count.TheVariants.{None as NoCount}
-
 use Rattle.facet_solver_reader.specs.Planned as planned
 use Rattle.facet_solver_reader.specs.declared.reading.ReadingKind.TheVariants as kinds
 use Rattle.facet_solver_reader.specs.Reading.{IsOnlyMember}
@@ -205,8 +204,7 @@ content::read_content-read_tuple-requires t c =
     let v : Tree = value_of c.args.nodes.now c.args.node in
     let is : rules.content_of c.args.shape c.args.variant ≡ as_tuple c.deref.result.now =
     sym c.in_ok-content.ensures ∙ (ap content_view c.in-Tuple.is
-    ∙ ap as_tuple (sym c.deref.ensures.value)) in
-    (
+    ∙ ap as_tuple (sym c.deref.ensures.value)) in (
       omega arith,
       (
         c.requires.sound,
@@ -760,9 +758,11 @@ members::read_field-returns-in-None-2-clause-told t c =
     let object = object_view nodes o in
     let m = member_view c.args.member.now in
     let one = count_of_lacking rules (ReadsValue rules) object m c.in-None.ensures
-    c.if-member.false in
-    (one, field_absent tb nodes o m c.plain.result one c.in-None.ensures c.plain.ensures.variants
-    c.plain.ensures.kind)
+    c.if-member.false in (
+      one,
+      field_absent tb nodes o m c.plain.result one c.in-None.ensures c.plain.ensures.variants
+          c.plain.ensures.kind,
+    )
 
 pub members::read_fields-read_field-requires :
     goal.members::read_fields-read_field-requires
@@ -778,8 +778,7 @@ members::read_fields-read_field-requires t c =
     let m = member_view c.in-Field.member.now in
     let at = seen_read step_view c.args.steps.now ss i item refl c.loop-step-test.true
     c.step-item.is in
-    let field = subst (λ s. slice_get ss i ≡ Some (step_view s)) c.in-Field.is at in
-    (
+    let field = subst (λ s. slice_get ss i ≡ Some (step_view s)) c.in-Field.is at in (
       omega arith,
       (
         c.loop-step.invariant.sound,
@@ -859,9 +858,11 @@ members::read_fields-returns-clause-told t c =
     (λ xs.
     AreToldFields c.args.tables.now c.args.nodes.now c.args.object.now (found.members_in xs)
     c.loop-step.values.items)
-    (take_all i ss past) c.loop-step.invariant.told in
-    (told_only c.args.tables.now c.args.nodes.now c.args.object.now (found.members_in ss)
-    c.loop-step.values.items told, told)
+    (take_all i ss past) c.loop-step.invariant.told in (
+      told_only c.args.tables.now c.args.nodes.now c.args.object.now (found.members_in ss)
+          c.loop-step.values.items told,
+      told,
+    )
 
 pub members::read_rest-loop-index-init :
     goal.members::read_rest-loop-index-init
@@ -1058,12 +1059,14 @@ members::read_rest-returns-clause-told t c =
     (take_all i ms past) before.one) in
     let so_far : TakenTold rules tb.shapes.now object k (take i ms)
     (texts c.loop-index.names.items) c.loop-index.readings.items =
-    record { takes = before.takes; reads = before.reads; tells = before.tells } in
-    (one, rest_told tb nodes o k (c.loop-index.names, c.loop-index.readings) one
-    (subst
-    (λ (xs : List Member). TakenTold rules tb.shapes.now object k xs
-    (texts c.loop-index.names.items) c.loop-index.readings.items)
-    (take_all i ms past) so_far))
+    record { takes = before.takes; reads = before.reads; tells = before.tells } in (
+      one,
+      rest_told tb nodes o k (c.loop-index.names, c.loop-index.readings) one
+          (subst
+          (λ (xs : List Member). TakenTold rules tb.shapes.now object k xs
+          (texts c.loop-index.names.items) c.loop-index.readings.items)
+          (take_all i ms past) so_far),
+    )
 
 pub members::read_rests-read_rest-requires :
     goal.members::read_rests-read_rest-requires
@@ -1077,8 +1080,7 @@ members::read_rests-read_rest-requires t c =
     let at = seen_read step_view c.args.steps.now ss i item refl c.loop-step-test.true
     c.step-item.is in
     let k = catch_all_view c.in-Rest.catch_all.now in
-    let here = subst (λ s. slice_get ss i ≡ Some (step_view s)) c.in-Rest.is at in
-    (
+    let here = subst (λ s. slice_get ss i ≡ Some (step_view s)) c.in-Rest.is at in (
       omega arith,
       (
         c.loop-step.invariant.sound,
@@ -1207,10 +1209,11 @@ members::read_taken-returns-in-Anything-clause-told t c =
     subst
     (λ k. IsRead (IsToldTaken tb (catch_all_view k) m)
     (Counted (Takes rules (ReadsValue rules) (catch_all_view k) m) One) (Ok c.as_it_is.result))
-    (sym c.in-Anything.is)
-    (count_of_anything rules (ReadsValue rules) m,
-    anything_taken tb m c.as_it_is.result c.value.result c.as_it_is.ensures.variants
-    c.as_it_is.ensures.kind (c.value.ensures ∙ same))
+    (sym c.in-Anything.is) (
+      count_of_anything rules (ReadsValue rules) m,
+      anything_taken tb m c.as_it_is.result c.value.result c.as_it_is.ensures.variants
+          c.as_it_is.ensures.kind (c.value.ensures ∙ same),
+    )
 
 pub members::read_taken-returns-in-Map-2-clause-told :
     goal.members::read_taken-returns-in-Map-2-clause-told
@@ -1321,8 +1324,7 @@ object::read_object-read_steps-requires t c =
     let listed : IsListed tb l = record { index = of.index; listed = of.listed } in
     let unknown = unknown_by_list tb c.requires.sound.tables l listed
     (object_by ms (list_view l.id) c.in_ok-takes.takes)
-    c.has_unknown-has_unknown.result refl c.has_unknown-has_unknown.ensures in
-    (
+    c.has_unknown-has_unknown.result refl c.has_unknown-has_unknown.ensures in (
       omega arith,
       (
         c.steps_of.ensures.sound,
@@ -1475,11 +1477,13 @@ object::read_steps-returns-clause-told t c =
           let names = ap (λ y. texts y.items) w.ignored-is ∙ w.in_ok-ignored-in-None.ensures in
           rest_is_ignored tb nodes o steps plan x ws.items isnt told.0 told.1
           (subst (AreUnknown rules (list_view l.id) ms) (sym names) unknown)
-    ] in
-    (one, told_by_plan tb nodes o steps plan c.plain.result x c.in_ok-values.values ws
-    c.requires.reads c.plain.ensures.variants c.plain.ensures.kind
-    c.in_ok-found.ensures.selections c.in_ok-found.ensures.absent c.in_ok-found.ensures.fields
-    fields.1 rest)
+    ] in (
+      one,
+      told_by_plan tb nodes o steps plan c.plain.result x c.in_ok-values.values ws
+          c.requires.reads c.plain.ensures.variants c.plain.ensures.kind
+          c.in_ok-found.ensures.selections c.in_ok-found.ensures.absent c.in_ok-found.ensures.fields
+          fields.1 rest,
+    )
 
 pub target::read_end-read_shape-requires :
     goal.target::read_end-read_shape-requires
@@ -1519,8 +1523,7 @@ target::read_end-read_tuple-requires t c =
     let v : Tree = value_of nodes c.args.node in
     let ends : end_view c.args.end.now ≡ a_tuple c.deref.result.now =
     ap end_view c.in-Tuple.is ∙ ap a_tuple (sym c.deref.ensures.value) in
-    let is : rules.end_of c.args.shape ≡ a_tuple c.deref.result.now = sym c.requires.end.same ∙ ends in
-    (
+    let is : rules.end_of c.args.shape ≡ a_tuple c.deref.result.now = sym c.requires.end.same ∙ ends in (
       omega arith,
       (
         c.requires.sound,
@@ -1582,10 +1585,12 @@ target::read_end-returns-in-Null-clause-told t c =
     let by = (by_end rules c.args.steps c.args.shape (an_option c.in-Option.inside) v
     c.requires.ranked is one.value).0 one.has in
     let plain : one.value ≡ a_value =
-    subst (λ u. ReadsEnd rules (inner rules) (an_option c.in-Option.inside) u one.value) tree by in
-    (one, told_as_it_is tb nodes c.args.node (of_shape c.args.shape) c.as_it_is.result
-    c.value-in-Null.result one.value c.value-in-Null.ensures one.has plain
-    c.as_it_is.ensures.variants c.as_it_is.ensures.kind)
+    subst (λ u. ReadsEnd rules (inner rules) (an_option c.in-Option.inside) u one.value) tree by in (
+      one,
+      told_as_it_is tb nodes c.args.node (of_shape c.args.shape) c.as_it_is.result
+          c.value-in-Null.result one.value c.value-in-Null.ensures one.has plain
+          c.as_it_is.ensures.variants c.as_it_is.ensures.kind,
+    )
 
 pub target::read_end-returns-in_default-value :
     goal.target::read_end-returns-in_default-value
@@ -1768,20 +1773,19 @@ target::read_end-returns-in_default-clause-told t c =
 
 pub target::read_shape-read_end-requires :
     goal.target::read_shape-read_end-requires
-target::read_shape-read_end-requires t c =
+target::read_shape-read_end-requires t c = (
+  omega arith,
+  (
+    c.requires.sound,
     (
-      omega arith,
+      c.requires.inside,
       (
-        c.requires.sound,
-        (
-          c.requires.inside,
-          (
-            c.requires.sound.tables.ends c.args.shape c.end.result.now c.end.ensures,
-            c.requires.ranked,
-          ),
-        ),
+        c.requires.sound.tables.ends c.args.shape c.end.result.now c.end.ensures,
+        c.requires.ranked,
       ),
-    )
+    ),
+  ),
+)
 
 pub target::read_target-returns-in-Shape-clause-told :
     goal.target::read_target-returns-in-Shape-clause-told
@@ -1826,47 +1830,49 @@ untagged::read_alternative-returns-clause-told t c =
     let rules : Rules = rules_at tb in
     let v : Tree = value_of c.args.nodes.now c.args.node in
     let a : Alternative = alternative_view c.args.alternative.now in
-    let new = c.in_ok-put_within.ensures in
-    (c.requires.one, elim c.match-alternative.branch [
-      | untagged::read_alternative-in-Null w ↦
-          let none : c.match-alternative.reading.variants.items ≡ [] =
-          ap (λ (q : code_reading.Reading). q.variants.items) w.reading-is
-          ∙ w.as_it_is-reading.ensures.variants in
-          record {
-            reading = a_value;
-            reads = subst
-                (λ kind. ReadsByAlternative kind a_value (ReadsValue rules a.content v a_value))
-                (sym (ap kind_view w.in-Null.is)) refl;
-            name = new.name;
-            names = [];
-            is_of = new.is_of;
-            variants_are = new.variants_are ∙ ap (λ ns. new.name ∷ ns) none;
-            tells = tells_as_it_is rules tb.shapes.now (end_of_target rules a.content) v a_value []
-                c.put_within.new.reading.kind w.value.result w.value.ensures refl refl
-                (new.kind_is ∙ (ap (λ (q : code_reading.Reading). q.kind) w.reading-is
-                ∙ w.as_it_is-reading.ensures.kind));
-          }
-      | untagged::read_alternative-in_default+in_ok-reading-in_default w ↦
-          let told = w.in_ok-reading-in_default.ensures.told.1 in
-          let apart = λ (e : a.kind ≡ types.null_alone).
-          w.in_default.not-Null (null_seen c.args.alternative.now.kind e) in
-          record {
-            reading = told.reading;
-            reads = reads_by_content a.kind told.reading
-                (ReadsValue rules a.content v told.reading) apart told.reads;
-            name = new.name;
-            names = w.in_ok-reading-in_default.reading.variants.items;
-            is_of = new.is_of;
-            variants_are = new.variants_are
-                ∙ ap (λ (q : code_reading.Reading). new.name ∷ q.variants.items) w.reading-is;
-            tells = tells_same rules tb.shapes.now (end_of_target rules a.content) v told.reading
-                w.in_ok-reading-in_default.reading.variants.items
-                w.in_ok-reading-in_default.reading.variants.items
-                w.in_ok-reading-in_default.reading.kind c.put_within.new.reading.kind refl
-                (sym (new.kind_is ∙ ap (λ (q : code_reading.Reading). q.kind) w.reading-is))
-                told.tells;
-          }
-    ])
+    let new = c.in_ok-put_within.ensures in (
+      c.requires.one,
+      elim c.match-alternative.branch [
+        | untagged::read_alternative-in-Null w ↦
+            let none : c.match-alternative.reading.variants.items ≡ [] =
+            ap (λ (q : code_reading.Reading). q.variants.items) w.reading-is
+            ∙ w.as_it_is-reading.ensures.variants in
+            record {
+              reading = a_value;
+              reads = subst
+                  (λ kind. ReadsByAlternative kind a_value (ReadsValue rules a.content v a_value))
+                  (sym (ap kind_view w.in-Null.is)) refl;
+              name = new.name;
+              names = [];
+              is_of = new.is_of;
+              variants_are = new.variants_are ∙ ap (λ ns. new.name ∷ ns) none;
+              tells = tells_as_it_is rules tb.shapes.now (end_of_target rules a.content) v a_value []
+                  c.put_within.new.reading.kind w.value.result w.value.ensures refl refl
+                  (new.kind_is ∙ (ap (λ (q : code_reading.Reading). q.kind) w.reading-is
+                  ∙ w.as_it_is-reading.ensures.kind));
+            }
+        | untagged::read_alternative-in_default+in_ok-reading-in_default w ↦
+            let told = w.in_ok-reading-in_default.ensures.told.1 in
+            let apart = λ (e : a.kind ≡ types.null_alone).
+            w.in_default.not-Null (null_seen c.args.alternative.now.kind e) in
+            record {
+              reading = told.reading;
+              reads = reads_by_content a.kind told.reading
+                  (ReadsValue rules a.content v told.reading) apart told.reads;
+              name = new.name;
+              names = w.in_ok-reading-in_default.reading.variants.items;
+              is_of = new.is_of;
+              variants_are = new.variants_are
+                  ∙ ap (λ (q : code_reading.Reading). new.name ∷ q.variants.items) w.reading-is;
+              tells = tells_same rules tb.shapes.now (end_of_target rules a.content) v told.reading
+                  w.in_ok-reading-in_default.reading.variants.items
+                  w.in_ok-reading-in_default.reading.variants.items
+                  w.in_ok-reading-in_default.reading.kind c.put_within.new.reading.kind refl
+                  (sym (new.kind_is ∙ ap (λ (q : code_reading.Reading). q.kind) w.reading-is))
+                  told.tells;
+            }
+      ],
+    )
 
 pub untagged::read_untagged-returns-then-all_join-clause-told :
     goal.untagged::read_untagged-returns-then-all_join-clause-told
@@ -1936,8 +1942,7 @@ untagged::read_untagged-read_alternative-requires t c =
     (omega (arith, length-map c.args.alone.now alternative_view)) c.index-alone-k.is in
     let a : Alternative = alternative_view c.index-alone-k.result in
     let seen : slice_get alone k ≡ Some a =
-    seen_at alternative_view c.args.alone.now k c.index-alone-k.result there in
-    (
+    seen_at alternative_view c.args.alone.now k c.index-alone-k.result there in (
       omega arith,
       (
         c.in_ok-alternative_index.ensures.sound,
@@ -2034,8 +2039,11 @@ variant::read_member-read_target-requires t c =
           subst (IsIndexOf rules vs v c.args.name.now) (sym m.k-is) (inr told)
     ] in
     let within : k < length c.args.variants.now =
-    omega (arith, index_within rules vs v c.args.name.now k index,
-    length-map c.args.variants.now named_view) in
+    omega (
+      arith,
+      index_within rules vs v c.args.name.now k index,
+      length-map c.args.variants.now named_view,
+    ) in
     let there : slice_get c.args.variants.now k ≡ Some c.index-variants-k.result =
     slice_get_read c.args.variants.now (length c.args.variants.now) k c.index-variants-k.result refl
     within c.index-variants-k.is in
@@ -2080,8 +2088,11 @@ variant::read_member-returns-in_err-reading-clause-told t c =
           subst (IsIndexOf rules vs v c.args.name.now) (sym m.k-is) (inr told)
     ] in
     let within : k < length c.args.variants.now =
-    omega (arith, index_within rules vs v c.args.name.now k index,
-    length-map c.args.variants.now named_view) in
+    omega (
+      arith,
+      index_within rules vs v c.args.name.now k index,
+      length-map c.args.variants.now named_view,
+    ) in
     let there : slice_get c.args.variants.now k ≡ Some c.index-variants-k.result =
     slice_get_read c.args.variants.now (length c.args.variants.now) k c.index-variants-k.result refl
     within c.index-variants-k.is in
@@ -2114,8 +2125,11 @@ variant::read_member-returns-clause-told t c =
           subst (IsIndexOf rules vs v c.args.name.now) (sym m.k-is) (inr told)
     ] in
     let within : k < length c.args.variants.now =
-    omega (arith, index_within rules vs v c.args.name.now k index,
-    length-map c.args.variants.now named_view) in
+    omega (
+      arith,
+      index_within rules vs v c.args.name.now k index,
+      length-map c.args.variants.now named_view,
+    ) in
     let there : slice_get c.args.variants.now k ≡ Some c.index-variants-k.result =
     slice_get_read c.args.variants.now (length c.args.variants.now) k c.index-variants-k.result refl
     within c.index-variants-k.is in
@@ -2129,15 +2143,16 @@ variant::read_member-returns-clause-told t c =
       kind = kinds.Content c.in_ok-new.field-0;
     }) in
     let told = c.in_ok-reading.ensures.told in
-    let so : is_object v ≡ true = ap is_object tree in
-    (same.0 told.0, member_told tb nodes c.args.node c.child-content.result vs k a told.1.reading
-    c.name_of-name.result c.in_ok-new.field-0 found seen
-    (into_named rules (inner rules) vs v c.args.name.now w tree k a seen
-    (index_named rules vs v c.args.name.now k a seen w tree index) told.1.reading told.1.reads)
-    so c.child-content.ensures.child
-    (subst (IsToldAt tb nodes c.child-content.result a.content) (sym c.in_ok-new.ensures.ok) told.1)
-    c.name_of-name.ensures c.in_ok-vec.ensures.items refl)
-
+    let so : is_object v ≡ true = ap is_object tree in (
+      same.0 told.0,
+      member_told tb nodes c.args.node c.child-content.result vs k a told.1.reading
+          c.name_of-name.result c.in_ok-new.field-0 found seen
+          (into_named rules (inner rules) vs v c.args.name.now w tree k a seen
+          (index_named rules vs v c.args.name.now k a seen w tree index) told.1.reading told.1.reads)
+          so c.child-content.ensures.child
+          (subst (IsToldAt tb nodes c.child-content.result a.content) (sym c.in_ok-new.ensures.ok) told.1)
+          c.name_of-name.ensures c.in_ok-vec.ensures.items refl,
+    )
 
 pub variant::read_named-returns-then-len-ne1-clause-told :
     goal.variant::read_named-returns-then-len-ne1-clause-told

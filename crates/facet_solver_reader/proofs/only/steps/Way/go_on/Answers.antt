@@ -367,4 +367,3 @@ returns-in-None-clause-under_way c =
     c.field_name-name.result.now c.field_name-name.ensures None new
     c.in_ok-inner-in-Selection.ensures.steps
     (subst (IsInnermost t id place) c.in-None.is c.in_ok-inner-in-Selection.ensures.entered))
-
