@@ -32,7 +32,7 @@ use Rattle.facet_solver_reader.specs.Tables.{AreTables, BranchIsBefore, PartIsBe
 use Rattle.facet_solver_reader.specs.Tables.{PartIsServed, rules_at}
 use Rattle.facet_solver_reader.specs.Tells.{TellsNothing}
 use Rattle.facet_solver_reader.specs.UnderWay.{IsBelow, IsEntered, IsGoing, IsOnlyLeft}
-use Rattle.facet_solver_reader.specs.UnderWay.{IsPassed, IsSelected, IsUnderWay}
+use Rattle.facet_solver_reader.specs.UnderWay.{IsLeftOut, IsSelected, IsUnderWay}
 use Rattle.facet_solver_reader.specs.Views.{list_view, parts_view}
 use Rattle.facet_solver_reader.proofs.Alone.{read_alone}
 use Rattle.facet_solver_reader.proofs.CountingObjects.{before_at}
@@ -241,7 +241,7 @@ module _ (t : Tables) (nodes : Nodes) (o : read.Object) where
         → slice_get (parts_view f.list.now.parts.items) f.next ≡ Some (a_selection s)
         → (new : List code.Step) → ReadsChosen t nodes o s without
         → IsPartCount t nodes o (a_selection s) One
-        → IsPassed (placed_next t f (a_selection s)).path s old new
+        → IsLeftOut (placed_next t f (a_selection s)).path s old new
         → IsGoing t nodes o (fs ++ behind_next f ∷ []) new
     going_absent s at new absent part passed =
         let views : map step_view new ≡ map step_view old ++ map step_view passed.taken =

@@ -38,7 +38,7 @@ use Rattle.facet_solver_reader.specs.Steps.{placed_from, selected, step_at, step
 use Rattle.facet_solver_reader.specs.Tables.{AreTables, BranchIsBefore, PartIsBefore}
 use Rattle.facet_solver_reader.specs.Tables.{PartIsServed, rules_at}
 use Rattle.facet_solver_reader.specs.Tells.{TellsNothing}
-use Rattle.facet_solver_reader.specs.UnderWay.{AreLeft, IsBelow, IsEntered, IsPassed, IsSelected}
+use Rattle.facet_solver_reader.specs.UnderWay.{AreLeft, IsBelow, IsEntered, IsLeftOut, IsSelected}
 use Rattle.facet_solver_reader.specs.UnderWay.{IsUnderWay}
 use Rattle.facet_solver_reader.specs.Views.{list_view, parts_view}
 use Rattle.facet_solver_reader.proofs.ChosenBranch.{only_of_branch}
@@ -257,7 +257,7 @@ module _ (t : Tables) (nodes : Nodes) (o : read.Object) where
       (h : IsUnderWay t nodes o (fs ++ f ∷ []) old) → IsTaken fs f (a_selection s) h.others
       → ReadsPart (rules_at t) (ReadsValue (rules_at t)) (object_view nodes o) (a_selection s)
       without
-      → IsPassed (placed_next t f (a_selection s)).path s old new
+      → IsLeftOut (placed_next t f (a_selection s)).path s old new
       → IsUnderWay t nodes o (fs ++ behind_next f ∷ []) new
   absent_taken fs f s old new h k r passed =
       let here = placed_next t f (a_selection s) in

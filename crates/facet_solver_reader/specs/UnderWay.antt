@@ -103,8 +103,8 @@ abbrev pub IsSelected : Path → ListId → List code.Step → List code.Step �
 IsSelected path id old new = ComeBehind (selected path id) old new
 
 -- the absence of a selection at a path, if it is of an enum, comes behind the steps in memory
-abbrev pub IsPassed : Path → Selection → List code.Step → List code.Step → Type 0
-IsPassed path s old new = ComeBehind (absence path s) old new
+abbrev pub IsLeftOut : Path → Selection → List code.Step → List code.Step → Type 0
+IsLeftOut path s old new = ComeBehind (absence path s) old new
 
 -- the list of a branch at a place comes behind those that are under way, unless it tells nothing
 pub record IsEntered (t : Tables) (id : ListId) (place : Path) (old new : List Frame) : Type 0 where

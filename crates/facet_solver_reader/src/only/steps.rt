@@ -11,7 +11,7 @@ ghost use Rattle.facet_solver_reader.specs.Reading.{AreSound, IsListCount, IsObj
 ghost use Rattle.facet_solver_reader.specs.Steps.{place_below};
 ghost use Rattle.facet_solver_reader.specs.SureSteps.{is_selection, sure_steps};
 ghost use Rattle.facet_solver_reader.specs.Tables.{AreTables, ListIsServed, PartIsBefore, rules_at};
-ghost use Rattle.facet_solver_reader.specs.UnderWay.{AreKnownCounts, IsGoing, IsInnermost, IsPassed, IsSelected, with_inner};
+ghost use Rattle.facet_solver_reader.specs.UnderWay.{AreKnownCounts, IsGoing, IsInnermost, IsLeftOut, IsSelected, with_inner};
 ghost use Rattle.facet_solver_reader.specs.ToldAt.{IsNotOne};
 ghost use Rattle.facet_solver_reader.specs.Views.{list_view, selection_view};
 
@@ -287,7 +287,7 @@ impl<'r, 'c> Way<'r, 'c> {
         frame: &Frame<'r, 'c>,
         selection: &Selection,
     ) -> Result<(), AllocError>
-        ensures steps { OnOk result (IsPassed (path_at tables.now.shapes.now frame.now.place
+        ensures steps { OnOk result (IsLeftOut (path_at tables.now.shapes.now frame.now.place
             (list_view frame.now.list.now.id) frame.now.next) (selection_view selection.now)
             self.old.steps.items self.new.steps.items) }
         ensures frames { self.new.frames.items ≡ self.old.frames.items }
