@@ -5,7 +5,7 @@ use Rattle.std.proofs.Common.{◌<◌, ◌≤◌, ◌+◌, Bool, true, false, []
 use Rattle.std.proofs.Common.{Option, Some, None, refl, arith}
 use Rattle.std.specs.Prelude.{MatchOption, ⊤, option_and_then, option_map}
 use Rattle.std.specs.List.{Any}
-use Rattle.std.proofs.lemmas.Option.{MatchOption-from_none, none-some, same_Some, slice_get_past}
+use Rattle.std.proofs.lemmas.Option.{none-some, same_Some, slice_get_past}
 use Rattle.facet_solver_shape.specs.Catalogues.{Catalogue, kind_of}
 use Rattle.facet_solver_reader.specs.declared.tables.every.EveryList.{EveryList}
 use Rattle.facet_solver_reader.specs.declared.tables.every.Listed.{Listed}
@@ -15,7 +15,7 @@ use Rattle.facet_solver_reader.specs.Listing.{AreAdded, AreFound, AreListed, IsE
 use Rattle.facet_solver_reader.specs.ListShapes.{shape_of}
 use Rattle.facet_solver_reader.specs.Parts.{ListId, Part, of_struct, of_enum, of_joined}
 use Rattle.facet_solver_reader.specs.Parts.{of_branch, of_fields}
-use Rattle.facet_solver_reader.specs.Slots.{AreFree, IsOfCatalogue, IsSet, index_of}
+use Rattle.facet_solver_reader.specs.Slots.{IsOfCatalogue, IsSet, index_of}
 use Rattle.facet_solver_reader.specs.Types.{branches_from, joined_from, one_of, parts_of}
 use Rattle.facet_solver_reader.specs.Types.{parts_of_branch, parts_of_fields, parts_of_struct, repr_at}
 use Rattle.facet_solver_reader.specs.Types.{variant_at, variants_at, variants_of_kind}
@@ -24,7 +24,7 @@ use Rattle.facet_solver_reader.proofs.Knowledge.{choice_of_each, choice_of_selec
 use Rattle.facet_solver_reader.proofs.Lists.{choice_of_list, no_choice_of_no_list}
 use Rattle.facet_solver_reader.proofs.Opened.{at_either, at_front}
 use Rattle.facet_solver_reader.proofs.Quantifiers.{all_of_more, any_of_none}
-use Rattle.facet_solver_reader.proofs.Slotted.{at_end, same_list, same_number}
+use Rattle.facet_solver_reader.proofs.Slotted.{at_end, same_list}
 
 -- one number is below another or not
 lt_or_ge : (a b : ℕ) → (a < b) ⊎ (b ≤ a)
@@ -34,26 +34,6 @@ lt_or_ge (suc a) (suc b) =
     ⊎_elim (λ (h : a < b). inl (omega arith)) (λ (h : b ≤ a). inr (omega arith)) (lt_or_ge a b)
 
 module _ (shapes : Catalogue) where
-  -- lists without parts are added by nothing
-  pub none_added : (every : EveryList) (id : ListId) → AreListed shapes every
-      → parts_of shapes id ≡ None → AreAdded shapes every every (λ q. q ≡ id)
-  none_added every id listed none = record {
-    listed = listed;
-    done = λ q e free. ap (parts_of shapes) e ∙ none;
-    others = λ q ne. refl;
-  }
-
-  -- before any is added
-  pub listed_at_first : (every : EveryList) → every.lists.items ≡ [] → AreFree shapes every.numbers
-      → AreListed shapes every
-  listed_at_first every empty free = record {
-    entries = λ number l there.
-        absurd (none-some l (ap (λ xs. slice_get xs number) (sym empty) ∙ there));
-    numbered = λ id.
-        MatchOption-from_none (index_of every.numbers id) (IsNumbered every id) (free.free id);
-    slots_are = free.slots_are;
-  }
-
   -- lists that are added, and then others
   pub added_more : (a b c : EveryList) (D E : ListId → Type 0)
       → AreAdded shapes a b D → AreAdded shapes b c E → ((q : ListId) → D q → E q → ⊥)
@@ -227,34 +207,6 @@ module _ (shapes : Catalogue) where
         → parts_of shapes q ≡ None
     pub free : (q : ListId) → (shape_of q < n → ⊥) → index_of every.numbers q ≡ None
 
-  -- at first
-  pub upto_none : (every : EveryList) → every.lists.items ≡ [] → AreFree shapes every.numbers
-      → AreAddedUpto every 0
-  upto_none every empty free = record {
-    listed = listed_at_first every empty free;
-    done = λ q h none. absurd (omega arith);
-    free = λ q h. free.free q;
-  }
-
-  -- the lists of the next shape are free
-  pub upto_free : (every : EveryList) (n : ℕ) → AreAddedUpto every n
-      → (q : ListId) → shape_of q ≡ n → index_of every.numbers q ≡ None
-  upto_free every n upto q e = upto.free q (λ h. omega arith)
-
-  -- they are added
-  pub upto_more : (every new : EveryList) (n : ℕ) → AreAddedUpto every n
-      → AreAdded shapes every new (λ q. shape_of q ≡ n) → AreAddedUpto new (n + 1)
-  upto_more every new n upto added = record {
-    listed = added.listed;
-    done = λ q h none.
-        ⊎_elim (λ (e : shape_of q ≡ n). added.done q e none)
-        (λ (ne : shape_of q ≡ n → ⊥).
-        upto.done q (omega arith) (sym (added.others q ne) ∙ none))
-        (same_number (shape_of q) n);
-    free = λ q h.
-        added.others q (λ e. h (omega arith)) ∙ upto.free q (λ lt. h (omega arith));
-  }
-
   module _ (every : EveryList) (n : ℕ) (upto : AreAddedUpto every n) (past : length shapes ≤ n)
     where
       -- a list without a number has no choice
@@ -294,81 +246,7 @@ module _ (shapes : Catalogue) where
     FirstOf v (of_branch s k) = (s ≡ shape) × (k < v)
     FirstOf v (of_fields s k) = (s ≡ shape) × (k < v)
 
-    -- first the struct is added
-    pub first_added : (a b : EveryList) → AreAdded shapes a b (λ q. q ≡ of_struct shape)
-        → AreAdded shapes a b (FirstOf 0)
-    first_added a b added =
-        added_as a b (λ q. q ≡ of_struct shape) (FirstOf 0) added
-        (λ q e. subst (FirstOf 0) (sym e) refl) back
-      where
-        back : (q : ListId) → FirstOf 0 q → (q ≡ of_struct shape) ⊎ (parts_of shapes q ≡ None)
-        back (of_struct s) e = inl (ap of_struct e)
-        back (of_enum s) h = absurd h
-        back (of_joined s) h = absurd h
-        back (of_branch s k) h = absurd (let l : k < 0 = h.1 in omega arith)
-        back (of_fields s k) h = absurd (let l : k < 0 = h.1 in omega arith)
-
-    -- then the branch and the fields of each variant
-    pub variant_added : (a b c d : EveryList) (v : ℕ) → AreAdded shapes a b (FirstOf v)
-        → AreAdded shapes b c (λ q. q ≡ of_branch shape v)
-        → AreAdded shapes c d (λ q. q ≡ of_fields shape v) → AreAdded shapes a d (FirstOf (v + 1))
-    variant_added a b c d v first second third =
-        added_as a d
-        (λ q. (FirstOf v q ⊎ (q ≡ of_branch shape v)) ⊎ (q ≡ of_fields shape v)) (FirstOf (v + 1))
-        (added_more a c d (λ q. FirstOf v q ⊎ (q ≡ of_branch shape v)) (λ q. q ≡ of_fields shape v)
-        (added_more a b c (FirstOf v) (λ q. q ≡ of_branch shape v) first second not_branch)
-        third not_fields)
-        on back
-      where
-        not_branch : (q : ListId) → FirstOf v q → q ≡ of_branch shape v → ⊥
-        not_branch q f e =
-            let g : (shape ≡ shape) × (v < v) = subst (FirstOf v) e f in omega (arith, g.1)
-
-        not_fields : (q : ListId) → FirstOf v q ⊎ (q ≡ of_branch shape v) → q ≡ of_fields shape v
-            → ⊥
-        not_fields q f e =
-            ⊎_elim
-            (λ (f : FirstOf v q).
-            let g : (shape ≡ shape) × (v < v) = subst (FirstOf v) e f in omega (arith, g.1))
-            (λ (g : q ≡ of_branch shape v). cc)
-            f
-
-        up : (q : ListId) → FirstOf v q → FirstOf (v + 1) q
-        up (of_struct s) h = h
-        up (of_enum s) h = h
-        up (of_joined s) h = h
-        up (of_branch s k) h = let l : k < v = h.1 in (h.0, omega arith)
-        up (of_fields s k) h = let l : k < v = h.1 in (h.0, omega arith)
-
-        on : (q : ListId)
-            → (FirstOf v q ⊎ (q ≡ of_branch shape v)) ⊎ (q ≡ of_fields shape v)
-            → FirstOf (v + 1) q
-        on q h =
-            ⊎_elim
-            (λ (h : FirstOf v q ⊎ (q ≡ of_branch shape v)).
-            ⊎_elim (up q)
-            (λ (e : q ≡ of_branch shape v). subst (FirstOf (v + 1)) (sym e) (refl, omega arith)) h)
-            (λ (e : q ≡ of_fields shape v). subst (FirstOf (v + 1)) (sym e) (refl, omega arith))
-            h
-
-        back : (q : ListId) → FirstOf (v + 1) q
-            → ((FirstOf v q ⊎ (q ≡ of_branch shape v)) ⊎ (q ≡ of_fields shape v))
-            ⊎ (parts_of shapes q ≡ None)
-        back (of_struct s) h = inl (inl (inl h))
-        back (of_enum s) h = absurd h
-        back (of_joined s) h = absurd h
-        back (of_branch s k) h =
-            let is : s ≡ shape = h.0 in
-            let within : k < v + 1 = h.1 in
-            ⊎_elim (λ (e : k ≡ v). inl (inl (inr (cc))))
-            (λ (ne : k ≡ v → ⊥). inl (inl (inl (is, omega arith)))) (same_number k v)
-        back (of_fields s k) h =
-            let is : s ≡ shape = h.0 in
-            let within : k < v + 1 = h.1 in
-            ⊎_elim (λ (e : k ≡ v). inl (inr (cc)))
-            (λ (ne : k ≡ v → ⊥). inl (inl (inl (is, omega arith)))) (same_number k v)
-
-    -- last the enum, and those that join
+    -- last are added the enum, and those that join
     pub shape_added : (a b c d : EveryList) (n : ℕ) → AreAdded shapes a b (FirstOf n)
         → AreAdded shapes b c (λ q. q ≡ of_enum shape)
         → AreAdded shapes c d (λ q. q ≡ of_joined shape)

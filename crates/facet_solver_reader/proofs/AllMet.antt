@@ -12,7 +12,7 @@ use Rattle.facet_solver_reader.specs.Met.{ContentIsMet, EndIsMet, IfChosen, IsMe
 use Rattle.facet_solver_reader.specs.OrderedLists.{ComesIn, HasBranch, IsBranchOf}
 use Rattle.facet_solver_reader.specs.Parts.{of_map, of_anything, ListId, Lists, Part, a_member, a_selection, a_catch_all, Selection, Target, of_shape, of_content, of_tag}
 use Rattle.facet_solver_reader.specs.Reached.{asked, asked_by_content, asked_by_end, list_of, list_of_content, list_of_end, read_by_item, within, within_content, within_end}
-use Rattle.facet_solver_reader.specs.Rules.{Alternative, Content, End, NamedVariant, Rules, no_content, as_shape, as_tuple, as_object, an_option, a_list, a_tuple, a_map, an_object, a_named_variant, an_untagged_variant}
+use Rattle.facet_solver_reader.specs.Rules.{Alternative, Content, End, NamedVariant, no_content, as_shape, as_tuple, as_object, an_option, a_list, a_tuple, a_map, an_object, a_named_variant, an_untagged_variant}
 use Rattle.facet_solver_reader.specs.Types.{content_at, end_of, parts_of, rules_of}
 use Rattle.facet_solver_reader.proofs.Knowledge.{choice_of_more}
 use Rattle.facet_solver_reader.proofs.Lists.{choice_of_list, choices_of_list}
@@ -124,9 +124,6 @@ module _ (shapes : Catalogue) where
   comes_on (suc n) id last branch c b = (c.0, c.1, comes_on n c.0 last branch c.2 b)
 
 module _ (shapes : Catalogue) (strict : Bool) (root : ℕ) where
-  rules : Rules
-  rules = rules_of shapes strict
-
   abbrev Met : Target → Type 0
   Met t = IsMet (rules_of shapes strict) (of_shape root) t
 

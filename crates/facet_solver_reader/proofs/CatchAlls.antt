@@ -1,19 +1,19 @@
 -- The readings of a catch-all are the products of those of the members that it takes.
-use Rattle.std.proofs.Common.{◌≡◌, sym, ap, ◌∙◌, subst, ℕ, ◌-◌, ◌<◌, ◌≤◌, suc, length, get_or, drop}
-use Rattle.std.proofs.Common.{drop-cons, List, [], ◌∷◌, refl, true, false, IsTrue, arith}
+use Rattle.std.proofs.Common.{◌≡◌, subst, ℕ}
+use Rattle.std.proofs.Common.{List, [], ◌∷◌, refl, true, false, IsTrue}
 use Rattle.facet_solver_reader.specs.declared.count.Count.{Count}
 use Rattle.facet_solver_reader.specs.declared.count.Count.TheVariants.{One, None as NoReading}
 use Rattle.facet_solver_reader.specs.Branches.{ReadsPart}
 use Rattle.facet_solver_reader.specs.Choices.{a_value, ChoiceAt, lacking, having, without, choosing}
 use Rattle.facet_solver_reader.specs.Choices.{taking, Taken, none_left, passing, taken, Item}
 use Rattle.facet_solver_reader.specs.Choices.{catch_all_of}
-use Rattle.facet_solver_reader.specs.Counted.{Counted, times}
+use Rattle.facet_solver_reader.specs.Counted.{Counted}
 use Rattle.facet_solver_reader.specs.Documents.{Member}
 use Rattle.facet_solver_reader.specs.Known.{Chooses, ChoosesAt, HasKey, IsKnown, Key, named}
 use Rattle.facet_solver_reader.specs.Objects.{Agrees, IsUnknown, Object, Reads, Takes, TakesRest}
 use Rattle.facet_solver_reader.specs.Parts.{CatchAll, of_map, of_anything, of_shape, a_catch_all}
 use Rattle.facet_solver_reader.specs.Rules.{Rules}
-use Rattle.facet_solver_reader.proofs.Counting.{counted_images, counted_same, counted_times}
+use Rattle.facet_solver_reader.proofs.Counting.{counted_images, counted_same}
 use Rattle.facet_solver_reader.proofs.Joined.{IsJoined, AreJoined, AreImages}
 
 module _ (rules : Rules) (reads : Reads) (m : Member) where
@@ -58,15 +58,6 @@ module _ (rules : Rules) (reads : Reads) (object : Object) (k : CatchAll) where
       out (passing t) w = (t, w.1, refl)
       out (taken r t) w = absurd (w.0 known)
 
-  -- so there are as many readings as of the others
-  pub count_of_passing : (m : Member) (ms : List Member) (n : Count)
-      → IsKnown (Chooses rules.lists object.list) (named m.name)
-      → Counted (TakesRest rules object (Takes rules reads k) ms) n
-      → Counted (TakesRest rules object (Takes rules reads k) (m ∷ ms)) n
-  count_of_passing m ms n known h =
-      counted_images (TakesRest rules object (Takes rules reads k) ms)
-      (TakesRest rules object (Takes rules reads k) (m ∷ ms)) passing n (passing_images m ms known) h
-
   -- a member of another name is taken, beside the others
   pub taken_join : (m : Member) (ms : List Member) → IsUnknown rules object m.name
       → AreJoined (Takes rules reads k m) (TakesRest rules object (Takes rules reads k) ms)
@@ -85,15 +76,6 @@ module _ (rules : Rules) (reads : Reads) (object : Object) (k : CatchAll) where
       part (passing t) w = absurd (unknown w.0)
       part (taken r t) w =
           record { first = r; second = t; has_first = w.1; has_second = w.2; is_joined = refl }
-
-  -- so the count is the product
-  pub count_of_taken : (m : Member) (ms : List Member) (a b : Count)
-      → IsUnknown rules object m.name
-      → Counted (Takes rules reads k m) a → Counted (TakesRest rules object (Takes rules reads k) ms) b
-      → Counted (TakesRest rules object (Takes rules reads k) (m ∷ ms)) (times a b)
-  count_of_taken m ms a b unknown h g =
-      counted_times (Takes rules reads k m) (TakesRest rules object (Takes rules reads k) ms)
-      (TakesRest rules object (Takes rules reads k) (m ∷ ms)) taken a b (taken_join m ms unknown) h g
 
   -- what the choices of a catch-all have, each has
   known_of_rest : (t : Taken) (x : Key)
@@ -155,32 +137,3 @@ module _ (rules : Rules) (reads : Reads) (object : Object) (k : CatchAll) where
       none (having q) r = r.chooses
       none without r = r.chooses
       none (choosing j c) r = r.chooses
-
-  -- where a list from an index on begins
-  begins : (ms : List Member) (i : ℕ) (d : Member) → 0 < i → i ≤ length ms
-      → drop (i - 1) ms ≡ get_or ms (i - 1) d ∷ drop i ms
-  begins ms i d positive within =
-      let up : suc (i - 1) ≡ i = omega arith in
-      drop-cons ms (i - 1) d (omega arith) ∙ ap (λ n. get_or ms (i - 1) d ∷ drop n ms) up
-
-  -- one member more from behind, of another name
-  pub taken_step : (ms : List Member) (i : ℕ) (d : Member) (a b : Count)
-      → 0 < i → i ≤ length ms → IsUnknown rules object (get_or ms (i - 1) d).name
-      → Counted (Takes rules reads k (get_or ms (i - 1) d)) a
-      → Counted (TakesRest rules object (Takes rules reads k) (drop i ms)) b
-      → Counted (TakesRest rules object (Takes rules reads k) (drop (i - 1) ms)) (times a b)
-  taken_step ms i d a b positive within unknown h g =
-      subst (λ xs. Counted (TakesRest rules object (Takes rules reads k) xs) (times a b))
-      (sym (begins ms i d positive within))
-      (count_of_taken (get_or ms (i - 1) d) (drop i ms) a b unknown h g)
-
-  -- one member more from behind, of a known name
-  pub passing_step : (ms : List Member) (i : ℕ) (d : Member) (n : Count)
-      → 0 < i → i ≤ length ms
-      → IsKnown (Chooses rules.lists object.list) (named (get_or ms (i - 1) d).name)
-      → Counted (TakesRest rules object (Takes rules reads k) (drop i ms)) n
-      → Counted (TakesRest rules object (Takes rules reads k) (drop (i - 1) ms)) n
-  passing_step ms i d n positive within known g =
-      subst (λ xs. Counted (TakesRest rules object (Takes rules reads k) xs) n)
-      (sym (begins ms i d positive within))
-      (count_of_passing (get_or ms (i - 1) d) (drop i ms) n known g)

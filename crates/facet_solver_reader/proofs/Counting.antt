@@ -1,5 +1,5 @@
 -- Counts of pairs and of what is apart.
-use Rattle.std.proofs.Common.{◌≢◌, ap, ◌∙◌, subst, ⊎_elim, sym}
+use Rattle.std.proofs.Common.{◌≢◌, ap, ◌∙◌, subst, ⊎_elim}
 use Rattle.facet_solver_reader.specs.declared.count.Count.{Count}
 use Rattle.facet_solver_reader.specs.declared.count.Count.TheVariants.{None, One, Several}
 use Rattle.facet_solver_reader.specs.Counted.{Counted, times, plus, IsOnly}
@@ -129,11 +129,6 @@ module _ {Z : Type 0} (P Q W : Z → Type 0) where
         has_second = j.into_first p.second p.has_second;
         differ = p.differ;
       }
-
-  -- a value of one kind that is the only one of either leaves none of the other
-  pub only_of_either : AreApart P Q W → IsOnly W → (z : Z) → P z → Counted Q None
-  only_of_either j w z p = λ y q.
-      j.apart y (subst P (w.only z (j.into_first z p) ∙ sym (w.only y (j.into_second y q))) p) q
 
 module _ {X Z : Type 0} (P : X → Type 0) (W : Z → Type 0) (image : X → Z) where
   -- images are as many

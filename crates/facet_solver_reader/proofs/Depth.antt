@@ -1,7 +1,5 @@
 -- A value that nests less deep than is allowed is read the same however much deeper is allowed.
 use Rattle.std.proofs.Common.{◌≡◌, ◌↔◌, ◌<◌, ◌≤◌, ◌+◌, ◌-◌, sym, subst, ℕ, zero, suc, arith}
-use Rattle.facet_solver_reader.specs.declared.count.Count.{Count}
-use Rattle.facet_solver_reader.specs.Counted.{Counted}
 use Rattle.facet_solver_reader.specs.Documents.{depth, Tree}
 use Rattle.facet_solver_reader.specs.Parts.{Target}
 use Rattle.facet_solver_reader.specs.Choices.{Reading}
@@ -10,7 +8,6 @@ use Rattle.facet_solver_reader.specs.Rules.{Rules}
 use Rattle.facet_solver_reader.specs.Values.{ReadsWithin, ReadsDown}
 use Rattle.facet_solver_reader.proofs.Asking.{target_by_asked}
 use Rattle.facet_solver_reader.proofs.Within.{ReadsShallower, target_within}
-use Rattle.facet_solver_reader.proofs.Counting.{counted_same}
 
 -- with any number of steps a value is read the same, if the values within are
 steps_within : (rules : Rules) (A B : Reads) (v : Tree)
@@ -62,14 +59,3 @@ more_levels rules d e v l le t r = up (e - d) e (omega arith)
         let below : At d ↔ At e = up k e (omega arith) in
         let step : At e ↔ At (suc e) = one_level_more rules e v (omega arith) t r in
         (λ h. step.0 (below.0 h), λ h. below.1 (step.1 h))
-
--- so the count of a value is the same at each depth that is allowed
-pub count_at_depth : (rules : Rules) (d e : ℕ) (t : Target) (v : Tree) (n : Count)
-    → depth v < d → depth v < e → Counted (ReadsDown rules d t v) n
-    → Counted (ReadsDown rules e t v) n
-count_at_depth rules d e t v n l m h =
-    counted_same (ReadsDown rules d t v) (ReadsDown rules e t v) n
-    (λ r p. (more_levels rules e (d + e) v m (omega arith) t r).1
-    ((more_levels rules d (d + e) v l (omega arith) t r).0 p))
-    (λ r p. (more_levels rules d (d + e) v l (omega arith) t r).1
-    ((more_levels rules e (d + e) v m (omega arith) t r).0 p)) h

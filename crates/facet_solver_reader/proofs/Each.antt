@@ -1,8 +1,8 @@
 -- The count of lists of readings, one for each of several things.
-use Rattle.std.proofs.Common.{◌≡◌, ◌∙◌, sym, ap, subst, refl, ℕ, ◌+◌, ◌-◌, ◌<◌, ◌≤◌, zero, suc}
-use Rattle.std.proofs.Common.{length, get_or, drop, take, map, Some, slice_get, take_all, drop-cons}
-use Rattle.std.proofs.Common.{List, [], ◌∷◌, ◌++◌, arith}
-use Rattle.std.proofs.lemmas.List.{take_more, length-map, get_or-map}
+use Rattle.std.proofs.Common.{◌≡◌, ◌∙◌, sym, ap, subst, refl, ℕ, ◌+◌, ◌<◌, ◌≤◌, zero, suc}
+use Rattle.std.proofs.Common.{length, get_or, take, Some, slice_get, take_all}
+use Rattle.std.proofs.Common.{List, [], ◌∷◌, ◌++◌}
+use Rattle.std.proofs.lemmas.List.{take_more}
 use Rattle.std.proofs.lemmas.Option.{slice_get_within, get_or_from_slice_get}
 use Rattle.facet_solver_reader.specs.declared.count.Count.{Count}
 use Rattle.facet_solver_reader.specs.declared.count.Count.TheVariants.{One, None as NoCount}
@@ -19,23 +19,6 @@ count_of_none P = record { value = no_readings; has = tt; only = only }
     only : (rs : Readings) → ReadsEach P [] rs → rs ≡ no_readings
     only no_readings h = refl
     only (reading r rs) h = absurd h
-
--- one more in front is the product
-pub count_of_next : {A : Type 0} (P : A → Reading → Type 0) (x : A) (xs : List A) (m n : Count)
-    → Counted (P x) m → Counted (ReadsEach P xs) n → Counted (ReadsEach P (x ∷ xs)) (times m n)
-count_of_next P x xs m n =
-    counted_times (P x) (ReadsEach P xs) (ReadsEach P (x ∷ xs)) reading m n
-    (record {
-      into = λ r rs p q. (p, q);
-      part = part;
-      same_first = λ r q rs qs e. cc;
-      same_second = λ r q rs qs e. cc;
-    })
-  where
-    part : (z : Readings) → ReadsEach P (x ∷ xs) z → IsJoined (P x) (ReadsEach P xs) reading z
-    part no_readings w = absurd w
-    part (reading r rs) w =
-        record { first = r; second = rs; has_first = w.0; has_second = w.1; is_joined = refl }
 
 -- readings with one more at the end
 push : Readings → Reading → Readings
@@ -97,23 +80,7 @@ count_of_last P xs x m n =
       same_second = λ x u y v e. (push_same x u y v e).1;
     })
 
--- what stands from the place before i on begins with what stands there
-pub from_before : {A : Type 0} (xs : List A) (i : ℕ) (d : A) → 0 < i → i ≤ length xs
-    → drop (i - 1) xs ≡ get_or xs (i - 1) d ∷ drop i xs
-from_before xs i d positive within =
-    let up : suc (i - 1) ≡ i = omega arith in
-    drop-cons xs (i - 1) d (omega arith) ∙ ap (λ n. get_or xs (i - 1) d ∷ drop n xs) up
-
--- one more, from a place on, backward
-pub count_from : {A : Type 0} (P : A → Reading → Type 0) (xs : List A) (i : ℕ) (d : A)
-    (m n : Count) → 0 < i → i ≤ length xs → Counted (P (get_or xs (i - 1) d)) m
-    → Counted (ReadsEach P (drop i xs)) n → Counted (ReadsEach P (drop (i - 1) xs)) (times m n)
-count_from {A} P xs i d m n positive within h g =
-    subst (λ (ys : List A). Counted (ReadsEach P ys) (times m n))
-    (sym (from_before xs i d positive within))
-    (count_of_next P (get_or xs (i - 1) d) (drop i xs) m n h g)
-
--- one more, up to a place, forward
+-- one more, up to a place
 pub count_up_to : {A : Type 0} (P : A → Reading → Type 0) (xs : List A) (i : ℕ) (d : A)
     (m n : Count) → i < length xs → Counted (ReadsEach P (take i xs)) m
     → Counted (P (get_or xs i d)) n → Counted (ReadsEach P (take (i + 1) xs)) (times m n)
@@ -141,19 +108,10 @@ none_beyond {A} P xs i none = λ rs h. let f = go i xs rs h in none f.0 f.1
     go (suc i) (x ∷ xs) no_readings h = absurd h
     go (suc i) (x ∷ xs) (reading r rs) h = let f = go i xs rs h.1 in (reading r f.0, (h.0, f.1))
 
--- one more, up to a place, forward, by what stands there
+-- one more, up to a place, by what stands there
 pub count_up_to_at : {A : Type 0} (P : A → Reading → Type 0) (xs : List A) (i : ℕ) (x : A)
     (m n : Count) → slice_get xs i ≡ Some x → Counted (ReadsEach P (take i xs)) m
     → Counted (P x) n → Counted (ReadsEach P (take (i + 1) xs)) (times m n)
 count_up_to_at {A} P xs i x m n there h g =
     count_up_to P xs i x m n (slice_get_within xs i x there) h
     (subst (λ (y : A). Counted (P y) n) (sym (get_or_from_slice_get xs i x x there)) g)
-
--- one more, up to a place of things that are seen as others
-pub count_up_to_seen : {A B : Type 0} (P : A → Reading → Type 0) (see : B → A) (xs : List B)
-    (i : ℕ) (d : B) (m n : Count) → i < length xs
-    → Counted (ReadsEach P (take i (map see xs))) m → Counted (P (see (get_or xs i d))) n
-    → Counted (ReadsEach P (take (i + 1) (map see xs))) (times m n)
-count_up_to_seen {A} P see xs i d m n within h g =
-    count_up_to P (map see xs) i (see d) m n (omega (arith, length-map xs see)) h
-    (subst (λ (x : A). Counted (P x) n) (sym (get_or-map see xs i d (see d) within)) g)

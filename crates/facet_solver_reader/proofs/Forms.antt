@@ -77,25 +77,9 @@ count_as_variant P k n at h =
     out (a_variant j r) w =
         (r, subst (λ i. P i r) (at j r w) w, ap (λ i. a_variant i r) (at j r w))
 
--- no variant has a reading
-pub count_as_no_variant : (P : ℕ → Reading → Type 0)
-    → ((k : ℕ) (r : Reading) → P k r → ⊥) → Counted (OfVariant P) NoCount
-count_as_no_variant P no_variant = none
-  where
-    none : (z : Reading) → OfVariant P z → ⊥
-    none a_value w = w
-    none (each_of rs) w = w
-    none (an_object c) w = w
-    none (a_variant k r) w = no_variant k r w
-
 -- a reading of a variant before the n-th
 abbrev pub OfVariantBelow : (ℕ → Reading → Type 0) → ℕ → Reading → Type 0
 OfVariantBelow P n z = OfVariant (λ k r. (k < n) × P k r) z
-
--- no variant is before the first
-pub count_below_none : (P : ℕ → Reading → Type 0) → Counted (OfVariantBelow P 0) NoCount
-count_below_none P =
-    count_as_no_variant (λ k r. (k < 0) × P k r) (λ k r p. let l = p.0 in absurd (omega arith))
 
 -- one variant more is the sum
 pub count_below_more : (P : ℕ → Reading → Type 0) (n : ℕ) (a b : Count)

@@ -1,9 +1,9 @@
 -- What steps go through, each kind by itself: one list of steps after another, and whatever is read
 -- at each.
 use Rattle.std.proofs.Common.{◌≡◌, ◌∷◌, ◌++◌, [], List, None, Some, ap, map, refl, subst}
-use Rattle.std.proofs.lemmas.List.Elements.{All-cons, All-head, All-nil, All-tail}
+use Rattle.std.proofs.lemmas.List.Elements.{All-head, All-tail}
 use Rattle.std.specs.List.{All}
-use Rattle.std.specs.Option.{option_map, option_or}
+use Rattle.std.specs.Option.{option_or}
 use Rattle.facet_solver_shape.specs.Catalogues.{Catalogue}
 use Rattle.facet_solver_reader.specs.Choices.{Taken}
 use Rattle.facet_solver_reader.specs.Found.{absences_in, catch_all_in, members_in, places_in}
@@ -13,7 +13,7 @@ use Rattle.facet_solver_reader.specs.Planned as planned
 use Rattle.facet_solver_reader.specs.Planned.{Planned, planned_of}
 use Rattle.facet_solver_reader.specs.Steps.{Step, a_field, a_rest, a_variant, an_absence}
 use Rattle.facet_solver_reader.specs.Told as told
-use Rattle.facet_solver_reader.specs.Told.{FieldStep, fields_in, place_of, rest_in}
+use Rattle.facet_solver_reader.specs.Told.{fields_in, place_of, rest_in}
 
 -- the variants of some steps, and then those of others
 pub selections_in-append : (shapes : Catalogue) (ss ts : List Planned)
@@ -92,24 +92,6 @@ places_planned (a_variant path id k ∷ ss) = places_planned ss
 places_planned (an_absence path ∷ ss) = places_planned ss
 places_planned (a_rest k t ∷ ss) = places_planned ss
 
--- the members are those with what is read
-pub members_planned : (ss : List Step)
-    → map (λ (f : FieldStep). f.part) (fields_in ss) ≡ members_in (map planned_of ss)
-members_planned [] = refl
-members_planned (a_field path m r ∷ ss) = ap (λ xs. m ∷ xs) (members_planned ss)
-members_planned (a_variant path id k ∷ ss) = members_planned ss
-members_planned (an_absence path ∷ ss) = members_planned ss
-members_planned (a_rest k t ∷ ss) = members_planned ss
-
--- the first catch-all is the one with what it takes
-pub rest_planned : (ss : List Step)
-    → option_map (λ (r : CatchAll × Taken). r.0) (rest_in ss) ≡ catch_all_in (map planned_of ss)
-rest_planned [] = refl
-rest_planned (a_rest k t ∷ ss) = refl
-rest_planned (a_field path m r ∷ ss) = rest_planned ss
-rest_planned (a_variant path id k ∷ ss) = rest_planned ss
-rest_planned (an_absence path ∷ ss) = rest_planned ss
-
 -- nothing is taken where there is no catch-all
 pub no_rest : (ss : List Step) → catch_all_in (map planned_of ss) ≡ None → rest_in ss ≡ None
 no_rest [] e = refl
@@ -128,20 +110,7 @@ some_rest (a_variant path id j ∷ ss) k e = some_rest ss k e
 some_rest (an_absence path ∷ ss) k e = some_rest ss k e
 
 module _ (P : Step → Type 0) where
-  -- what each step has, that of each member has
-  pub all_fields : (ss : List Step) → All P ss
-      → All (λ (f : FieldStep). P (a_field f.path f.part f.read)) (fields_in ss)
-  all_fields [] h = All-nil _
-  all_fields (a_field path m r ∷ ss) h =
-      All-cons (λ (f : FieldStep). P (a_field f.path f.part f.read))
-      (record { path = path; part = m; read = r }) (fields_in ss)
-      (All-head P (a_field path m r) ss h)
-      (all_fields ss (All-tail P (a_field path m r) ss h))
-  all_fields (a_variant path id k ∷ ss) h = all_fields ss (All-tail P (a_variant path id k) ss h)
-  all_fields (an_absence path ∷ ss) h = all_fields ss (All-tail P (an_absence path) ss h)
-  all_fields (a_rest k t ∷ ss) h = all_fields ss (All-tail P (a_rest k t) ss h)
-
-  -- so has that of the catch-all
+  -- what each step has, that of the catch-all has
   pub all_rest : (ss : List Step) (k : CatchAll) (t : Taken) → All P ss
       → rest_in ss ≡ Some (k, t) → P (a_rest k t)
   all_rest [] k t h e = absurd (cc)

@@ -26,7 +26,7 @@ use Rattle.facet_solver_shape.specs.Roles.{Role, regular, block, alternatives, c
 use Rattle.facet_solver_reader.specs.Content.{content_by_kind, content_of, content_or, newtype_shape}
 use Rattle.facet_solver_reader.specs.Ends.{last_of}
 use Rattle.facet_solver_reader.specs.InRange.{ContentIsWithin, EndIsWithin, IsShape, PartIsWithin, TargetIsWithin}
-use Rattle.facet_solver_reader.specs.Parts.{ListId, of_struct, of_enum, of_joined, of_branch, of_fields, Part, a_selection, a_catch_all}
+use Rattle.facet_solver_reader.specs.Parts.{ListId, of_struct, of_enum, of_joined, of_branch, of_fields, Part, a_catch_all}
 use Rattle.facet_solver_reader.specs.Rules.{a_whole, anything, no_content}
 use Rattle.facet_solver_reader.specs.Types.{alternatives_from, catch_all_of_kind, content_at, end_of, end_of_enum, end_of_kind, end_of_other_scalar, end_of_scalar, end_of_shape, end_of_struct, named_from, part_by_role, part_of, parts_of, parts_of_branch, parts_of_content, parts_of_content_kind, parts_of_fields, parts_of_kind, parts_of_newtype, parts_of_struct, tag_member, content_member, has_fields, repr_at, variant_at, variants_of_kind}
 use Rattle.facet_solver_reader.proofs.Asked.{any_after, any_first}
@@ -239,11 +239,6 @@ module _ (shapes : Catalogue) (checked : IsChecked shapes) where
           → EndIsWithin shapes (end_of_shape shapes last o)
       go last None e = tt
       go last (Some s) e = by_container last s (is_metadata_container s) e
-
-  -- parts that lead to lists alone
-  lists_within : (ids : List ListId) (optional : Bool)
-      → PartIsWithin shapes (a_selection (record { optional = optional; branches = ids }))
-  lists_within ids optional = λ k d l. tt
 
   -- the part that a field is
   field_within : (f : Field) → IsShape shapes f.shape → PartIsWithin shapes (part_of shapes f)

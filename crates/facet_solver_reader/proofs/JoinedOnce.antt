@@ -1,17 +1,17 @@
 -- An untagged enum whose variants all read objects by parts alone.
-use Rattle.std.proofs.Common.{◌≡◌, ◌∙◌, sym, ap, subst, refl, ℕ, zero, suc, List, [], ◌∷◌, Option}
-use Rattle.std.proofs.Common.{Bool, Some, None, ⊎_elim, inl, inr, map, slice_get, true, false, ◌&&◌}
+use Rattle.std.proofs.Common.{◌≡◌, ◌∙◌, sym, ap, refl, ℕ, zero, suc, List, [], ◌∷◌, Option}
+use Rattle.std.proofs.Common.{Bool, Some, None, ⊎_elim, inl, map, slice_get, true, false, ◌&&◌}
 use Rattle.std.specs.Prelude.{◌↔◌}
 use Rattle.std.specs.List.{list_all}
 use Rattle.facet_solver_reader.specs.declared.count.Count.TheVariants.{One}
 use Rattle.facet_solver_reader.specs.declared.end.Alternative as code
-use Rattle.facet_solver_reader.specs.Choices.{Choice, Reading, a_value, each_of, an_object, a_variant}
+use Rattle.facet_solver_reader.specs.Choices.{Reading, a_value, each_of, an_object, a_variant}
 use Rattle.facet_solver_reader.specs.Counted.{Counted}
 use Rattle.facet_solver_reader.specs.Documents.{Tree, list, null, number, object, text, truth}
 use Rattle.facet_solver_reader.specs.Documents.{members}
 use Rattle.facet_solver_reader.specs.Kinds.{is_object}
 use Rattle.facet_solver_reader.specs.Nodes.{members_in}
-use Rattle.facet_solver_reader.specs.Objects.{Reads, ReadsObject}
+use Rattle.facet_solver_reader.specs.Objects.{ReadsObject}
 use Rattle.facet_solver_reader.specs.Parts.{ListId}
 use Rattle.facet_solver_reader.specs.Rules as types
 use Rattle.facet_solver_reader.specs.Rules.{Alternative, AlternativeKind, Rules, an_untagged_variant}

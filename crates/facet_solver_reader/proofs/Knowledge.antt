@@ -1,19 +1,15 @@
 -- Which keys the choices of parts, of lists and of branches have, and where there is a choice.
-use Rattle.std.proofs.Common.{◌≡◌, ◌⊎◌, ◌↔◌, inl, inr, ap, ◌∙◌, subst, ⊎_elim, ℕ, ◌-◌, ◌<◌, ◌≤◌}
-use Rattle.std.proofs.Common.{suc, length, get_or, drop, drop-cons, List, [], ◌∷◌, ◌++◌, refl, None}
-use Rattle.std.proofs.Common.{IsTrue, arith}
+use Rattle.std.proofs.Common.{◌≡◌, ◌⊎◌, ◌↔◌, inl, inr, subst, ⊎_elim}
+use Rattle.std.proofs.Common.{List, [], ◌∷◌, ◌++◌, refl, None}
+use Rattle.std.proofs.Common.{IsTrue}
 use Rattle.std.specs.List.{All, Any}
-use Rattle.facet_solver_reader.specs.declared.count.Count.TheVariants.{None as NoReading}
 use Rattle.facet_solver_reader.specs.Choices.{Choice, done, next, ChoiceAt, lacking, having}
 use Rattle.facet_solver_reader.specs.Choices.{without, choosing, taking, none_left, Choosing, Item}
 use Rattle.facet_solver_reader.specs.Choices.{member_of, catch_all_of, presence}
-use Rattle.facet_solver_reader.specs.Counted.{Counted}
 use Rattle.facet_solver_reader.specs.Known.{Chooses, ChoosesAll, ChoosesAt, HasChoice, HasKey}
 use Rattle.facet_solver_reader.specs.Known.{IsDistinct, IsKnown, IsKnownIn, Key, named, rest}
-use Rattle.facet_solver_reader.specs.Objects.{IsReading, Object, Reads}
 use Rattle.facet_solver_reader.specs.Parts.{CatchAll, Lists, MemberPart, Part, Selection, a_member}
 use Rattle.facet_solver_reader.specs.Parts.{a_catch_all, a_selection}
-use Rattle.facet_solver_reader.specs.Rules.{Rules}
 use Rattle.facet_solver_reader.proofs.Items.{HasKey-left, HasKey-right}
 use Rattle.facet_solver_reader.proofs.Products.{both_choose, known_in_either, known_to_none}
 use Rattle.facet_solver_reader.proofs.Quantifiers.{all_of_more, all_of_none, any_at, any_is_at}
@@ -26,17 +22,7 @@ module _ {X : Type 0} (S : Choosing X) where
   known_has_choice x k = record { choice = k.choice; items = k.items; chooses = k.chooses }
 
   module _ (none : HasChoice S → ⊥) where
-    -- without a choice no key is known
-    pub no_choice_no_key : (x : Key) → IsKnown S x → ⊥
-    no_choice_no_key x k = none (known_has_choice x k)
-
-    -- and there is no reading
-    pub count_of_no_choice : (rules : Rules) (reads : Reads) (object : Object)
-        → Counted (IsReading rules reads object S) NoReading
-    count_of_no_choice rules reads object = λ x r.
-        none (record { choice = x; items = r.items; chooses = r.chooses })
-
-    -- and no key stands twice
+    -- without a choice no key stands twice
     pub distinct_of_no_choice : IsDistinct S
     distinct_of_no_choice x items h t =
         none (record { choice = x; items = items; chooses = h })
@@ -212,28 +198,6 @@ module _ (lists : Lists) where
           has = HasKey-right h.items k.items x k.has;
         }
 
-    -- parts know what one of them knows beside a choice of the others
-    pub known_of_more : (x : Key)
-        → IsKnown (ChoosesAll lists (p ∷ ps)) x
-        ↔ ((IsKnown (ChoosesAt lists p) x × HasChoice (ChoosesAll lists ps))
-        ⊎ (HasChoice (ChoosesAt lists p) × IsKnown (ChoosesAll lists ps) x))
-    known_of_more x = (out, into)
-      where
-        into : (IsKnown (ChoosesAt lists p) x × HasChoice (ChoosesAll lists ps))
-            ⊎ (HasChoice (ChoosesAt lists p) × IsKnown (ChoosesAll lists ps) x)
-            → IsKnown (ChoosesAll lists (p ∷ ps)) x
-        into (inl h) = known_by_first x h.0 h.1
-        into (inr h) = known_by_rest x h.0 h.1
-
-        out : IsKnown (ChoosesAll lists (p ∷ ps)) x
-            → (IsKnown (ChoosesAt lists p) x × HasChoice (ChoosesAll lists ps))
-            ⊎ (HasChoice (ChoosesAt lists p) × IsKnown (ChoosesAll lists ps) x)
-        out k =
-            let h = choice_of_more.0 (known_has_choice (ChoosesAll lists (p ∷ ps)) x k) in
-            ⊎_elim (λ (m : IsKnown (ChoosesAt lists p) x). inl (m, h.1))
-            (λ (m : IsKnown (ChoosesAll lists ps) x). inr (h.0, m))
-            (known_in_either lists p ps x k)
-
   -- parts have a choice where each has one
   pub choice_of_each : (ps : List Part)
       → HasChoice (ChoosesAll lists ps) ↔ All (λ p. HasChoice (ChoosesAt lists p)) ps
@@ -280,11 +244,3 @@ module _ (lists : Lists) where
           (λ (m : Any (λ p. IsKnown (ChoosesAt lists p) x) ps).
           known_by_rest p ps x b.0 (into ps b.1 m))
           ((any_of_more (λ p. IsKnown (ChoosesAt lists p) x) p ps).0 a)
-
--- where a list at an index is a part and the list behind it
-pub rest_at : {A : Type 0} (xs : List A) (i : ℕ) (x : A)
-    → 0 < i → i ≤ length xs → get_or xs (i - 1) x ≡ x → drop (i - 1) xs ≡ x ∷ drop i xs
-rest_at xs i x positive within e =
-    let up : suc (i - 1) ≡ i = omega arith in
-    drop-cons xs (i - 1) x (omega arith)
-    ∙ (ap (λ y. y ∷ drop (suc (i - 1)) xs) e ∙ ap (λ n. x ∷ drop n xs) up)

@@ -21,8 +21,6 @@ pub mod Touching
 pub mod KnownNames
 pub mod TakenInOrder
 pub mod TheOnly
-pub mod SameReads
-pub mod FromBehind
 pub mod Numerals
 pub mod Each
 pub mod Seen

@@ -1,7 +1,6 @@
 -- Lists of parts by their names: the choices, readings and keys of one are those of its parts.
 use Rattle.std.proofs.Common.{◌≡◌, ◌↔◌, sym, ◌∙◌, subst, List, Some, None}
 use Rattle.facet_solver_reader.specs.declared.count.Count.{Count}
-use Rattle.facet_solver_reader.specs.declared.count.Count.TheVariants.{None as NoReading}
 use Rattle.facet_solver_reader.specs.Branches.{ReadsList, ReadsParts}
 use Rattle.facet_solver_reader.specs.Choices.{Choice, Item}
 use Rattle.facet_solver_reader.specs.Counted.{Counted}
@@ -66,8 +65,3 @@ module _ (rules : Rules) (reads : Reads) (object : Object) (id : ListId) where
   count_of_list ps n e h =
       count_of_same (ChoosesAll rules.lists ps) (Chooses rules.lists id)
       (choices_of_list rules.lists id ps e) rules reads object n h
-
-  -- a list without parts has none
-  pub count_of_no_list : rules.lists id ≡ None
-      → Counted (ReadsList rules reads object id) NoReading
-  count_of_no_list e = λ c r. no_list rules.lists id c r.items e r.chooses

@@ -1,6 +1,6 @@
 -- What is found in a chain over fields and values is what the definitions find.
-use Rattle.std.proofs.Common.{◌≡◌, ◌∙◌, ap, sym, refl, Bor, Bool, false, Option, Some, None}
-use Rattle.std.proofs.Common.{arith, ℕ, suc, ◌+◌, ◌-◌, ◌<◌, ◌≤◌, List, length, map, take}
+use Rattle.std.proofs.Common.{◌≡◌, ◌∙◌, ap, sym, refl, Bor, Bool, Option, Some, None}
+use Rattle.std.proofs.Common.{arith, ℕ, suc, ◌+◌, ◌-◌, ◌<◌, List, length, map, take}
 use Rattle.std.specs.Prelude.{◌||◌, ◌==◌, if◌then◌else◌, Vec, count_by, zip}
 use Rattle.std.specs.Global.{Global}
 use Rattle.std.specs.List.{find, list_any, range_with_len}
@@ -104,13 +104,6 @@ next_beginning path text k h =
     ap (begins path text k) e
     ∙ ap (λ p. is_text_of p text || begins path text (k + 1) (length path - (k + 1)))
     (take-map segment_of k path)
-
--- past the last one there is none
-pub no_beginning : (path : List PathSegment) (text : Name) (k : ℕ) → length path ≤ k
-    → begins path text k (length path - k) ≡ false
-no_beginning path text k h =
-    let e : length path - k ≡ 0 = omega arith in
-    ap (begins path text k) e
 
 -- in an object a name that one field alone has is looked up as the first that has it
 pub only_field : (r : Reading) (name : Name) (o : ObjectReading) (values taken : Vec Reading Global)

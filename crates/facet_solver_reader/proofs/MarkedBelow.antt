@@ -13,7 +13,7 @@ use Rattle.facet_solver_reader.specs.declared.part.Part as code_part
 use Rattle.facet_solver_reader.specs.declared.tables.List.{List as ListEntry}
 use Rattle.facet_solver_reader.specs.declared.tables.order.Ordered.{Ordered}
 use Rattle.facet_solver_reader.specs.EveryList.{IsChosen}
-use Rattle.facet_solver_reader.specs.OrderedLists.{ArePartsBefore, IsBefore, IsMarked, IsPlacedAt}
+use Rattle.facet_solver_reader.specs.OrderedLists.{ArePartsBefore, IsBefore, IsMarked}
 use Rattle.facet_solver_reader.specs.Parts.{ListId, Part, a_member, a_selection, a_catch_all}
 use Rattle.facet_solver_reader.specs.Placing.{AreBelow, AreMarkedUpto, AreMarksBelow, BranchIsReady, IsPlacing, IsRisingOf, KeepsMarks, ListIsMarked, PartIsMarked, PartIsReady, Rises, entry_of}
 use Rattle.std.proofs.Common.{get_or}
@@ -27,15 +27,6 @@ use Rattle.facet_solver_reader.proofs.Quantifiers.{all_at, all_from}
 use Rattle.facet_solver_reader.proofs.Slotted.{get_set, get_set_other}
 
 -- ---- marks one by one
-
--- none so far
-pub none_marked : (old : List Bool) (indices : List ℕ) → AreMarkedUpto old indices 0 old
-none_marked old indices = record {
-  long = refl;
-  kept = λ k m. m;
-  from = λ k m. inl m;
-  has = λ q k less at within. absurd (omega arith);
-}
 
 module _ (old new : List Bool) (indices : List ℕ) (n i : ℕ) (h : AreMarkedUpto old indices n new) (at : slice_get indices n ≡ Some i) where
   last : (q k : ℕ) → q < n + 1 → slice_get indices q ≡ Some k → (q < n) ⊎ (i ≡ k)
@@ -190,14 +181,6 @@ pub record AreRisingUpto (marks : List Bool) (n : ℕ) (indices : List ℕ) : Ty
       → (q : ℕ) × (q < p) × (slice_get indices q ≡ Some j)
   pub has : (j : ℕ) → j < n → IsMarked marks j → (q : ℕ) × (slice_get indices q ≡ Some j)
   pub rises : Rises indices
-
-pub rising_none : (marks : List Bool) → AreRisingUpto marks 0 []
-rising_none marks = record {
-  marked = λ q k at. absurd (cc);
-  before = λ p k j at less m. absurd (cc);
-  has = λ j less m. absurd (omega arith);
-  rises = λ q k j at next. absurd (cc);
-}
 
 module _ (marks : List Bool) (n : ℕ) (indices : List ℕ) (h : AreRisingUpto marks n indices) where
   -- an index that is not marked
@@ -362,13 +345,3 @@ entry_index o id l e = go (index_of o.slots id) refl e
         → (j : ℕ) × (index_of o.slots id ≡ Some j) × (slice_get o.lists.items j ≡ Some l)
     go None at e = absurd (cc)
     go (Some j) at e = (j, at, e)
-
--- a list without an entry has no index
-pub absent_marked : (shapes : Catalogue) (o : Ordered) → IsPlacing shapes o → (id : ListId) (marks : List Bool)
-    → entry_of o id ≡ None → ListIsMarked o marks id
-absent_marked shapes o h id marks e = go (index_of o.slots id) (h.at id) e
-  where
-    go : (i : Option ℕ) → MatchOption i ⊤ (IsPlacedAt o id) → option_and_then (slice_get o.lists.items) i ≡ None
-        → MatchOption i ⊤ (IsMarked marks)
-    go None p e = tt
-    go (Some j) p e = let f : None ≡ Some p.entry = sym e ∙ p.is_there in absurd (cc)

@@ -17,7 +17,7 @@ use Rattle.facet_solver_reader.specs.Choices.{Choice, done, next, ChoiceAt, lack
 use Rattle.facet_solver_reader.specs.Choices.{without, choosing, taking, Item}
 use Rattle.facet_solver_reader.specs.EveryList.{AreEveryList, IsChosen, IsNumbered}
 use Rattle.facet_solver_reader.specs.Known.{ChoosesAll, ChoosesAt, HasChoice}
-use Rattle.facet_solver_reader.specs.Listing.{AreFound, AreTried, IsFound, IsSettled, IsSettledAt}
+use Rattle.facet_solver_reader.specs.Listing.{AreFound, IsFound, IsSettled, IsSettledAt}
 use Rattle.facet_solver_reader.specs.Listing.{IsTried, KeepsFound, has_choice, part_has_choice}
 use Rattle.facet_solver_reader.specs.Listing.{parts_have_choices, unmarked}
 use Rattle.facet_solver_reader.specs.Parts.{ListId}
@@ -320,17 +320,6 @@ module _ (old new : EveryList) (number : ℕ) (l : Listed)
     settled = λ e. absurd (cc);
   }
 
--- nothing changes where a list is settled
-pub marks_none : (every : EveryList) (number : ℕ) → IsSettledAt every number
-    → IsTried every number false every
-marks_none every number settled = record {
-  found = λ shapes f. f;
-  length_is = refl;
-  one_more = λ t. absurd (cc);
-  same = λ e. refl;
-  settled = λ e. settled;
-}
-
 -- some of the first lists are marked, or each of them is settled
 pub record AreTriedUpto (old : EveryList) (more : Bool) (n : ℕ) (new : EveryList) : Type 0 where
   pub found : KeepsFound old new
@@ -338,57 +327,6 @@ pub record AreTriedUpto (old : EveryList) (more : Bool) (n : ℕ) (new : EveryLi
   pub no_more : unmarked new ≤ unmarked old
   pub fewer : IsTrue more → unmarked new < unmarked old
   pub settled : more ≡ false → (k : ℕ) → k < n → IsSettledAt new k
-
--- at first
-pub tried_none : (every : EveryList) → AreTriedUpto every false 0 every
-tried_none every = record {
-  found = λ shapes f. f;
-  length_is = refl;
-  no_more = omega arith;
-  fewer = λ t. absurd (cc);
-  settled = λ e k h. absurd (omega arith);
-}
-
-module _ (old mid new : EveryList) (more : Bool) (n : ℕ) (upto : AreTriedUpto old more n mid) where
-  -- one list is marked
-  pub tried_and_marked : IsTried mid n true new → AreTriedUpto old true (n + 1) new
-  tried_and_marked t = record {
-    found = λ shapes f. t.found shapes (upto.found shapes f);
-    length_is = t.length_is ∙ upto.length_is;
-    no_more = omega (arith, t.one_more refl, upto.no_more);
-    fewer = λ e. omega (arith, t.one_more refl, upto.no_more);
-    settled = λ e. absurd (cc);
-  }
-
-  -- or it is settled
-  pub tried_and_settled : IsTried mid n false new → AreTriedUpto old more (n + 1) new
-  tried_and_settled t =
-      let same = t.same refl in
-      record {
-        found = λ shapes f. t.found shapes (upto.found shapes f);
-        length_is = t.length_is ∙ upto.length_is;
-        no_more = subst (λ e. unmarked e ≤ unmarked old) (sym same) upto.no_more;
-        fewer = λ h. subst (λ e. unmarked e < unmarked old) (sym same) (upto.fewer h);
-        settled = λ h k below.
-            ⊎_elim
-            (λ (e : k ≡ n). subst (IsSettledAt new) (sym e) (t.settled refl))
-            (λ (ne : k ≡ n → ⊥).
-            let lt : k < n = omega arith in
-            subst (λ e. IsSettledAt e k) (sym same) (upto.settled h k lt))
-            (same_number k n);
-      }
-
--- all lists are tried
-pub tried_all : (old new : EveryList) (more : Bool) (n : ℕ) → AreTriedUpto old more n new
-    → length old.lists.items ≤ n → AreTried old more new
-tried_all old new more n upto past = record {
-  found = upto.found;
-  more = upto.fewer;
-  settled = λ e k l there.
-      let within : k < length new.lists.items = slice_get_within new.lists.items k l there in
-      let lt : k < n = omega (arith, within, upto.length_is, past) in
-      upto.settled e k lt l there;
-}
 
 -- what a list of a number is told
 pub told_at : (every : EveryList) (id : ListId) (n : ℕ) (o : Option Listed)

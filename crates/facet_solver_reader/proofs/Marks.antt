@@ -5,7 +5,7 @@ use Rattle.std.proofs.Common.{◌∙◌, subst, inl, inr, arith, ⊎_elim}
 use Rattle.std.proofs.Common.{All, map, option_map, Result, Ok, Err, OnOk}
 use Rattle.std.proofs.lemmas.Bool.{cases_lt}
 use Rattle.std.proofs.Math.ListN.{set, length-set}
-use Rattle.std.proofs.lemmas.List.Sums.{sum_by-set, count_by-le-length}
+use Rattle.std.proofs.lemmas.List.Sums.{sum_by-set}
 use Rattle.std.proofs.lemmas.Option.{slice_get-get_or, slice_get-map}
 use Rattle.std.proofs.lemmas.Option.{slice_get_within, get_or_from_slice_get}
 use Rattle.facet_solver_reader.specs.declared.tables.every.EveryList.{EveryList}
@@ -15,7 +15,7 @@ use Rattle.facet_solver_reader.specs.declared.tables.marks.Marked.TheVariants.{S
 use Rattle.facet_solver_reader.specs.declared.tables.marks.Marked.TheVariants.{List as AList}
 use Rattle.facet_solver_reader.specs.declared.tables.marks.Marks.{Marks}
 use Rattle.facet_solver_reader.specs.OrderedLists.{IsMarked}
-use Rattle.facet_solver_reader.specs.Marks.{AreAdded, AreKept, AreMarks}
+use Rattle.facet_solver_reader.specs.Marks.{AreAdded, AreKept}
 use Rattle.facet_solver_reader.specs.Marks.{HasChoiceAt, IsIn, IsMarkedIn, marked_of}
 use Rattle.facet_solver_reader.specs.Marks.{EndIsMarked, ListIsMarked, PartIsMarked}
 use Rattle.facet_solver_reader.specs.Marks.{ShapeIsMarked, TargetIsMarked}
@@ -220,20 +220,6 @@ list_marked every old new n choice was lists shapes order = record {
         let same : choice.list ≡ l = cc in
         subst (λ x. IsTrue x.has_choice) same choice.chosen
 
--- nothing changes
-pub kept_same : (m : Marks) → AreKept m m
-kept_same m = record {
-  shapes = refl;
-  lists = refl;
-  of_shapes = λ k h. h;
-  of_lists = λ k h. h;
-  order = λ q x h. h;
-  marks = λ a. a;
-}
-
-pub added_same : (every : EveryList) (m : Marks) → AreAdded every m m
-added_same every m = record { kept = kept_same m; chosen = λ c. c }
-
 -- one change after another
 pub kept_on : (a b c : Marks) → AreKept a b → AreKept b c → AreKept a c
 kept_on a b c f g = record {
@@ -249,22 +235,6 @@ pub added_on : (every : EveryList) (a b c : Marks) → AreAdded every a b → Ar
     → AreAdded every a c
 added_on every a b c f g =
     record { kept = kept_on a b c f.kept g.kept; chosen = λ h. g.chosen (f.chosen h) }
-
--- a change that marks no list
-pub added_shapes : (every : EveryList) (a b : Marks) → AreKept a b → b.lists ≡ a.lists
-    → AreAdded every a b
-added_shapes every a b f same = record {
-  kept = f;
-  chosen = λ h k l is m. h k l is (subst (λ (v : _). IsMarked v.items k) same m);
-}
-
--- there are no more marks than shapes and lists
-pub order_within : (m : Marks) → AreMarks m
-    → length m.order.items ≤ length m.shapes.items + length m.lists.items
-order_within m a =
-    let s = count_by-le-length (λ b. b) m.shapes.items in
-    let l = count_by-le-length (λ b. b) m.lists.items in
-    omega (arith, a.counted, s, l)
 
 -- the list of the number has a choice, or not
 pub choice_there : (every : EveryList) (k : ℕ) (l : Listed) (all : List Listed)

@@ -1,8 +1,8 @@
 -- Names of an object's members.
-use Rattle.std.proofs.Common.{◌≡◌, ◌⊎◌, ◌↔◌, inl, inr, sym, ap, ◌∙◌, subst, ⊎_elim, ℕ, ◌<◌, ◌≤◌}
-use Rattle.std.proofs.Common.{◌+◌, zero, suc, length, List, [], ◌∷◌, refl, Some, None, Bool, true}
-use Rattle.std.proofs.Common.{false, if◌then◌else◌, bytes_eq, get_or, drop, drop-cons}
-use Rattle.std.proofs.Common.{drop_of_length-le, add-one, arith}
+use Rattle.std.proofs.Common.{◌≡◌, ◌⊎◌, ◌↔◌, inl, inr, sym, ap, ◌∙◌, subst, ⊎_elim, ℕ, ◌<◌}
+use Rattle.std.proofs.Common.{zero, suc, length, List, [], ◌∷◌, refl, Some, None, Bool, true}
+use Rattle.std.proofs.Common.{false, if◌then◌else◌, bytes_eq, get_or}
+use Rattle.std.proofs.Common.{arith}
 use Rattle.std.proofs.lemmas.Slice.Eq.{bytes_eq-Decides}
 use Rattle.std.specs.List.{Any}
 use Rattle.facet_solver_shape.specs.Names.{Name}
@@ -82,16 +82,3 @@ has_named ms x = (
   named_member ms x,
   λ a. subst (λ y. HasNamed ms y) (ap (λ (m : Member). m.name) a.3 ∙ a.4) (Has-at ms a.0 a.1 a.2),
 )
-
--- a name from an index on is that of the member there or one behind it
-pub Has-from : (ms : List Member) (i : ℕ) (d : Member) (x : Name) → i < length ms
-    → HasNamed (drop i ms) x → ((get_or ms i d).name ≡ x) ⊎ HasNamed (drop (i + 1) ms) x
-Has-from ms i d x h has =
-    let here : drop i ms ≡ get_or ms i d ∷ drop (suc i) ms = drop-cons ms i d h in
-    rw add-one (Has-either (get_or ms i d) (drop (suc i) ms) x
-    (subst (λ ys. HasNamed ys x) here has))
-
--- no member is left at the end
-pub rest_none : (ms : List Member) (i : ℕ) (x : Name) → length ms ≤ i → HasNamed (drop i ms) x → ⊥
-rest_none ms i x past h =
-    Has-none x (subst (λ ys. HasNamed ys x) (drop_of_length-le ms past) h)

@@ -1,21 +1,19 @@
 -- The counts of values that name a variant.
-use Rattle.std.proofs.Common.{◌+◌, ◌≤◌, arith, ◌≡◌, ◌≢◌, ◌∙◌, sym, ap, subst, refl, ℕ, List, []}
-use Rattle.std.proofs.Common.{◌∷◌, true, false, Option, Some, None, slice_get, length}
+use Rattle.std.proofs.Common.{◌+◌, ◌≤◌, arith, ◌≡◌, ◌≢◌, sym, ap, subst, refl, ℕ, List, []}
+use Rattle.std.proofs.Common.{◌∷◌, true, Option, Some, slice_get, length}
 use Rattle.facet_solver_shape.specs.Names.{Name}
 use Rattle.facet_solver_reader.specs.declared.count.Count.{Count}
 use Rattle.facet_solver_reader.specs.declared.count.Count.TheVariants.{None as NoCount, One}
 use Rattle.facet_solver_reader.specs.Counted.{Counted, plus}
-use Rattle.facet_solver_reader.specs.Documents.{Tree, text, object, Members, no_members, member}
+use Rattle.facet_solver_reader.specs.Documents.{text, object, Members, no_members, member}
 use Rattle.facet_solver_reader.specs.Documents.{Member, members}
-use Rattle.facet_solver_reader.specs.Kinds.{is_text, is_object}
 use Rattle.facet_solver_reader.specs.Choices.{Reading, a_value, each_of, an_object, a_variant}
 use Rattle.facet_solver_reader.specs.Objects.{Reads}
 use Rattle.facet_solver_reader.specs.Rules.{NamedVariant}
 use Rattle.facet_solver_reader.specs.Values.{OfVariant, NamesUnit, ReadsNamed, ReadsNamedVariant}
-use Rattle.facet_solver_reader.specs.Variants.{AreNamedApart, NamesNone}
 use Rattle.facet_solver_reader.proofs.Counting.{counted_same}
-use Rattle.facet_solver_reader.proofs.Forms.{count_as_no_value, count_as_variant}
-use Rattle.facet_solver_reader.proofs.Forms.{count_as_no_variant, OfVariantBelow, count_below_more}
+use Rattle.facet_solver_reader.proofs.Forms.{count_as_no_value}
+use Rattle.facet_solver_reader.proofs.Forms.{OfVariantBelow, count_below_more}
 use Rattle.facet_solver_reader.proofs.Forms.{count_below_same, count_below_all}
 use Rattle.std.proofs.lemmas.Option.{slice_get_past}
 
@@ -46,57 +44,6 @@ text_readings reads vs x n h =
     out (a_variant k (each_of rs)) w = absurd w
     out (a_variant k (an_object c)) w = absurd w
     out (a_variant k (a_variant j r)) w = absurd w
-
--- a variant of the name, if it is there, is the one at its index
-named_at : (vs : List NamedVariant) (k : ℕ) (a : NamedVariant) (j : ℕ) (b : NamedVariant)
-    → AreNamedApart vs → slice_get vs k ≡ Some a → slice_get vs j ≡ Some b → b.name ≡ a.name
-    → j ≡ k
-named_at vs k a j b apart at_k at_j same = apart.same j k b a at_j at_k same
-
--- the text of the name of a unit variant is read as that one
-pub count_of_unit_name : (reads : Reads) (vs : List NamedVariant) (x : Name) (k : ℕ)
-    (a : NamedVariant) → AreNamedApart vs → slice_get vs k ≡ Some a → a.name ≡ x
-    → a.is_unit ≡ true → Counted (ReadsNamedVariant reads vs (text x)) One
-count_of_unit_name reads vs x k a apart at_k named unit =
-    text_readings reads vs x One
-    (count_as_variant (AsUnit vs x) k One (λ j r p. at j (slice_get vs j) refl p.0)
-    (record { value = a_value; has = (here, refl); only = λ r p. p.1 }))
-  where
-    at : (j : ℕ) (o : Option NamedVariant) → slice_get vs j ≡ o → NamesUnit o x → j ≡ k
-    at j None e p = absurd p
-    at j (Some b) e p = named_at vs k a j b apart at_k e (p.1 ∙ sym named)
-
-    here : NamesUnit (slice_get vs k) x
-    here = subst (λ o. NamesUnit o x) (sym at_k) (unit, named)
-
--- the text of the name of another variant is not read
-pub count_of_content_name : (reads : Reads) (vs : List NamedVariant) (x : Name) (k : ℕ)
-    (a : NamedVariant) → AreNamedApart vs → slice_get vs k ≡ Some a → a.name ≡ x
-    → a.is_unit ≡ false → Counted (ReadsNamedVariant reads vs (text x)) NoCount
-count_of_content_name reads vs x k a apart at_k named content =
-    text_readings reads vs x NoCount
-    (count_as_no_variant (AsUnit vs x) (λ j r p. none j (slice_get vs j) refl p.0))
-  where
-    none : (j : ℕ) (o : Option NamedVariant) → slice_get vs j ≡ o → NamesUnit o x → ⊥
-    none j None e p = p
-    none j (Some b) e p =
-        let same : j ≡ k = named_at vs k a j b apart at_k e (p.1 ∙ sym named) in
-        let there : Some b ≡ Some a = sym e ∙ (ap (slice_get vs) same ∙ at_k) in
-        let is : b ≡ a = cc in
-        let unit : b.is_unit ≡ true = p.0 in
-        let other : b.is_unit ≡ false = ap (λ (c : NamedVariant). c.is_unit) is ∙ content in
-        absurd (cc)
-
--- the text of no variant's name is not read
-pub count_of_no_name : (reads : Reads) (vs : List NamedVariant) (x : Name)
-    → NamesNone vs x → Counted (ReadsNamedVariant reads vs (text x)) NoCount
-count_of_no_name reads vs x no_name =
-    text_readings reads vs x NoCount
-    (count_as_no_variant (AsUnit vs x) (λ j r p. none j (slice_get vs j) refl p.0))
-  where
-    none : (j : ℕ) (o : Option NamedVariant) → slice_get vs j ≡ o → NamesUnit o x → ⊥
-    none j None e p = p
-    none j (Some b) e p = no_name.differs j b e p.1
 
 -- an object of one member is read as the members by the variant at an index
 abbrev pub AsNamed : Reads → List NamedVariant → Member → ℕ → Reading → Type 0
@@ -133,40 +80,6 @@ one_member (member n v no_members) m e =
     ap (λ (x : Member). member x.name x.value no_members) (sym is)
 one_member (member n v (member n2 v2 ms)) m e = absurd (cc)
 
--- an object of one member with the name of a variant is read as the content of that one
-pub count_of_named_member : (reads : Reads) (vs : List NamedVariant) (ms : Members) (m : Member)
-    (k : ℕ) (a : NamedVariant) (n : Count) → members ms ≡ m ∷ [] → AreNamedApart vs
-    → slice_get vs k ≡ Some a → a.name ≡ m.name → Counted (reads a.content m.value) n
-    → Counted (ReadsNamedVariant reads vs (object ms)) n
-count_of_named_member reads vs ms m k a n single apart at_k named h =
-    subst (λ (os : Members). Counted (ReadsNamedVariant reads vs (object os)) n)
-    (one_member ms m single)
-    (member_readings reads vs m n
-    (count_as_variant (AsNamed reads vs m) k n (λ j r p. at j r (slice_get vs j) refl p)
-    (subst (λ (o : Option NamedVariant). Counted (ReadsNamed reads o m) n) (sym at_k)
-    (counted_same (reads a.content m.value) (ReadsNamed reads (Some a) m) n
-    (λ r p. (named, p)) (λ r p. p.1) h))))
-  where
-    at : (j : ℕ) (r : Reading) (o : Option NamedVariant) → slice_get vs j ≡ o
-        → ReadsNamed reads o m r → j ≡ k
-    at j r None e p = absurd p
-    at j r (Some b) e p = named_at vs k a j b apart at_k e (p.0 ∙ sym named)
-
--- one whose name is no variant's is not read
-pub count_of_unnamed_member : (reads : Reads) (vs : List NamedVariant) (ms : Members) (m : Member)
-    → members ms ≡ m ∷ [] → NamesNone vs m.name
-    → Counted (ReadsNamedVariant reads vs (object ms)) NoCount
-count_of_unnamed_member reads vs ms m single no_name =
-    subst (λ (os : Members). Counted (ReadsNamedVariant reads vs (object os)) NoCount)
-    (one_member ms m single)
-    (member_readings reads vs m NoCount
-    (count_as_no_variant (AsNamed reads vs m) (λ j r p. none j r (slice_get vs j) refl p)))
-  where
-    none : (j : ℕ) (r : Reading) (o : Option NamedVariant) → slice_get vs j ≡ o
-        → ReadsNamed reads o m r → ⊥
-    none j r None e p = p
-    none j r (Some b) e p = no_name.differs j b e p.0
-
 -- an object of no member, or of several, is not read
 pub count_of_other_members : (reads : Reads) (vs : List NamedVariant) (ms : Members)
     → length (members ms) ≢ 1 → Counted (ReadsNamedVariant reads vs (object ms)) NoCount
@@ -176,15 +89,6 @@ count_of_other_members reads vs no_members e =
 count_of_other_members reads vs (member n v no_members) e = absurd (e refl)
 count_of_other_members reads vs (member n v (member n2 v2 ms)) e =
     count_as_no_value (λ r. ReadsNamedVariant reads vs (object (member n v (member n2 v2 ms))) r)
-    (λ h. h) (λ rs h. h) (λ c h. h) (λ k r h. h)
-
--- nothing but a text or an object names a variant
-pub count_of_no_variant_name : (reads : Reads) (vs : List NamedVariant) (v : Tree)
-    → is_text v ≡ false → is_object v ≡ false → Counted (ReadsNamedVariant reads vs v) NoCount
-count_of_no_variant_name reads vs (text x) e f = absurd (cc)
-count_of_no_variant_name reads vs (object ms) e f = absurd (cc)
-count_of_no_variant_name reads vs v e f =
-    count_as_no_value (λ r. ReadsNamedVariant reads vs v r)
     (λ h. h) (λ rs h. h) (λ c h. h) (λ k r h. h)
 
 -- one unit of the name more

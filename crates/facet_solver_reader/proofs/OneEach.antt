@@ -1,14 +1,10 @@
 -- Where there is one reading, each of the values that it reads has one.
 use Rattle.std.proofs.Common.{◌≡◌, ◌∙◌, sym, subst, ℕ, zero, suc, List, [], ◌∷◌, Some}
 use Rattle.std.proofs.Common.{slice_get}
-use Rattle.facet_solver_reader.specs.declared.count.Count.TheVariants.{None as NoReading, One}
+use Rattle.facet_solver_reader.specs.declared.count.Count.TheVariants.{One}
 use Rattle.facet_solver_reader.specs.Choices.{Reading, Readings, no_readings, reading}
 use Rattle.facet_solver_reader.specs.Counted.{Counted}
 use Rattle.facet_solver_reader.specs.Values.{ReadsEach}
-
--- what has no reading has not one
-pub not_one : {X : Type 0} (P : X → Type 0) → Counted P NoReading → Counted P One → ⊥
-not_one P none one = none one.value one.has
 
 -- where what has a property is seen as what only one has, only one has the property
 pub one_into : {X Z : Type 0} (P : X → Type 0) (W : Z → Type 0) (image : X → Z)

@@ -12,7 +12,7 @@ use Rattle.facet_solver_reader.specs.Choices.{a_variant}
 use Rattle.facet_solver_reader.specs.Counted.{Counted}
 use Rattle.facet_solver_reader.specs.Documents.{Tree, null, truth, number, text, list, object}
 use Rattle.facet_solver_reader.specs.Documents.{items, members}
-use Rattle.facet_solver_reader.specs.Kinds.{is_list, is_null, is_object}
+use Rattle.facet_solver_reader.specs.Kinds.{is_list, is_null}
 use Rattle.facet_solver_reader.specs.Nodes.{children, members_in, value_of}
 use Rattle.facet_solver_reader.specs.Parts.{of_shape, of_content}
 use Rattle.facet_solver_reader.specs.Reached.{IsRanked}
@@ -168,17 +168,7 @@ module _ (rules : Rules) (reads : Inner) where
   one_items s (text x) is h = absurd (cc)
   one_items s (object ms) is h = absurd (cc)
 
-  -- only a list has a reading as a tuple
-  pub tuple_is_list : (ss : List ℕ) (v : Tree) → Counted (ReadsEnd rules reads (a_tuple ss) v) One
-      → is_list v ≡ true
-  tuple_is_list ss (list vs) h = refl
-  tuple_is_list ss null h = absurd (unread h.has)
-  tuple_is_list ss (truth b) h = absurd (unread h.has)
-  tuple_is_list ss (number n) h = absurd (unread h.has)
-  tuple_is_list ss (text x) h = absurd (unread h.has)
-  tuple_is_list ss (object ms) h = absurd (unread h.has)
-
-  -- as many values have one as there are shapes
+  -- a reading as a tuple is one of as many values as there are shapes
   pub one_places : (ss : List ℕ) (v : Tree) → Counted (ReadsEnd rules reads (a_tuple ss) v) One
       → (length ss ≡ length (children v))
       × Counted (ReadsEach (ReadsPlace reads.within) (zip ss (children v))) One
@@ -202,17 +192,7 @@ module _ (rules : Rules) (reads : Inner) where
   one_places ss (text x) h = absurd (unread h.has)
   one_places ss (object ms) h = absurd (unread h.has)
 
-  -- only an object has a reading as a map
-  pub map_is_object : (key s : ℕ) (v : Tree)
-      → Counted (ReadsEnd rules reads (a_map key s) v) One → is_object v ≡ true
-  map_is_object key s (object ms) h = refl
-  map_is_object key s null h = absurd (unread h.has)
-  map_is_object key s (truth b) h = absurd (unread h.has)
-  map_is_object key s (number n) h = absurd (unread h.has)
-  map_is_object key s (text x) h = absurd (unread h.has)
-  map_is_object key s (list vs) h = absurd (unread h.has)
-
-  -- whose entries have one
+  -- a reading as a map is one of its entries
   pub one_entries : (key s : ℕ) (v : Tree)
       → Counted (ReadsEnd rules reads (a_map key s) v) One
       → Counted (ReadsEntries (rules.is_key key) reads.within (of_shape s) (members_in v)) One

@@ -1,6 +1,6 @@
 -- Where an object has one reading by a part, that is what is told: of a member, and of a catch-all.
 use Rattle.std.proofs.Common.{◌≡◌, sym, subst, [], Some, None, Bool, true, false, IsTrue}
-use Rattle.std.proofs.Common.{IfOk, Result, Ok, Err, refl, Bor, ℕ}
+use Rattle.std.proofs.Common.{refl, Bor, ℕ}
 use Rattle.facet_solver_reader.specs.declared.document.Document.{Document}
 use Rattle.facet_solver_reader.specs.declared.nodes.Nodes.{Nodes}
 use Rattle.facet_solver_reader.specs.declared.read.object.Object as read
@@ -13,7 +13,6 @@ use Rattle.facet_solver_reader.specs.Choices.{ChoiceAt, Taken, a_value, having, 
 use Rattle.facet_solver_reader.specs.Choices.{taking}
 use Rattle.facet_solver_reader.specs.Counted.{IsOnly}
 use Rattle.facet_solver_reader.specs.Documents.{Member, Tree, view}
-use Rattle.facet_solver_reader.specs.Kinds.{is_object}
 use Rattle.facet_solver_reader.specs.Nodes.{members_in, value_of}
 use Rattle.facet_solver_reader.specs.Objects.{Object, Reads, Takes, TakesRest, find}
 use Rattle.facet_solver_reader.specs.Parts.{CatchAll, MemberPart, Part, a_catch_all, a_member}
@@ -30,22 +29,6 @@ use Rattle.facet_solver_reader.proofs.CatchAlls.{catch_all_images, count_of_no_c
 use Rattle.facet_solver_reader.proofs.Counting.{only_of_images}
 use Rattle.facet_solver_reader.proofs.Members.{count_of_having, count_of_missing, having_images, reads_lacking}
 use Rattle.facet_solver_reader.proofs.ToldMembers.{TakenTold}
-use Rattle.facet_solver_reader.specs.Documents as trees
-
--- what holds of each result that there can be holds of a result that is one
-pub told_then : {X E : Type 0} (P Q : X → Type 0) (r : Result X E) → ((x : X) → P x → Q x)
-    → IfOk r P → IfOk r Q
-told_then P Q (Ok x) f h = f x h
-told_then P Q (Err e) f h = tt
-
--- a value that is no object has no members
-pub no_members_in : (v : Tree) → is_object v ≡ false → members_in v ≡ []
-no_members_in (trees.object ms) e = absurd (cc)
-no_members_in trees.null e = refl
-no_members_in (trees.truth b) e = refl
-no_members_in (trees.number n) e = refl
-no_members_in (trees.text x) e = refl
-no_members_in (trees.list vs) e = refl
 
 module _ (rules : Rules) (reads : Reads) (object : Object) where
   -- what reads an object by a part that reads it in one way is that way

@@ -1,6 +1,6 @@
 -- The variant that alone has a name, among the first ones of a list.
 use Rattle.std.proofs.Common.{◌≡◌, ◌∙◌, ℕ, ◌<◌, ◌≤◌, ◌+◌, List, length, slice_get, Some, None, Option}
-use Rattle.std.proofs.Common.{sym, ap, subst, arith, ⊎_elim, eqb, true, false, ◌≢◌}
+use Rattle.std.proofs.Common.{sym, ap, arith, ⊎_elim}
 use Rattle.std.proofs.lemmas.Option.{slice_get_within}
 use Rattle.std.specs.Prelude.{IfSome, ◌⊎◌}
 use Rattle.facet_solver_shape.specs.Names.{Name}

@@ -32,7 +32,7 @@ use Rattle.facet_solver_reader.specs.Tables.{knows}
 use Rattle.facet_solver_reader.specs.Views.{list_view, member_view, part_view, parts_view, selection_view}
 use Rattle.facet_solver_reader.proofs.NodeNames.{at_contained, contains_at}
 use Rattle.facet_solver_reader.proofs.Opened.{at_after, at_either, at_front}
-use Rattle.facet_solver_reader.proofs.Quantifiers.{any_at, any_is_at, any_of_front, any_of_last, any_of_none, any_upto_more}
+use Rattle.facet_solver_reader.proofs.Quantifiers.{any_at, any_is_at, any_of_front, any_of_last, any_upto_more}
 use Rattle.facet_solver_reader.proofs.RepeatedNames.{IsRepeated-permutation}
 
 -- an element that is there is so whatever the other answer would be
@@ -96,21 +96,11 @@ module _ (xs ys : List Name) (x : Name) where
       go (inr a) (inr b) =
           inr (inl (repeated_at ys x a.0 b.0 (omega (arith, a.1, b.1, r.twice.apart)) a.2 b.2))
 
--- no name of none stands twice
-pub none_repeated : (x : Name) → IsRepeated [] x → ⊥
-none_repeated x r =
-    let within = slice_get_within {A = Name} [] r.twice.first x (at_one r) in
-    omega (arith, within)
-
--- nor does one name
+-- one name does not stand twice
 pub one_repeated : (n x : Name) → IsRepeated (n ∷ []) x → ⊥
 one_repeated n x r =
     let within = slice_get_within (n ∷ []) r.twice.second x (at_other r) in
     omega (arith, within, r.twice.apart)
-
--- a name is contained in none
-pub none_contained : (x : Name) → Contains [] x → ⊥
-none_contained x c = let h : c.0 < 0 = c.1 in omega arith
 
 -- a name is one name if it is that
 pub one_contained : (n x : Name) → Contains (n ∷ []) x ↔ IsTrue (bytes_eq n x)
@@ -198,24 +188,11 @@ module _ (o : Ordered) (x : Key) where
         go (inr a) (inr b) =
             absurd (omega (arith, a.1, b.1, s.apart, (last a.0 s.one a.2).0, (last b.0 s.other b.2).0))
 
-  -- no parts share a key
-  pub none_shared : IsShared o [] x → ⊥
-  none_shared s =
-      let within = slice_get_within {A = Part} [] s.first s.one s.at_first in
-      omega (arith, within)
-
 -- ---- the names of parts
 
 module _ (o : Ordered) where
   abbrev Know : Name → Part → Type 0
   Know x p = IsTrue (part_knows o (named x) p)
-
-  -- no parts have no names
-  pub names_of_no_parts : AreNamesOf o [] []
-  names_of_no_parts = record {
-    has = λ x. (λ c. absurd (none_contained x c), λ a. absurd (any_of_none (Know x) a));
-    twice = λ x. (λ r. absurd (none_repeated x r), λ s. absurd (none_shared o (named x) s));
-  }
 
   -- the names of one part more
   pub names_of_more : (ps : List Part) (p : Part) (old new : List Name)
@@ -273,18 +250,6 @@ module _ (o : Ordered) where
         );
       }
 
-  -- a part that adds no name
-  pub nothing_added : (p : Part) (names : List Name) → ((x : Name) → Know x p → ⊥)
-      → names ≡ names ++ [] → AreAdded o p names names
-  nothing_added p names none same = record {
-    more = [];
-    new_is = same;
-    those = record {
-      has = λ x. (λ c. absurd (none_contained x c), λ k. absurd (none x k));
-      once = none_repeated;
-    };
-  }
-
 -- ---- sorted names
 
 -- the name at an index, of names behind references
@@ -326,17 +291,6 @@ pub record AreDistinctUpto (ns : List (Bor Name)) (n : ℕ) (distinct : List (Bo
       × ((get_or ns k d).now ≡ (get_or distinct (length distinct - 1) d).now)
   pub from : (x : Name) → Contains (names_of distinct) x → Contains (names_of ns) x
   pub has : (k : ℕ) (d : Bor Name) → k < n → Contains (names_of distinct) (get_or ns k d).now
-
--- none at first
-pub none_distinct : (ns : List (Bor Name)) → AreDistinctUpto ns 0 []
-none_distinct ns = record {
-  sorted = λ k d low less. absurd (omega arith);
-  differ = λ k d less. absurd (omega arith);
-  none = λ e. refl;
-  last = λ k d e. absurd (omega arith);
-  from = λ x c. absurd (none_contained x c);
-  has = λ k d less. absurd (omega arith);
-}
 
 module _ (ns : List (Bor Name)) (n : ℕ) (ds : List (Bor Name)) (h : AreDistinctUpto ns n ds) (within : n < length ns) where
   -- a name that is the one before again

@@ -1,11 +1,11 @@
 -- The branch by which an object has its one reading by a selection.
-use Rattle.std.proofs.Common.{◌≡◌, ◌∙◌, sym, ap, ℕ, Option, Some, None, inr}
+use Rattle.std.proofs.Common.{◌≡◌, ◌∙◌, sym, ℕ, Option, Some, None, inr}
 use Rattle.facet_solver_reader.specs.declared.count.Count.TheVariants.{One}
 use Rattle.facet_solver_reader.specs.declared.nodes.Nodes.{Nodes}
 use Rattle.facet_solver_reader.specs.declared.read.object.Object as read
 use Rattle.facet_solver_reader.specs.declared.tables.Tables.{Tables}
 use Rattle.facet_solver_reader.specs.Branches.{CanBePresent}
-use Rattle.facet_solver_reader.specs.Choices.{Choice, ChoiceAt, choosing}
+use Rattle.facet_solver_reader.specs.Choices.{Choice, choosing}
 use Rattle.facet_solver_reader.specs.Chosen.{IsChosen, IsPicked, ReadsChosen}
 use Rattle.facet_solver_reader.specs.Parts.{Selection, a_selection}
 use Rattle.facet_solver_reader.specs.Reading.{IsPartCount, object_view}

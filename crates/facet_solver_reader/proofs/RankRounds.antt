@@ -1,10 +1,9 @@
 -- Round by round shapes are ranked.
 use Rattle.std.proofs.Common.{◌≡◌, ◌≢◌, ◌⊎◌, ℕ, zero, suc, ◌+◌, ◌*◌, ◌<◌, ◌≤◌, Bool, true, false}
 use Rattle.std.proofs.Common.{◌||◌, List, [], ◌∷◌, ◌++◌, Option, Some, None, slice_get, length, refl}
-use Rattle.std.proofs.Common.{sym, ap, ◌∙◌, subst, inl, inr, arith, ⊎_elim, get_or, replicate}
+use Rattle.std.proofs.Common.{sym, ap, ◌∙◌, subst, inl, inr, arith, ⊎_elim, get_or}
 use Rattle.std.proofs.Common.{map, option_map, ◌-◌, ◌^◌}
 use Rattle.std.proofs.lemmas.Option.{get_or_from_slice_get, slice_get-map}
-use Rattle.std.proofs.Math.ListN.{length-replicate}
 use Rattle.std.specs.Option.{is_some, unwrap_or}
 use Rattle.facet_solver_reader.specs.declared.tables.ranks.Ranks.{Ranks}
 use Rattle.std.proofs.Math.Bool.{beq}
@@ -47,12 +46,6 @@ one_longer : (xs : List Bool) (y : Bool) → length (xs ++ y ∷ []) ≡ length 
 one_longer [] y = refl
 one_longer (x ∷ xs) y = let e = one_longer xs y in omega arith
 
--- none at first
-pub none_next : (shapes : Catalogue) (ends : Ends) (marks next : List Bool) → next ≡ []
-    → AreNextBefore shapes ends marks next 0
-none_next shapes ends marks next e =
-    record { long = ap length e; each = λ id o is l. absurd (omega arith) }
-
 -- one more
 pub one_next : (shapes : Catalogue) (ends : Ends) (marks next after : List Bool) (i : ℕ)
     (o : Option code.End) (b : Bool) → AreNextBefore shapes ends marks next i
@@ -93,22 +86,6 @@ pub record AreRankedSoFar (shapes : Catalogue) (ends : Ends) (marks : List Bool)
   pub ranked : (n id : ℕ) → suc n ≡ steps → IsMarked marks id → ShapeIsRanked shapes n id
   pub some : 1 ≤ steps
   pub bounded : steps ≤ 2 * marked_of marks + 1
-
--- none at first
-none_marked : (n k : ℕ) → IsMarked (replicate n false) k → ⊥
-none_marked zero k h = cc
-none_marked (suc n) zero h = cc
-none_marked (suc n) (suc k) h = none_marked n k h
-
-pub first_ranked : (shapes : Catalogue) (ends : Ends) (marks : List Bool) (n : ℕ)
-    → marks ≡ replicate n false → n ≡ length ends → AreRankedSoFar shapes ends marks 1
-first_ranked shapes ends marks n is long = record {
-  same_length = ap length is ∙ length-replicate n false ∙ long;
-  there = λ id m. absurd (none_marked n id (subst (λ xs. IsMarked xs id) is m));
-  ranked = λ k id e m. absurd (none_marked n id (subst (λ xs. IsMarked xs id) is m));
-  some = omega arith;
-  bounded = omega arith;
-}
 
 module _ (shapes : Catalogue) (ends : Ends) (marks next : List Bool) (steps : ℕ) (sound : AreSound shapes ends) (so_far : AreRankedSoFar shapes ends marks steps) (round : AreNext shapes ends marks next) where
   -- a shape that is marked stays so

@@ -135,9 +135,6 @@ some_fails p (x ∷ xs) h = go (p x) refl h (some_fails p xs)
 
 -- what an end asks is among what it leads to
 module _ (P : ℕ → Type 0) (L : ListId → Type 0) (content : Contents) where
-  Has : Target → Type 0
-  Has t = TargetHas P L content t
-
   all_of_both : (xs ys : List Target) → All (λ t. TargetHas P L content t) xs
       → All (λ t. TargetHas P L content t) ys → All (λ t. TargetHas P L content t) (xs ++ ys)
   all_of_both [] ys h k = k

@@ -1,5 +1,5 @@
 -- The ranks of targets.
-use Rattle.std.proofs.Common.{refl, ◌∙◌, get_or, Any, [], ◌∷◌, ◌<◌, ◌≡◌, ◌≤◌, ◌+◌, sym, subst, ℕ}
+use Rattle.std.proofs.Common.{refl, ◌∙◌, get_or, Any, [], ◌∷◌, ◌<◌, ◌≡◌, ◌≤◌, sym, subst, ℕ}
 use Rattle.std.proofs.Common.{zero, suc, List, Some, slice_get, arith}
 use Rattle.facet_solver_shape.specs.Names.{Name}
 use Rattle.facet_solver_reader.specs.Parts.{ListId, Target, of_shape, of_content, of_tag}
@@ -8,7 +8,6 @@ use Rattle.facet_solver_reader.specs.Rules.{an_untagged_variant, Content, no_con
 use Rattle.facet_solver_reader.specs.Rules.{as_object}
 use Rattle.facet_solver_reader.specs.Reached.{asked_by_kind, asked_by_end, asked_by_content}
 use Rattle.facet_solver_reader.specs.Reached.{IsRanked}
-use Rattle.facet_solver_reader.specs.Asking.{ComesTo, AsksItself}
 use Rattle.facet_solver_reader.proofs.Asked.{asked_by_option, asked_by_shape_content}
 use Rattle.facet_solver_reader.proofs.Asked.{asked_by_alternative}
 
@@ -68,21 +67,3 @@ ranked_of_content rules n s k f u asks = go (rules.content_of s k) refl asks
     go (as_shape i) e a = subst (IsRanked n rules) (one i a.0 a.1 a.2 a.3 ∙ a.4) (f i e)
     go (as_tuple ss) e a = none a
     go (as_object id) e a = none a
-
--- what a target comes to in some steps has a rank that is so much lower
-pub ranked_on : (rules : Rules) (k n : ℕ) (t u : Target) → ComesTo rules k t u
-    → IsRanked (k + n) rules t → IsRanked n rules u
-ranked_on rules zero n t u way h =
-    subst (IsRanked n rules) way (ranked_more rules (0 + n) n t h (omega arith))
-ranked_on rules (suc k) n t u way h =
-    let more : suc k + n ≡ suc (k + n) = omega arith in
-    ranked_on rules k n way.middle u way.on
-    ((subst (λ m. IsRanked m rules t) more h) way.middle way.asks)
-
--- a target that asks itself, in whatever number of steps, has no rank
-pub no_rank : (rules : Rules) (n : ℕ) (t : Target) → AsksItself rules t → IsRanked n rules t → ⊥
-no_rank rules zero t round h = h
-no_rank rules (suc n) t round h =
-    no_rank rules n t round
-    (ranked_on rules (suc round.steps) n t t round.way
-    (ranked_more rules (suc n) (suc round.steps + n) t h (omega arith)))

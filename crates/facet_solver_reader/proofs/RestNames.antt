@@ -29,10 +29,6 @@ IsTaker o x ps n taker =
     (TakesAt o x ps n)
 
 module _ (o : Ordered) (x : Key) (ps : List Part) where
-  -- before the first part none does
-  pub no_taker : IsTaker o x ps 0 None
-  no_taker k p less at takes = absurd (omega arith)
-
   module _ (n : ℕ) (p : Part) (at : slice_get ps n ≡ Some p) where
     -- one part more, which does not take it
     pub taker_same : (t : Option ℕ) → IsTaker o x ps n t → part_knows o x p ≡ false

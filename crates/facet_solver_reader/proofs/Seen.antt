@@ -1,6 +1,6 @@
 -- What documents in memory are as trees.
 use Rattle.std.proofs.Common.{ℕ, Some, slice_get, option_map, ◌≡◌, ◌∙◌, sym, refl, ap, subst, List}
-use Rattle.std.proofs.Common.{[], ◌∷◌, map, Bool, false, Vec, Global}
+use Rattle.std.proofs.Common.{[], ◌∷◌, map, false, Vec, Global}
 use Rattle.std.proofs.lemmas.Option.{slice_get-map}
 use Rattle.std.specs.Borrow.{Bor}
 use Rattle.facet_solver_shape.specs.Names.{Name}
@@ -13,12 +13,10 @@ use Rattle.facet_solver_reader.specs.declared.document.Document.TheFolds.{map-Do
 use Rattle.facet_solver_reader.specs.declared.document.Document.TheFolds.{fold-roll-Document}
 use Rattle.facet_solver_reader.specs.declared.document.Document.TheFolds.{fold_out-Document}
 use Rattle.facet_solver_reader.specs.declared.document.Document.TheOpen.{Document-F}
-use Rattle.facet_solver_reader.specs.declared.document.number.Number.{Number}
-use Rattle.facet_solver_reader.specs.Numbers.{number_view}
-use Rattle.facet_solver_reader.specs.Documents.{Tree, null, truth, number, text, list, object}
+use Rattle.facet_solver_reader.specs.Documents.{Tree, null, text, list, object}
 use Rattle.facet_solver_reader.specs.Documents.{Member, items, members, items_view, members_view}
 use Rattle.facet_solver_reader.specs.Documents.{view, view_step}
-use Rattle.facet_solver_reader.specs.Kinds.{is_null, is_truth, is_number, is_text, is_list}
+use Rattle.facet_solver_reader.specs.Kinds.{is_null}
 use Rattle.facet_solver_reader.specs.Kinds.{is_object}
 
 -- the values of a list in memory
@@ -44,16 +42,6 @@ seen_at see xs i x e = slice_get-map see xs i ∙ ap (option_map see) e
 -- null in memory
 pub seen_null : view code.Null ≡ null
 seen_null = ap view (sym code.rolls-Null) ∙ fold-roll-Document Tree view_step Document-F.Null
-
--- a truth value in memory
-pub seen_truth : (b : Bool) → view (code.Bool b) ≡ truth b
-seen_truth b =
-    ap view (sym (code.rolls-Bool b)) ∙ fold-roll-Document Tree view_step (Document-F.Bool b)
-
--- a number in memory
-pub seen_number : (n : Number) → view (code.Number n) ≡ number (number_view n)
-seen_number n =
-    ap view (sym (code.rolls-Number n)) ∙ fold-roll-Document Tree view_step (Document-F.Number n)
 
 -- a text in memory
 pub seen_text : (x : Bor Name) → view (code.Text x) ≡ text x.now
@@ -84,70 +72,6 @@ seen_no_null d other =
     go (Document-F.Number n) e = refl
     go (Document-F.Text x) e = refl
     go (Document-F.List v) e = refl
-    go (Document-F.Object v) e = refl
-
--- a value that is no truth value in memory
-pub seen_no_truth : (d : Document) → ((b : Bool) → d ≡ code.Bool b → ⊥)
-    → is_truth (view d) ≡ false
-seen_no_truth d other =
-    subst (λ t. is_truth t ≡ false) (sym (fold_out-Document Tree view_step d))
-    (go (out-Document d) (roll-out-Document d))
-  where
-    go : (o : Document-F Document) → roll-Document o ≡ d
-        → is_truth (view_step (map-Document Document Tree view o)) ≡ false
-    go Document-F.Null e = refl
-    go (Document-F.Bool b) e = absurd (other b (sym e ∙ code.rolls-Bool b))
-    go (Document-F.Number n) e = refl
-    go (Document-F.Text x) e = refl
-    go (Document-F.List v) e = refl
-    go (Document-F.Object v) e = refl
-
--- a value that is no number in memory
-pub seen_no_number : (d : Document) → ((n : Number) → d ≡ code.Number n → ⊥)
-    → is_number (view d) ≡ false
-seen_no_number d other =
-    subst (λ t. is_number t ≡ false) (sym (fold_out-Document Tree view_step d))
-    (go (out-Document d) (roll-out-Document d))
-  where
-    go : (o : Document-F Document) → roll-Document o ≡ d
-        → is_number (view_step (map-Document Document Tree view o)) ≡ false
-    go Document-F.Null e = refl
-    go (Document-F.Bool b) e = refl
-    go (Document-F.Number n) e = absurd (other n (sym e ∙ code.rolls-Number n))
-    go (Document-F.Text x) e = refl
-    go (Document-F.List v) e = refl
-    go (Document-F.Object v) e = refl
-
--- a value that is no text in memory
-pub seen_no_text : (d : Document) → ((x : Bor Name) → d ≡ code.Text x → ⊥)
-    → is_text (view d) ≡ false
-seen_no_text d other =
-    subst (λ t. is_text t ≡ false) (sym (fold_out-Document Tree view_step d))
-    (go (out-Document d) (roll-out-Document d))
-  where
-    go : (o : Document-F Document) → roll-Document o ≡ d
-        → is_text (view_step (map-Document Document Tree view o)) ≡ false
-    go Document-F.Null e = refl
-    go (Document-F.Bool b) e = refl
-    go (Document-F.Number n) e = refl
-    go (Document-F.Text x) e = absurd (other x (sym e ∙ code.rolls-Text x))
-    go (Document-F.List v) e = refl
-    go (Document-F.Object v) e = refl
-
--- a value that is no list in memory
-pub seen_no_list : (d : Document) → ((v : Vec Document Global) → d ≡ code.List v → ⊥)
-    → is_list (view d) ≡ false
-seen_no_list d other =
-    subst (λ t. is_list t ≡ false) (sym (fold_out-Document Tree view_step d))
-    (go (out-Document d) (roll-out-Document d))
-  where
-    go : (o : Document-F Document) → roll-Document o ≡ d
-        → is_list (view_step (map-Document Document Tree view o)) ≡ false
-    go Document-F.Null e = refl
-    go (Document-F.Bool b) e = refl
-    go (Document-F.Number n) e = refl
-    go (Document-F.Text x) e = refl
-    go (Document-F.List v) e = absurd (other v (sym e ∙ code.rolls-List v))
     go (Document-F.Object v) e = refl
 
 -- a value that is no object in memory

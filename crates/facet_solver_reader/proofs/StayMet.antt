@@ -33,22 +33,12 @@ module _ (shapes : Catalogue) (every : EveryList) where
     of_lists = λ k m. h.of_lists k (subst (λ xs. IsMarked xs k) lists m);
   }
 
-  -- nothing changes
-  pub stays_same : (m : Marks) (P : Bool → ℕ → Type 0) → StayMet shapes every m m P
-  stays_same m P strict root listed p h = h
-
   -- one change after another
   pub stays_on : (a b c : Marks) (P Q : Bool → ℕ → Type 0)
       → ((strict : Bool) (root : ℕ) → P strict root → Q strict root)
       → StayMet shapes every a b P → StayMet shapes every b c Q → StayMet shapes every a c P
   stays_on a b c P Q f s t strict root listed p h =
       t strict root listed (f strict root p) (s strict root listed p h)
-
-  -- of what is more to ask
-  pub stays_by : (a b : Marks) (P Q : Bool → ℕ → Type 0)
-      → ((strict : Bool) (root : ℕ) → P strict root → Q strict root)
-      → StayMet shapes every a b Q → StayMet shapes every a b P
-  stays_by a b P Q f s strict root listed p h = s strict root listed (f strict root p) h
 
   -- a list of a number is met, if one is that some choice has
   pub number_met : (id : ListId) (number : ℕ) → AreEveryList shapes every

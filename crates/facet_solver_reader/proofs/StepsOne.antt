@@ -1,6 +1,6 @@
 -- An object has one reading by its list where it has one at each step, and by each list that is under
 -- way.
-use Rattle.std.proofs.Common.{◌≡◌, ◌∙◌, sym, ap, subst, refl, ℕ, suc, ◌+◌, ◌≤◌, List, [], ◌∷◌, ◌++◌}
+use Rattle.std.proofs.Common.{◌≡◌, ◌∙◌, sym, ap, subst, ℕ, suc, ◌+◌, ◌≤◌, List, [], ◌∷◌, ◌++◌}
 use Rattle.std.proofs.Common.{⊎_elim, drop, drop-cons, drop_of_length-le, length, map, Some, slice_get, arith}
 use Rattle.std.proofs.lemmas.List.{map-append}
 use Rattle.std.proofs.lemmas.List.Elements.{All-append}
@@ -14,13 +14,13 @@ use Rattle.facet_solver_reader.specs.declared.read.object.Object as read
 use Rattle.facet_solver_reader.specs.declared.tables.List.{List as ListEntry}
 use Rattle.facet_solver_reader.specs.declared.tables.Tables.{Tables}
 use Rattle.facet_solver_reader.specs.Branches.{ReadsAt, ReadsBelow, ReadsList, ReadsPart, ReadsParts}
-use Rattle.facet_solver_reader.specs.Choices.{Choice, ChoiceAt, choosing, lacking, having, taking}
+use Rattle.facet_solver_reader.specs.Choices.{ChoiceAt, choosing, lacking, having, taking}
 use Rattle.facet_solver_reader.specs.Choices.{without}
 use Rattle.facet_solver_reader.specs.Chosen.{IsPickedBranch, IsSure, ReadsChosen}
 use Rattle.facet_solver_reader.specs.Counted.{Counted, IsOnly}
 use Rattle.facet_solver_reader.specs.FieldPlaces.{Path}
 use Rattle.facet_solver_reader.specs.Objects.{Object, Reads}
-use Rattle.facet_solver_reader.specs.Parts.{CatchAll, ListId, MemberPart, Part, Selection, a_member}
+use Rattle.facet_solver_reader.specs.Parts.{CatchAll, MemberPart, Part, Selection, a_member}
 use Rattle.facet_solver_reader.specs.Parts.{a_catch_all, a_selection}
 use Rattle.facet_solver_reader.specs.Planned as planned
 use Rattle.facet_solver_reader.specs.Planned.{IsOnlyPlanned, IsPlanIfOne, StepIsServed, step_view}

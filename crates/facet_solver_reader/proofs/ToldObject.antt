@@ -23,12 +23,12 @@ use Rattle.facet_solver_reader.specs.Nodes.{members_in, value_of}
 use Rattle.facet_solver_reader.specs.Objects.{ReadsObject}
 use Rattle.facet_solver_reader.specs.Parts.{CatchAll, MemberPart, a_catch_all, a_member}
 use Rattle.facet_solver_reader.specs.Planned as planned
-use Rattle.facet_solver_reader.specs.Planned.{IsOnlyStep, IsPlan, Planned, StepIsServed}
+use Rattle.facet_solver_reader.specs.Planned.{IsOnlyStep, IsPlan, Planned}
 use Rattle.facet_solver_reader.specs.Planned.{planned_of, step_view}
 use Rattle.facet_solver_reader.specs.Reading.{object_view}
 use Rattle.facet_solver_reader.specs.Readings.{ReadsValue}
 use Rattle.facet_solver_reader.specs.Steps.{Step, a_field, a_rest, a_variant, an_absence}
-use Rattle.facet_solver_reader.specs.Tables.{PartIsServed, rules_at}
+use Rattle.facet_solver_reader.specs.Tables.{rules_at}
 use Rattle.facet_solver_reader.specs.Told.{AreUnknown, TellsRest, TellsTaken, all_ignored}
 use Rattle.facet_solver_reader.specs.Told.{all_taken, end_taken, paths_view, place_view, rest_in}
 use Rattle.facet_solver_reader.specs.Told.{steps_told, texts}
@@ -55,21 +55,6 @@ member_at P (planned.a_field p n ∷ ss) (suc i) path m e h =
 member_at P (planned.a_variant p id k ∷ ss) (suc i) path m e h = member_at P ss i path m e h
 member_at P (planned.an_absence p ∷ ss) (suc i) path m e h = member_at P ss i path m e h
 member_at P (planned.a_rest k ∷ ss) (suc i) path m e h = member_at P ss i path m e h
-
--- the catch-all among steps is served
-pub rest_served : (t : Tables) (ss : List Planned) (k : CatchAll) → All (StepIsServed t) ss
-    → found.catch_all_in ss ≡ Some k → PartIsServed t (a_catch_all k)
-rest_served t [] k h e = absurd (cc)
-rest_served t (planned.a_rest j ∷ ss) k h e =
-    let same : j ≡ k = cc in
-    subst (λ i. PartIsServed t (a_catch_all i)) same
-    (All-head (StepIsServed t) (planned.a_rest j) ss h)
-rest_served t (planned.a_field p m ∷ ss) k h e =
-    rest_served t ss k (All-tail (StepIsServed t) (planned.a_field p m) ss h) e
-rest_served t (planned.a_variant p id j ∷ ss) k h e =
-    rest_served t ss k (All-tail (StepIsServed t) (planned.a_variant p id j) ss h) e
-rest_served t (planned.an_absence p ∷ ss) k h e =
-    rest_served t ss k (All-tail (StepIsServed t) (planned.an_absence p) ss h) e
 
 -- a step that is no field has no member
 pub no_member : (s : code_step.Step)

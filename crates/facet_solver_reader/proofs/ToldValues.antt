@@ -24,12 +24,12 @@ use Rattle.facet_solver_reader.specs.Documents.{members, view}
 use Rattle.facet_solver_reader.specs.Kinds.{is_object}
 use Rattle.facet_solver_reader.specs.Nodes.{members_in, value_of}
 use Rattle.facet_solver_reader.specs.Objects.{ReadsObject}
-use Rattle.facet_solver_reader.specs.Parts.{ListId, Target, of_tag}
+use Rattle.facet_solver_reader.specs.Parts.{ListId, Target}
 use Rattle.facet_solver_reader.specs.Reading.{IsCount}
 use Rattle.facet_solver_reader.specs.Readings.{ReadsValue}
 use Rattle.facet_solver_reader.specs.Rules as types
 use Rattle.facet_solver_reader.specs.Rules.{Alternative, End, Rules, a_character, a_text, a_truth}
-use Rattle.facet_solver_reader.specs.Rules.{an_untagged_variant, anything, as_object, no_content}
+use Rattle.facet_solver_reader.specs.Rules.{an_untagged_variant, anything, as_object}
 use Rattle.facet_solver_reader.specs.Tables.{rules_at}
 use Rattle.facet_solver_reader.specs.Told.{Tells, TellsObject, as_it_is, by_joined}
 use Rattle.facet_solver_reader.specs.Told.{by_parts, end_of_target}
@@ -37,9 +37,7 @@ use Rattle.facet_solver_reader.specs.ToldAt.{IsAsItIs, IsRead, IsToldAt}
 use Rattle.facet_solver_reader.specs.Values.{Inner, ReadsContent, ReadsEnd, ReadsTag, is_scalar_end}
 use Rattle.facet_solver_reader.proofs.OneEach.{one_into}
 use Rattle.facet_solver_reader.proofs.OneEnds.{unread}
-use Rattle.facet_solver_reader.proofs.Ranks.{ranked_tag}
 use Rattle.facet_solver_reader.proofs.ReadOnce.{is_one, read_as, same_one}
-use Rattle.facet_solver_reader.proofs.Readings.{value_by_parts}
 
 -- a value that is read as it is is told so
 pub tells_as_it_is : (rules : Rules) (shapes : Catalogue) (e : End) (v : Tree) (r : Reading)
@@ -105,11 +103,6 @@ tag_text name (truth b) r h = absurd h
 tag_text name (number n) r h = absurd h
 tag_text name (list vs) r h = absurd h
 tag_text name (object ms) r h = absurd h
-
-pub tag_value : (rules : Rules) (name : Name) (v : Tree) (r : Reading)
-    → ReadsValue rules (of_tag name) v r → r ≡ a_value
-tag_value rules name v r h =
-    tag_text name v r ((value_by_parts rules 1 (of_tag name) v (ranked_tag rules 0 name) r).0 h)
 
 module _ (rules : Rules) (reads : Inner) (id : ListId) where
   -- only an object has a reading by a list of parts

@@ -2,7 +2,7 @@
 use Rattle.std.proofs.Common.{◌≡◌, ◌⊎◌, ◌∙◌, sym, ap, subst, refl, ⊎_elim, inl, inr, ℕ, ◌<◌, List}
 use Rattle.std.proofs.Common.{[]}
 use Rattle.std.proofs.Common.{◌∷◌, Some, None, Option, slice_get, true, false, length, Box}
-use Rattle.std.proofs.Common.{Global, IfOk, Ok, Err, Result}
+use Rattle.std.proofs.Common.{Global}
 use Rattle.std.proofs.lemmas.Option.{slice_get_within}
 use Rattle.std.specs.Borrow.{Bor}
 use Rattle.std.specs.List.{list_any}
@@ -24,8 +24,7 @@ use Rattle.facet_solver_reader.specs.declared.nodes.Nodes.{Nodes}
 use Rattle.facet_solver_reader.specs.declared.tables.Tables.{Tables}
 use Rattle.facet_solver_reader.specs.Nodes.{children, members_in, value_of}
 use Rattle.facet_solver_reader.specs.Objects.{ReadsObject}
-use Rattle.facet_solver_reader.specs.Parts.{ListId, Target}
-use Rattle.facet_solver_reader.specs.Reached.{asked_by_kind}
+use Rattle.facet_solver_reader.specs.Parts.{ListId}
 use Rattle.facet_solver_reader.specs.Readings.{ReadsValue, inner}
 use Rattle.facet_solver_reader.specs.Tables.{rules_at}
 use Rattle.facet_solver_reader.specs.Rules as types
@@ -297,18 +296,7 @@ module _ (rules : Rules) (reads : Inner) (vs : List NamedVariant) (v : Tree) whe
           ReadsNamed reads.within o (record { name = name; value = x }) q) (sym there) (named, s)))
           (λ y z q. cc) one r p)
 
--- a variant that reads its content asks it of the value
-pub asks_content : (kind : AlternativeKind) (content : Target) (C : Type 0)
-    → (kind ≡ types.null_alone → ⊥) → IsOnlyByKind kind C
-    → (asked_by_kind kind content ≡ content ∷ []) × C
-asks_content joins content C apart h = absurd h
-asks_content types.null_alone content C apart h = absurd (apart refl)
-asks_content (types.a_whole range) content C apart h = (refl, h)
-asks_content types.a_float content C apart h = (refl, h)
-asks_content a_fallback content C apart h = (refl, h)
-asks_content other content C apart h = (refl, h)
-
--- and is read by it
+-- a variant that reads more than null is read by its content
 pub reads_by_content : (kind : AlternativeKind) (r : Reading) (C : Type 0)
     → (kind ≡ types.null_alone → ⊥) → C → ReadsByAlternative kind r C
 reads_by_content joins r C apart h = h
@@ -325,12 +313,6 @@ pub tells_same : (rules : Rules) (shapes : Catalogue) (e : End) (v : Tree) (r : 
 tells_same rules shapes e v r ns ms j k p q h =
     subst (λ xs. Tells rules shapes e v r xs k) p
     (subst (λ x. Tells rules shapes e v r ns x) q h)
-
--- what holds of what is found holds of it in another way
-pub if_told : {E : Type 0} (P Q : code.Reading → Type 0) (r : Result code.Reading E)
-    → ((w : code.Reading) → P w → Q w) → IfOk r P → IfOk r Q
-if_told P Q (Ok w) f h = f w h
-if_told P Q (Err e) f h = tt
 
 -- what is told of a value as a variant of an untagged enum
 pub alternative_told : (t : Tables) (nodes : Nodes) (node : ℕ) (joined : ListId)

@@ -1,16 +1,16 @@
 -- Which keys of an object a selection and its branches know, member by member.
-use Rattle.std.proofs.Common.{◌≡◌, ◌⊎◌, ◌↔◌, inl, inr, sym, subst, ⊎_elim, ℕ, ◌<◌, ◌+◌, length}
-use Rattle.std.proofs.Common.{List, refl, true, false, get_or, drop}
+use Rattle.std.proofs.Common.{◌≡◌, ◌⊎◌, ◌↔◌, inl, inr, sym, subst, ℕ, ◌<◌, length}
+use Rattle.std.proofs.Common.{List, get_or}
 use Rattle.std.specs.List.{All, Any}
 use Rattle.facet_solver_shape.specs.Names.{Name}
 use Rattle.facet_solver_reader.specs.Branches.{Fits, Misfits}
 use Rattle.facet_solver_reader.specs.Documents.{Member}
 use Rattle.facet_solver_reader.specs.Known.{Chooses, IsKnown, IsKnownIn, Key, named, rest}
 use Rattle.facet_solver_reader.specs.Objects.{Has, HasNamed, HasRest, HasUnknown, IsUnknown, Object}
-use Rattle.facet_solver_reader.specs.Objects.{Touches, ignoring, taking}
+use Rattle.facet_solver_reader.specs.Objects.{Touches}
 use Rattle.facet_solver_reader.specs.Parts.{ListId, Selection}
 use Rattle.facet_solver_reader.specs.Rules.{Rules}
-use Rattle.facet_solver_reader.proofs.Named.{Has-at, Has-from, has_named}
+use Rattle.facet_solver_reader.proofs.Named.{Has-at, has_named}
 
 -- a member of an object that has a property of names
 named_with : (P : Name → Type 0) (ms : List Member) (x : Name)
@@ -32,14 +32,6 @@ module _ (rules : Rules) (object : Object) where
         },
   )
 
-  -- where each member's name is known, none is unknown
-  pub all_known :
-      All (λ (m : Member). IsKnown (Chooses rules.lists object.list) (named m.name)) object.members
-      → HasUnknown rules object → ⊥
-  all_known known u =
-      let a = unknown_iff.0 u in
-      (subst (λ (m : Member). IsUnknown rules object m.name) (sym a.3) a.4) (known a.0 a.1 a.2)
-
   module _ (s : Selection) where
     -- a member that is known
     pub touch_at : (i : ℕ) (d : Member) → i < length object.members
@@ -51,16 +43,6 @@ module _ (rules : Rules) (object : Object) where
           has = Has-at object.members i d within;
           known = h;
         }
-
-    -- nothing of the object is known
-    pub untouched : ((x : Name) → HasNamed object.members x → IsKnownIn rules.lists s (named x) → ⊥)
-        → (HasRest rules object → IsKnownIn rules.lists s rest → ⊥)
-        → Touches rules object s → ⊥
-    untouched f g t = go t.key t.has t.known
-      where
-        go : (x : Key) → Has rules object x → IsKnownIn rules.lists s x → ⊥
-        go (named x) has known = f x has known
-        go rest has known = g has known
 
     -- an object has a key of a selection exactly where some member's name is known in it, or it
     -- takes the rest
@@ -106,10 +88,6 @@ module _ (rules : Rules) (object : Object) where
             known = known;
             unknown = unknown;
           }
-
-      -- what fits does not misfit
-      pub fits_or_misfits : Fits rules object s id → Misfits rules object s id → ⊥
-      fits_or_misfits f m = m.unknown (f m.key m.has m.known)
 
       -- a list fits exactly where it knows each member's name that the selection knows, and the
       -- rest, if the object has it and the selection knows it
@@ -177,51 +155,3 @@ module _ (rules : Rules) (object : Object) where
               let h = subst (λ (m : Member). P m.name) (sym a.3) a.4 in
               misfit_at a.0 a.1 a.2 h.0 h.1
           into (inr h) = record { key = rest; has = h.0; known = h.1; unknown = h.2 }
-
--- an object that ignores members has no rest
-pub no_rest : (rules : Rules) (ms : List Member) (id : ListId) → HasRest rules (ignoring ms id) → ⊥
-no_rest rules ms id h = let t : false ≡ true = h.takes in cc
-
--- the members of no known name are the same, whether they are taken or ignored
-pub unknown_of_either : (rules : Rules) (ms : List Member) (id : ListId)
-    → HasUnknown rules (taking ms id) ↔ HasUnknown rules (ignoring ms id)
-unknown_of_either rules ms id = (
-  λ u. record { name = u.name; has = u.has; unknown = u.unknown },
-  λ u. record { name = u.name; has = u.has; unknown = u.unknown },
-)
-
--- an object that takes members has the rest where it has a member of no known name
-pub rest_of_taking : (rules : Rules) (ms : List Member) (id : ListId)
-    → HasRest rules (taking ms id) ↔ HasUnknown rules (taking ms id)
-rest_of_taking rules ms id = (λ h. h.unknown, λ u. record { takes = refl; unknown = u })
-
--- where each name with a property is among the rest, and the member's name has it not, each is
--- behind it
-pub rest_behind : (ms : List Member) (P : Name → Type 0) (i : ℕ) (d : Member) → i < length ms
-    → (P (get_or ms i d).name → ⊥)
-    → ((x : Name) → HasNamed ms x → P x → HasNamed (drop i ms) x)
-    → (x : Name) → HasNamed ms x → P x → HasNamed (drop (i + 1) ms) x
-rest_behind ms P i d within none before x has p =
-    ⊎_elim (λ (e : (get_or ms i d).name ≡ x). absurd (none (subst P (sym e) p)))
-    (λ (h : HasNamed (drop (i + 1) ms) x). h) (Has-from ms i d x within (before x has p))
-
--- where each name that the selection knows is known to the list or among the rest, and the
--- member's name is not known to the selection, or is to the list, each other is behind it
-pub rest_fits : (rules : Rules) (ms : List Member) (s : Selection) (id : ListId)
-    (i : ℕ) (d : Member)
-    → i < length ms
-    → (IsKnownIn rules.lists s (named (get_or ms i d).name)
-    → IsKnown (Chooses rules.lists id) (named (get_or ms i d).name))
-    → ((x : Name) → HasNamed ms x → IsKnownIn rules.lists s (named x)
-    → IsKnown (Chooses rules.lists id) (named x) ⊎ HasNamed (drop i ms) x)
-    → (x : Name) → HasNamed ms x → IsKnownIn rules.lists s (named x)
-    → IsKnown (Chooses rules.lists id) (named x) ⊎ HasNamed (drop (i + 1) ms) x
-rest_fits rules ms s id i d within here before x has known =
-    ⊎_elim (λ (p : IsKnown (Chooses rules.lists id) (named x)). inl p)
-    (λ (r : HasNamed (drop i ms) x).
-    ⊎_elim
-    (λ (p : (get_or ms i d).name ≡ x).
-    inl (subst (λ y. IsKnown (Chooses rules.lists id) (named y)) p
-    (here (subst (λ y. IsKnownIn rules.lists s (named y)) (sym p) known))))
-    (λ (q : HasNamed (drop (i + 1) ms) x). inr q) (Has-from ms i d x within r))
-    (before x has known)

@@ -1,5 +1,5 @@
--- Values inside values: children and members, places, and how deep they nest.
-use Rattle.std.proofs.Common.{◌≡◌, ℕ, zero, suc, ◌+◌, ◌<◌, ◌≤◌, Bool, true, false, cond, List, [], ◌∷◌, map, length, Some, slice_get, get_or, refl, sym, ap, ◌∙◌, arith, Contains, IsPermutation, bytes_eq, subst}
+-- Values inside values: children, members and places.
+use Rattle.std.proofs.Common.{◌≡◌, ℕ, zero, suc, ◌+◌, ◌<◌, Bool, true, false, cond, List, [], ◌∷◌, map, length, Some, slice_get, get_or, refl, sym, ap, ◌∙◌, arith, Contains, IsPermutation, bytes_eq, subst}
 use Rattle.std.specs.Borrow.{Bor}
 use Rattle.std.specs.declared.vec.Vec.{Vec}
 use Rattle.std.specs.declared.alloc.Global.{Global}
@@ -16,7 +16,7 @@ use Rattle.facet_solver_reader.specs.declared.document.Document.TheVariants as c
 use Rattle.facet_solver_reader.specs.declared.document.Document.TheOpen.{Document-F}
 use Rattle.facet_solver_reader.specs.declared.document.Document.TheViews.{roll-Document}
 use Rattle.facet_solver_reader.specs.declared.document.Document.TheFolds.{fold-roll-Document, ind-Document, map-Document}
-use Rattle.facet_solver_reader.specs.Documents.{Tree, null, truth, number, text, list, object, Items, no_items, item, Members, no_members, member, Member, items, members, items_of, items_depth, members_depth, depth, view, view_step, items_view, members_view}
+use Rattle.facet_solver_reader.specs.Documents.{Tree, null, truth, number, text, list, object, Member, items, members, items_of, view, view_step, items_view, members_view}
 use Rattle.facet_solver_reader.specs.Objects.{find}
 use Rattle.facet_solver_reader.specs.Places.{Step, to_member, to_item, inside, at, names_in}
 use Rattle.facet_solver_reader.specs.Nodes.{children, members_in, numbered, entries, names_among, Named}
@@ -48,27 +48,6 @@ values-view (m ∷ ms) = ap (λ us. view m.1 ∷ us) (values-view ms)
 pub member-view : (ms : List (Bor Name × Document)) → members (members_view ms) ≡ map (λ m. record { name = m.0.now; value = view m.1 }) ms
 member-view [] = refl
 member-view (m ∷ ms) = let first : Member = record { name = m.0.now; value = view m.1 } in ap (λ us. first ∷ us) (member-view ms)
-
--- ---- how deep they nest
-
-at_most_items : (ts : Items) (k : ℕ) (c : Tree) → slice_get (items ts) k ≡ Some c → depth c ≤ items_depth ts
-at_most_items no_items k c at = absurd (cc)
-at_most_items (item t ts) zero c at = rw (same_Some t c at) (grind arith)
-at_most_items (item t ts) (suc k) c at = let below = at_most_items ts k c at in grind (arith, below)
-
-at_most_members : (ms : Members) (k : ℕ) (c : Tree) → slice_get (map (λ m. m.value) (members ms)) k ≡ Some c → depth c ≤ members_depth ms
-at_most_members no_members k c at = absurd (cc)
-at_most_members (member x t ms) zero c at = rw (same_Some t c at) (grind arith)
-at_most_members (member x t ms) (suc k) c at = let below = at_most_members ms k c at in grind (arith, below)
-
--- a child nests less deep
-pub depth-child : (v c : Tree) (k : ℕ) → slice_get (children v) k ≡ Some c → depth c < depth v
-depth-child null c k at = absurd (cc)
-depth-child (truth b) c k at = absurd (cc)
-depth-child (number n) c k at = absurd (cc)
-depth-child (text x) c k at = absurd (cc)
-depth-child (list ts) c k at = let below = at_most_items ts k c at in omega arith
-depth-child (object ms) c k at = let below = at_most_members ms k c at in omega arith
 
 -- ---- members by name
 
@@ -240,16 +219,3 @@ nothing_step (Document-F.Object ms) no_list no_object = absurd (no_object ms (co
 
 pub nothing_inside : (d : Document) → NothingInside d (view d)
 nothing_inside = ind-Document (λ d. NothingInside d (view d)) (λ x y is. subst (NothingInside (roll-Document x)) (sym (fold-roll-Document Tree view_step x)) (nothing_step x))
-
--- the value to which a step leads nests less deep
-pub depth-inside : (v c : Tree) (s : Step) → inside v s ≡ Some c → depth c < depth v
-depth-inside v c s there = let child = child_inside v s c there in depth-child v c child.0 child.1
-
--- the value of a member nests less deep
-pub depth-member : (v c : Tree) (x : Name) → find (members_in v) x ≡ Some c → depth c < depth v
-depth-member null c x found = absurd (cc)
-depth-member (truth b) c x found = absurd (cc)
-depth-member (number n) c x found = absurd (cc)
-depth-member (text y) c x found = absurd (cc)
-depth-member (list ts) c x found = absurd (cc)
-depth-member (object ms) c x found = depth-inside (object ms) c (to_member x) found

@@ -1,6 +1,6 @@
 -- The counts of tuples and of the entries of maps.
-use Rattle.std.proofs.Common.{Some, slice_get, ◌≡◌, ◌≢◌, sym, subst, ℕ, ◌+◌, ◌-◌, ◌<◌, ◌≤◌, length}
-use Rattle.std.proofs.Common.{get_or, drop, take, List, Bool, true, false, zip, arith}
+use Rattle.std.proofs.Common.{Some, slice_get, ◌≡◌, ◌≢◌, sym, subst, ℕ, ◌+◌, ◌<◌, length}
+use Rattle.std.proofs.Common.{get_or, take, List, Bool, true, false, zip, arith}
 use Rattle.std.proofs.lemmas.Option.{slice_get_within, get_or_from_slice_get}
 use Rattle.std.proofs.lemmas.Slice.Zip.{length-zip, get_or-zip}
 use Rattle.facet_solver_reader.specs.declared.count.Count.{Count}
@@ -12,7 +12,7 @@ use Rattle.facet_solver_reader.specs.Parts.{Target, of_shape}
 use Rattle.facet_solver_reader.specs.Objects.{Reads}
 use Rattle.facet_solver_reader.specs.Values.{ReadsEach, ReadsPlace, ReadsTuple, ReadsEntry}
 use Rattle.facet_solver_reader.proofs.Counting.{counted_same}
-use Rattle.facet_solver_reader.proofs.Each.{count_from, count_up_to}
+use Rattle.facet_solver_reader.proofs.Each.{count_up_to}
 
 -- as many values as shapes are read one by one
 pub count_of_tuple : (reads : Reads) (ss : List ℕ) (vs : List Tree) (n : Count)
@@ -49,17 +49,6 @@ count_up_to_place_at reads ss vs i s v m n at_s at_v h g =
     let same_v : get_or vs i v ≡ v = get_or_from_slice_get vs i v v at_v in
     count_up_to_place reads ss vs i (s, v) m n (slice_get_within ss i s at_s)
     (slice_get_within vs i v at_v) h (rw (same_s, same_v) g)
-
--- one value more, from a place on, backward
-pub count_from_place : (reads : Reads) (ss : List ℕ) (vs : List Tree) (i : ℕ) (d : ℕ × Tree)
-    (m n : Count) → 0 < i → i ≤ length ss → i ≤ length vs
-    → Counted (reads (of_shape (get_or ss (i - 1) d.0)) (get_or vs (i - 1) d.1)) m
-    → Counted (ReadsEach (ReadsPlace reads) (drop i (zip ss vs))) n
-    → Counted (ReadsEach (ReadsPlace reads) (drop (i - 1) (zip ss vs))) (times m n)
-count_from_place reads ss vs i d m n positive within_shapes within_values h g =
-    count_from (ReadsPlace reads) (zip ss vs) i d m n positive (omega (arith, length-zip ss vs))
-    (subst (λ (p : ℕ × Tree). Counted (ReadsPlace reads p) m)
-    (sym (get_or-zip ss vs (i - 1) d (omega arith) (omega arith))) h) g
 
 -- a member whose name is a key is read as its value is
 pub count_of_entry : (is_key : Name → Bool) (reads : Reads) (t : Target) (m : Member) (n : Count)

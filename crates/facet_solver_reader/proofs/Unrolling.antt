@@ -1,8 +1,5 @@
 -- A target that asks others in fewer steps than some number is read by what it asks.
 use Rattle.std.proofs.Common.{◌≡◌, ◌↔◌, ◌≤◌, ◌+◌, sym, subst, ℕ, ◌-◌, zero, suc, arith}
-use Rattle.facet_solver_reader.specs.declared.count.Count.{Count}
-use Rattle.facet_solver_reader.specs.declared.count.Count.TheVariants.{None as NoCount}
-use Rattle.facet_solver_reader.specs.Counted.{Counted}
 use Rattle.facet_solver_reader.specs.Documents.{Tree}
 use Rattle.facet_solver_reader.specs.Parts.{Target}
 use Rattle.facet_solver_reader.specs.Choices.{Reading}
@@ -11,7 +8,6 @@ use Rattle.facet_solver_reader.specs.Rules.{Rules}
 use Rattle.facet_solver_reader.specs.Values.{Inner, ReadsTarget, ReadsWithin, ReadsDown}
 use Rattle.facet_solver_reader.specs.Asking.{Asks}
 use Rattle.facet_solver_reader.specs.Reached.{IsRanked}
-use Rattle.facet_solver_reader.proofs.Counting.{counted_same}
 use Rattle.facet_solver_reader.proofs.Asking.{target_by_asked}
 
 -- one step more than a target's rank reads the same
@@ -100,16 +96,3 @@ unrolled rules d (suc n) t v ranked r = (
 
     asked_steps : (u : Target) → Asks rules t u → (q : Reading) → down u v q → steps u v q
     asked_steps u asks q h = (down_at_rank rules d n u v (ranked u asks) q).0 h
-
--- the count of a ranked target, by what it asks
-pub count_of_target : (rules : Rules) (d n : ℕ) (t : Target) (v : Tree) (c : Count)
-    → IsRanked n rules t → Counted (ReadsTarget rules (inner_down rules d) t v) c
-    → Counted (ReadsDown rules (suc d) t v) c
-count_of_target rules d n t v c ranked h =
-    counted_same (ReadsTarget rules (inner_down rules d) t v) (ReadsDown rules (suc d) t v) c
-    (λ r. (unrolled rules d n t v ranked r).1) (λ r. (unrolled rules d n t v ranked r).0) h
-
--- nothing is read where no depth is left
-pub count_of_too_deep : (rules : Rules) (t : Target) (v : Tree)
-    → Counted (ReadsDown rules zero t v) NoCount
-count_of_too_deep rules t v = λ r h. h

@@ -1,5 +1,5 @@
 -- The counts of values that are read by variants without a name.
-use Rattle.std.proofs.Common.{◌≡◌, ◌≢◌, inl, inr, ⊎_elim, sym, subst, refl, ℕ, ◌+◌, ◌≤◌, List, true}
+use Rattle.std.proofs.Common.{◌≡◌, ◌≢◌, inl, inr, ⊎_elim, sym, subst, refl, ℕ, ◌+◌, ◌≤◌, List}
 use Rattle.std.proofs.Common.{false, Option, Some, slice_get, length, arith}
 use Rattle.std.proofs.lemmas.Option.{slice_get_past}
 use Rattle.std.specs.List.{list_any}
@@ -12,31 +12,16 @@ use Rattle.facet_solver_reader.specs.Kinds.{is_null, is_object}
 use Rattle.facet_solver_reader.specs.Parts.{ListId}
 use Rattle.facet_solver_reader.specs.Choices.{Reading, a_value, each_of, an_object, a_variant}
 use Rattle.facet_solver_reader.specs.Objects.{Reads, ReadsObject}
-use Rattle.facet_solver_shape.specs.declared.shape.range.WholeRange.{WholeRange}
 use Rattle.facet_solver_reader.specs.Rules as types
-use Rattle.facet_solver_reader.specs.Rules.{Rules, End, Alternative, AlternativeKind}
-use Rattle.facet_solver_reader.specs.Rules.{an_untagged_variant, joins, a_fallback, other}
+use Rattle.facet_solver_reader.specs.Rules.{Rules, Alternative, AlternativeKind}
+use Rattle.facet_solver_reader.specs.Rules.{an_untagged_variant, a_fallback}
 use Rattle.facet_solver_reader.specs.Values.{Inner, is_whole_of, ReadsByKind, ReadsByItself}
 use Rattle.facet_solver_reader.specs.Values.{ReadsByOne, ReadsByFallback, ReadsJoined, ReadsAlone}
 use Rattle.facet_solver_reader.specs.Values.{ReadsFallback, ReadsDirectly, ReadsLast, ReadsEnd}
 use Rattle.facet_solver_reader.proofs.Counting.{counted_same, counted_plus}
 use Rattle.facet_solver_reader.proofs.Forms.{count_as_no_value, count_as_object, OfVariantBelow}
-use Rattle.facet_solver_reader.proofs.Forms.{count_below_none, count_below_more, count_below_same}
+use Rattle.facet_solver_reader.proofs.Forms.{count_below_more, count_below_same}
 use Rattle.facet_solver_reader.proofs.Forms.{count_below_all}
-
--- a variant that joins others reads nothing by itself
-pub count_of_joining : (reads : Reads) (others : List Alternative) (a : Alternative) (v : Tree)
-    → a.kind ≡ joins → Counted (ReadsByItself reads others a v) NoCount
-count_of_joining reads others a v e = λ r.
-    subst (λ k. ReadsByKind k (list_any (is_whole_of v) others) v r (reads a.content v r) → ⊥)
-    (sym e) (λ h. h)
-
--- nor does a fallback
-pub count_of_later : (reads : Reads) (others : List Alternative) (a : Alternative) (v : Tree)
-    → a.kind ≡ a_fallback → Counted (ReadsByItself reads others a v) NoCount
-count_of_later reads others a v e = λ r.
-    subst (λ k. ReadsByKind k (list_any (is_whole_of v) others) v r (reads a.content v r) → ⊥)
-    (sym e) (λ h. h)
 
 -- the readings by an alternative are those by its kind
 by_kind : (reads : Reads) (others : List Alternative) (a : Alternative) (v : Tree)
@@ -67,47 +52,10 @@ count_of_not_null_alone reads others a v e f =
     none null f = absurd (cc)
     none w f = λ r h. h
 
--- one that ends in a type of whole numbers reads a value as its content
-pub count_of_whole_alone : (reads : Reads) (others : List Alternative) (a : Alternative)
-    (v : Tree) (range : WholeRange) (n : Count) → a.kind ≡ types.a_whole range
-    → Counted (reads a.content v) n → Counted (ReadsByItself reads others a v) n
-count_of_whole_alone reads others a v range n e h =
-    by_kind reads others a v (types.a_whole range) n e h
-
--- so does one that ends in a type of floats, if no other reads the value by its range
-pub count_of_float_alone : (reads : Reads) (others : List Alternative) (a : Alternative)
-    (v : Tree) (n : Count) → a.kind ≡ types.a_float → list_any (is_whole_of v) others ≡ false
-    → Counted (reads a.content v) n → Counted (ReadsByItself reads others a v) n
-count_of_float_alone reads others a v n e f h =
-    by_kind reads others a v types.a_float n e
-    (counted_same (reads a.content v)
-    (λ r. (list_any (is_whole_of v) others ≡ false) × reads a.content v r) n
-    (λ r p. (f, p)) (λ r p. p.1) h)
-
--- else it reads nothing
-pub count_of_float_after_whole : (reads : Reads) (others : List Alternative) (a : Alternative)
-    (v : Tree) → a.kind ≡ types.a_float → list_any (is_whole_of v) others ≡ true
-    → Counted (ReadsByItself reads others a v) NoCount
-count_of_float_after_whole reads others a v e f =
-    by_kind reads others a v types.a_float NoCount e
-    (λ r p. let no : list_any (is_whole_of v) others ≡ false = p.0 in absurd (cc))
-
--- any other reads a value as its content
-pub count_of_other_alone : (reads : Reads) (others : List Alternative) (a : Alternative)
-    (v : Tree) (n : Count) → a.kind ≡ other → Counted (reads a.content v) n
-    → Counted (ReadsByItself reads others a v) n
-count_of_other_alone reads others a v n e h = by_kind reads others a v other n e h
-
 -- a reading by an alternative before the i-th by itself
 abbrev pub ReadsAloneBelow : Reads → List Alternative → Tree → ℕ → Reading → Type 0
 ReadsAloneBelow reads alone v i r =
     OfVariantBelow (λ k q. ReadsByOne reads alone (slice_get alone k) v q) i r
-
--- no alternative is before the first
-pub count_alone_none : (reads : Reads) (alone : List Alternative) (v : Tree)
-    → Counted (ReadsAloneBelow reads alone v 0) NoCount
-count_alone_none reads alone v =
-    count_below_none (λ k q. ReadsByOne reads alone (slice_get alone k) v q)
 
 -- one alternative more is the sum
 pub count_alone_more : (reads : Reads) (alone : List Alternative) (v : Tree) (i : ℕ)
@@ -131,12 +79,6 @@ count_alone_all reads alone v i n all h =
 abbrev pub ReadsFallbackBelow : Reads → List Alternative → Tree → ℕ → Reading → Type 0
 ReadsFallbackBelow reads alone v i r =
     OfVariantBelow (λ k q. ReadsByFallback reads (slice_get alone k) v q) i r
-
--- no fallback is before the first
-pub count_fallback_none : (reads : Reads) (alone : List Alternative) (v : Tree)
-    → Counted (ReadsFallbackBelow reads alone v 0) NoCount
-count_fallback_none reads alone v =
-    count_below_none (λ k q. ReadsByFallback reads (slice_get alone k) v q)
 
 -- one fallback more is the sum
 pub count_fallback_more : (reads : Reads) (alone : List Alternative) (v : Tree) (i : ℕ)

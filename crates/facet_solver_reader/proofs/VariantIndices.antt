@@ -1,11 +1,10 @@
 -- Which variant a value is read as, by its index.
 use Rattle.std.proofs.Common.{◌≡◌, ◌≢◌, ◌∷◌, [], refl, subst, ℕ, List, slice_get, inl}
-use Rattle.std.proofs.Common.{arith, inr, length, true, ⊎_elim}
-use Rattle.facet_solver_shape.specs.Names.{Name}
+use Rattle.std.proofs.Common.{inr, true, ⊎_elim}
 use Rattle.facet_solver_reader.specs.declared.count.Count.{Count}
 use Rattle.facet_solver_reader.specs.declared.count.Count.TheVariants.{None as NoCount, One}
 use Rattle.facet_solver_reader.specs.declared.count.Count.TheVariants.{Several}
-use Rattle.facet_solver_reader.specs.Choices.{Choice, Reading, a_value, each_of, an_object}
+use Rattle.facet_solver_reader.specs.Choices.{Choice, Reading, an_object}
 use Rattle.facet_solver_reader.specs.Choices.{a_variant}
 use Rattle.facet_solver_reader.specs.Counted.{Counted}
 use Rattle.facet_solver_reader.specs.Documents.{Member, Members, Tree, list, member, members, null}
@@ -16,10 +15,9 @@ use Rattle.facet_solver_reader.specs.Objects.{Reads, ReadsObject}
 use Rattle.facet_solver_reader.specs.Parts.{ListId}
 use Rattle.facet_solver_reader.specs.Rules.{Alternative, NamedVariant, Rules}
 use Rattle.facet_solver_reader.specs.Rules.{an_untagged_variant}
-use Rattle.facet_solver_reader.specs.Values.{Inner, NamesUnit, ReadsAlone, ReadsDirectly, ReadsEnd}
+use Rattle.facet_solver_reader.specs.Values.{Inner, ReadsAlone, ReadsDirectly, ReadsEnd}
 use Rattle.facet_solver_reader.specs.Values.{ReadsFallback, ReadsJoined, ReadsLast, ReadsNamed}
 use Rattle.facet_solver_reader.specs.Values.{ReadsNamedVariant}
-use Rattle.facet_solver_reader.proofs.NamedVariants.{count_of_other_members}
 use Rattle.facet_solver_reader.proofs.UntaggedVariants.{count_directly}
 
 -- what is counted, and not none of it, is there
@@ -28,30 +26,6 @@ pub some_counted : {X : Type 0} (P : X → Type 0) (n : Count) → n ≢ NoCount
 some_counted P NoCount some h = absurd (some refl)
 some_counted P One some h = (h.value, h.has)
 some_counted P Several some h = (h.first, h.has_first)
-
--- a text that is read as a variant names a unit
-pub unit_named : (reads : Reads) (vs : List NamedVariant) (v : Tree) (x : Name) (r : Reading)
-    → v ≡ text x → ReadsNamedVariant reads vs v r → (k : ℕ) × NamesUnit (slice_get vs k) x
-unit_named reads vs v x r is h = of r (subst (λ u. ReadsNamedVariant reads vs u r) is h)
-  where
-    of : (q : Reading) → ReadsNamedVariant reads vs (text x) q
-        → (k : ℕ) × NamesUnit (slice_get vs k) x
-    of a_value w = absurd w
-    of (each_of rs) w = absurd w
-    of (an_object c) w = absurd w
-    of (a_variant k a_value) w = (k, w)
-    of (a_variant k (each_of rs)) w = absurd w
-    of (a_variant k (an_object c)) w = absurd w
-    of (a_variant k (a_variant j q)) w = absurd w
-
--- an object that is read as a variant has one member
-pub single_named : (reads : Reads) (vs : List NamedVariant) (ms : Members) (r : Reading)
-    → ReadsNamedVariant reads vs (object ms) r → length (members ms) ≡ 1
-single_named reads vs no_members r h =
-    absurd (count_of_other_members reads vs no_members (λ e. cc) r h)
-single_named reads vs (member n v no_members) r h = refl
-single_named reads vs (member n v (member n2 v2 ms)) r h =
-    absurd (count_of_other_members reads vs (member n v (member n2 v2 ms)) (λ e. omega arith) r h)
 
 -- an object of one member is read as the variant that reads the member
 pub named_by_member : (reads : Reads) (vs : List NamedVariant) (ms : Members) (x : Member) (k : ℕ)

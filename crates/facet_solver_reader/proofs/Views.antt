@@ -1,10 +1,10 @@
 -- A document in memory as a tree, a level at a time.
-use Rattle.std.proofs.Common.{◌≡◌, List, [], ◌∷◌, map, Bool, refl, ap, rules, Vec}
+use Rattle.std.proofs.Common.{◌≡◌, Bool, rules, Vec}
 use Rattle.std.specs.Borrow.{Bor}
 use Rattle.std.specs.declared.alloc.Global.{Global}
 use Rattle.facet_solver_shape.specs.Names.{Name}
 use Rattle.facet_solver_reader.specs.Numbers.{number_view}
-use Rattle.facet_solver_reader.specs.Documents.{null, truth, number, text, list, object, view, items, items_view, members, members_view, member_view}
+use Rattle.facet_solver_reader.specs.Documents.{null, truth, number, text, list, object, view, items_view, members_view}
 use Rattle.facet_solver_reader.specs.declared.document.number.Number.{Number}
 use Rattle.facet_solver_reader.specs.declared.document.Document.{Document, Null, Bool as Truth, Number as Numeric, Text, List as Listed, Object, the_lemmas}
 
@@ -25,13 +25,3 @@ view-List v = search (rules, the_lemmas)
 
 pub view-Object : (v : Vec (Bor Name × Document) Global) → view (Object v) ≡ object (members_view v.items)
 view-Object v = search (rules, the_lemmas)
-
--- the values of a list, and the members of an object, are those in memory
-
-pub items-items_view : (ds : List Document) → items (items_view ds) ≡ map view ds
-items-items_view [] = refl
-items-items_view (d ∷ ds) = ap (λ ts. view d ∷ ts) (items-items_view ds)
-
-pub members-members_view : (ms : List (Bor Name × Document)) → members (members_view ms) ≡ map member_view ms
-members-members_view [] = refl
-members-members_view (m ∷ ms) = ap (λ rest. member_view m ∷ rest) (members-members_view ms)

@@ -18,7 +18,7 @@ use Rattle.facet_solver_reader.specs.Objects.{TakesRest, IsReading, ReadsAll, Re
 use Rattle.facet_solver_reader.specs.Objects.{ReadsObject, taking, ignoring}
 use Rattle.facet_solver_reader.specs.Known.{Chooses}
 use Rattle.facet_solver_reader.specs.Rules as types
-use Rattle.facet_solver_reader.specs.Rules.{Rules, End, Content, NamedVariant, no_content, as_shape}
+use Rattle.facet_solver_reader.specs.Rules.{Rules, End, Content, NamedVariant}
 use Rattle.facet_solver_reader.specs.Rules.{as_tuple, as_object, an_option, a_list, a_tuple, a_map}
 use Rattle.facet_solver_reader.specs.Rules.{a_named_variant, an_untagged_variant}
 use Rattle.facet_solver_reader.specs.Values.{ReadsEach, ReadsPlace, ReadsTuple, ReadsEntry}

@@ -23,7 +23,7 @@ use Rattle.facet_solver_reader.specs.Types.{end_of}
 use Rattle.facet_solver_reader.specs.Views.{end_view, parts_view}
 use Rattle.facet_solver_reader.specs.WorkList.{HasEnd, IsDone, IsGoneThrough, IsUnderWay}
 use Rattle.facet_solver_reader.proofs.AllMet.{root_met}
-use Rattle.facet_solver_reader.proofs.Marks.{end_still, order_within, part_still, shape_still}
+use Rattle.facet_solver_reader.proofs.Marks.{end_still, part_still, shape_still}
 
 -- nothing is marked at first
 none_marked : (n k : ℕ) → IsMarked (replicate n false) k → ⊥
@@ -244,16 +244,6 @@ module _ (shapes : Catalogue) (every : EveryList) (root p : ℕ) (old new : Reac
     met = λ strict.
         met strict root are ((u.met strict).of_lists k (u.marks.of_order p (AList k) at)) (u.met strict);
   }
-
-  -- fewer are left
-  pub fewer : (x : Marked) → slice_get old.marks.order.items p ≡ Some x
-      → p < length shapes + length every.lists.items
-  fewer x at =
-      let here = slice_get_within old.marks.order.items p x at in
-      let long = order_within old.marks u.marks in
-      let a = u.of_shapes in
-      let b = u.of_lists in
-      omega (arith, here, long, a, b)
 
 -- what is read at a position of the order
 pub read_order : (order : List Marked) (p : ℕ) (x y : Marked) → p < length order

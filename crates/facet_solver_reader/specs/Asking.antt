@@ -18,8 +18,3 @@ pub record AsksOn (rules : Rules) (t : Target) (On : Target → Type 0) : Type 0
 abbrev pub ComesTo : Rules → ℕ → Target → Target → Type 0
 ComesTo rules zero t u = t ≡ u
 ComesTo rules (suc n) t u = AsksOn rules t (λ w. ComesTo rules n w u)
-
--- a target comes to itself, in one step or more
-pub record AsksItself (rules : Rules) (t : Target) : Type 0 where
-  pub steps : ℕ
-  pub way : ComesTo rules (suc steps) t t

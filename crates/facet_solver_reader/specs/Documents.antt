@@ -91,7 +91,3 @@ items_view ds = items_of (map view ds)
 -- members in memory
 abbrev pub members_view : List (Bor Name × Document) → Members
 members_view ms = members_of (map (λ m. (m.0, view m.1)) ms)
-
--- one member in memory
-abbrev pub member_view : Bor Name × Document → Member
-member_view m = record { name = m.0.now; value = view m.1 }

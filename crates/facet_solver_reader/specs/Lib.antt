@@ -12,7 +12,6 @@ pub mod Values
 pub mod Branches
 pub mod Repeated
 pub mod Kinds
-pub mod Variants
 pub mod Readings
 pub mod Ends
 pub mod Content

@@ -5,7 +5,7 @@ use Rattle.facet_solver_reader.specs.Parts.{ListId, CatchAll, of_map, of_anythin
 use Rattle.facet_solver_reader.specs.Choices.{Choice, Item, member_of, catch_all_of, presence_of}
 use Rattle.facet_solver_reader.specs.Known.{Chooses}
 use Rattle.facet_solver_reader.specs.Rules as rules
-use Rattle.facet_solver_reader.specs.Rules.{Rules, End, Content, NamedVariant, Alternative, AlternativeKind, joins, no_content, as_shape, as_tuple, as_object, an_option, a_list, a_tuple, a_map, an_object, a_named_variant, an_untagged_variant}
+use Rattle.facet_solver_reader.specs.Rules.{Rules, End, Content, AlternativeKind, joins, as_shape, as_tuple, as_object, an_option, a_list, a_tuple, a_map, an_object, a_named_variant, an_untagged_variant}
 
 -- the content that an alternative of a kind asks of the same value
 abbrev pub asked_by_kind : AlternativeKind → Target → List Target
@@ -101,16 +101,6 @@ abbrev pub LeadsTo : Rules → Target → Target → Type 0
 LeadsTo rules from t =
     Any (λ u. u ≡ t) (asked rules from) ⊎ Any (λ u. u ≡ t) (within rules from)
     ⊎ IsReadByParts rules from t
-
--- a target is reached from another in so many steps
-abbrev pub IsReachedIn : ℕ → Rules → Target → Target → Type 0
-IsReachedIn zero rules root t = root ≡ t
-IsReachedIn (suc n) rules root t =
-    (u : Target) × IsReachedIn n rules root u × LeadsTo rules u t
-
--- a document that is read as a target can come to another
-abbrev pub IsReached : Rules → Target → Target → Type 0
-IsReached rules root t = (n : ℕ) × IsReachedIn n rules root t
 
 -- every way of asking the same value on from a target has fewer than so many targets
 abbrev pub IsRanked : ℕ → Rules → Target → Type 0

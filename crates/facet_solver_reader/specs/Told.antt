@@ -29,7 +29,7 @@ use Rattle.facet_solver_reader.specs.Rules.{Alternative, Content, End, NamedVari
 use Rattle.facet_solver_reader.specs.Rules.{a_list, a_map, a_named_variant, a_text, a_tuple}
 use Rattle.facet_solver_reader.specs.Rules.{an_option, an_untagged_variant, anything}
 use Rattle.facet_solver_reader.specs.Rules.{as_object, as_shape, as_tuple, no_content}
-use Rattle.facet_solver_reader.specs.Steps.{Step, a_field, a_rest, an_absence, steps_through, Walk}
+use Rattle.facet_solver_reader.specs.Steps.{Step, a_field, a_rest, an_absence, steps_through}
 use Rattle.facet_solver_reader.specs.Steps as steps
 
 -- the end as which content is told: what is within stands for it

@@ -124,10 +124,7 @@ impl<'c> Reader<'c> {
         ensures error { IfErr result (IsWhyNot (rules_of self.now.shapes self.now.strict)
             (of_shape self.now.root) (value_of nodes.now 0)) }
     {
-        let mut memo = match Memo::new(alloc, nodes.len()) {
-            Ok(memo) => memo,
-            Err(_) => return Err(ReadError::OutOfMemory),
-        };
+        let mut memo = Memo::new(alloc, nodes.len());
         let root = Target::Shape(self.root);
         let steps = self.tables.steps;
         match read_target(&self.tables, nodes, &mut memo, 0, &root, steps) {
@@ -156,7 +153,7 @@ impl<'c> Reader<'c> {
         ensures error { IfErr result (HasNoCount (view document.now)) }
     {
         let nodes = Nodes::new(alloc, document)?;
-        let mut memo = Memo::new(alloc, nodes.len())?;
+        let mut memo = Memo::new(alloc, nodes.len());
         let root = Target::Shape(self.root);
         let steps = self.tables.steps;
         Ok(count_target(&self.tables, &nodes, &mut memo, 0, &root, steps)?)

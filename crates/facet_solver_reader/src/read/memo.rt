@@ -1,5 +1,5 @@
 //! Counts that are known: how often a value is read as a shape, or as the content of a variant.
-ghost use Rattle.std.specs.Prelude.{◌≡◌, [], IfSome, IfOk, OnOk, OnErr};
+ghost use Rattle.std.specs.Prelude.{◌≡◌, [], IfSome, OnOk, OnErr};
 ghost use Rattle.facet_solver_reader.specs.Memo.{IsAdded, IsNoted, asked_view};
 
 use crate::count::Count;
@@ -64,7 +64,10 @@ impl Ways {
 /// found anew.
 #[derive(Debug, Drop)]
 pub(crate) struct Memo {
-    /// One more than the index of the first entry of each value, or 0.
+    /// How many values the document has.
+    nodes: usize,
+    /// One more than the index of the first entry of each value, or 0. It is empty until a count is
+    /// kept.
     first: Vec<usize>,
     entries: Vec<MemoEntry>,
     /// Those of each entry.
@@ -72,19 +75,16 @@ pub(crate) struct Memo {
 }
 
 impl Memo {
-    /// No counts, of so many values.
-    pub(crate) fn new(alloc: Global, nodes: usize) -> Result<Memo, AllocError>
-        ensures { IfOk result (λ memo. memo.entries.items ≡ []) }
+    /// No counts, of so many values. It takes no memory until one is kept.
+    pub(crate) fn new(alloc: Global, nodes: usize) -> Memo
+        ensures { result.entries.items ≡ [] }
     {
-        let mut first = Vec::with_capacity(alloc, nodes)?;
-        for _ in 0..nodes {
-            first.push(0)?;
-        }
-        Ok(Memo {
-            first,
+        Memo {
+            nodes,
+            first: Vec::new(alloc),
             entries: Vec::new(alloc),
             ways: Vec::new(alloc),
-        })
+        }
     }
 
     /// How often a value is read as what is asked, if that is known.
@@ -115,6 +115,9 @@ impl Memo {
             self.new.entries.items) }
         ensures err { OnErr result (self.new.entries.items ≡ self.old.entries.items) }
     {
+        if self.first.is_empty() {
+            self.first.resize(self.nodes, 0)?;
+        }
         self.ways.push(Ways { zero: 0, one: 0 })?;
         self.entries.push(MemoEntry {
             node,

@@ -1,8 +1,6 @@
-use Rattle.std.proofs.Common.{◌≡◌, ◌∙◌, sym, ap, subst, true, false, inl, inr, map, slice_get, Some}
-use Rattle.std.proofs.Common.{Option, ℕ, refl}
-use Rattle.facet_solver_reader.specs.declared.count.Count.TheVariants.{One}
+use Rattle.std.proofs.Common.{◌≡◌, ◌∙◌, sym, subst, true, false, inl, inr}
+use Rattle.std.proofs.Common.{refl}
 use Rattle.facet_solver_reader.specs.Branches.{CanBePresent, ReadsPart}
-use Rattle.facet_solver_reader.specs.Chosen.{IsPicked}
 use Rattle.facet_solver_reader.specs.Counted.{Counted}
 use Rattle.facet_solver_reader.specs.Known.{Chooses, HasChoice}
 use Rattle.facet_solver_reader.specs.Objects.{Touches}

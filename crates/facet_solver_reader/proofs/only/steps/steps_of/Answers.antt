@@ -1,8 +1,7 @@
-use Rattle.std.proofs.Common.{◌≡◌, ◌∙◌, sym, ap, subst, refl, List, [], ◌∷◌, ◌++◌, map, Option}
+use Rattle.std.proofs.Common.{◌≡◌, sym, ap, subst, refl, List, [], ◌∷◌, ◌++◌, Option}
 use Rattle.std.specs.Prelude.{IsNone}
 use Rattle.facet_solver_reader.specs.declared.only.steps.Frame.{Frame}
 use Rattle.facet_solver_reader.specs.declared.only.steps.Step as code
-use Rattle.facet_solver_reader.specs.Planned.{IsPlanIfOne}
 use Rattle.facet_solver_reader.specs.UnderWay.{IsGoing, with_inner}
 use Rattle.facet_solver_reader.proofs.StepsOne.{all_going, first_going}
 use Rattle.facet_solver_reader.proofs.only.steps.steps_of.Goals as goal

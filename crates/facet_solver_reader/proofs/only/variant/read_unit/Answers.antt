@@ -1,6 +1,5 @@
-use Rattle.std.proofs.Common.{◌≡◌, ◌∙◌, sym, subst, refl, ap, map, length, slice_get, Some, false}
+use Rattle.std.proofs.Common.{◌≡◌, sym, subst, refl, ap, map, length, slice_get, Some, false}
 use Rattle.std.proofs.lemmas.Option.{slice_get_read}
-use Rattle.facet_solver_reader.specs.declared.count.Count.{Count}
 use Rattle.facet_solver_reader.specs.declared.count.Count.TheVariants.{One}
 use Rattle.facet_solver_reader.specs.declared.reading.ReadingKind.TheVariants as kinds
 use Rattle.facet_solver_reader.specs.declared.reading.ReadingKind.TheViews.{roll-Reading}
@@ -9,7 +8,7 @@ use Rattle.facet_solver_reader.specs.Counted.{Counted}
 use Rattle.facet_solver_reader.specs.Documents.{Tree, text}
 use Rattle.facet_solver_reader.specs.Kinds.{is_object}
 use Rattle.facet_solver_reader.specs.Nodes.{value_of}
-use Rattle.facet_solver_reader.specs.Readings.{ReadsValue, inner}
+use Rattle.facet_solver_reader.specs.Readings.{inner}
 use Rattle.facet_solver_reader.specs.Rules.{NamedVariant, a_named_variant}
 use Rattle.facet_solver_reader.specs.Tables.{rules_at}
 use Rattle.facet_solver_reader.specs.Values.{ReadsEnd}

@@ -11,18 +11,18 @@ use Rattle.facet_solver_reader.specs.Why.{IsWhyNot}
 use Rattle.facet_solver_reader.proofs.reader.Reader.read_nodes.Goals as goal
 
 -- there is one reading, and a reading is told: it is that one
-pub returns-in-Ok-read_target-clause-ok : goal.returns-in-Ok-read_target-clause-ok
-returns-in-Ok-read_target-clause-ok c =
+pub returns-in-Ok-clause-ok : goal.returns-in-Ok-clause-ok
+returns-in-Ok-clause-ok c =
     let t = c.self.inside.tables in
     let v = value_of c.args.nodes.now 0 in
     let reads = ReadsValue (rules_at t) (of_shape c.self.inside.root) v in
-    let read = c.in-Ok-read_target.ensures.told in
+    let read = c.in-Ok.ensures.told in
     let one = read.0 in
     let told = read.1 in
     subst
     (λ (r : ReaderView).
     IsOnlyTold (rules_of r.shapes r.strict) r.shapes (of_shape r.root) v
-    c.in-Ok-read_target.reading)
+    c.in-Ok.reading)
     c.self.view_is
     (record {
       told = told;

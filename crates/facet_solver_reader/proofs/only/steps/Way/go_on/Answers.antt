@@ -17,7 +17,7 @@ use Rattle.facet_solver_reader.specs.FieldPlaces as spec
 use Rattle.facet_solver_reader.specs.FieldPlaces.{Path}
 use Rattle.facet_solver_reader.specs.Chosen.{IsPicked, IsPickedBranch}
 use Rattle.facet_solver_reader.specs.Known.{Chooses, HasChoice}
-use Rattle.facet_solver_reader.specs.Parts.{ListId, Selection, a_member, a_selection, a_catch_all}
+use Rattle.facet_solver_reader.specs.Parts.{ListId, Selection, a_selection}
 use Rattle.facet_solver_reader.specs.Planned as planned
 use Rattle.facet_solver_reader.specs.Reading.{IsListCount, IsObject, IsPartCount}
 use Rattle.facet_solver_reader.specs.Tables.{AreTables, ListIsServed, rules_at}
