@@ -16,10 +16,11 @@ use Rattle.facet_solver_reader.specs.declared.reading.ReadingKind.TheVariants as
 use Rattle.facet_solver_reader.specs.declared.reading.VariantName.{VariantName}
 use Rattle.facet_solver_reader.specs.declared.tables.Tables.{Tables}
 use Rattle.facet_solver_reader.specs.Choices.{Choice, Reading, a_value, an_object, a_variant}
+use Rattle.facet_solver_reader.specs.Counted.{Counted}
 use Rattle.facet_solver_reader.specs.Documents.{Tree}
-use Rattle.facet_solver_reader.specs.Nodes.{members_in, value_of}
+use Rattle.facet_solver_reader.specs.Nodes.{children, members_in, value_of}
 use Rattle.facet_solver_reader.specs.Objects.{ReadsObject}
-use Rattle.facet_solver_reader.specs.Parts.{ListId, Target}
+use Rattle.facet_solver_reader.specs.Parts.{ListId, Target, of_shape}
 use Rattle.facet_solver_reader.specs.Reading.{IsCount}
 use Rattle.facet_solver_reader.specs.Readings.{ReadsValue, inner}
 use Rattle.facet_solver_reader.specs.Rules as types
@@ -47,6 +48,12 @@ IsAsItIs d w = (w.variants.items ≡ []) × (w.kind ≡ kinds.Value d)
 abbrev pub IsToldAt : Tables → Nodes → ℕ → Target → code.Reading → Type 0
 IsToldAt t nodes node target w =
     IsTold (rules_at t) t.shapes.now target (value_of nodes node) w
+
+-- the first values within a numbered one, so many, have one reading as a shape each
+abbrev pub AreReadOnce : Tables → Nodes → ℕ → ℕ → ℕ → Type 0
+AreReadOnce t nodes node shape read =
+    (i : ℕ) (v : Tree) → i < read → slice_get (children (value_of nodes node)) i ≡ Some v
+    → Counted (ReadsValue (rules_at t) (of_shape shape) v) One
 
 -- a reading of a numbered value as an end is told
 pub record IsToldAs (t : Tables) (nodes : Nodes) (node : ℕ) (e : End) (w : code.Reading)

@@ -7,6 +7,7 @@
 mod content;
 mod each;
 mod found;
+mod known;
 mod members;
 mod not_one;
 mod object;

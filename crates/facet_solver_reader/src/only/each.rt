@@ -10,6 +10,7 @@ ghost use Rattle.facet_solver_reader.specs.Tables.{ShapeIsServed, rules_at};
 ghost use Rattle.facet_solver_reader.specs.ToldAt.{IsRead, IsToldAs};
 ghost use Rattle.facet_solver_reader.specs.Values.{ReadsEnd};
 
+use super::known::keep_read;
 use super::not_one::NotOne;
 use super::target::read_shape;
 use crate::document::Document;
@@ -44,8 +45,13 @@ pub(super) fn read_items<'c, 'v, 'd>(
     let mut readings = Vec::with_capacity(tables.alloc, items.len())?;
     for index in 0..items.len() {
         let item = nodes.child(node, index);
-        let reading = read_shape(tables, nodes, memo, item, shape, tables.steps)?;
-        push(&mut readings, reading)?;
+        match read_shape(tables, nodes, memo, item, shape, tables.steps) {
+            Ok(reading) => push(&mut readings, reading)?,
+            Err(error) => {
+                keep_read(tables, nodes, memo, node, shape, index)?;
+                return Err(error);
+            }
+        }
     }
     Ok(Reading::plain(tables.alloc, ReadingKind::List(readings)))
 }
@@ -112,8 +118,13 @@ pub(super) fn read_entries<'c, 'v, 'd>(
         }
         names.push(name)?;
         let member = nodes.child(node, index);
-        let reading = read_shape(tables, nodes, memo, member, value, tables.steps)?;
-        push(&mut values, reading)?;
+        match read_shape(tables, nodes, memo, member, value, tables.steps) {
+            Ok(reading) => push(&mut values, reading)?,
+            Err(error) => {
+                keep_read(tables, nodes, memo, node, value, index)?;
+                return Err(error);
+            }
+        }
     }
     Ok(Reading::plain(tables.alloc, ReadingKind::Map { names, values }))
 }

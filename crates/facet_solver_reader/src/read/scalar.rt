@@ -12,7 +12,7 @@ use crate::key::has_one_char;
 
 /// Whether nothing need be kept of what a shape comes to: it is told at once, or an option, of which
 /// the inside is kept.
-pub(super) fn is_told_at_once(end: &End<'_>) -> bool {
+pub(crate) fn is_told_at_once(end: &End<'_>) -> bool {
     match end {
         End::Null
         | End::Truth

@@ -1,7 +1,7 @@
 -- What is told of the only reading of a value is what its parts are told.
 use Rattle.std.proofs.Common.{◌≡◌, ◌∙◌, sym, ap, subst, refl, ℕ, suc, ◌+◌, ◌-◌, ◌<◌, ◌≤◌, List, []}
 use Rattle.std.proofs.Common.{◌∷◌, map, length, Some, slice_get, zip, take, true, false, arith}
-use Rattle.std.proofs.Common.{take_all, ◌++◌, Bor, None, option_map, Ok, get_or, inl, inr}
+use Rattle.std.proofs.Common.{take_all, ◌++◌, Bor, IsTrue, None, option_map, Ok, get_or, inl, inr}
 use Rattle.std.proofs.lemmas.List.{length-map, map-append}
 use Rattle.std.proofs.lemmas.Option.{slice_get_read, slice_get_within, get_or_from_slice_get}
 use Rattle.std.proofs.lemmas.Slice.Zip.{length-zip}
@@ -44,7 +44,7 @@ use Rattle.facet_solver_reader.proofs.InMemory.{at_index, at_seen, list_length, 
 use Rattle.facet_solver_reader.proofs.InMemory.{null_seen, object_children, object_length}
 use Rattle.facet_solver_reader.proofs.InMemory.{scalar_rest, member_there, only_member}
 use Rattle.facet_solver_reader.proofs.Levels.{child_levels}
-use Rattle.facet_solver_reader.proofs.OneEach.{one_at}
+use Rattle.facet_solver_reader.proofs.OneEach.{one_at, one_before, one_value_before}
 use Rattle.facet_solver_reader.proofs.OneEnds.{items_is_list, one_entries, one_inside, one_items}
 use Rattle.facet_solver_reader.proofs.OneEnds.{one_places, option_reads, told_content, by_content}
 use Rattle.facet_solver_reader.proofs.OneEnds.{by_end, read_by_content, read_by_end}
@@ -355,9 +355,24 @@ each::read_entries-read_shape-requires t c =
       ),
     )
 
-pub each::read_entries-returns-in_err-reading-clause-told :
-    goal.each::read_entries-returns-in_err-reading-clause-told
-each::read_entries-returns-in_err-reading-clause-told t c =
+pub each::read_entries-keep_read-requires-clause-once :
+    goal.each::read_entries-keep_read-requires-clause-once
+each::read_entries-keep_read-requires-clause-once t c =
+    let tb = c.args.tables.now in
+    let rules : Rules = rules_at tb in
+    let v : Tree = value_of c.args.nodes.now c.args.node in
+    let tree : v ≡ object (members_view c.in-Object.members.items) =
+    sym c.value.ensures ∙ (ap view c.in-Object.is ∙ seen_object c.in-Object.members) in
+    λ i w less there.
+    one_value_before (λ x. IsTrue (rules.is_key c.args.key x))
+    (ReadsValue rules (of_shape c.args.value)) (members_in v) c.loop-index.index i w less
+    (ap (λ u. slice_get (map (λ m. m.value) (members_in u)) i) tree
+    ∙ sym (ap (λ u. slice_get (children u) i) tree) ∙ there)
+    c.loop-index.invariant.one
+
+pub each::read_entries-returns-in-Err-clause-told :
+    goal.each::read_entries-returns-in-Err-clause-told
+each::read_entries-returns-in-Err-clause-told t c =
     let tb = c.args.tables.now in
     let rules : Rules = rules_at tb in
     let v : Tree = value_of c.args.nodes.now c.args.node in
@@ -375,15 +390,14 @@ each::read_entries-returns-in_err-reading-clause-told t c =
     c.child-member.ensures.child in
     let key : rules.is_key c.args.key c.index.result.now.0.now ≡ true =
     sym c.is_key.ensures ∙ c.if-not-is_key.false in
-    read_err _ _ c.from_residual-in_err-reading.result c.in_err-reading.field-0.0 c.from_residual-in_err-reading.ensures.0 c.from_residual-in_err-reading.ensures.1
-    (not_one_then c.in_err-reading.field-0.0 (Counted (ReadsValue rules (of_shape c.args.value) w) One)
+    not_one_then c.in-Err.error (Counted (ReadsValue rules (of_shape c.args.value) w) One)
     (Counted (ReadsEnd rules (inner rules) (a_map c.args.key c.args.value) v) One)
     (λ one.
     let entry = one_at P (members_in v) c.loop-index.index m here
     (one_entries rules (inner rules) c.args.key c.args.value v one) in
     counted_same (P m) (ReadsValue rules (of_shape c.args.value) w) One (λ r p. p.1)
     (λ r p. (entry.has.0, p)) entry)
-    c.in_err-reading.ensures.told)
+    c.in-Err.ensures.told
 
 pub each::read_entries-loop-index-preserved :
     goal.each::read_entries-loop-index-preserved
@@ -405,21 +419,21 @@ each::read_entries-loop-index-preserved t c =
     c.child-member.ensures.child in
     let key : rules.is_key c.args.key c.index.result.now.0.now ≡ true =
     sym c.is_key.ensures ∙ c.if-not-is_key.false in
-    let told = c.in_ok-reading.ensures.told.1 in
+    let told = c.in-Ok.ensures.told.1 in
     record {
-      sound = c.in_ok-reading.ensures.sound;
+      sound = c.in-Ok.ensures.sound;
       named = ap texts c.in_ok-push.ensures.items
           ∙ names_more c.loop-index.names.items c.index.result.now.0 (members_in v)
           c.loop-index.index m here refl c.loop-index.invariant.named;
       told = subst (EachTold rules tb.shapes.now P f
-          (take (c.loop-index.index + 1) (members_in v))) (sym c.in_ok-push-2.ensures)
+          (take (c.loop-index.index + 1) (members_in v))) (sym c.in_ok-push-in-Ok.ensures)
           (more_told rules tb.shapes.now P f (members_in v) c.loop-index.index m
-          c.loop-index.values.items told.reading c.in_ok-reading.reading here
+          c.loop-index.values.items told.reading c.in-Ok.reading here
           c.loop-index.invariant.told (key, told.reads) told.tells);
       one = count_up_to_at P (members_in v) c.loop-index.index m One One here
           c.loop-index.invariant.one
           (count_of_entry (rules.is_key c.args.key) (ReadsValue rules) (of_shape c.args.value) m One
-          key c.in_ok-reading.ensures.told.0);
+          key c.in-Ok.ensures.told.0);
     }
 
 pub each::read_entries-returns-clause-told :
@@ -491,23 +505,30 @@ each::read_items-read_shape-requires t c =
       ),
     )
 
-pub each::read_items-returns-in_err-reading-clause-told :
-    goal.each::read_items-returns-in_err-reading-clause-told
-each::read_items-returns-in_err-reading-clause-told t c =
+pub each::read_items-keep_read-requires-clause-once :
+    goal.each::read_items-keep_read-requires-clause-once
+each::read_items-keep_read-requires-clause-once t c =
+    let tb = c.args.tables.now in
+    let v : Tree = value_of c.args.nodes.now c.args.node in
+    λ i w less there.
+    one_before (ReadsValue (rules_at tb) (of_shape c.args.shape)) (children v) c.loop-index.index
+    i w less there c.loop-index.invariant.one
+
+pub each::read_items-returns-in-Err-clause-told :
+    goal.each::read_items-returns-in-Err-clause-told
+each::read_items-returns-in-Err-clause-told t c =
     let tb = c.args.tables.now in
     let rules : Rules = rules_at tb in
     let v : Tree = value_of c.args.nodes.now c.args.node in
     let P = ReadsValue rules (of_shape c.args.shape) in
-    let f : Tree → ValueAs = λ w. (rules.end_of c.args.shape, w) in
     let w : Tree = value_of c.args.nodes.now c.child-item.result in
-    read_err _ _ c.from_residual-in_err-reading.result c.in_err-reading.field-0.0 c.from_residual-in_err-reading.ensures.0 c.from_residual-in_err-reading.ensures.1
-    (not_one_then c.in_err-reading.field-0.0 (Counted (P w) One)
+    not_one_then c.in-Err.error (Counted (P w) One)
     (Counted (ReadsEnd rules (inner rules) (a_list c.args.shape) v) One)
     (λ one.
     one_at P (children v) c.loop-index.index w c.child-item.ensures.child
     (one_items rules (inner rules) c.args.shape v
     (items_is_list rules (inner rules) c.args.shape v one) one))
-    c.in_err-reading.ensures.told)
+    c.in-Err.ensures.told
 
 pub each::read_items-loop-index-preserved :
     goal.each::read_items-loop-index-preserved
@@ -517,18 +538,18 @@ each::read_items-loop-index-preserved t c =
     let v : Tree = value_of c.args.nodes.now c.args.node in
     let P = ReadsValue rules (of_shape c.args.shape) in
     let f : Tree → ValueAs = λ w. (rules.end_of c.args.shape, w) in
-    let told = c.in_ok-reading.ensures.told.1 in
+    let told = c.in-Ok.ensures.told.1 in
     record {
-      sound = c.in_ok-reading.ensures.sound;
+      sound = c.in-Ok.ensures.sound;
       told = subst (EachTold rules tb.shapes.now P f
-          (take (c.loop-index.index + 1) (children v))) (sym c.in_ok-push.ensures)
+          (take (c.loop-index.index + 1) (children v))) (sym c.in_ok-push-in-Ok.ensures)
           (more_told rules tb.shapes.now P f (children v) c.loop-index.index
           (value_of c.args.nodes.now c.child-item.result) c.loop-index.readings.items told.reading
-          c.in_ok-reading.reading c.child-item.ensures.child c.loop-index.invariant.told told.reads
+          c.in-Ok.reading c.child-item.ensures.child c.loop-index.invariant.told told.reads
           told.tells);
       one = count_up_to_at P (children v) c.loop-index.index
           (value_of c.args.nodes.now c.child-item.result) One One c.child-item.ensures.child
-          c.loop-index.invariant.one c.in_ok-reading.ensures.told.0;
+          c.loop-index.invariant.one c.in-Ok.ensures.told.0;
     }
 
 pub each::read_items-returns-clause-told :
