@@ -32,6 +32,7 @@ use Rattle.facet_solver_reader.specs.Rules.{Content, End, no_content, as_shape, 
 use Rattle.facet_solver_reader.specs.Rules.{an_option, a_list, a_tuple, a_map, an_object}
 use Rattle.facet_solver_reader.specs.Rules.{a_named_variant, an_untagged_variant}
 use Rattle.facet_solver_reader.specs.Slots.{index_of}
+use Rattle.facet_solver_reader.specs.Tags.{AreTags}
 use Rattle.facet_solver_reader.specs.Tables.{AreTables, ContentIsServed, EndIsServed, IsEnd, IsList}
 use Rattle.facet_solver_reader.specs.Tables.{IsListAt, IsServed, ListIsServed, PartIsServed}
 use Rattle.facet_solver_reader.specs.Tables.{ShapeIsServed, rules_at}
@@ -96,7 +97,7 @@ module _ (t : Tables) where
   part_served (a_catch_all (of_map key value)) h = h
   part_served (a_catch_all of_anything) h = h
 
-module _ (t : Tables) (every : EveryList) (root : ℕ) (marks : Marks) (is_ranked : Vec Bool Global) (listed : AreEveryList t.shapes.now every) (reached : AreReached t.shapes.now every root (reached_of t marks)) (ordered : AreOrdered t.shapes.now every marks.lists.items (ordered_of t)) (ranked : AreRanked t.shapes.now t.ends.items (ranks_of t is_ranked)) (all : (id : ℕ) → HasEnd t.ends.items id → IsMarked is_ranked.items id) where
+module _ (t : Tables) (every : EveryList) (root : ℕ) (marks : Marks) (is_ranked : Vec Bool Global) (listed : AreEveryList t.shapes.now every) (reached : AreReached t.shapes.now every root (reached_of t marks)) (ordered : AreOrdered t.shapes.now every marks.lists.items (ordered_of t)) (ranked : AreRanked t.shapes.now t.ends.items (ranks_of t is_ranked)) (all : (id : ℕ) → HasEnd t.ends.items id → IsMarked is_ranked.items id) (tags : AreTags t.shapes.now t.tags.items) where
   -- a list that is marked, if it has a choice, is there
   list_served : (id : ListId) → BranchIsMarked t.shapes.now every marks.lists.items id
       → ListIsServed t id
@@ -188,7 +189,8 @@ module _ (t : Tables) (every : EveryList) (root : ℕ) (marks : Marks) (is_ranke
 
   -- the tables are made
   pub tables_made : AreTables t
-  tables_made = record { some_steps = ranked.some; ends = end_is; lists = list_is }
+  tables_made =
+      record { some_steps = ranked.some; ends = end_is; lists = list_is; tags = tags }
 
   -- the root can be asked
   pub root_made : root < length t.shapes.now

@@ -48,6 +48,7 @@ pub mod CountingLists
 pub mod CountingObjects
 pub mod Places
 pub mod NodeNames
+pub mod TagTexts
 pub mod Trees
 pub mod Numbering
 pub mod Adding
@@ -107,3 +108,5 @@ pub mod Quoted
 pub mod PathTexts
 pub mod LookUps
 pub mod Alone
+pub mod OneEnum
+pub mod ReadByTag

@@ -83,7 +83,7 @@ by_name_apart es sorted differ = record {
       ∙ differ k (d, 0) (omega (arith, less, long_names es)));
 }
 
-name_at : (es : Named) (k : ℕ) (d : Item) → k < length es → slice_get (names_of (names_among es)) k ≡ Some (get_or es k d).0.now
+pub name_at : (es : Named) (k : ℕ) (d : Item) → k < length es → slice_get (names_of (names_among es)) k ≡ Some (get_or es k d).0.now
 name_at es k d within =
     let first : Item → Bor Name = λ e. e.0 in
     slice_get-map (λ n. n.now) (names_among es) k

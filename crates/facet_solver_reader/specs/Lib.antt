@@ -23,6 +23,7 @@ pub mod Reached
 pub mod Asking
 pub mod ListShapes
 pub mod Slots
+pub mod Tags
 pub mod Tables
 pub mod Places
 pub mod Nodes

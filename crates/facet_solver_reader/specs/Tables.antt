@@ -13,6 +13,7 @@ use Rattle.facet_solver_reader.specs.Parts.{of_map, of_anything, ListId, Part, a
 use Rattle.facet_solver_reader.specs.Reached.{IsRanked}
 use Rattle.facet_solver_reader.specs.Rules.{Rules, End, Content, no_content, as_shape, as_tuple, as_object, an_option, a_list, a_tuple, a_map, an_object, a_named_variant, an_untagged_variant}
 use Rattle.facet_solver_reader.specs.Slots.{index_of}
+use Rattle.facet_solver_reader.specs.Tags.{AreTags}
 use Rattle.facet_solver_reader.specs.Types.{rules_of}
 use Rattle.facet_solver_reader.specs.Views.{end_view, list_view, parts_view}
 
@@ -121,9 +122,18 @@ pub record IsList (t : Tables) (index : ℕ) (l : ListEntry) : Type 0 where
   pub rising : IsStrictlyIncreasing l.below.items
   pub last : (q : ℕ) × (length l.below.items ≡ q + 1) × (slice_get l.below.items q ≡ Some index)
 
+-- a part is one of those of a list
+pub record IsPartOfList (t : Tables) (p : Part) : Type 0 where
+  pub list : ListId
+  pub parts : List Part
+  pub parts_are : (rules_at t).lists list ≡ Some parts
+  pub index : ℕ
+  pub is_at : slice_get parts index ≡ Some p
+
 -- tables are of the type that their shapes are, and allow a step
 pub record AreTables (t : Tables) : Type 0 where
   pub some_steps : 0 < t.steps
   pub ends : (id : ℕ) (e : code.End) → slice_get t.ends.items id ≡ Some (Some e) → IsEnd t id e
   pub lists : (index : ℕ) (l : ListEntry) → slice_get t.lists.items index ≡ Some l
       → IsList t index l
+  pub tags : AreTags t.shapes.now t.tags.items

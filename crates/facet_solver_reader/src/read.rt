@@ -14,6 +14,7 @@ mod object;
 mod scalar;
 mod selection;
 mod tag;
+mod tagged;
 mod target;
 mod untagged;
 mod variant;

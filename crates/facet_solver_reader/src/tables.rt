@@ -17,6 +17,7 @@ mod order;
 mod ranks;
 mod reached;
 mod slots;
+mod tags;
 
 use crate::end::End;
 use crate::nodes::FEW_NAMES;
@@ -30,6 +31,8 @@ use ranks::{Ranks, first_unranked};
 use reached::{Reached, first_in_circles};
 use slots::Slots;
 use std::alloc::Global;
+pub(crate) use tags::TagTable;
+use tags::tags;
 
 /// A list of parts that some choice has, and which names its choices have.
 #[derive(Debug, Drop)]
@@ -70,6 +73,8 @@ pub(crate) struct Tables<'c> {
     /// The lists of parts. A list comes after those of its branches.
     pub(crate) lists: Vec<List<'c>>,
     pub(crate) slots: Slots,
+    /// What the tags of enums name, by the indices of their shapes.
+    pub(crate) tags: Vec<Option<TagTable<'c>>>,
     /// No way of asking the same value has more targets.
     pub(crate) steps: usize,
 }
@@ -101,6 +106,7 @@ impl<'c> Tables<'c> {
         if let Some(id) = first_unranked(&reached.ends, &ranks.is_ranked) {
             return Err(Fault::ReadsItself(id));
         }
+        let tags = tags(alloc, shapes)?;
         match in_order(alloc, &types, &every, &reached.marks.lists) {
             Ok(Ordered { lists, slots }) => Ok(Tables {
                 alloc,
@@ -109,6 +115,7 @@ impl<'c> Tables<'c> {
                 ends: reached.ends,
                 lists,
                 slots,
+                tags,
                 steps: ranks.steps,
             }),
             Err(fault) => Err(fault),

@@ -25,7 +25,7 @@ pub(super) fn sort_from<'d>(named: &mut [NamedNode<'d>], start: usize) -> Option
 }
 
 /// Sorts by name. If a name is there twice it tells that name, of several the least by its bytes.
-fn sort_by_name<'d>(named: &mut [NamedNode<'d>]) -> Option<&'d str>
+pub(crate) fn sort_by_name<'d>(named: &mut [NamedNode<'d>]) -> Option<&'d str>
     ensures length { length named.new ≡ length named.old }
     ensures permutation { IsPermutation named.old named.new }
     ensures sorted { MatchOption result (AreByName named.new)
@@ -65,7 +65,7 @@ fn repeated_name<'d>(named: &[NamedNode<'d>]) -> Option<&'d str>
 }
 
 /// The number that stands with a name. Few names are gone through, since that is faster.
-pub(super) fn find_by_name(named: &[NamedNode<'_>], name: &str) -> Option<usize>
+pub(crate) fn find_by_name(named: &[NamedNode<'_>], name: &str) -> Option<usize>
     requires { AreByName named.now }
     ensures { MatchOption result
         ((number : ℕ) → ¬ Contains (entries named.now) (name.now, number))

@@ -10,7 +10,7 @@ ghost use Rattle.facet_solver_reader.specs.Planned.{IsPlanIfOne};
 ghost use Rattle.facet_solver_reader.specs.Reading.{AreSound, IsListCount, IsObject, IsPartCount};
 ghost use Rattle.facet_solver_reader.specs.Steps.{place_below};
 ghost use Rattle.facet_solver_reader.specs.SureSteps.{is_selection, sure_steps};
-ghost use Rattle.facet_solver_reader.specs.Tables.{AreTables, ListIsServed, PartIsBefore, rules_at};
+ghost use Rattle.facet_solver_reader.specs.Tables.{AreTables, IsPartOfList, ListIsServed, PartIsBefore, rules_at};
 ghost use Rattle.facet_solver_reader.specs.UnderWay.{AreKnownCounts, IsGoing, IsInnermost, IsLeftOut, IsSelected, with_inner};
 ghost use Rattle.facet_solver_reader.specs.ToldAt.{IsNotOne};
 ghost use Rattle.facet_solver_reader.specs.Views.{list_view, selection_view};
@@ -136,6 +136,7 @@ fn choose(
     requires served { All (ListIsServed tables.now) (selection_view selection.now).branches }
     requires before { PartIsBefore tables.now object.now.list.now.below.items
         (length object.now.list.now.below.items) (a_selection (selection_view selection.now)) }
+    requires part { IsPartOfList tables.now (a_selection (selection_view selection.now)) }
     ensures sound { AreSound tables.now nodes.now memo.new.entries.items }
     ensures counts { OnOk result (AreKnownCounts tables.now nodes.now object.now counts.new) }
     ensures chosen { IfOk result

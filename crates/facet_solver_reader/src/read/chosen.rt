@@ -9,13 +9,14 @@ ghost use Rattle.facet_solver_reader.specs.Nodes.{IsNumbering, members_in, value
 ghost use Rattle.facet_solver_reader.specs.Parts.{a_selection};
 ghost use Rattle.facet_solver_reader.specs.Reading.{AreListCounts, IsObject, IsPartCount, object_view};
 ghost use Rattle.facet_solver_reader.specs.Readings.{ReadsValue};
-ghost use Rattle.facet_solver_reader.specs.Tables.{AreTables, ListIsServed, PartIsBefore, rules_at};
+ghost use Rattle.facet_solver_reader.specs.Tables.{AreTables, IsPartOfList, ListIsServed, PartIsBefore, rules_at};
 ghost use Rattle.facet_solver_reader.specs.Views.{list_view, selection_view};
 
 use super::list::some_fails_at_once;
 use super::object::Object;
 use super::selection::{Passed, count_branch, touches};
 use super::tag::{LookedUp, fails_at_first};
+use super::tagged::tagged_branch;
 use crate::count::Count;
 use crate::nodes::Nodes;
 use crate::part::{ListId, Selection};
@@ -62,9 +63,9 @@ pub(crate) fn chosen_branch<'r>(
     unreachable!()
 }
 
-/// The branch, by its index, that alone may read an object by a selection: the only one, or else
-/// the one that is left, where for each other the object lacks a required member or has another
-/// tag. `None` where several are left, or none of several.
+/// The branch, by its index, that alone may read an object by a selection: the only one, the one
+/// that the object's tag names, or else the one that is left, where for each other the object lacks
+/// a required member or has another tag. `None` where several are left, or none of several.
 pub(crate) fn lone_branch(
     tables: &Tables<'_>,
     nodes: &Nodes<'_, '_>,
@@ -75,12 +76,16 @@ pub(crate) fn lone_branch(
     requires numbering { IsNumbering nodes.now }
     requires object { IsObject tables.now nodes.now object.now }
     requires served { All (ListIsServed tables.now) (selection_view selection.now).branches }
+    requires part { IsPartOfList tables.now (a_selection (selection_view selection.now)) }
     ensures within { IfSome result (λ k. k < length selection.now.branches.items) }
     ensures alone { IfSome result
         (IsAlone tables.now nodes.now object.now (selection_view selection.now)) }
 {
     if selection.branches.len() == 1 {
         return Some(0);
+    }
+    if let Some(k) = tagged_branch(tables, nodes, object, selection) {
+        return Some(k);
     }
     let mut found = None;
     let mut last = None;

@@ -43,13 +43,14 @@ returns-in-Ok-clause-made c =
     (subst (λ (s : Catalogue). AreRanked s reached.ends.items ranks) c.in_ok-types.ensures c.in_ok-ranks.ensures)
     (none_found c.first_unranked.result ((id : ℕ) → HasEnd reached.ends.items id → IsMarked ranks.is_ranked.items id) (λ (id : ℕ). HasEnd reached.ends.items id × (slice_get ranks.is_ranked.items id ≡ Some false))
     c.in_default-first_unranked.not-Some c.first_unranked.ensures)
+    c.in_ok-tags.ensures
 
 pub returns-in-Ok-clause-root : goal.returns-in-Ok-clause-root
 returns-in-Ok-clause-root c =
     let every = c.in_ok-every.every in
     let reached = c.in_ok-reached.reached in
     let ranks = c.in_ok-ranks.ranks in
-    root_made (record { alloc = c.args.alloc; shapes = c.args.shapes; strict = c.args.strict; ends = c.in_ok-reached.reached.ends; lists = c.in-Ok.field-0.lists; slots = c.in-Ok.field-0.slots; steps = c.in_ok-ranks.ranks.steps }) every c.args.root reached.marks ranks.is_ranked
+    root_made (record { alloc = c.args.alloc; shapes = c.args.shapes; strict = c.args.strict; ends = c.in_ok-reached.reached.ends; lists = c.in-Ok.field-0.lists; slots = c.in-Ok.field-0.slots; tags = c.in_ok-tags.tags; steps = c.in_ok-ranks.ranks.steps }) every c.args.root reached.marks ranks.is_ranked
     (subst (λ (s : Catalogue). AreEveryList s every) c.in_ok-types.ensures c.in_ok-every.ensures)
     (subst (λ (s : Catalogue). AreReached s every c.args.root reached) c.in_ok-types.ensures c.in_ok-reached.ensures)
     (subst (λ (s : Catalogue). AreOrdered s every reached.marks.lists.items c.in-Ok.field-0) c.in_ok-types.ensures
@@ -57,6 +58,7 @@ returns-in-Ok-clause-root c =
     (subst (λ (s : Catalogue). AreRanked s reached.ends.items ranks) c.in_ok-types.ensures c.in_ok-ranks.ensures)
     (none_found c.first_unranked.result ((id : ℕ) → HasEnd reached.ends.items id → IsMarked ranks.is_ranked.items id) (λ (id : ℕ). HasEnd reached.ends.items id × (slice_get ranks.is_ranked.items id ≡ Some false))
     c.in_default-first_unranked.not-Some c.first_unranked.ensures)
+    c.in_ok-tags.ensures
     (let within : c.args.root < length c.args.shapes.now = c.has.ensures.value.0 c.if-not-has.false in within)
 
 pub returns-clause-refused : goal.returns-clause-refused

@@ -189,6 +189,29 @@ choose-requires-clause-before c =
     part_before t nodes o tables c.requires.object f.list.now (below_last t nodes o tables fs f old g)
     f.next (a_selection (selection_view s)) at
 
+pub choose-requires-clause-part : goal.choose-requires-clause-part
+choose-requires-clause-part c =
+    let t = c.args.tables.now in
+    let nodes = c.args.nodes.now in
+    let o = c.args.object.now in
+    let f = c.args.frame in
+    let fs = c.args.self.now.frames.items in
+    let old = c.args.self.now.steps.items in
+    let g = c.requires.under_way in
+    let tables = c.requires.sound.tables in
+    let s = c.in-Selection.selection in
+    let look = c.in-Some.ensures.lookup in
+    let at = part_at f c.deref.result.now c.in-Some.part.now (code_part.TheVariants.Selection s)
+    c.deref.ensures.value look.3.0 look.1 c.in-Selection.is in
+    let below = below_last t nodes o tables fs f old g in
+    record {
+      list = list_view f.list.now.id;
+      parts = parts_view f.list.now.parts.items;
+      parts_are = (tables.lists below.index f.list.now below.listed).same;
+      index = f.next;
+      is_at = at;
+    }
+
 pub returns-in_err-k-in-Selection-clause-not_one : goal.returns-in_err-k-in-Selection-clause-not_one
 returns-in_err-k-in-Selection-clause-not_one c =
     let t = c.args.tables.now in
