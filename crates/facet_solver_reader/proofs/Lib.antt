@@ -87,6 +87,7 @@ pub mod StepsLeft
 pub mod StepsOne
 pub mod StepsTaken
 pub mod ToldEach
+pub mod NearNames
 pub mod OneEach
 pub mod OneEnds
 pub mod ToldValues

@@ -25,6 +25,7 @@ pub mod ListShapes
 pub mod Slots
 pub mod Tags
 pub mod Tables
+pub mod SmallerLists
 pub mod Places
 pub mod Nodes
 pub mod Memo

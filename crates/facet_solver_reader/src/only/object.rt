@@ -20,7 +20,7 @@ use super::not_one::NotOne;
 use super::steps::{Step, steps_of};
 use crate::nodes::Nodes;
 use crate::part::ListId;
-use crate::read::{Memo, Object, count_all, filter_of, has_unknown};
+use crate::read::{Memo, Object, count_all, filter_of, has_unknown_beside, named_list};
 use crate::reading::{ObjectReading, Reading, ReadingKind};
 use crate::tables::{List, Tables};
 
@@ -44,7 +44,8 @@ pub(super) fn read_object<'c, 'v, 'd>(
     let Some(list) = tables.list(id) else {
         return Err(NotOne::NoneOrSeveral);
     };
-    let has_unknown = has_unknown(nodes, node, list);
+    let named = named_list(tables, nodes, node, list);
+    let has_unknown = has_unknown_beside(nodes, node, list, named);
     let takes = is_read_whole(tables, nodes, memo, node, list, has_unknown)?;
     let filter = filter_of(nodes, node, list);
     let object = Object {

@@ -1275,9 +1275,9 @@ members::read_taken-returns-in-Map-2-clause-told t c =
     one)))
     c.read_shape.ensures.told
 
-pub object::read_object-has_unknown-has_unknown-requires-clause-sorted :
-    goal.object::read_object-has_unknown-has_unknown-requires-clause-sorted
-object::read_object-has_unknown-has_unknown-requires-clause-sorted t c =
+pub object::read_object-has_unknown_beside-has_unknown-requires-clause-sorted :
+    goal.object::read_object-has_unknown_beside-has_unknown-requires-clause-sorted
+object::read_object-has_unknown_beside-has_unknown-requires-clause-sorted t c =
     let of = c.in-Some.ensures in
     (c.requires.sound.tables.lists of.index c.in-Some.list.now of.listed).sorted
 
@@ -1293,7 +1293,7 @@ object::read_object-steps_of-requires-clause-object t c =
     let listed : IsListed tb l = record { index = of.index; listed = of.listed } in
     let unknown = unknown_by_list tb c.requires.sound.tables l listed
     (object_by ms (list_view l.id) c.in_ok-takes.takes)
-    c.has_unknown-has_unknown.result refl c.has_unknown-has_unknown.ensures in
+    c.has_unknown_beside-has_unknown.result refl c.has_unknown_beside-has_unknown.ensures in
     record {
       inside = c.requires.inside;
       index = of.index;
@@ -1345,7 +1345,7 @@ object::read_object-read_steps-requires t c =
     let listed : IsListed tb l = record { index = of.index; listed = of.listed } in
     let unknown = unknown_by_list tb c.requires.sound.tables l listed
     (object_by ms (list_view l.id) c.in_ok-takes.takes)
-    c.has_unknown-has_unknown.result refl c.has_unknown-has_unknown.ensures in (
+    c.has_unknown_beside-has_unknown.result refl c.has_unknown_beside-has_unknown.ensures in (
       omega arith,
       (
         c.steps_of.ensures.sound,
