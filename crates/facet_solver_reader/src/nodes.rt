@@ -10,7 +10,7 @@ mod numbering;
 
 use crate::document::Document;
 use crate::place::{Place, PlaceSegment};
-pub(crate) use by_name::FEW_NAMES;
+pub(crate) use by_name::is_among;
 use by_name::{NamedNode, find_by_name};
 use std::alloc::{AllocError, Global};
 

@@ -5,6 +5,7 @@ ghost use Rattle.facet_solver_reader.specs.declared.nodes.Nodes.{Nodes};
 ghost use Rattle.facet_solver_reader.specs.Nodes.{IsNumbering, count, members_in, value_of};
 ghost use Rattle.facet_solver_reader.specs.Parts.{a_selection};
 ghost use Rattle.facet_solver_reader.specs.Reading.{AreSound, IsObject};
+ghost use Rattle.facet_solver_reader.specs.SelectionNames.{IsNamed};
 ghost use Rattle.facet_solver_reader.specs.Tables.{AreTables, ListIsServed, PartIsBefore, rules_at};
 ghost use Rattle.facet_solver_reader.specs.Views.{list_view, selection_view};
 ghost use Rattle.facet_solver_reader.specs.Blaming.{IsAsked, IsAmong, IsBranchOf, IsFound};
@@ -31,11 +32,12 @@ pub(super) fn none_in_selection<'c, 'd>(
     nodes: &Nodes<'_, 'd>,
     memo: &mut Memo,
     asked: &Asked<'_, 'c>,
-    selection: &Selection,
+    selection: &Selection<'_>,
 ) -> Result<Option<Found<'c, 'd>>, AllocError>
     requires sound { AreSound tables.now nodes.now memo.old.entries.items }
     requires asked { IsAsked tables.now nodes.now asked.now }
     requires served { All (ListIsServed tables.now) (selection_view selection.now).branches }
+    requires named { IsNamed (rules_at tables.now).lists selection.now }
     requires before { PartIsBefore tables.now asked.now.object.list.now.below.items
         (length asked.now.counts.items) (a_selection (selection_view selection.now)) }
     ensures sound { AreSound tables.now nodes.now memo.new.entries.items }
@@ -62,12 +64,13 @@ fn one_branch(
     tables: &Tables<'_>,
     nodes: &Nodes<'_, '_>,
     asked: &Asked<'_, '_>,
-    selection: &Selection,
+    selection: &Selection<'_>,
 ) -> Option<usize>
     requires tables { AreTables tables.now }
     requires numbering { IsNumbering nodes.now }
     requires object { IsObject tables.now nodes.now asked.now.object }
     requires served { All (ListIsServed tables.now) (selection_view selection.now).branches }
+    requires named { IsNamed (rules_at tables.now).lists selection.now }
 {
     match selection.branches.as_slice() {
         [branch] => position_of(tables, &asked.object, *branch),
@@ -81,7 +84,7 @@ pub(super) fn misfits_of<'c, 'd>(
     nodes: &Nodes<'_, 'd>,
     memo: &mut Memo,
     asked: &Asked<'_, 'c>,
-    selection: &Selection,
+    selection: &Selection<'_>,
 ) -> Result<Vec<Misfit<'c, 'd>>, AllocError>
     requires sound { AreSound tables.now nodes.now memo.old.entries.items }
     requires asked { IsAsked tables.now nodes.now asked.now }
@@ -114,7 +117,7 @@ fn add_misfit<'c, 'd>(
     nodes: &Nodes<'_, 'd>,
     memo: &mut Memo,
     asked: &Asked<'_, 'c>,
-    selection: &Selection,
+    selection: &Selection<'_>,
     by_tag: bool,
     branch: &ListId,
     misfits: &mut Vec<Misfit<'c, 'd>>,
@@ -149,7 +152,7 @@ fn misfit_of<'c, 'd>(
     nodes: &Nodes<'_, 'd>,
     memo: &mut Memo,
     asked: &Asked<'_, 'c>,
-    selection: &Selection,
+    selection: &Selection<'_>,
     branch: &ListId,
 ) -> Result<Option<Misfit<'c, 'd>>, AllocError>
     requires sound { AreSound tables.now nodes.now memo.old.entries.items }
@@ -202,7 +205,7 @@ fn no_key<'d>(
     tables: &Tables<'_>,
     nodes: &Nodes<'_, 'd>,
     object: &Object<'_, '_>,
-    selection: &Selection,
+    selection: &Selection<'_>,
     branch: ListId,
 ) -> Option<&'d str>
     requires tables { AreTables tables.now }

@@ -8,7 +8,7 @@ use crate::part::{ListId, Selection};
 use crate::tables::Tables;
 
 /// Whether a choice of a branch has a member of the name.
-pub(super) fn knows_name(tables: &Tables<'_>, selection: &Selection, name: &str) -> bool
+pub(super) fn knows_name(tables: &Tables<'_>, selection: &Selection<'_>, name: &str) -> bool
     requires tables { AreTables tables.now }
     requires served { All (ListIsServed tables.now) (selection_view selection.now).branches }
     ensures { IsTrue result ↔ IsKnownIn (rules_at tables.now).lists
