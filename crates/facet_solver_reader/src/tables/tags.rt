@@ -19,18 +19,30 @@ pub(crate) struct TagTable<'c> {
     by_text: Vec<(&'c str, usize)>,
 }
 
-/// The tags of a catalogue's enums, by the indices of their shapes.
+/// The tags of a catalogue's enums, by the indices of their shapes. They end with the last one.
 pub(super) fn tags<'c>(
     alloc: Global,
     shapes: &'c Shapes,
 ) -> Result<Vec<Option<TagTable<'c>>>, AllocError>
     ensures { IfOk result (λ tags. AreTags shapes.now tags.items) }
 {
-    let mut tags = Vec::with_capacity(alloc, shapes.len())?;
-    for index in 0..shapes.len() {
+    let len = tagged_len(shapes);
+    let mut tags = Vec::with_capacity(alloc, len)?;
+    for index in 0..len {
         tags.push(TagTable::new(alloc, shapes, ShapeId::new(index))?)?;
     }
     Ok(tags)
+}
+
+/// How many shapes there are up to the last one that has a tag.
+fn tagged_len(shapes: &Shapes) -> usize {
+    let mut len = 0;
+    for index in 0..shapes.len() {
+        if tag_of(repr_at(shapes, ShapeId::new(index))).is_some() {
+            len = index + 1;
+        }
+    }
+    len
 }
 
 impl<'c> TagTable<'c> {
