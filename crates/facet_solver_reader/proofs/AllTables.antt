@@ -182,6 +182,7 @@ module _ (t : Tables) (every : EveryList) (root : ℕ) (marks : Marks) (is_ranke
         distinct = placed.distinct;
         known = placed.known;
         sorted = placed.sorted;
+        named = placed.named;
         rising = placed.rising;
         in_order = placed.in_order;
         last = placed.last;

@@ -1,5 +1,5 @@
 -- Which members of an object the branches of a selection know, by the names of their lists.
-use Rattle.std.proofs.Common.{◌≡◌, ◌⊎◌, ◌↔◌, ◌∙◌, inl, inr, sym, ap, subst, ⊎_elim, refl, ℕ}
+use Rattle.std.proofs.Common.{◌≡◌, ◌↔◌, ◌∙◌, sym, ap, subst, refl, ℕ}
 use Rattle.std.proofs.Common.{List, Bool, true, false, not, ◌&&◌, ◌||◌, IsTrue, Option, Some, None}
 use Rattle.std.proofs.Common.{[], ◌∷◌, cond, map}
 use Rattle.std.proofs.Common.{bytes_eq, get_or, slice_get}
@@ -12,22 +12,22 @@ use Rattle.std.specs.Option.{IfSome, MatchOption, is_some, option_map}
 use Rattle.facet_solver_shape.specs.Names.{Name}
 use Rattle.facet_solver_shape.proofs.Lists.{list_any-map}
 use Rattle.facet_solver_reader.specs.declared.document.Document.{Document}
+use Rattle.facet_solver_reader.specs.declared.part.Selection as code_selection
 use Rattle.facet_solver_reader.specs.declared.tables.List.{List as ListEntry}
 use Rattle.facet_solver_reader.specs.declared.tables.Tables.{Tables}
-use Rattle.facet_solver_reader.specs.Branches.{HasKnown, IsOther, KnowsMember, KnowsOther, Misfits, MisfitsBy}
+use Rattle.facet_solver_reader.specs.Branches.{HasKnown, Misfits, MisfitsBy}
 use Rattle.facet_solver_reader.specs.Documents.{Member, Tree}
 use Rattle.facet_solver_reader.specs.Known.{Chooses, IsKnown, IsKnownIn, Key, named}
 use Rattle.facet_solver_reader.specs.Objects.{HasNamed, Object, Touches, find, has_name}
 use Rattle.facet_solver_reader.specs.Parts.{ListId, Selection}
 use Rattle.facet_solver_reader.specs.declared.read.selection.Passed.{Passed}
-use Rattle.facet_solver_reader.specs.Passed.{IsPassed}
+use Rattle.facet_solver_reader.specs.Passed.{IsOther, IsPassed}
 use Rattle.facet_solver_reader.specs.Reading.{IsListed, member_view}
 use Rattle.facet_solver_reader.specs.Rules.{Rules}
-use Rattle.facet_solver_reader.specs.Tables.{AreTables, IsListOf, has_unknown, knows, rules_at}
-use Rattle.facet_solver_reader.specs.Views.{list_view}
-use Rattle.facet_solver_reader.proofs.CountingObjects.{both, itself, known_by_list, none_of_each}
-use Rattle.facet_solver_reader.proofs.CountingObjects.{not_both, other}
-use Rattle.facet_solver_reader.proofs.Knowledge.{known_in_some}
+use Rattle.facet_solver_reader.specs.SelectionNames.{IsNamed, KnowsMember, has_known}
+use Rattle.facet_solver_reader.specs.Tables.{AreTables, knows, rules_at}
+use Rattle.facet_solver_reader.specs.Views.{list_view, selection_view}
+use Rattle.facet_solver_reader.proofs.CountingObjects.{both, itself, known_by_list, not_true}
 use Rattle.facet_solver_reader.proofs.Named.{Has-at, Has-not_missing, has_named}
 use Rattle.facet_solver_reader.proofs.Quantifiers.{any_at}
 
@@ -104,240 +104,171 @@ has_name_iff ms x = go (find ms x) refl
       λ h. absurd (Has-not_missing ms x e h),
     )
 
-module _ (t : Tables) (tables : AreTables t) where
-  -- what a list of the tables knows
-  known_iff : (id : ListId) (l : ListEntry) → IsListOf t id l → (x : Name)
-      → IsTrue (knows l (named x)) ↔ IsKnown (Chooses (rules_at t).lists id) (named x)
-  known_iff id l of x = known_by_list t tables id l of (named x) (knows l (named x)) refl
+module _ (s : code_selection.Selection) (ms : List Member) where
+  -- a selection knows a member where the object has one of its names
+  pub knows_name : (b : Bool) → b ≡ list_any (λ (n : Bor Name). has_name ms n.now) s.names.items
+      → IsTrue b ↔ KnowsMember s ms
+  knows_name b e = (
+    λ p.
+        let w = named_of (has_name ms) s.names.items (sym e ∙ p) in
+        record { name = w.0; has = (has_name_iff ms w.0).0 w.1; known = w.2 },
+    λ k. e ∙ some_of (has_name ms) s.names.items k.name ((has_name_iff ms k.name).1 k.has) k.known,
+  )
 
-  -- a list of the tables knows a name or doesn't
-  known_or_not : (l : ListEntry) → IsListed t l → (x : Name)
-      → IsKnown (Chooses (rules_at t).lists (list_view l.id)) (named x)
-      ⊎ (IsKnown (Chooses (rules_at t).lists (list_view l.id)) (named x) → ⊥)
-  known_or_not l listed x = go (knows l (named x)) refl
+  -- and where it has the name of one of the object's members
+  pub knows_some : (b : Bool) → b ≡ list_any (λ (m : Member). has_known s m.name) ms
+      → IsTrue b ↔ KnowsMember s ms
+  knows_some b e = (
+    λ p.
+        let a = Any-from_list_any test ms (sym e ∙ p) in
+        record {
+          name = a.1.name;
+          has = (has_named ms a.1.name).1 (a.0, a.1, a.2, a.3, refl);
+          known = a.4;
+        },
+    λ k.
+        let a = (has_named ms k.name).0 k.has in
+        e ∙ list_any-from_Any test ms (
+          a.0,
+          a.1,
+          a.2,
+          a.3,
+          subst (λ x. has_known s x ≡ true) (sym a.4) k.known,
+        ),
+  )
     where
-      at : IsTrue (knows l (named x))
-          ↔ IsKnown (Chooses (rules_at t).lists (list_view l.id)) (named x)
-      at = known_iff (list_view l.id) l (itself t tables l listed) x
+      test : Member → Bool
+      test m = has_known s m.name
 
-      go : (b : Bool) → knows l (named x) ≡ b
-          → IsKnown (Chooses (rules_at t).lists (list_view l.id)) (named x)
-          ⊎ (IsKnown (Chooses (rules_at t).lists (list_view l.id)) (named x) → ⊥)
-      go true e = inl (at.0 e)
-      go false e = inr (λ k. let p : knows l (named x) ≡ true = at.1 k in absurd (cc))
+  module _ (l : ListEntry) where
+    -- of a selection's names one of a member that a list lacks is found where there is one
+    pub name_of_other : (r : Option (Bor Name))
+        → option_map (λ (n : Bor Name). n.now) r
+        ≡ option_map (λ (n : Bor Name). n.now) (found (λ (n : Bor Name).
+        not (knows l (named n.now)) && has_name ms n.now) s.names.items)
+        → MatchOption r ((x : Name) → IsOther s l ms x → ⊥) (λ n. IsOther s l ms n.now)
+    name_of_other r e =
+        named_found (λ (n : Bor Name). n.now) test s.names.items r
+        ((x : Name) → IsOther s l ms x → ⊥) (IsOther s l ms) e none some
+      where
+        test : Bor Name → Bool
+        test n = not (knows l (named n.now)) && has_name ms n.now
 
-  -- a list knows each member where it lacks no name of them
-  pub known_each : (ms : List Member) (l : ListEntry) → IsListed t l → has_unknown l ms ≡ false
-      → All
-      (λ (m : Member). IsKnown (Chooses (rules_at t).lists (list_view l.id)) (named m.name)) ms
-  known_each ms l listed none k d within = go (knows l (named x)) refl
-    where
-      x : Name
-      x = (get_or ms k d).name
+        none : list_any test s.names.items ≡ false → (x : Name) → IsOther s l ms x → ⊥
+        none lacking x k =
+            let yes : list_any test s.names.items ≡ true =
+            some_of (λ y. not (knows l (named y)) && has_name ms y) s.names.items x
+            ((both (not (knows l (named x))) (has_name ms x)).1
+            (ap not k.2, (has_name_iff ms x).1 k.0)) k.1 in
+            absurd (cc)
 
-      go : (b : Bool) → knows l (named x) ≡ b
-          → IsKnown (Chooses (rules_at t).lists (list_view l.id)) (named x)
-      go true e = (known_iff (list_view l.id) l (itself t tables l listed) x).0 e
-      go false e =
-          let some : has_unknown l ms ≡ true =
-          list_any_at (λ (m : Member). not (knows l (named m.name))) ms k d within (ap not e) in
-          absurd (cc)
+        some : (i : ℕ) (n : Bor Name) → slice_get s.names.items i ≡ Some n → test n ≡ true
+            → IsOther s l ms n.now
+        some i n at p =
+            let x = n.now in
+            let two = (both (not (knows l (named x))) (has_name ms x)).0 p in (
+              (has_name_iff ms x).0 two.1,
+              list_any-from_Any (λ (m : Bor Name). bytes_eq m.now x) s.names.items
+                  (any_at (λ (m : Bor Name). bytes_eq m.now x ≡ true) s.names.items i n at
+                  ((bytes_eq-Decides x x).1 refl)),
+              not_true (knows l (named x)) two.0,
+            )
 
-  module _ (ms : List Member) (id : ListId) (l : ListEntry) (of : IsListOf t id l) where
-    -- a list knows a member where the object has one of its names
-    pub knows_member : (b : Bool)
-        → b ≡ list_any (λ (n : Bor Name). has_name ms n.now) l.names.items
-        → IsTrue b ↔ KnowsMember (rules_at t) ms id
-    knows_member b e = (
-      λ p.
-          let w = named_of (has_name ms) l.names.items (sym e ∙ p) in
-          record {
-            name = w.0;
-            has = (has_name_iff ms w.0).0 w.1;
-            known = (known_iff id l of w.0).0 w.2;
-          },
-      λ k.
-          e ∙ some_of (has_name ms) l.names.items k.name ((has_name_iff ms k.name).1 k.has)
-          ((known_iff id l of k.name).1 k.known),
-    )
-
-    -- and where it has the name of one of the object's members
-    pub knows_some : (b : Bool) → b ≡ list_any (λ (m : Member). knows l (named m.name)) ms
-        → IsTrue b ↔ KnowsMember (rules_at t) ms id
-    knows_some b e = (
-      λ p.
-          let a = Any-from_list_any test ms (sym e ∙ p) in
-          record {
-            name = a.1.name;
-            has = (has_named ms a.1.name).1 (a.0, a.1, a.2, a.3, refl);
-            known = (known_iff id l of a.1.name).0 a.4;
-          },
-      λ k.
-          let a = (has_named ms k.name).0 k.has in
-          e ∙ list_any-from_Any test ms (
-            a.0,
-            a.1,
-            a.2,
-            a.3,
-            subst (λ x. knows l (named x) ≡ true) (sym a.4) ((known_iff id l of k.name).1 k.known),
-          ),
-    )
+    -- and so it is of the object's members
+    pub member_of_other : (items : List (Bor Name × Document)) → map member_view items ≡ ms
+        → (r : Option (Bor Name))
+        → option_map (λ (n : Bor Name). n.now) r
+        ≡ option_map (λ (m : Bor Name × Document). m.0.now)
+        (found (λ (m : Bor Name × Document).
+        not (knows l (named m.0.now)) && has_known s m.0.now) items)
+        → MatchOption r ((x : Name) → IsOther s l ms x → ⊥) (λ n. IsOther s l ms n.now)
+    member_of_other items same r e =
+        named_found (λ (m : Bor Name × Document). m.0.now) here items r
+        ((x : Name) → IsOther s l ms x → ⊥) (IsOther s l ms) e none some
       where
         test : Member → Bool
-        test m = knows l (named m.name)
+        test m = not (knows l (named m.name)) && has_known s m.name
 
-    module _ (o : ListEntry) (listed : IsListed t o) where
-      -- what another list knows
-      known_to_other : (x : Name) → IsTrue (knows o (named x))
-          ↔ IsKnown (Chooses (rules_at t).lists (list_view o.id)) (named x)
-      known_to_other x = known_iff (list_view o.id) o (itself t tables o listed) x
+        here : Bor Name × Document → Bool
+        here m = not (knows l (named m.0.now)) && has_known s m.0.now
 
-      -- whether the object has a member of a name, and another list lacks it
-      abbrev test_name : Bor Name → Bool
-      test_name n = not (knows o (named n.now)) && has_name ms n.now
+        none : list_any here items ≡ false → (x : Name) → IsOther s l ms x → ⊥
+        none lacking x k =
+            let a = (has_named ms x).0 k.0 in
+            let yes : list_any test ms ≡ true =
+            list_any-from_Any test ms (
+              a.0,
+              a.1,
+              a.2,
+              a.3,
+              subst (λ y. (not (knows l (named y)) && has_known s y) ≡ true) (sym a.4)
+                  ((both (not (knows l (named x))) (has_known s x)).1 (ap not k.2, k.1)),
+            ) in
+            let isnt : list_any test ms ≡ false =
+            sym (ap (list_any test) same) ∙ (list_any-map test member_view items ∙ lacking) in
+            absurd (cc)
 
-      -- of a list's names, such a one is found where there is one
-      pub name_of_other : (r : Option (Bor Name))
-          → option_map (λ (n : Bor Name). n.now) r
-          ≡ option_map (λ (n : Bor Name). n.now) (found (λ (n : Bor Name).
-          not (knows o (named n.now)) && has_name ms n.now) l.names.items)
-          → MatchOption r (KnowsOther (rules_at t) ms id (list_view o.id) → ⊥)
-          (λ n. IsOther (rules_at t) ms id (list_view o.id) n.now)
-      name_of_other r e =
-          named_found (λ (n : Bor Name). n.now) test_name l.names.items r
-          (KnowsOther (rules_at t) ms id (list_view o.id) → ⊥)
-          (IsOther (rules_at t) ms id (list_view o.id)) e none some
-        where
-          none : list_any test_name l.names.items ≡ false
-              → KnowsOther (rules_at t) ms id (list_view o.id) → ⊥
-          none lacking k =
-              let yes : list_any test_name l.names.items ≡ true =
-              some_of (λ x. not (knows o (named x)) && has_name ms x) l.names.items k.name
-              ((both (not (knows o (named k.name))) (has_name ms k.name)).1 (
-                other (knows o (named k.name)) (λ p. k.unknown ((known_to_other k.name).0 p)),
-                (has_name_iff ms k.name).1 k.has,
-              ))
-              ((known_iff id l of k.name).1 k.known) in
-              absurd (cc)
+        some : (i : ℕ) (m : Bor Name × Document) → slice_get items i ≡ Some m → here m ≡ true
+            → IsOther s l ms m.0.now
+        some i m at p =
+            let x = m.0.now in
+            let two = (both (not (knows l (named x))) (has_known s x)).0 p in
+            let is : slice_get ms i ≡ Some (member_view m) =
+            ap (λ ys. slice_get ys i) (sym same)
+            ∙ (slice_get-map member_view items i ∙ ap (option_map member_view) at) in (
+              (has_named ms x).1 (any_at (λ (q : Member). q.name ≡ x) ms i (member_view m) is refl),
+              two.1,
+              not_true (knows l (named x)) two.0,
+            )
 
-          some : (i : ℕ) (n : Bor Name) → slice_get l.names.items i ≡ Some n
-              → test_name n ≡ true → IsOther (rules_at t) ms id (list_view o.id) n.now
-          some i n at p =
-              let x = n.now in
-              let two = (both (not (knows o (named x))) (has_name ms x)).0 p in (
-                (has_name_iff ms x).0 two.1,
-                (known_iff id l of x).0
-                    (list_any-from_Any (λ (m : Bor Name). bytes_eq m.now x) l.names.items
-                    (any_at (λ (m : Bor Name). bytes_eq m.now x ≡ true) l.names.items i n at
-                    ((bytes_eq-Decides x x).1 refl))),
-                λ k. not_both (knows o (named x)) two.0 ((known_to_other x).1 k),
-              )
+module _ (t : Tables) (tables : AreTables t) (s : code_selection.Selection)
+    (names : IsNamed (rules_at t).lists s) where
+  module _ (l : ListEntry) (listed : IsListed t l) where
+    -- what a list of the tables knows
+    known_iff : (x : Name) → IsTrue (knows l (named x))
+        ↔ IsKnown (Chooses (rules_at t).lists (list_view l.id)) (named x)
+    known_iff x =
+        known_by_list t tables (list_view l.id) l (itself t tables l listed) (named x)
+        (knows l (named x)) refl
 
-      -- of the object's members, such a one is found where there is one
-      pub member_of_other : (items : List (Bor Name × Document)) → map member_view items ≡ ms
-          → (r : Option (Bor Name))
-          → option_map (λ (n : Bor Name). n.now) r
-          ≡ option_map (λ (m : Bor Name × Document). m.0.now)
-          (found (λ (m : Bor Name × Document).
-          knows l (named m.0.now) && not (knows o (named m.0.now))) items)
-          → MatchOption r (KnowsOther (rules_at t) ms id (list_view o.id) → ⊥)
-          (λ n. IsOther (rules_at t) ms id (list_view o.id) n.now)
-      member_of_other items same r e =
-          named_found (λ (m : Bor Name × Document). m.0.now) here items r
-          (KnowsOther (rules_at t) ms id (list_view o.id) → ⊥)
-          (IsOther (rules_at t) ms id (list_view o.id)) e none some
-        where
-          test : Member → Bool
-          test m = knows l (named m.name) && not (knows o (named m.name))
+    -- where a list lacks no member that a selection has, it knows each that the selection knows
+    pub all_known_by : (ms : List Member) → ((x : Name) → IsOther s l ms x → ⊥)
+        → All
+        (λ (m : Member). IsKnownIn (rules_at t).lists (selection_view s) (named m.name)
+        → IsKnown (Chooses (rules_at t).lists (list_view l.id)) (named m.name))
+        ms
+    all_known_by ms none k d within known = go (knows l (named x)) refl
+      where
+        x : Name
+        x = (get_or ms k d).name
 
-          here : Bor Name × Document → Bool
-          here m = knows l (named m.0.now) && not (knows o (named m.0.now))
+        go : (b : Bool) → knows l (named x) ≡ b
+            → IsKnown (Chooses (rules_at t).lists (list_view l.id)) (named x)
+        go true e = (known_iff x).0 e
+        go false e = absurd (none x (Has-at ms k d within, (names.known x).1 known, e))
 
-          none : list_any here items ≡ false
-              → KnowsOther (rules_at t) ms id (list_view o.id) → ⊥
-          none lacking k =
-              let a = (has_named ms k.name).0 k.has in
-              let yes : list_any test ms ≡ true =
-              list_any-from_Any test ms (
-                a.0,
-                a.1,
-                a.2,
-                a.3,
-                subst (λ x. (knows l (named x) && not (knows o (named x))) ≡ true) (sym a.4)
-                    ((both (knows l (named k.name)) (not (knows o (named k.name)))).1 (
-                      (known_iff id l of k.name).1 k.known,
-                      other (knows o (named k.name))
-                          (λ p. k.unknown ((known_to_other k.name).0 p)),
-                    )),
-              ) in
-              let isnt : list_any test ms ≡ false =
-              sym (ap (list_any test) same) ∙ (list_any-map test member_view items ∙ lacking) in
-              absurd (cc)
+    -- a list that lacks a member which a selection has does not fit
+    pub misfit_by : (object : Object) (x : Name) → IsOther s l object.members x
+        → MisfitsBy (rules_at t) object (selection_view s) (list_view l.id) (named x)
+    misfit_by object x k = (
+      (k.0, (names.known x).0 k.1),
+      λ n.
+          let e : knows l (named x) ≡ true = (known_iff x).1 n in
+          let f : knows l (named x) ≡ false = k.2 in
+          absurd (cc),
+    )
 
-          some : (i : ℕ) (m : Bor Name × Document) → slice_get items i ≡ Some m
-              → here m ≡ true → IsOther (rules_at t) ms id (list_view o.id) m.0.now
-          some i m at p =
-              let x = m.0.now in
-              let two = (both (knows l (named x)) (not (knows o (named x)))).0 p in
-              let is : slice_get ms i ≡ Some (member_view m) =
-              ap (λ ys. slice_get ys i) (sym same)
-              ∙ (slice_get-map member_view items i ∙ ap (option_map member_view) at) in (
-                (has_named ms x).1 (any_at (λ (q : Member). q.name ≡ x) ms i (member_view m) is refl),
-                (known_iff id l of x).0 two.0,
-                λ k. not_both (knows o (named x)) two.1 ((known_to_other x).1 k),
-              )
+  -- an object with a member that a selection has touches it
+  pub touched : (object : Object) → KnowsMember s object.members
+      → Touches (rules_at t) object (selection_view s)
+  touched object k = record { key = named k.name; has = k.has; known = (names.known k.name).0 k.known }
 
-  -- where no branch knows a member that a list doesn't, the list knows each that the selection
-  -- knows
-  pub all_known_by : (s : Selection) (ms : List Member) (o : ListEntry) → IsListed t o
-      → All (λ (id : ListId). KnowsOther (rules_at t) ms id (list_view o.id) → ⊥) s.branches
-      → All
-      (λ (m : Member). IsKnownIn (rules_at t).lists s (named m.name)
-      → IsKnown (Chooses (rules_at t).lists (list_view o.id)) (named m.name))
-      ms
-  all_known_by s ms o listed none k d within known =
-      let rules = rules_at t in
-      let x = (get_or ms k d).name in
-      ⊎_elim (λ (y : IsKnown (Chooses rules.lists (list_view o.id)) (named x)). y)
-      (λ (n : IsKnown (Chooses rules.lists (list_view o.id)) (named x) → ⊥).
-      let a = (known_in_some rules.lists s (named x)).0 known in
-      absurd (none_of_each (λ (id : ListId). KnowsOther rules ms id (list_view o.id)) s.branches
-      none (
-        a.0,
-        a.1,
-        a.2,
-        a.3,
-        record { name = x; has = Has-at ms k d within; known = a.4; unknown = n },
-      ))) (known_or_not o listed x)
-
-module _ (rules : Rules) (s : Selection) where
-  -- what a branch knows, the selection knows
-  known_in : (i : ℕ) (id : ListId) (x : Name) → slice_get s.branches i ≡ Some id
-      → IsKnown (Chooses rules.lists id) (named x) → IsKnownIn rules.lists s (named x)
-  known_in i id x e known =
-      (known_in_some rules.lists s (named x)).1
-      (any_at (λ j. IsKnown (Chooses rules.lists j) (named x)) s.branches i id e known)
-
-  -- where no branch knows a member, the selection doesn't
-  pub none_known : (ms : List Member)
-      → All (λ (id : ListId). KnowsMember rules ms id → ⊥) s.branches
-      → All (λ (m : Member). IsKnownIn rules.lists s (named m.name) → ⊥) ms
+  -- where a selection has none, it knows none
+  pub none_known : (ms : List Member) → (KnowsMember s ms → ⊥)
+      → All (λ (m : Member). IsKnownIn (rules_at t).lists (selection_view s) (named m.name) → ⊥) ms
   none_known ms none k d within known =
       let x = (get_or ms k d).name in
-      let a = (known_in_some rules.lists s (named x)).0 known in
-      none_of_each (λ (id : ListId). KnowsMember rules ms id) s.branches none
-      (a.0, a.1, a.2, a.3, record { name = x; has = Has-at ms k d within; known = a.4 })
-
-  module _ (object : Object) (i : ℕ) (id : ListId) (e : slice_get s.branches i ≡ Some id) where
-    -- an object with a member that a branch knows touches the selection
-    pub touched : KnowsMember rules object.members id → Touches rules object s
-    touched k =
-        record { key = named k.name; has = k.has; known = known_in i id k.name e k.known }
-
-    -- a list that lacks a member which a branch knows does not fit
-    pub misfit_by : (o : ListId) (x : Name) → IsOther rules object.members id o x
-        → MisfitsBy rules object s o (named x)
-    misfit_by o x k = ((k.0, known_in i id x e k.1), k.2)
+      none (record { name = x; has = Has-at ms k d within; known = (names.known x).1 known })
 
 -- a list that lacks a key misfits
 pub misfits_of : (rules : Rules) (object : Object) (s : Selection) (id : ListId) (x : Key)

@@ -11,6 +11,8 @@ pub mod CatchAlls
 pub mod Quantifiers
 pub mod Named
 pub mod NamedOnce
+pub mod NamedParts
+
 pub mod NameFilters
 pub mod Objects
 pub mod Knowledge

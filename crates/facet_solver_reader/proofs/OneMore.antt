@@ -88,6 +88,7 @@ module _ (shapes : Catalogue) (old new : Ordered) (id : ListId) (unplaced : IsUn
     distinct = p.distinct;
     known = p.known;
     sorted = p.sorted;
+    named = p.named;
     rising = p.rising;
     last = p.last;
     in_order = λ position index at.
@@ -158,6 +159,7 @@ module _ (shapes : Catalogue) (old new : Ordered) (id : ListId) (unplaced : IsUn
       distinct = subst (λ i. IsDistinct (Chooses (parts_of shapes) i)) (sym more.is_of) next.distinct;
       known = λ x. subst (λ i. IsTrue (knows more.entry x) ↔ IsKnown (Chooses (parts_of shapes) i) x) (sym more.is_of) (next.known x);
       sorted = next.sorted;
+      named = next.named;
       rising = strictly more.entry.below.items next.below.rises;
       in_order = in_order;
       last =

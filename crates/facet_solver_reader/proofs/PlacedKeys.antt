@@ -2,13 +2,14 @@
 use Rattle.std.proofs.Common.{◌≡◌, ◌↔◌, refl, sym, ap, subst, ◌∙◌, ℕ, arith, List, get_or, true, false, Option, Some, None, MatchOption, slice_get, IsTrue}
 use Rattle.std.specs.List.{All, AllPairs, Any}
 use Rattle.std.specs.Bool.{⊤}
-use Rattle.std.specs.Option.{option_and_then, option_map_or}
+use Rattle.std.specs.Option.{option_and_then, option_map, option_map_or}
 use Rattle.std.proofs.lemmas.Bool.{false≢true}
 use Rattle.std.proofs.lemmas.List.Folds.{Any-from_list_any, list_any-from_Any}
-use Rattle.std.proofs.lemmas.Option.{slice_get-get_or}
+use Rattle.std.proofs.lemmas.Option.{slice_get-get_or, slice_get-map}
 use Rattle.std.proofs.lemmas.Slice.Eq.{bytes_eq-Decides}
 use Rattle.facet_solver_shape.specs.Catalogues.{Catalogue}
 use Rattle.facet_solver_shape.specs.Names.{Name}
+use Rattle.facet_solver_reader.specs.declared.part.Part as code_part
 use Rattle.facet_solver_reader.specs.declared.tables.List.{List as ListEntry}
 use Rattle.facet_solver_reader.specs.declared.tables.order.Ordered.{Ordered}
 use Rattle.facet_solver_reader.specs.declared.tables.fault.Fault.{Fault}
@@ -17,10 +18,12 @@ use Rattle.facet_solver_reader.specs.EveryList.{IsChosen}
 use Rattle.facet_solver_reader.specs.Known.{Chooses, ChoosesAll, ChoosesAt, HasChoice, IsDistinct, IsKnown, Key, named, rest}
 use Rattle.facet_solver_reader.specs.OrderedLists.{IsPlacedAt, IsTwiceAt, IsTwiceIn, IsWhyUnordered}
 use Rattle.facet_solver_reader.specs.Parts.{ListId, Part, a_member, a_selection, a_catch_all}
-use Rattle.facet_solver_reader.specs.Placing.{ArePartNames, AreSharing, IsPlacing, IsRestOf, IsShared, IsUnplaced, IsWhyShared, PartIsPlaced, goes_by, is_rest, list_knows, part_knows}
+use Rattle.facet_solver_reader.specs.Placing.{ArePartNames, AreSharing, IsPlacing, IsRestOf, IsShared, IsUnplaced, IsWhyShared, PartIsNamedIn, PartIsPlaced, goes_by, is_rest, list_knows, part_knows}
+use Rattle.facet_solver_reader.specs.SelectionNames.{PartIsNamed}
 use Rattle.facet_solver_reader.specs.Slots.{index_of}
 use Rattle.facet_solver_reader.specs.Tables.{knows}
 use Rattle.facet_solver_reader.specs.Types.{parts_of}
+use Rattle.facet_solver_reader.specs.Views.{part_view, parts_view, selection_view}
 use Rattle.facet_solver_reader.proofs.Distinct.{KnowApart, distinct_of_catch_all, distinct_of_each, distinct_of_member, distinct_of_selection}
 use Rattle.facet_solver_reader.proofs.Knowledge.{distinct_of_no_choice, known_has_choice, known_in_some, known_of_catch_all, known_of_member, known_of_selection, known_of_some}
 use Rattle.facet_solver_reader.proofs.Lists.{choice_of_list, choices_of_list, distinct_of_list, known_of_list}
@@ -106,6 +109,31 @@ module _ (shapes : Catalogue) (o : Ordered) (h : IsPlacing shapes o) where
             (λ k id e u. (known_of_placed x id (here k id e)).1 u)
             (b.0 (a.0 n))),
       )
+
+  -- so where a selection has the names that it knows by these lists, it has those of its branches'
+  -- choices
+  named_of_part : (p : code_part.Part) → PartIsPlaced shapes o (part_view p) → PartIsNamedIn o p
+      → PartIsNamed (parts_of shapes) p
+  named_of_part (code_part.TheVariants.Member m) ready h = tt
+  named_of_part (code_part.TheVariants.CatchAll k) ready h = tt
+  named_of_part (code_part.TheVariants.Selection s) ready h = record {
+    sorted = h.sorted;
+    known = λ x.
+        let a = knows_contained s.names.items x in
+        let b = h.those.has x in
+        let c = known_of_part (named x) (a_selection (selection_view s)) ready in
+        let d = known_of_selection (parts_of shapes) (selection_view s) (named x) in
+        (λ t. d.0 (c.0 (b.0 (a.1 t))), λ k. a.0 (b.1 (c.1 (d.1 k))));
+  }
+
+  pub named_of_parts : (ps : List code_part.Part) → All (PartIsPlaced shapes o) (parts_view ps)
+      → All (PartIsNamedIn o) ps → All (PartIsNamed (parts_of shapes)) ps
+  named_of_parts ps ready h k d within =
+      let p = get_or ps k d in
+      named_of_part p
+      (all_at (PartIsPlaced shapes o) (parts_view ps) k (part_view p) ready
+      (slice_get-map part_view ps k ∙ ap (option_map part_view) (slice_get-get_or ps k d within)))
+      (h k d within)
 
   -- and none of its choices has a key twice
   pub distinct_of_part : (p : Part) → PartIsPlaced shapes o p → IsDistinct (ChoosesAt (parts_of shapes) p)

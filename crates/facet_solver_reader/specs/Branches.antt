@@ -1,11 +1,8 @@
 -- The readings of the parts of an object's list, and of a selection by some of its branches.
 use Rattle.std.specs.Prelude.{◌≡◌, ◌⊎◌, ◌↔◌, ◌<◌, ℕ, false, List}
 use Rattle.facet_solver_reader.specs.Choices.{Choice, ChoiceAt, choosing}
-use Rattle.facet_solver_shape.specs.Names.{Name}
-use Rattle.facet_solver_reader.specs.Documents.{Member}
 use Rattle.facet_solver_reader.specs.Known.{Chooses, ChoosesAll, ChoosesAt, IsKnown, IsKnownIn, Key}
-use Rattle.facet_solver_reader.specs.Known.{named}
-use Rattle.facet_solver_reader.specs.Objects.{Has, HasNamed, IsReading, Object, Reads, ReadsObject}
+use Rattle.facet_solver_reader.specs.Objects.{Has, IsReading, Object, Reads, ReadsObject}
 use Rattle.facet_solver_reader.specs.Objects.{Touches}
 use Rattle.facet_solver_reader.specs.Parts.{ListId, Part, Selection}
 use Rattle.facet_solver_reader.specs.Rules.{Rules}
@@ -62,22 +59,3 @@ MisfitsBy rules object s id x =
 -- a selection that is not optional, or of which the object has a key
 abbrev pub CanBePresent : Rules → Object → Selection → Type 0
 CanBePresent rules object s = (s.optional ≡ false) ⊎ Touches rules object s
-
--- a choice of a list has a member that the object has
-pub record KnowsMember (rules : Rules) (members : List Member) (id : ListId) : Type 0 where
-  pub name : Name
-  pub has : HasNamed members name
-  pub known : IsKnown (Chooses rules.lists id) (named name)
-
--- the same of a member that no choice of another list has
-pub record KnowsOther (rules : Rules) (members : List Member) (id other : ListId) : Type 0 where
-  pub name : Name
-  pub has : HasNamed members name
-  pub known : IsKnown (Chooses rules.lists id) (named name)
-  pub unknown : IsKnown (Chooses rules.lists other) (named name) → ⊥
-
--- it is the member of this name
-abbrev pub IsOther : Rules → List Member → ListId → ListId → Name → Type 0
-IsOther rules members id other x =
-    HasNamed members x × IsKnown (Chooses rules.lists id) (named x)
-    × (IsKnown (Chooses rules.lists other) (named x) → ⊥)

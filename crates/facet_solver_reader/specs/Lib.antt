@@ -19,6 +19,7 @@ pub mod Types
 pub mod WhichJoin
 pub mod JoinTables
 pub mod Views
+pub mod SelectionNames
 pub mod Reached
 pub mod Asking
 pub mod ListShapes

@@ -11,7 +11,7 @@ mod numbering;
 use crate::document::Document;
 use crate::place::{Place, PlaceSegment};
 use by_name::NamedNode;
-pub(crate) use by_name::{FEW_NAMES, find_by_name, sort_by_name};
+pub(crate) use by_name::{find_by_name, is_among, sort_by_name};
 use std::alloc::{AllocError, Global};
 
 /// A value, and the number of the value around it. That of the root is 0.

@@ -1,8 +1,11 @@
 //! The parts by which an object is read.
-ghost use Rattle.std.specs.Prelude.{◌≡◌};
+ghost use Rattle.std.specs.Prelude.{◌≡◌, IsSorted};
+ghost use Rattle.facet_solver_shape.specs.Names.{name_ref_cmp};
 ghost use Rattle.facet_solver_reader.specs.ListShapes.{shape_of};
+ghost use Rattle.facet_solver_reader.specs.SelectionNames.{has_known};
 ghost use Rattle.facet_solver_reader.specs.Views.{list_view};
 
+use crate::nodes::is_among;
 use facet_solver_shape::ShapeId;
 
 /// What a value is read as.
@@ -56,10 +59,23 @@ pub(crate) struct MemberPart<'c> {
 
 /// One of several lists of parts.
 #[derive(Debug, Drop)]
-pub(crate) struct Selection {
+pub(crate) struct Selection<'c> {
     /// Whether it may be absent.
     pub(crate) optional: bool,
     pub(crate) branches: Vec<ListId>,
+    /// The names of the members of its branches' choices, rising. There are none before its list
+    /// stands in tables, after those of its branches.
+    pub(crate) names: Vec<&'c str>,
+}
+
+impl Selection<'_> {
+    /// Whether a choice of a branch has a member of the name.
+    pub(crate) fn has_name(&self, name: &str) -> bool
+        requires { IsSorted name_ref_cmp self.now.names.items }
+        ensures { result ≡ has_known self.now name.now }
+    {
+        is_among(name, &self.names)
+    }
 }
 
 /// What takes the members of no known name.
@@ -75,6 +91,6 @@ pub(crate) enum CatchAll {
 #[derive(Debug, Drop)]
 pub(crate) enum Part<'c> {
     Member(MemberPart<'c>),
-    Selection(Selection),
+    Selection(Selection<'c>),
     CatchAll(CatchAll),
 }

@@ -20,7 +20,7 @@ mod slots;
 mod tags;
 
 use crate::end::End;
-use crate::nodes::FEW_NAMES;
+use crate::nodes::is_among;
 use crate::part::{ListId, Part};
 use crate::types::Types;
 use every::EveryList;
@@ -48,16 +48,12 @@ pub(crate) struct List<'c> {
 }
 
 impl List<'_> {
-    /// Whether a choice has a member of the name. Few names are gone through, since that is faster.
+    /// Whether a choice has a member of the name.
     pub(crate) fn has_name(&self, name: &str) -> bool
         requires { IsSorted name_ref_cmp self.now.names.items }
         ensures { result ≡ knows self.now (named name.now) }
     {
-        if self.names.len() <= FEW_NAMES {
-            self.names.iter().any(|known| *known == name)
-        } else {
-            self.names.binary_search(&name).is_ok()
-        }
+        is_among(name, &self.names)
     }
 }
 

@@ -17,7 +17,6 @@ ghost use Rattle.facet_solver_reader.specs.declared.count.Count.TheVariants.{Non
 mod asked;
 mod branch;
 mod entries;
-mod knows;
 mod left;
 mod missing;
 mod name;

@@ -1,12 +1,14 @@
 //! Names with numbers, sorted by name.
 ghost use Rattle.std.specs.Prelude.{◌≡◌, ◌≤◌, ℕ, drop, length, take, Contains, IsPermutation, IsSorted, IsTrue, MatchOption};
+ghost use Rattle.std.specs.List.{list_any};
+ghost use Rattle.std.specs.Str.{bytes_eq};
 ghost use Rattle.facet_solver_shape.specs.Catalogues.{RepeatsName};
 ghost use Rattle.facet_solver_shape.specs.Names.{name_ref_cmp, names_of};
 ghost use Rattle.facet_solver_reader.specs.Places.{IsLeastRepeated};
 ghost use Rattle.facet_solver_reader.specs.Nodes.{AreByName, entries, names_among};
 
 /// So many names are gone through faster than they are halved.
-pub(crate) const FEW_NAMES: usize = 8;
+const FEW_NAMES: usize = 8;
 
 /// The name of a member, and the number of its value.
 pub(super) type NamedNode<'d> = (&'d str, usize);
@@ -62,6 +64,18 @@ fn repeated_name<'d>(named: &[NamedNode<'d>]) -> Option<&'d str>
         }
     }
     None
+}
+
+/// Whether a name is one of sorted ones. Few names are gone through, since that is faster.
+pub(crate) fn is_among(name: &str, names: &[&str]) -> bool
+    requires { IsSorted name_ref_cmp names.now }
+    ensures { result ≡ list_any (λ n. bytes_eq n.now name.now) names.now }
+{
+    if names.len() <= FEW_NAMES {
+        names.iter().any(|known| *known == name)
+    } else {
+        names.binary_search(&name).is_ok()
+    }
 }
 
 /// The number that stands with a name. Few names are gone through, since that is faster.

@@ -10,6 +10,7 @@ ghost use Rattle.facet_solver_reader.specs.Planned.{IsPlanIfOne};
 ghost use Rattle.facet_solver_reader.specs.Reading.{AreSound, IsListCount, IsObject, IsPartCount};
 ghost use Rattle.facet_solver_reader.specs.Steps.{place_below};
 ghost use Rattle.facet_solver_reader.specs.SureSteps.{is_selection, sure_steps};
+ghost use Rattle.facet_solver_reader.specs.SelectionNames.{IsNamed};
 ghost use Rattle.facet_solver_reader.specs.Tables.{AreTables, IsPartOfList, ListIsServed, PartIsBefore, rules_at};
 ghost use Rattle.facet_solver_reader.specs.UnderWay.{AreKnownCounts, IsGoing, IsInnermost, IsLeftOut, IsSelected, with_inner};
 ghost use Rattle.facet_solver_reader.specs.ToldAt.{IsNotOne};
@@ -127,13 +128,14 @@ fn choose(
     nodes: &Nodes<'_, '_>,
     memo: &mut Memo,
     object: &Object<'_, '_>,
-    selection: &Selection,
+    selection: &Selection<'_>,
     counts: &mut Option<Vec<Count>>,
 ) -> Result<Option<usize>, NotOne>
     requires sound { AreSound tables.now nodes.now memo.old.entries.items }
     requires object { IsObject tables.now nodes.now object.now }
     requires counts { AreKnownCounts tables.now nodes.now object.now counts.old }
     requires served { All (ListIsServed tables.now) (selection_view selection.now).branches }
+    requires named { IsNamed (rules_at tables.now).lists selection.now }
     requires before { PartIsBefore tables.now object.now.list.now.below.items
         (length object.now.list.now.below.items) (a_selection (selection_view selection.now)) }
     requires part { IsPartOfList tables.now (a_selection (selection_view selection.now)) }
@@ -171,13 +173,14 @@ fn is_sure(
     tables: &Tables<'_>,
     nodes: &Nodes<'_, '_>,
     object: &Object<'_, '_>,
-    selection: &Selection,
+    selection: &Selection<'_>,
     branch: ListId,
 ) -> bool
     requires tables { AreTables tables.now }
     requires numbering { IsNumbering nodes.now }
     requires object { IsObject tables.now nodes.now object.now }
     requires served { All (ListIsServed tables.now) (selection_view selection.now).branches }
+    requires named { IsNamed (rules_at tables.now).lists selection.now }
     requires branch { ListIsServed tables.now (list_view branch) }
     requires at { (k : ℕ)
         × (slice_get (selection_view selection.now).branches k ≡ Some (list_view branch)) }
@@ -286,7 +289,7 @@ impl<'r, 'c> Way<'r, 'c> {
         &mut self,
         tables: &Tables<'c>,
         frame: &Frame<'r, 'c>,
-        selection: &Selection,
+        selection: &Selection<'_>,
     ) -> Result<(), AllocError>
         ensures steps { OnOk result (IsLeftOut (path_at tables.now.shapes.now frame.now.place
             (list_view frame.now.list.now.id) frame.now.next) (selection_view selection.now)

@@ -56,7 +56,7 @@ fn may_lack_enum(part: &Part<'_>) -> bool
 }
 
 /// Whether a selection is of an enum: some list of it is a branch of one.
-pub(super) fn is_of_enum(selection: &Selection) -> bool
+pub(super) fn is_of_enum(selection: &Selection<'_>) -> bool
     ensures { result ≡ is_of_enum (selection_view selection.now) }
 {
     selection.branches.iter().any(|id| is_branch(*id))

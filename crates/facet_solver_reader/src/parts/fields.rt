@@ -38,10 +38,12 @@ fn part_of<'c>(alloc: Global, shapes: &'c Shapes, field: &'c Field) -> Result<Pa
         Role::Block(target, _) => Ok(Part::Selection(Selection {
             optional: target.optional,
             branches: vec![in alloc; ListId::Struct(target.shape)]?,
+            names: Vec::new(alloc),
         })),
         Role::Alternatives(target, _, variants) => Ok(Part::Selection(Selection {
             optional: target.optional,
             branches: branches(alloc, target.shape, variants)?,
+            names: Vec::new(alloc),
         })),
         Role::CatchAll(target) => Ok(Part::CatchAll(catch_all_at(shapes, target.shape))),
     }

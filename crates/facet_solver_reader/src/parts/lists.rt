@@ -37,6 +37,7 @@ pub(super) fn one_of<'c>(alloc: Global, branches: Vec<ListId>) -> Result<Vec<Par
         Part::Selection(Selection {
             optional: false,
             branches,
+            names: Vec::new(alloc),
         }),
     )
 }

@@ -9,6 +9,7 @@ ghost use Rattle.facet_solver_reader.specs.Nodes.{IsNumbering, members_in, value
 ghost use Rattle.facet_solver_reader.specs.Parts.{a_selection};
 ghost use Rattle.facet_solver_reader.specs.Reading.{AreListCounts, IsObject, IsPartCount, object_view};
 ghost use Rattle.facet_solver_reader.specs.Readings.{ReadsValue};
+ghost use Rattle.facet_solver_reader.specs.SelectionNames.{IsNamed};
 ghost use Rattle.facet_solver_reader.specs.Tables.{AreTables, IsPartOfList, ListIsServed, PartIsBefore, rules_at};
 ghost use Rattle.facet_solver_reader.specs.Views.{list_view, selection_view};
 
@@ -25,10 +26,10 @@ use crate::tables::Tables;
 /// The branch, by its index, by which an object is read that has one reading by a selection; `None`
 /// where the selection is absent.
 pub(crate) fn chosen_branch<'r>(
-    tables: &'r Tables<'_>,
+    tables: &Tables<'_>,
     nodes: &'r Nodes<'_, '_>,
     object: &Object<'_, '_>,
-    selection: &Selection,
+    selection: &'r Selection<'_>,
     counts: &[Count],
 ) -> Option<usize>
     requires tables { AreTables tables.now }
@@ -36,6 +37,7 @@ pub(crate) fn chosen_branch<'r>(
     requires object { IsObject tables.now nodes.now object.now }
     requires counts { AreListCounts tables.now nodes.now object.now counts.now }
     requires served { All (ListIsServed tables.now) (selection_view selection.now).branches }
+    requires named { IsNamed (rules_at tables.now).lists selection.now }
     requires before { PartIsBefore tables.now object.now.list.now.below.items (length counts.now)
         (a_selection (selection_view selection.now)) }
     requires one { IsPartCount tables.now nodes.now object.now
@@ -70,7 +72,7 @@ pub(crate) fn lone_branch(
     tables: &Tables<'_>,
     nodes: &Nodes<'_, '_>,
     object: &Object<'_, '_>,
-    selection: &Selection,
+    selection: &Selection<'_>,
 ) -> Option<usize>
     requires tables { AreTables tables.now }
     requires numbering { IsNumbering nodes.now }

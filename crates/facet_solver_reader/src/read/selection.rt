@@ -6,20 +6,21 @@ ghost use Rattle.std.specs.List.Sorted.{IsBinarySearchResult};
 ghost use Rattle.std.specs.Option.{option_map};
 ghost use Rattle.std.specs.Ordering.{nat_cmp};
 ghost use Rattle.facet_solver_shape.specs.Names.{Name, name_ref_cmp};
-ghost use Rattle.facet_solver_reader.specs.Branches.{CanBePresent, Fits, IsOther, KnowsMember, KnowsOther, Misfits, MisfitsBy, ReadsPart};
+ghost use Rattle.facet_solver_reader.specs.Branches.{CanBePresent, Fits, Misfits, ReadsPart};
 ghost use Rattle.facet_solver_reader.specs.Known.{Chooses, IsKnown, IsKnownIn, named, rest};
 ghost use Rattle.facet_solver_reader.specs.NameFilters.{HoldsNames};
 ghost use Rattle.facet_solver_reader.specs.Nodes.{count, members_in, value_of, IsNumbering};
 ghost use Rattle.facet_solver_reader.specs.Objects.{Touches, has_name};
 ghost use Rattle.facet_solver_reader.specs.Parts.{a_selection};
-ghost use Rattle.facet_solver_reader.specs.Passed.{IsPassed};
+ghost use Rattle.facet_solver_reader.specs.Passed.{IsOther, IsPassed};
 ghost use Rattle.facet_solver_reader.specs.Reading.{AreListCounts, IsBranchCount, IsListed, IsObject, IsPartCount, object_view};
 ghost use Rattle.facet_solver_reader.specs.Readings.{ReadsValue};
+ghost use Rattle.facet_solver_reader.specs.SelectionNames.{IsNamed, KnowsMember, has_known};
 ghost use Rattle.facet_solver_reader.specs.Tables.{AreTables, BranchIsBefore, ListIsServed, PartIsBefore, knows, rules_at};
 ghost use Rattle.facet_solver_reader.specs.Views.{list_view, selection_view};
 
 use super::members::members_of;
-use super::object::{Object, has_unknown};
+use super::object::Object;
 use crate::count::Count;
 use crate::document::Document;
 use crate::nodes::Nodes;
@@ -67,7 +68,7 @@ pub(crate) fn count_selection(
     tables: &Tables<'_>,
     nodes: &Nodes<'_, '_>,
     object: &Object<'_, '_>,
-    selection: &Selection,
+    selection: &Selection<'_>,
     counts: &[Count],
 ) -> Count
     requires tables { AreTables tables.now }
@@ -75,6 +76,7 @@ pub(crate) fn count_selection(
     requires object { IsObject tables.now nodes.now object.now }
     requires counts { AreListCounts tables.now nodes.now object.now counts.now }
     requires served { All (ListIsServed tables.now) (selection_view selection.now).branches }
+    requires named { IsNamed (rules_at tables.now).lists selection.now }
     requires before { PartIsBefore tables.now object.now.list.now.below.items (length counts.now)
         (a_selection (selection_view selection.now)) }
     ensures { IsPartCount tables.now nodes.now object.now
@@ -88,10 +90,10 @@ pub(crate) fn count_selection(
 
 /// How often an object is read by the branches of a selection that is not absent.
 fn count_branches<'r>(
-    tables: &'r Tables<'_>,
+    tables: &Tables<'_>,
     nodes: &'r Nodes<'_, '_>,
     object: &Object<'_, '_>,
-    selection: &Selection,
+    selection: &'r Selection<'_>,
     counts: &[Count],
 ) -> Count
     requires tables { AreTables tables.now }
@@ -99,6 +101,7 @@ fn count_branches<'r>(
     requires object { IsObject tables.now nodes.now object.now }
     requires counts { AreListCounts tables.now nodes.now object.now counts.now }
     requires served { All (ListIsServed tables.now) (selection_view selection.now).branches }
+    requires named { IsNamed (rules_at tables.now).lists selection.now }
     requires before { PartIsBefore tables.now object.now.list.now.below.items (length counts.now)
         (a_selection (selection_view selection.now)) }
     requires present { CanBePresent (rules_at tables.now) (object_view nodes.now object.now)
@@ -126,10 +129,10 @@ fn count_branches<'r>(
 /// How often an object is read by a branch. The branch is looked for near the one before it, and
 /// what refused one before it is tried first.
 pub(crate) fn count_branch<'r>(
-    tables: &'r Tables<'_>,
+    tables: &Tables<'_>,
     nodes: &'r Nodes<'_, '_>,
     object: &Object<'_, '_>,
-    selection: &Selection,
+    selection: &'r Selection<'_>,
     branch: ListId,
     counts: &[Count],
     passed: &mut Passed<'r>,
@@ -139,6 +142,7 @@ pub(crate) fn count_branch<'r>(
     requires object { IsObject tables.now nodes.now object.now }
     requires counts { AreListCounts tables.now nodes.now object.now counts.now }
     requires served { All (ListIsServed tables.now) (selection_view selection.now).branches }
+    requires named { IsNamed (rules_at tables.now).lists selection.now }
     requires branch { ListIsServed tables.now (list_view branch) }
     requires before { BranchIsBefore tables.now object.now.list.now.below.items
         (length counts.now) (list_view branch) }
@@ -175,10 +179,10 @@ pub(crate) fn count_branch<'r>(
 
 /// How often an object is read by one branch, of which nothing is kept for the next.
 pub(crate) fn count_one_branch<'r>(
-    tables: &'r Tables<'_>,
+    tables: &Tables<'_>,
     nodes: &'r Nodes<'_, '_>,
     object: &Object<'_, '_>,
-    selection: &Selection,
+    selection: &'r Selection<'_>,
     branch: ListId,
     counts: &[Count],
 ) -> Count
@@ -187,6 +191,7 @@ pub(crate) fn count_one_branch<'r>(
     requires object { IsObject tables.now nodes.now object.now }
     requires counts { AreListCounts tables.now nodes.now object.now counts.now }
     requires served { All (ListIsServed tables.now) (selection_view selection.now).branches }
+    requires named { IsNamed (rules_at tables.now).lists selection.now }
     requires branch { ListIsServed tables.now (list_view branch) }
     requires before { BranchIsBefore tables.now object.now.list.now.below.items
         (length counts.now) (list_view branch) }
@@ -225,28 +230,24 @@ pub(crate) fn touches(
     tables: &Tables<'_>,
     nodes: &Nodes<'_, '_>,
     object: &Object<'_, '_>,
-    selection: &Selection,
+    selection: &Selection<'_>,
 ) -> bool
     requires tables { AreTables tables.now }
     requires numbering { IsNumbering nodes.now }
     requires object { IsObject tables.now nodes.now object.now }
     requires served { All (ListIsServed tables.now) (selection_view selection.now).branches }
+    requires named { IsNamed (rules_at tables.now).lists selection.now }
     ensures { IsTrue result ↔ Touches (rules_at tables.now) (object_view nodes.now object.now)
         (selection_view selection.now) }
 {
-    for branch in &selection.branches {
-        if knows_member(tables, nodes, object, *branch) {
-            return true;
-        }
-    }
-    touches_rest(tables, object, selection)
+    knows_member(nodes, object, selection) || touches_rest(tables, object, selection)
 }
 
 /// Whether an object has a member that the catch-alls of a selection take.
 pub(crate) fn touches_rest(
     tables: &Tables<'_>,
     object: &Object<'_, '_>,
-    selection: &Selection,
+    selection: &Selection<'_>,
 ) -> bool
     requires tables { AreTables tables.now }
     requires served { All (ListIsServed tables.now) (selection_view selection.now).branches }
@@ -259,16 +260,17 @@ pub(crate) fn touches_rest(
 
 /// Whether a list has each member of an object that a selection knows.
 pub(crate) fn fits<'r>(
-    tables: &'r Tables<'_>,
+    tables: &Tables<'_>,
     nodes: &'r Nodes<'_, '_>,
     object: &Object<'_, '_>,
-    selection: &Selection,
+    selection: &'r Selection<'_>,
     list: &List<'_>,
 ) -> bool
     requires tables { AreTables tables.now }
     requires numbering { IsNumbering nodes.now }
     requires object { IsObject tables.now nodes.now object.now }
     requires served { All (ListIsServed tables.now) (selection_view selection.now).branches }
+    requires named { IsNamed (rules_at tables.now).lists selection.now }
     requires listed { IsListed tables.now list.now }
     ensures yes { IsTrue result → Fits (rules_at tables.now) (object_view nodes.now object.now)
         (selection_view selection.now) (list_view list.now.id) }
@@ -281,10 +283,10 @@ pub(crate) fn fits<'r>(
 
 /// The same of the next list. The member that refused one before it is tried first.
 fn fits_next<'r>(
-    tables: &'r Tables<'_>,
+    tables: &Tables<'_>,
     nodes: &'r Nodes<'_, '_>,
     object: &Object<'_, '_>,
-    selection: &Selection,
+    selection: &'r Selection<'_>,
     list: &List<'_>,
     passed: &mut Passed<'r>,
 ) -> bool
@@ -292,6 +294,7 @@ fn fits_next<'r>(
     requires numbering { IsNumbering nodes.now }
     requires object { IsObject tables.now nodes.now object.now }
     requires served { All (ListIsServed tables.now) (selection_view selection.now).branches }
+    requires named { IsNamed (rules_at tables.now).lists selection.now }
     requires listed { IsListed tables.now list.now }
     requires passed { IsPassed (rules_at tables.now) (object_view nodes.now object.now)
         (selection_view selection.now) passed.old }
@@ -305,82 +308,68 @@ fn fits_next<'r>(
     if passed.refuses(list) {
         return false;
     }
-    if let Some(name) = other_member(tables, nodes, object, selection, list) {
+    if let Some(name) = other_member(nodes, object, selection, list) {
         passed.other = Some(name);
         return false;
     }
     list.takes_rest || !touches_rest(tables, object, selection)
 }
 
-/// The name of a member of an object that a branch of a selection knows and a list lacks.
+/// The name of a member of an object that a selection has and a list lacks. Of the object's members
+/// and the selection's names the fewer are gone through.
 fn other_member<'r>(
-    tables: &'r Tables<'_>,
     nodes: &'r Nodes<'_, '_>,
     object: &Object<'_, '_>,
-    selection: &Selection,
+    selection: &'r Selection<'_>,
     list: &List<'_>,
 ) -> Option<&'r str>
-    requires tables { AreTables tables.now }
     requires numbering { IsNumbering nodes.now }
-    requires object { IsObject tables.now nodes.now object.now }
-    requires served { All (ListIsServed tables.now) (selection_view selection.now).branches }
-    requires listed { IsListed tables.now list.now }
-    ensures { MatchOption result
-        (All (λ m. IsKnownIn (rules_at tables.now).lists
-        (selection_view selection.now) (named m.name)
-        → IsKnown (Chooses (rules_at tables.now).lists (list_view list.now.id)) (named m.name))
-        (members_in (value_of nodes.now object.now.node)))
-        (λ name. MisfitsBy (rules_at tables.now) (object_view nodes.now object.now)
-        (selection_view selection.now) (list_view list.now.id) (named name.now)) }
+    requires inside { object.now.node < count nodes.now }
+    requires filter { HoldsNames (members_in (value_of nodes.now object.now.node))
+        object.now.filter }
+    requires sorted { IsSorted name_ref_cmp selection.now.names.items }
+    requires list_sorted { IsSorted name_ref_cmp list.now.names.items }
+    ensures { let ms = members_in (value_of nodes.now object.now.node) in MatchOption result
+        ((x : Name) → IsOther selection.now list.now ms x → ⊥)
+        (λ name. IsOther selection.now list.now ms name.now) }
 {
-    // Where the list has all of few members, no names of the branches are gone through.
     let members = members_of(nodes.value(object.node));
-    if members.len() <= list.names.len() && !has_unknown(nodes, object.node, list) {
-        return None;
+    if members.len() <= selection.names.len() {
+        other_of_members(members, selection, list)
+    } else {
+        other_of_names(nodes, object, &selection.names, list)
     }
-    for branch in &selection.branches {
-        if let Some(name) = other_of_branch(tables, nodes, object, *branch, list) {
-            return Some(name);
-        }
-    }
-    None
 }
 
-/// Whether a choice of a branch has a member that an object has. Of the branch's names and the
-/// object's members the fewer are looked up among the others, so that all selections of a list cost
-/// no more than the names of its choices.
+/// Whether a selection has a member of an object. Of its names and the object's members the fewer
+/// are looked up among the others.
 fn knows_member(
-    tables: &Tables<'_>,
     nodes: &Nodes<'_, '_>,
     object: &Object<'_, '_>,
-    branch: ListId,
+    selection: &Selection<'_>,
 ) -> bool
-    requires tables { AreTables tables.now }
     requires numbering { IsNumbering nodes.now }
-    requires object { IsObject tables.now nodes.now object.now }
-    requires served { ListIsServed tables.now (list_view branch) }
-    ensures { IsTrue result ↔ KnowsMember (rules_at tables.now)
-        (members_in (value_of nodes.now object.now.node)) (list_view branch) }
+    requires inside { object.now.node < count nodes.now }
+    requires filter { HoldsNames (members_in (value_of nodes.now object.now.node))
+        object.now.filter }
+    requires sorted { IsSorted name_ref_cmp selection.now.names.items }
+    ensures { IsTrue result
+        ↔ KnowsMember selection.now (members_in (value_of nodes.now object.now.node)) }
 {
-    match tables.list(branch) {
-        Some(known) => {
-            let members = members_of(nodes.value(object.node));
-            if members.len() < known.names.len() {
-                some_is_known(members, known)
-            } else {
-                has_any(nodes, object, &known.names)
-            }
-        }
-        None => false,
+    let members = members_of(nodes.value(object.node));
+    if members.len() < selection.names.len() {
+        some_is_known(members, selection)
+    } else {
+        has_any(nodes, object, &selection.names)
     }
 }
 
-/// Whether a list has the name of one of some members.
-fn some_is_known(members: &[(&str, Document<'_>)], list: &List<'_>) -> bool
-    requires { IsSorted name_ref_cmp list.now.names.items }
-    ensures { result ≡ list_any (λ m. knows list.now (named m.0.now)) members.now }
+/// Whether a selection has the name of one of some members.
+fn some_is_known(members: &[(&str, Document<'_>)], selection: &Selection<'_>) -> bool
+    requires { IsSorted name_ref_cmp selection.now.names.items }
+    ensures { result ≡ list_any (λ m. has_known selection.now m.0.now) members.now }
 {
-    members.iter().any(|member| list.has_name(member.0))
+    members.iter().any(|member| selection.has_name(member.0))
 }
 
 /// Whether an object has a member of one of some names.
@@ -395,56 +384,20 @@ fn has_any(nodes: &Nodes<'_, '_>, object: &Object<'_, '_>, names: &[&str]) -> bo
     names.iter().any(|name| has_name(nodes, object, name))
 }
 
-/// The name of a member of an object that a choice of a branch has, and no choice of another list.
-/// Where its members are far fewer than the branch's names they are gone through, else the names: of
-/// these, often one of the first is found.
-fn other_of_branch<'r>(
-    tables: &'r Tables<'_>,
-    nodes: &'r Nodes<'_, '_>,
-    object: &Object<'_, '_>,
-    branch: ListId,
-    other: &List<'_>,
-) -> Option<&'r str>
-    requires tables { AreTables tables.now }
-    requires numbering { IsNumbering nodes.now }
-    requires object { IsObject tables.now nodes.now object.now }
-    requires served { ListIsServed tables.now (list_view branch) }
-    requires listed { IsListed tables.now other.now }
-    ensures { MatchOption result
-        (KnowsOther (rules_at tables.now) (members_in (value_of nodes.now object.now.node))
-        (list_view branch) (list_view other.now.id) → ⊥)
-        (λ name. IsOther (rules_at tables.now) (members_in (value_of nodes.now object.now.node))
-        (list_view branch) (list_view other.now.id) name.now) }
-{
-    // A list lacks none of its own names.
-    if branch == other.id {
-        return None;
-    }
-    let Some(known) = tables.list(branch) else {
-        return None;
-    };
-    let members = members_of(nodes.value(object.node));
-    if members.len() < known.names.len() / 2 {
-        other_of_members(members, known, other)
-    } else {
-        other_of_names(nodes, object, &known.names, other)
-    }
-}
-
-/// The first of some members that a list has and another list lacks, by its name.
+/// The first of some members that a list lacks and a selection has, by its name.
 fn other_of_members<'r>(
     members: &'r [(&str, Document<'_>)],
+    selection: &Selection<'_>,
     list: &List<'_>,
-    other: &List<'_>,
 ) -> Option<&'r str>
-    requires sorted { IsSorted name_ref_cmp list.now.names.items }
-    requires other_sorted { IsSorted name_ref_cmp other.now.names.items }
+    requires sorted { IsSorted name_ref_cmp selection.now.names.items }
+    requires list_sorted { IsSorted name_ref_cmp list.now.names.items }
     ensures { option_map (λ n. n.now) result ≡ option_map (λ m. m.0.now)
-        (find (λ m. knows list.now (named m.0.now)
-        && not (knows other.now (named m.0.now))) members.now) }
+        (find (λ m. not (knows list.now (named m.0.now))
+        && has_known selection.now m.0.now) members.now) }
 {
-    let member = members.iter().find(|member| list.has_name(member.0)
-        && !other.has_name(member.0))?;
+    let member = members.iter().find(|member| !list.has_name(member.0)
+        && selection.has_name(member.0))?;
     Some(member.0)
 }
 
@@ -453,18 +406,18 @@ fn other_of_names<'r>(
     nodes: &Nodes<'_, '_>,
     object: &Object<'_, '_>,
     names: &'r [&str],
-    other: &List<'_>,
+    list: &List<'_>,
 ) -> Option<&'r str>
     requires numbering { IsNumbering nodes.now }
     requires inside { object.now.node < count nodes.now }
     requires filter { HoldsNames (members_in (value_of nodes.now object.now.node))
         object.now.filter }
-    requires sorted { IsSorted name_ref_cmp other.now.names.items }
+    requires sorted { IsSorted name_ref_cmp list.now.names.items }
     ensures { option_map (λ n. n.now) result ≡ option_map (λ n. n.now)
-        (find (λ name. not (knows other.now (named name.now))
+        (find (λ name. not (knows list.now (named name.now))
         && has_name (members_in (value_of nodes.now object.now.node)) name.now) names.now) }
 {
-    let name = names.iter().find(|name| !other.has_name(name) && has_name(nodes, object, name))?;
+    let name = names.iter().find(|name| !list.has_name(name) && has_name(nodes, object, name))?;
     Some(name)
 }
 
@@ -483,7 +436,7 @@ fn has_name(nodes: &Nodes<'_, '_>, object: &Object<'_, '_>, name: &str) -> bool
 }
 
 /// Whether a choice of a branch has a catch-all.
-fn knows_rest(tables: &Tables<'_>, selection: &Selection) -> bool
+fn knows_rest(tables: &Tables<'_>, selection: &Selection<'_>) -> bool
     requires tables { AreTables tables.now }
     requires served { All (ListIsServed tables.now) (selection_view selection.now).branches }
     ensures { IsTrue result ↔ IsKnownIn (rules_at tables.now).lists

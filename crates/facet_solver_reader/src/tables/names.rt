@@ -1,18 +1,49 @@
 //! The names that the choices of a list have.
-ghost use Rattle.std.specs.Prelude.{◌≡◌, Contains, IfErr, IfOk, IsSorted, IsTrue, MatchOption, OnOk, map};
+ghost use Rattle.std.specs.Prelude.{◌≡◌, All, Contains, IfErr, IfOk, IsSorted, IsTrue, MatchOption, OnOk, map};
 ghost use Rattle.std.specs.List.{list_any};
 ghost use Rattle.facet_solver_shape.specs.Catalogues.{RepeatsName};
 ghost use Rattle.facet_solver_shape.specs.Names.{name_ref_cmp, names_of};
+ghost use Rattle.facet_solver_reader.specs.declared.tables.order.Ordered as placed;
 ghost use Rattle.facet_solver_reader.specs.Known.{named, rest};
 ghost use Rattle.facet_solver_reader.specs.Parts.{a_selection};
 ghost use Rattle.facet_solver_reader.specs.Places.{IsRepeated};
-ghost use Rattle.facet_solver_reader.specs.Placing.{AreAdded, AreNamesOf, ArePartNames, AreThose, IsRestOf, IsShared, IsWhyShared, list_knows, part_knows};
+ghost use Rattle.facet_solver_reader.specs.Placing.{AreAdded, AreNamesOf, ArePartNames, AreThose, IsRestOf, IsShared, IsWhyShared, PartIsNamedIn, list_knows, part_knows};
 ghost use Rattle.facet_solver_reader.specs.Views.{list_view, part_view, parts_view, selection_view};
 
 use super::fault::Fault;
 use super::order::Ordered;
 use crate::part::{ListId, Part, Selection};
 use std::alloc::{AllocError, Global};
+
+/// Gives each selection among the parts of a list the names of its branches.
+pub(super) fn name_selections<'c>(
+    alloc: Global,
+    ordered: &Ordered<'c>,
+    parts: &mut Vec<Part<'c>>,
+) -> Result<(), AllocError>
+    ensures same { OnOk result (parts_view parts.new.items ≡ parts_view parts.old.items) }
+    ensures named { OnOk result (All (PartIsNamedIn ordered.now) parts.new.items) }
+{
+    for part in parts.iter_mut() {
+        name_part(alloc, ordered, part)?;
+    }
+    Ok(())
+}
+
+/// Gives a part the names of its branches, if it is a selection.
+fn name_part<'c>(
+    alloc: Global,
+    ordered: &Ordered<'c>,
+    part: &mut Part<'c>,
+) -> Result<(), AllocError>
+    ensures same { part_view part.new ≡ part_view part.old }
+    ensures named { OnOk result (PartIsNamedIn ordered.now part.new) }
+{
+    if let Part::Selection(selection) = part {
+        selection.names = names_of_selection(alloc, ordered, selection)?;
+    }
+    Ok(())
+}
 
 /// The names of the members of a list's choices, rising. An error tells one that a choice has
 /// twice.
@@ -22,11 +53,12 @@ pub(super) fn names_of<'c>(
     list: ListId,
     parts: &[Part<'c>],
 ) -> Result<Vec<&'c str>, Fault<'c>>
+    requires named { All (PartIsNamedIn ordered.now) parts.now }
     ensures ok { IfOk result (λ names.
         ArePartNames ordered.now (parts_view parts.now) names.items) }
     ensures err { IfErr result (IsWhyShared ordered.now (list_view list) (parts_view parts.now)) }
 {
-    let names = names_of_each(alloc, ordered, parts)?;
+    let names = names_of_each(alloc, parts)?;
     if let Some(name) = repeated(&names) {
         return Err(name_twice(ordered, list, parts, name));
     }
@@ -34,40 +66,28 @@ pub(super) fn names_of<'c>(
 }
 
 /// The names of the members of each part, rising.
-fn names_of_each<'c>(
-    alloc: Global,
-    ordered: &Ordered<'c>,
-    parts: &[Part<'c>],
-) -> Result<Vec<&'c str>, AllocError>
+fn names_of_each<'c>(alloc: Global, parts: &[Part<'c>]) -> Result<Vec<&'c str>, AllocError>
     ensures sorted { IfOk result (λ names. IsSorted name_ref_cmp names.items) }
-    ensures names { IfOk result (λ names.
-        AreNamesOf ordered.now (parts_view parts.now) (names_of names.items)) }
+    ensures names { (o : placed.Ordered) → All (PartIsNamedIn o) parts.now → IfOk result (λ names.
+        AreNamesOf o (parts_view parts.now) (names_of names.items)) }
 {
     let mut names = Vec::new(alloc);
     for part in parts {
-        push_names(alloc, ordered, part, &mut names)?;
+        push_names(part, &mut names)?;
     }
     names.sort_unstable();
     Ok(names)
 }
 
 /// Adds the names of the members of a part, each once.
-fn push_names<'c>(
-    alloc: Global,
-    ordered: &Ordered<'c>,
-    part: &Part<'c>,
-    names: &mut Vec<&'c str>,
-) -> Result<(), AllocError>
-    ensures { OnOk result (AreAdded ordered.now (part_view part.now)
+fn push_names<'c>(part: &Part<'c>, names: &mut Vec<&'c str>) -> Result<(), AllocError>
+    ensures { (o : placed.Ordered) → PartIsNamedIn o part.now → OnOk result (AreAdded o (part_view part.now)
         (names_of names.old.items) (names_of names.new.items)) }
 {
     match part {
         Part::Member(member) => names.push(member.name)?,
         Part::CatchAll(_) => {}
-        Part::Selection(selection) => {
-            let more = names_of_selection(alloc, ordered, selection)?;
-            names.extend_from_slice(&more)?;
-        }
+        Part::Selection(selection) => names.extend_from_slice(&selection.names)?,
     }
     Ok(())
 }
@@ -76,9 +96,10 @@ fn push_names<'c>(
 fn names_of_selection<'c>(
     alloc: Global,
     ordered: &Ordered<'c>,
-    selection: &Selection,
+    selection: &Selection<'_>,
 ) -> Result<Vec<&'c str>, AllocError>
-    ensures { let part = a_selection (selection_view selection.now) in IfOk result (λ names.
+    ensures sorted { IfOk result (λ names. IsSorted name_ref_cmp names.items) }
+    ensures those { let part = a_selection (selection_view selection.now) in IfOk result (λ names.
         AreThose (λ x. IsTrue (part_knows ordered.now (named x) part)) (names_of names.items)) }
 {
     let mut names = Vec::new(alloc);
@@ -94,16 +115,28 @@ fn names_of_selection<'c>(
 /// Each of sorted names once.
 fn distinct<'c>(alloc: Global, names: &[&'c str]) -> Result<Vec<&'c str>, AllocError>
     requires { IsSorted name_ref_cmp names.now }
-    ensures { IfOk result (λ distinct.
+    ensures sorted { IfOk result (λ distinct. IsSorted name_ref_cmp distinct.items) }
+    ensures those { IfOk result (λ distinct.
         AreThose (Contains (names_of names.now)) (names_of distinct.items)) }
 {
-    let mut distinct = Vec::with_capacity(alloc, names.len())?;
+    let mut distinct = Vec::with_capacity(alloc, distinct_len(names))?;
     for index in 0..names.len() {
         if index == 0 || names[index - 1] != names[index] {
             distinct.push(names[index])?;
         }
     }
     Ok(distinct)
+}
+
+/// How many names sorted ones are, each counted once.
+fn distinct_len(names: &[&str]) -> usize {
+    let mut len: usize = 0;
+    for index in 0..names.len() {
+        if index == 0 || names[index - 1] != names[index] {
+            len = len.saturating_add(1);
+        }
+    }
+    len
 }
 
 /// The first of sorted names that is the next one too.

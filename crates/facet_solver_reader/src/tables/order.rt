@@ -12,7 +12,7 @@ ghost use Rattle.facet_solver_reader.specs.Views.{list_view, part_view, parts_vi
 use super::List;
 use super::every::EveryList;
 use super::fault::Fault;
-use super::names::{names_of, takes_rest};
+use super::names::{name_selections, names_of, takes_rest};
 use super::slots::Slots;
 use crate::part::{ListId, Part, Selection};
 use crate::parts::parts_of;
@@ -230,10 +230,11 @@ impl<'c> Ordered<'c> {
         ensures about { IfErr result (IsAbout (λ q. q ≡ list_view id.now)) }
     {
         // A list that some choice has has parts.
-        let parts = match parts_of(alloc, types, *id)? {
+        let mut parts = match parts_of(alloc, types, *id)? {
             Some(parts) => parts,
             None => Vec::new(alloc),
         };
+        name_selections(alloc, self, &mut parts)?;
         let names = match names_of(alloc, self, *id, &parts) {
             Ok(names) => names,
             Err(fault) => return Err(fault),

@@ -5,13 +5,13 @@ ghost use Rattle.facet_solver_reader.specs.declared.nodes.Nodes.{Nodes};
 ghost use Rattle.facet_solver_reader.specs.Nodes.{IsNumbering, count, members_in, value_of};
 ghost use Rattle.facet_solver_reader.specs.Parts.{a_selection};
 ghost use Rattle.facet_solver_reader.specs.Reading.{AreSound, IsObject};
+ghost use Rattle.facet_solver_reader.specs.SelectionNames.{IsNamed};
 ghost use Rattle.facet_solver_reader.specs.Tables.{AreTables, ListIsServed, PartIsBefore, rules_at};
 ghost use Rattle.facet_solver_reader.specs.Views.{list_view, selection_view};
 ghost use Rattle.facet_solver_reader.specs.Blaming.{IsAsked, IsAmong, IsBranchOf, IsFound};
 ghost use Rattle.facet_solver_reader.specs.Why.{IsMisfit, IsNoKey, Lacks};
 
 use super::asked::{Asked, position_of};
-use super::knows::knows_name;
 use super::left::only_left;
 use super::name::{branch_of, selection_name};
 use super::object::Found;
@@ -31,11 +31,12 @@ pub(super) fn none_in_selection<'c, 'd>(
     nodes: &Nodes<'_, 'd>,
     memo: &mut Memo,
     asked: &Asked<'_, 'c>,
-    selection: &Selection,
+    selection: &Selection<'_>,
 ) -> Result<Option<Found<'c, 'd>>, AllocError>
     requires sound { AreSound tables.now nodes.now memo.old.entries.items }
     requires asked { IsAsked tables.now nodes.now asked.now }
     requires served { All (ListIsServed tables.now) (selection_view selection.now).branches }
+    requires named { IsNamed (rules_at tables.now).lists selection.now }
     requires before { PartIsBefore tables.now asked.now.object.list.now.below.items
         (length asked.now.counts.items) (a_selection (selection_view selection.now)) }
     ensures sound { AreSound tables.now nodes.now memo.new.entries.items }
@@ -62,12 +63,13 @@ fn one_branch(
     tables: &Tables<'_>,
     nodes: &Nodes<'_, '_>,
     asked: &Asked<'_, '_>,
-    selection: &Selection,
+    selection: &Selection<'_>,
 ) -> Option<usize>
     requires tables { AreTables tables.now }
     requires numbering { IsNumbering nodes.now }
     requires object { IsObject tables.now nodes.now asked.now.object }
     requires served { All (ListIsServed tables.now) (selection_view selection.now).branches }
+    requires named { IsNamed (rules_at tables.now).lists selection.now }
 {
     match selection.branches.as_slice() {
         [branch] => position_of(tables, &asked.object, *branch),
@@ -81,11 +83,12 @@ pub(super) fn misfits_of<'c, 'd>(
     nodes: &Nodes<'_, 'd>,
     memo: &mut Memo,
     asked: &Asked<'_, 'c>,
-    selection: &Selection,
+    selection: &Selection<'_>,
 ) -> Result<Vec<Misfit<'c, 'd>>, AllocError>
     requires sound { AreSound tables.now nodes.now memo.old.entries.items }
     requires asked { IsAsked tables.now nodes.now asked.now }
     requires served { All (ListIsServed tables.now) (selection_view selection.now).branches }
+    requires named { IsNamed (rules_at tables.now).lists selection.now }
     ensures sound { AreSound tables.now nodes.now memo.new.entries.items }
     ensures misfits { IfOk result (λ misfits. All (IsMisfit (rules_at tables.now)
         (value_of nodes.now asked.now.object.node)) misfits.items) }
@@ -114,7 +117,7 @@ fn add_misfit<'c, 'd>(
     nodes: &Nodes<'_, 'd>,
     memo: &mut Memo,
     asked: &Asked<'_, 'c>,
-    selection: &Selection,
+    selection: &Selection<'_>,
     by_tag: bool,
     branch: &ListId,
     misfits: &mut Vec<Misfit<'c, 'd>>,
@@ -122,6 +125,7 @@ fn add_misfit<'c, 'd>(
     requires sound { AreSound tables.now nodes.now memo.old.entries.items }
     requires asked { IsAsked tables.now nodes.now asked.now }
     requires served { All (ListIsServed tables.now) (selection_view selection.now).branches }
+    requires named { IsNamed (rules_at tables.now).lists selection.now }
     requires branch { IsBranchOf (selection_view selection.now) (list_view branch.now) }
     requires misfits { All (IsMisfit (rules_at tables.now)
         (value_of nodes.now asked.now.object.node)) misfits.old.items }
@@ -149,12 +153,13 @@ fn misfit_of<'c, 'd>(
     nodes: &Nodes<'_, 'd>,
     memo: &mut Memo,
     asked: &Asked<'_, 'c>,
-    selection: &Selection,
+    selection: &Selection<'_>,
     branch: &ListId,
 ) -> Result<Option<Misfit<'c, 'd>>, AllocError>
     requires sound { AreSound tables.now nodes.now memo.old.entries.items }
     requires asked { IsAsked tables.now nodes.now asked.now }
     requires served { All (ListIsServed tables.now) (selection_view selection.now).branches }
+    requires named { IsNamed (rules_at tables.now).lists selection.now }
     requires branch { IsBranchOf (selection_view selection.now) (list_view branch.now) }
     ensures sound { AreSound tables.now nodes.now memo.new.entries.items }
     ensures misfit { IfOk result (λ misfit. IfSome misfit (IsMisfit (rules_at tables.now)
@@ -202,19 +207,20 @@ fn no_key<'d>(
     tables: &Tables<'_>,
     nodes: &Nodes<'_, 'd>,
     object: &Object<'_, '_>,
-    selection: &Selection,
+    selection: &Selection<'_>,
     branch: ListId,
 ) -> Option<&'d str>
     requires tables { AreTables tables.now }
     requires object { IsObject tables.now nodes.now object.now }
     requires served { All (ListIsServed tables.now) (selection_view selection.now).branches }
+    requires named { IsNamed (rules_at tables.now).lists selection.now }
     requires branch { IsBranchOf (selection_view selection.now) (list_view branch) }
     ensures { IfSome result (λ name. IsNoKey (rules_at tables.now)
         (members_in (value_of nodes.now object.now.node)) (list_view branch) name.now) }
 {
     let list = tables.list(branch)?;
     for member in members_of(nodes.value(object.node)) {
-        if !list.has_name(member.0) && knows_name(tables, selection, member.0) {
+        if !list.has_name(member.0) && selection.has_name(member.0) {
             return Some(member.0);
         }
     }

@@ -2,7 +2,8 @@
 ghost use Rattle.std.specs.Prelude.{All};
 ghost use Rattle.facet_solver_reader.specs.Nodes.{IsNumbering};
 ghost use Rattle.facet_solver_reader.specs.Reading.{IsListed, IsObject};
-ghost use Rattle.facet_solver_reader.specs.Tables.{AreTables, ListIsServed, PartIsServed};
+ghost use Rattle.facet_solver_reader.specs.SelectionNames.{IsNamed, PartIsNamed};
+ghost use Rattle.facet_solver_reader.specs.Tables.{AreTables, ListIsServed, PartIsServed, rules_at};
 ghost use Rattle.facet_solver_reader.specs.Views.{list_view, part_view, selection_view};
 
 use super::asked::position_of;
@@ -64,6 +65,7 @@ fn part_is_left(
     requires numbering { IsNumbering nodes.now }
     requires object { IsObject tables.now nodes.now object.now }
     requires served { PartIsServed tables.now (part_view part.now) }
+    requires named { PartIsNamed (rules_at tables.now).lists part.now }
 {
     match part {
         Part::Member(_) => !fails_at_once(nodes, object.node, part),
@@ -82,13 +84,14 @@ fn first_left(
     tables: &Tables<'_>,
     nodes: &Nodes<'_, '_>,
     object: &Object<'_, '_>,
-    selection: &Selection,
+    selection: &Selection<'_>,
     left: &[bool],
 ) -> Option<usize>
     requires tables { AreTables tables.now }
     requires numbering { IsNumbering nodes.now }
     requires object { IsObject tables.now nodes.now object.now }
     requires served { All (ListIsServed tables.now) (selection_view selection.now).branches }
+    requires named { IsNamed (rules_at tables.now).lists selection.now }
 {
     for branch in &selection.branches {
         let position = left_at(tables, nodes, object, selection, *branch, left);
@@ -104,7 +107,7 @@ fn left_at(
     tables: &Tables<'_>,
     nodes: &Nodes<'_, '_>,
     object: &Object<'_, '_>,
-    selection: &Selection,
+    selection: &Selection<'_>,
     branch: ListId,
     left: &[bool],
 ) -> Option<usize>
@@ -112,6 +115,7 @@ fn left_at(
     requires numbering { IsNumbering nodes.now }
     requires object { IsObject tables.now nodes.now object.now }
     requires served { All (ListIsServed tables.now) (selection_view selection.now).branches }
+    requires named { IsNamed (rules_at tables.now).lists selection.now }
     requires branch { ListIsServed tables.now (list_view branch) }
 {
     let position = position_of(tables, object, branch)?;
@@ -129,13 +133,14 @@ pub(super) fn only_left(
     tables: &Tables<'_>,
     nodes: &Nodes<'_, '_>,
     object: &Object<'_, '_>,
-    selection: &Selection,
+    selection: &Selection<'_>,
     left: &[bool],
 ) -> Option<usize>
     requires tables { AreTables tables.now }
     requires numbering { IsNumbering nodes.now }
     requires object { IsObject tables.now nodes.now object.now }
     requires served { All (ListIsServed tables.now) (selection_view selection.now).branches }
+    requires named { IsNamed (rules_at tables.now).lists selection.now }
 {
     let mut only = None;
     for branch in &selection.branches {

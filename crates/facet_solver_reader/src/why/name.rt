@@ -64,7 +64,7 @@ pub(super) fn branch_of(shapes: &Shapes, list: ListId) -> Branch<'_>
 }
 
 /// The name of the type that a selection is of.
-pub(super) fn selection_name<'c>(shapes: &'c Shapes, selection: &Selection) -> &'c str {
+pub(super) fn selection_name<'c>(shapes: &'c Shapes, selection: &Selection<'_>) -> &'c str {
     match selection.branches.first() {
         Some(branch) => branch_of(shapes, *branch).name.name,
         None => "?",

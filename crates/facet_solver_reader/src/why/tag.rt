@@ -23,7 +23,7 @@ pub(super) fn none_by_tag<'c, 'd>(
     tables: &Tables<'c>,
     nodes: &Nodes<'_, 'd>,
     object: &Object<'_, '_>,
-    selection: &Selection,
+    selection: &Selection<'_>,
 ) -> Result<Option<Here<'c, 'd>>, AllocError>
     requires tables { AreTables tables.now }
     requires numbering { IsNumbering nodes.now }
@@ -50,7 +50,7 @@ pub(super) fn none_by_tag<'c, 'd>(
 }
 
 /// The tag of the first branch of a selection, if that begins with one, and its text.
-fn first_tag<'c>(tables: &Tables<'c>, selection: &Selection) -> Option<(&'c str, &'c str)>
+fn first_tag<'c>(tables: &Tables<'c>, selection: &Selection<'_>) -> Option<(&'c str, &'c str)>
     requires tables { AreTables tables.now }
     requires served { All (ListIsServed tables.now) (selection_view selection.now).branches }
 {
@@ -94,7 +94,7 @@ pub(super) fn tag_leaves_some(
     tables: &Tables<'_>,
     nodes: &Nodes<'_, '_>,
     object: &Object<'_, '_>,
-    selection: &Selection,
+    selection: &Selection<'_>,
 ) -> bool
     requires tables { AreTables tables.now }
     requires numbering { IsNumbering nodes.now }

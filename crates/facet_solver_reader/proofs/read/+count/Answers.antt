@@ -71,6 +71,7 @@ use Rattle.facet_solver_reader.proofs.CountingLists.{count_of_absent_member, cou
 use Rattle.facet_solver_reader.proofs.CountingLists.{found_levels, if_ok_then, member_within}
 use Rattle.facet_solver_reader.proofs.CountingLists.{none_by_parts, none_taken, none_where_fails}
 use Rattle.facet_solver_reader.proofs.CountingLists.{part_last, part_more, passing_more, taken_more}
+use Rattle.facet_solver_reader.proofs.NamedParts.{part_named}
 use Rattle.facet_solver_reader.proofs.CountingObjects.{counts_more, itself, known_by_list}
 use Rattle.facet_solver_reader.proofs.CountingObjects.{listed_below, seen_read, unknown_by_list}
 use Rattle.facet_solver_reader.proofs.Distinct.{distinct_parts}
@@ -367,10 +368,16 @@ list::count_list-count_part-requires t c =
             c.requires.counts,
             (
               all_at (PartIsServed tb) ps i (part_view item) is.served at,
-              all_at
-                  (PartIsBefore tb c.args.object.now.list.now.below.items
-                  (length c.args.counts.now))
-                  ps i (part_view item) before at,
+              (
+                part_named tb c.requires.sound.tables l
+                    (record { index = next.index; listed = next.listed })
+                    c.deref-part-items.result.now c.deref-part-items.ensures.value i item
+                    c.loop-part-test.true c.part-item.is,
+                all_at
+                    (PartIsBefore tb c.args.object.now.list.now.below.items
+                    (length c.args.counts.now))
+                    ps i (part_view item) before at,
+              ),
             ),
           ),
         ),

@@ -1,29 +1,22 @@
-use Rattle.std.proofs.Common.{◌≡◌, ◌∙◌, ap, sym, true, false}
+use Rattle.std.proofs.Common.{◌∙◌, ap, sym}
 use Rattle.std.specs.Borrow.{Bor}
 use Rattle.std.specs.List.{list_any}
 use Rattle.facet_solver_shape.specs.Names.{Name}
 use Rattle.facet_solver_shape.proofs.Lists.{list_any-map}
 use Rattle.facet_solver_reader.specs.Documents.{Member}
-use Rattle.facet_solver_reader.specs.Known.{named}
 use Rattle.facet_solver_reader.specs.Nodes.{members_in, value_of}
 use Rattle.facet_solver_reader.specs.Objects.{has_name}
 use Rattle.facet_solver_reader.specs.Reading.{member_view}
-use Rattle.facet_solver_reader.specs.Tables.{knows}
-use Rattle.facet_solver_reader.specs.Views.{list_view}
-use Rattle.facet_solver_reader.proofs.KnownNames.{knows_member, knows_some}
+use Rattle.facet_solver_reader.specs.SelectionNames.{has_known}
+use Rattle.facet_solver_reader.proofs.KnownNames.{knows_name, knows_some}
 use Rattle.facet_solver_reader.proofs.read.selection.knows_member.Goals as goal
-
-pub some_is_known-requires : goal.some_is_known-requires
-some_is_known-requires c =
-    let of = c.in-Some.ensures in
-    (c.requires.tables.lists of.index c.in-Some.known.now of.listed).sorted
 
 pub returns-then-members-len : goal.returns-then-members-len
 returns-then-members-len c =
-    let known = c.in-Some.known.now in
-    let test = λ (m : Member). knows known (named m.name) in
-    knows_some c.args.tables.now c.requires.tables (members_in (value_of c.args.nodes.now c.args.object.now.node))
-    (list_view c.args.branch) known c.in-Some.ensures c.some_is_known.result
+    let s = c.args.selection.now in
+    let test = λ (m : Member). has_known s m.name in
+    knows_some s (members_in (value_of c.args.nodes.now c.args.object.now.node))
+    c.some_is_known.result
     (c.some_is_known.ensures
     ∙ (sym (list_any-map test member_view c.members_of-members.result.now)
     ∙ ap (list_any test) (c.members_of-members.ensures ∙ ap members_in c.value.ensures)))
@@ -31,18 +24,6 @@ returns-then-members-len c =
 pub returns-else-members-len : goal.returns-else-members-len
 returns-else-members-len c =
     let ms = members_in (value_of c.args.nodes.now c.args.object.now.node) in
-    knows_member c.args.tables.now c.requires.tables ms (list_view c.args.branch)
-    c.in-Some.known.now c.in-Some.ensures c.has_any.result
+    knows_name c.args.selection.now ms c.has_any.result
     (c.has_any.ensures
     ∙ ap (list_any (λ (n : Bor Name). has_name ms n.now)) c.deref.ensures.value)
-
-pub returns-in-None : goal.returns-in-None
-returns-in-None c = (
-  λ (p : false ≡ true). absurd (cc),
-  λ k.
-      absurd (c.in-None.ensures (record {
-        choice = k.known.choice;
-        items = k.known.items;
-        chooses = k.known.chooses;
-      })),
-)

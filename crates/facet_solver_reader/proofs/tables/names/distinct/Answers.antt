@@ -38,5 +38,8 @@ loop-index-preserved c =
           (not_false (bytes_eq (get_or ns (n - 1) blank).now (get_or ns n blank).now) (sym w.ne.ensures ∙ w.if-ne.false)))
     ]
 
-pub returns : goal.returns
-returns c = distinct_all c.args.names.now c.loop-index.distinct.items c.loop-index.index (omega (arith, c.loop-index-test.false)) c.loop-index.invariant
+pub returns-clause-sorted : goal.returns-clause-sorted
+returns-clause-sorted c = c.loop-index.invariant.sorted
+
+pub returns-clause-those : goal.returns-clause-those
+returns-clause-those c = distinct_all c.args.names.now c.loop-index.distinct.items c.loop-index.index (omega (arith, c.loop-index-test.false)) c.loop-index.invariant

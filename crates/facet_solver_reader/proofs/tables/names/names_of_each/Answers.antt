@@ -1,23 +1,29 @@
-use Rattle.std.proofs.Common.{arith, sym, ap, subst, take, List}
+use Rattle.std.proofs.Common.{arith, sym, ap, subst, take, List, [], Bor, Some, ◌∙◌}
 use Rattle.std.proofs.lemmas.List.{take_all}
-use Rattle.facet_solver_shape.specs.Names.{names_of}
+use Rattle.std.proofs.lemmas.Option.{slice_get-get_or}
+use Rattle.facet_solver_shape.specs.Names.{Name, names_of}
 use Rattle.facet_solver_reader.specs.Parts.{Part}
-use Rattle.facet_solver_reader.specs.Placing.{AreNamesOf}
+use Rattle.facet_solver_reader.specs.Placing.{AreNamesOf, PartIsNamedIn}
 use Rattle.facet_solver_reader.specs.Views.{part_view, parts_view}
-use Rattle.facet_solver_reader.proofs.PartNames.{names_moved, names_of_more, parts_more}
+use Rattle.facet_solver_reader.proofs.PartNames.{names_moved, names_of_more, names_of_no_parts, parts_more}
+use Rattle.facet_solver_reader.proofs.Quantifiers.{all_at}
 use Rattle.facet_solver_reader.proofs.tables.names.names_of_each.Goals as goal
 
+pub loop-part-init : goal.loop-part-init
+loop-part-init c = λ o named. subst (λ (v : List (Bor Name)). AreNamesOf o [] (names_of v)) (sym c.new-names.ensures.items) (names_of_no_parts o)
+
 pub loop-part-preserved : goal.loop-part-preserved
-loop-part-preserved c =
-    let o = c.args.ordered.now in
+loop-part-preserved c = λ o named.
     let i = c.loop-part.part-index in
+    let part = c.part-item.result in
     let new = names_of c.push_names.new.names.items in
-    subst (λ (ps : List Part). AreNamesOf o ps new) (sym (parts_more c.args.parts.now i c.part-item.result c.loop-part-test.true c.part-item.is))
-    (names_of_more o (parts_view (take i c.args.parts.now)) (part_view c.part-item.result) (names_of c.loop-part.names.items) new c.loop-part.invariant c.in_ok-push_names.ensures)
+    let here = all_at (PartIsNamedIn o) c.args.parts.now i part named
+    (slice_get-get_or c.args.parts.now i part c.loop-part-test.true ∙ ap Some (sym c.part-item.is)) in
+    subst (λ (ps : List Part). AreNamesOf o ps new) (sym (parts_more c.args.parts.now i part c.loop-part-test.true c.part-item.is))
+    (names_of_more o (parts_view (take i c.args.parts.now)) (part_view part) (names_of c.loop-part.names.items) new (c.loop-part.invariant o named) (c.in_ok-push_names.ensures o here))
 
 pub returns-clause-names : goal.returns-clause-names
-returns-clause-names c =
-    let o = c.args.ordered.now in
+returns-clause-names c = λ o named.
     let ps = c.args.parts.now in
     names_moved o (parts_view ps) c.loop-part.names.items c.sort_unstable.new.self.items c.sort_unstable.ensures.permutation
-    (subst (λ (qs : List Part). AreNamesOf o qs (names_of c.loop-part.names.items)) (ap parts_view (take_all c.loop-part.part-index ps (omega (arith, c.loop-part-test.false)))) c.loop-part.invariant)
+    (subst (λ (qs : List Part). AreNamesOf o qs (names_of c.loop-part.names.items)) (ap parts_view (take_all c.loop-part.part-index ps (omega (arith, c.loop-part-test.false)))) (c.loop-part.invariant o named))

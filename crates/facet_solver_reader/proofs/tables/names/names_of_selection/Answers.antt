@@ -36,12 +36,12 @@ loop-branch-preserved c =
           (names_of_no_list o ids i id (names_of c.loop-branch.names.items) within c.loop-branch.invariant entry)
     ]
 
-pub returns : goal.returns
-returns c =
+pub returns-clause-those : goal.returns-clause-those
+returns-clause-those c =
     let o = c.args.ordered.now in
     let s = c.args.selection.now in
     those_too (Contains (names_of c.deref-2.result.now)) (λ x. IsTrue (part_knows o (named x) (a_selection (selection_view s)))) c.distinct.result
     (subst (λ (ns : List (Bor Name)). (x : Name) → Contains (names_of ns) x ↔ IsTrue (part_knows o (named x) (a_selection (selection_view s)))) (sym c.deref-2.ensures.value)
     (names_of_branches o s c.loop-branch.branch-index c.loop-branch.names.items c.sort_unstable.new.self.items
     (omega (arith, c.loop-branch-test.false, c.deref-branch-items.ensures.len, s.branches.ok.0)) c.loop-branch.invariant c.sort_unstable.ensures.permutation))
-    c.distinct.ensures
+    c.distinct.ensures.those

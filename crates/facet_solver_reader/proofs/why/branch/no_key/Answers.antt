@@ -19,8 +19,8 @@ has_name-requires c =
     let of = c.in_ok-list.ensures in
     (c.requires.tables.lists of.index c.in_ok-list.list.now of.listed).sorted
 
-pub returns-then-knows_name : goal.returns-then-knows_name
-returns-then-knows_name c =
+pub returns-then-selection-has_name : goal.returns-then-selection-has_name
+returns-then-selection-has_name c =
     let t = c.args.tables.now in
     let s = selection_view c.args.selection.now in
     let id = list_view c.args.branch in
@@ -45,7 +45,9 @@ returns-then-knows_name c =
           record {
             key = named m.name;
             has = has;
-            known = c.knows_name.ensures.0 c.if-knows_name.true;
+            known =
+                (c.requires.named.known m.name).0
+                (sym c.selection-has_name.ensures ∙ c.if-selection-has_name.true);
             unknown = λ k.
                 let is : c.has_name.result ≡ true = knows.1 k in
                 let isnt : c.has_name.result ≡ false = c.if-not-has_name.true in

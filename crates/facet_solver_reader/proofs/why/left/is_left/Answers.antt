@@ -3,6 +3,7 @@ use Rattle.facet_solver_reader.specs.Tables.{PartIsServed}
 use Rattle.facet_solver_reader.specs.Views.{part_view, parts_view}
 use Rattle.facet_solver_reader.proofs.Blaming.{parts_served}
 use Rattle.facet_solver_reader.proofs.CountingObjects.{seen_read}
+use Rattle.facet_solver_reader.proofs.NamedParts.{part_named}
 use Rattle.facet_solver_reader.proofs.Quantifiers.{all_at}
 use Rattle.facet_solver_reader.proofs.why.left.is_left.Goals as goal
 
@@ -15,3 +16,10 @@ part_is_left-requires-clause-served c =
     (parts_served c.args.tables.now c.requires.tables l c.requires.listed)
     (seen_read part_view c.deref-part-items.result.now ps i c.part-item.result
     (ap (map part_view) c.deref-part-items.ensures.value) c.loop-part-test.true c.part-item.is)
+
+pub part_is_left-requires-clause-named : goal.part_is_left-requires-clause-named
+part_is_left-requires-clause-named c =
+    part_named c.args.tables.now c.requires.tables c.args.list.now
+    c.requires.listed
+    c.deref-part-items.result.now c.deref-part-items.ensures.value c.loop-part.part-index
+    c.part-item.result c.loop-part-test.true c.part-item.is

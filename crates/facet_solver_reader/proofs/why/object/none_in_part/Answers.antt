@@ -1,5 +1,6 @@
 use Rattle.std.proofs.Common.{ap, length, subst}
-use Rattle.facet_solver_reader.specs.Tables.{PartIsBefore, PartIsServed}
+use Rattle.facet_solver_reader.specs.SelectionNames.{PartIsNamed}
+use Rattle.facet_solver_reader.specs.Tables.{PartIsBefore, PartIsServed, rules_at}
 use Rattle.facet_solver_reader.specs.Views.{part_view}
 use Rattle.facet_solver_reader.proofs.Blaming.{listed_of_below, part_before, part_served}
 use Rattle.facet_solver_reader.proofs.why.object.none_in_part.Goals as goal
@@ -31,3 +32,7 @@ none_taken-requires-clause-served c =
     subst (PartIsServed t) (ap part_view c.in-CatchAll.is)
     (part_served t tables l (part_view c.args.part.now)
     (listed_of_below t tables c.args.asked.now.object l c.requires.below) c.requires.part)
+
+pub none_in_selection-requires-clause-named : goal.none_in_selection-requires-clause-named
+none_in_selection-requires-clause-named c =
+    subst (PartIsNamed (rules_at c.args.tables.now).lists) c.in-Selection.is c.requires.named

@@ -1,8 +1,10 @@
 use Rattle.std.proofs.Common.{ap, length, map, subst}
-use Rattle.facet_solver_reader.specs.Tables.{PartIsBefore, PartIsServed}
+use Rattle.facet_solver_reader.specs.SelectionNames.{PartIsNamed}
+use Rattle.facet_solver_reader.specs.Tables.{PartIsBefore, PartIsServed, rules_at}
 use Rattle.facet_solver_reader.specs.Views.{part_view, parts_view}
 use Rattle.facet_solver_reader.proofs.Blaming.{listed_of_below, part_before, part_served}
 use Rattle.facet_solver_reader.proofs.CountingObjects.{seen_read}
+use Rattle.facet_solver_reader.proofs.NamedParts.{part_named}
 use Rattle.facet_solver_reader.proofs.why.several.split_in_list.Goals as goal
 
 pub branches_of-requires-clause-served : goal.branches_of-requires-clause-served
@@ -33,3 +35,12 @@ branches_of-requires-clause-before c =
     (part_before t c.requires.tables c.args.nodes.now o c.requires.tallied.object l
     (part_view c.part-item.result) (length a.counts.items) c.requires.below (i, at)
     c.requires.tallied.each)
+
+pub branches_of-requires-clause-named : goal.branches_of-requires-clause-named
+branches_of-requires-clause-named c =
+    subst (PartIsNamed (rules_at c.args.tables.now).lists) c.in-Selection.is
+    (part_named c.args.tables.now c.requires.tables c.args.list.now
+    (listed_of_below c.args.tables.now c.requires.tables c.args.tallied.now.object c.args.list.now
+    c.requires.below)
+    c.deref-part-items.result.now c.deref-part-items.ensures.value c.loop-part.part-index
+    c.part-item.result c.loop-part-test.true c.part-item.is)

@@ -2,6 +2,7 @@ use Rattle.std.proofs.Common.{ap, map}
 use Rattle.facet_solver_reader.specs.Views.{part_view, parts_view}
 use Rattle.facet_solver_reader.proofs.Blaming.{listed_of_below, part_before, part_served}
 use Rattle.facet_solver_reader.proofs.CountingObjects.{seen_read}
+use Rattle.facet_solver_reader.proofs.NamedParts.{part_named}
 use Rattle.facet_solver_reader.proofs.why.stop.stop_in_list.Goals as goal
 
 pub stop_in_part-requires-clause-served : goal.stop_in_part-requires-clause-served
@@ -26,3 +27,11 @@ stop_in_part-requires-clause-before c =
     part_before t c.requires.sound.tables c.args.nodes.now c.args.asked.now.object
     c.requires.asked.object l (part_view c.part-item.result) _ c.requires.below (i, at)
     c.requires.asked.each
+
+pub stop_in_part-requires-clause-named : goal.stop_in_part-requires-clause-named
+stop_in_part-requires-clause-named c =
+    part_named c.args.tables.now c.requires.sound.tables c.args.list.now
+    (listed_of_below c.args.tables.now c.requires.sound.tables c.args.asked.now.object
+    c.args.list.now c.requires.below)
+    c.deref-part-items.result.now c.deref-part-items.ensures.value c.loop-part.part-index
+    c.part-item.result c.loop-part-test.true c.part-item.is

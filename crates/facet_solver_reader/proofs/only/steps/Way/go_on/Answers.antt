@@ -20,6 +20,7 @@ use Rattle.facet_solver_reader.specs.Known.{Chooses, HasChoice}
 use Rattle.facet_solver_reader.specs.Parts.{ListId, Selection, a_selection}
 use Rattle.facet_solver_reader.specs.Planned as planned
 use Rattle.facet_solver_reader.specs.Reading.{IsListCount, IsObject, IsPartCount}
+use Rattle.facet_solver_reader.specs.SelectionNames.{PartIsNamed}
 use Rattle.facet_solver_reader.specs.Tables.{AreTables, ListIsServed, rules_at}
 use Rattle.facet_solver_reader.specs.Steps.{place_below}
 use Rattle.facet_solver_reader.specs.UnderWay.{IsEntered, IsGoing, IsInnermost, IsSelected}
@@ -27,6 +28,7 @@ use Rattle.facet_solver_reader.specs.UnderWay.{with_inner}
 use Rattle.facet_solver_reader.specs.Views.{catch_all_view, list_view, member_view, part_view}
 use Rattle.facet_solver_reader.specs.Views.{parts_view, selection_view}
 use Rattle.facet_solver_reader.proofs.CountingObjects.{seen_read}
+use Rattle.facet_solver_reader.proofs.NamedParts.{part_named}
 use Rattle.facet_solver_reader.proofs.Quantifiers.{all_at}
 use Rattle.facet_solver_reader.proofs.ReadOnce.{err_not_one, not_one_then}
 use Rattle.facet_solver_reader.proofs.StepsLeft.{behind_next}
@@ -171,6 +173,18 @@ choose-requires-clause-served c =
     let at = part_at f c.deref.result.now c.in-Some.part.now (code_part.TheVariants.Selection s)
     c.deref.ensures.value look.3.0 look.1 c.in-Selection.is in
     next_served t nodes o tables fs f old g (a_selection (selection_view s)) at
+
+pub choose-requires-clause-named : goal.choose-requires-clause-named
+choose-requires-clause-named c =
+    let t = c.args.tables.now in
+    let f = c.args.frame in
+    let tables = c.requires.sound.tables in
+    let below = below_last t c.args.nodes.now c.args.object.now tables c.args.self.now.frames.items f
+    c.args.self.now.steps.items c.requires.under_way in
+    let look = c.in-Some.ensures.lookup in
+    subst (PartIsNamed (rules_at t).lists) c.in-Selection.is
+    (part_named t tables f.list.now (record { index = below.index; listed = below.listed })
+    c.deref.result.now c.deref.ensures.value f.next c.in-Some.part.now look.3.0 look.1)
 
 pub choose-requires-clause-before : goal.choose-requires-clause-before
 choose-requires-clause-before c =
