@@ -6,7 +6,7 @@ use Rattle.std.specs.Prelude.{IfSome, IsTrue, is_some}
 use Rattle.std.specs.List.{list_any}
 use Rattle.facet_solver_reader.specs.declared.count.Count.TheVariants.{None as NoReading}
 use Rattle.facet_solver_reader.specs.declared.nodes.Nodes.{Nodes}
-use Rattle.facet_solver_reader.specs.declared.read.object.Object as code
+use Rattle.facet_solver_reader.specs.declared.count.object.Object as code
 use Rattle.facet_solver_reader.specs.declared.tables.List.{List as ListEntry}
 use Rattle.facet_solver_reader.specs.declared.tables.Tables.{Tables}
 use Rattle.std.proofs.Math.Dec.{eqb}

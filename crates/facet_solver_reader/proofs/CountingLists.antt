@@ -16,7 +16,7 @@ use Rattle.facet_solver_reader.specs.declared.tables.List.{List as ListEntry}
 use Rattle.facet_solver_reader.specs.declared.tables.Tables.{Tables}
 use Rattle.facet_solver_reader.specs.declared.count.Count.TheVariants as counts
 use Rattle.facet_solver_reader.specs.declared.part.Part as code_part
-use Rattle.facet_solver_reader.specs.declared.read.object.Object as code
+use Rattle.facet_solver_reader.specs.declared.count.object.Object as code
 use Rattle.facet_solver_reader.specs.Branches.{ReadsPart, ReadsParts}
 use Rattle.facet_solver_reader.specs.Known.{Chooses, HasChoice, IsKnown, named}
 use Rattle.facet_solver_reader.specs.Nodes.{children, members_in}

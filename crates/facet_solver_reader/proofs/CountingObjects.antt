@@ -16,7 +16,7 @@ use Rattle.facet_solver_reader.specs.declared.count.Count.{Count}
 use Rattle.facet_solver_reader.specs.declared.nodes.Nodes.{Nodes}
 use Rattle.facet_solver_reader.specs.declared.tables.List.{List as ListEntry}
 use Rattle.facet_solver_reader.specs.declared.tables.Tables.{Tables}
-use Rattle.facet_solver_reader.specs.declared.read.object.Object as code
+use Rattle.facet_solver_reader.specs.declared.count.object.Object as code
 use Rattle.facet_solver_reader.specs.Branches.{Fits, Misfits}
 use Rattle.facet_solver_reader.specs.Documents.{Member}
 use Rattle.facet_solver_reader.specs.Known.{Chooses, HasChoice, IsKnown, IsKnownIn, Key, named}

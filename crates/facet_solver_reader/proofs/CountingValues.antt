@@ -7,7 +7,7 @@ use Rattle.facet_solver_reader.specs.declared.count.Count.{Count}
 use Rattle.facet_solver_reader.specs.declared.count.Count.TheVariants as counts
 use Rattle.facet_solver_reader.specs.declared.document.Document.{Document}
 use Rattle.facet_solver_reader.specs.declared.nodes.Nodes.{Nodes}
-use Rattle.facet_solver_reader.specs.declared.read.memo.MemoEntry.{MemoEntry}
+use Rattle.facet_solver_reader.specs.declared.count.memo.MemoEntry.{MemoEntry}
 use Rattle.facet_solver_reader.specs.declared.tables.Tables.{Tables}
 use Rattle.facet_solver_reader.specs.Choices.{Reading, a_value}
 use Rattle.facet_solver_reader.specs.Counted.{Counted, once, plus, times}

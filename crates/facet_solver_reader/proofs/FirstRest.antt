@@ -4,7 +4,7 @@ use Rattle.std.proofs.Common.{◌++◌, take, slice_get, Some, None, Bor, arith}
 use Rattle.std.proofs.lemmas.List.{take_more}
 use Rattle.std.proofs.lemmas.Option.{get_or_from_slice_get, slice_get_within}
 use Rattle.std.specs.Option.{option_or}
-use Rattle.facet_solver_reader.specs.declared.only.steps.Step as code
+use Rattle.facet_solver_reader.specs.declared.read.steps.Step as code
 use Rattle.facet_solver_reader.specs.declared.part.CatchAll as code_catch_all
 use Rattle.facet_solver_reader.specs.Found.{catch_all_in}
 use Rattle.facet_solver_reader.specs.Parts.{CatchAll}

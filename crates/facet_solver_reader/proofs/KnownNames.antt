@@ -20,7 +20,7 @@ use Rattle.facet_solver_reader.specs.Documents.{Member, Tree}
 use Rattle.facet_solver_reader.specs.Known.{Chooses, IsKnown, IsKnownIn, Key, named}
 use Rattle.facet_solver_reader.specs.Objects.{HasNamed, Object, Touches, find, has_name}
 use Rattle.facet_solver_reader.specs.Parts.{ListId, Selection}
-use Rattle.facet_solver_reader.specs.declared.read.selection.Passed.{Passed}
+use Rattle.facet_solver_reader.specs.declared.count.selection.Passed.{Passed}
 use Rattle.facet_solver_reader.specs.Passed.{IsOther, IsPassed}
 use Rattle.facet_solver_reader.specs.Reading.{IsListed, member_view}
 use Rattle.facet_solver_reader.specs.Rules.{Rules}

@@ -12,7 +12,6 @@ pub mod Quantifiers
 pub mod Named
 pub mod NamedOnce
 pub mod NamedParts
-
 pub mod NameFilters
 pub mod Objects
 pub mod Knowledge

@@ -7,7 +7,7 @@ use Rattle.std.specs.Prelude.{bit_or, IsTrue}
 use Rattle.std.specs.Int.{bit_at}
 use Rattle.std.specs.List.{All}
 use Rattle.facet_solver_shape.specs.Names.{Name}
-use Rattle.facet_solver_reader.specs.declared.read.name_filter.NameFilter.{NameFilter}
+use Rattle.facet_solver_reader.specs.declared.count.name_filter.NameFilter.{NameFilter}
 use Rattle.facet_solver_reader.specs.Documents.{Member, Tree}
 use Rattle.facet_solver_reader.specs.NameFilters.{HoldsNames, bit_of, may_have}
 use Rattle.facet_solver_reader.specs.Objects.{HasNamed, find}

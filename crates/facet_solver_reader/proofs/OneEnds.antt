@@ -4,7 +4,7 @@ use Rattle.std.proofs.Common.{length, IsTrue}
 use Rattle.std.specs.Prelude.{◌↔◌, Result}
 use Rattle.facet_solver_reader.specs.declared.count.Count.TheVariants.{One}
 use Rattle.facet_solver_reader.specs.declared.nodes.Nodes.{Nodes}
-use Rattle.facet_solver_reader.specs.declared.only.not_one.NotOne.{NotOne}
+use Rattle.facet_solver_reader.specs.declared.read.not_one.NotOne.{NotOne}
 use Rattle.facet_solver_reader.specs.declared.reading.Reading as code
 use Rattle.facet_solver_reader.specs.declared.tables.Tables.{Tables}
 use Rattle.facet_solver_reader.specs.Choices.{Reading, a_value, each_of, an_object}

@@ -9,7 +9,7 @@ use Rattle.facet_solver_shape.specs.Names.{Name}
 use Rattle.facet_solver_shape.specs.Representation.{Repr, flattened, externally_tagged}
 use Rattle.facet_solver_shape.specs.Representation.{internally_tagged, adjacently_tagged}
 use Rattle.facet_solver_reader.specs.declared.nodes.Nodes.{Nodes}
-use Rattle.facet_solver_reader.specs.declared.read.object.Object as code
+use Rattle.facet_solver_reader.specs.declared.count.object.Object as code
 use Rattle.facet_solver_reader.specs.declared.tables.Tables.{Tables}
 use Rattle.facet_solver_reader.specs.declared.tables.tags.TagTable.{TagTable}
 use Rattle.facet_solver_reader.specs.Branches.{ReadsList, ReadsPart}

@@ -3,9 +3,9 @@ use Rattle.std.proofs.Common.{◌≡◌, ◌∙◌, refl, subst, sym}
 use Rattle.std.specs.Prelude.{◌↔◌, IfErr, IsErr, IsErrAnd, Result, Ok, Err}
 use Rattle.facet_solver_reader.specs.declared.count.Count.{Count}
 use Rattle.facet_solver_reader.specs.declared.count.Count.TheVariants.{None, One, Several}
-use Rattle.facet_solver_reader.specs.declared.only.not_one.NotOne.{NotOne}
-use Rattle.facet_solver_reader.specs.declared.only.not_one.NotOne.TheVariants.{NoneOrSeveral}
-use Rattle.facet_solver_reader.specs.declared.only.not_one.NotOne.TheVariants.{OutOfMemory}
+use Rattle.facet_solver_reader.specs.declared.read.not_one.NotOne.{NotOne}
+use Rattle.facet_solver_reader.specs.declared.read.not_one.NotOne.TheVariants.{NoneOrSeveral}
+use Rattle.facet_solver_reader.specs.declared.read.not_one.NotOne.TheVariants.{OutOfMemory}
 use Rattle.facet_solver_reader.specs.Counted.{Counted}
 use Rattle.facet_solver_reader.specs.ToldAt.{IsNotOne, IsRead}
 use Rattle.facet_solver_reader.proofs.Counting.{counted_same}

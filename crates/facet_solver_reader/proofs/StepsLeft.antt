@@ -5,8 +5,8 @@ use Rattle.std.proofs.Common.{Some, slice_get, arith}
 use Rattle.std.proofs.lemmas.List.{append-nil}
 use Rattle.std.proofs.lemmas.Option.{get_or_from_slice_get, slice_get_within}
 use Rattle.facet_solver_reader.specs.declared.nodes.Nodes.{Nodes}
-use Rattle.facet_solver_reader.specs.declared.only.steps.Frame.{Frame}
-use Rattle.facet_solver_reader.specs.declared.read.object.Object as read
+use Rattle.facet_solver_reader.specs.declared.read.steps.Frame.{Frame}
+use Rattle.facet_solver_reader.specs.declared.count.object.Object as read
 use Rattle.facet_solver_reader.specs.declared.tables.Tables.{Tables}
 use Rattle.facet_solver_reader.specs.Branches.{ReadsPart, ReadsParts}
 use Rattle.facet_solver_reader.specs.Choices.{Choice, ChoiceAt, done, next}

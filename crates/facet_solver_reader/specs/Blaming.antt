@@ -6,7 +6,7 @@ use Rattle.facet_solver_shape.specs.Names.{Name}
 use Rattle.facet_solver_reader.specs.declared.count.Count.{Count}
 use Rattle.facet_solver_reader.specs.declared.count.Count.TheVariants.{None as NoCount}
 use Rattle.facet_solver_reader.specs.declared.nodes.Nodes.{Nodes}
-use Rattle.facet_solver_reader.specs.declared.read.object.Object as code
+use Rattle.facet_solver_reader.specs.declared.count.object.Object as code
 use Rattle.facet_solver_reader.specs.declared.read_error.NoReading.{NoReading}
 use Rattle.facet_solver_reader.specs.declared.read_error.Obstacle.TheVariants as obstacle
 use Rattle.facet_solver_reader.specs.declared.read_error.Unread.{Unread}

@@ -1,7 +1,7 @@
 -- A member that was looked up in an object.
 use Rattle.std.specs.Prelude.{◌≡◌, ⊤, List, Option, None, Some}
 use Rattle.std.specs.Option.{option_map}
-use Rattle.facet_solver_reader.specs.declared.read.tag.LookedUp.{LookedUp}
+use Rattle.facet_solver_reader.specs.declared.count.tag.LookedUp.{LookedUp}
 use Rattle.facet_solver_reader.specs.Documents.{Member, Tree, view}
 use Rattle.facet_solver_reader.specs.Objects.{find}
 

@@ -1,8 +1,8 @@
 -- Counts that are known.
 use Rattle.std.specs.Prelude.{◌≡◌, ◌⊎◌, ℕ, List, Any}
 use Rattle.facet_solver_reader.specs.declared.count.Count.{Count}
-use Rattle.facet_solver_reader.specs.declared.read.memo.Asked as code_asked
-use Rattle.facet_solver_reader.specs.declared.read.memo.MemoEntry.{MemoEntry}
+use Rattle.facet_solver_reader.specs.declared.count.memo.Asked as code_asked
+use Rattle.facet_solver_reader.specs.declared.count.memo.MemoEntry.{MemoEntry}
 use Rattle.facet_solver_reader.specs.Parts.{Target, of_shape, of_content}
 
 -- what a value was read as

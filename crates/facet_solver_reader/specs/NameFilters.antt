@@ -2,7 +2,7 @@
 use Rattle.std.specs.Prelude.{◌+◌, ◌-◌, ◌*◌, ◌%◌, ℕ, Bool, IsTrue, List, length, nat_eq, slice_index}
 use Rattle.std.specs.Int.{bit_at}
 use Rattle.facet_solver_shape.specs.Names.{Name}
-use Rattle.facet_solver_reader.specs.declared.read.name_filter.NameFilter.{NameFilter}
+use Rattle.facet_solver_reader.specs.declared.count.name_filter.NameFilter.{NameFilter}
 use Rattle.facet_solver_reader.specs.Documents.{Member}
 use Rattle.facet_solver_reader.specs.Objects.{HasNamed}
 

@@ -2,7 +2,7 @@
 use Rattle.std.specs.Prelude.{◌≡◌, IfSome, IsTrue, List, false}
 use Rattle.facet_solver_shape.specs.Names.{Name}
 use Rattle.facet_solver_reader.specs.declared.part.Selection as code_selection
-use Rattle.facet_solver_reader.specs.declared.read.selection.Passed.{Passed}
+use Rattle.facet_solver_reader.specs.declared.count.selection.Passed.{Passed}
 use Rattle.facet_solver_reader.specs.declared.tables.List.{List as ListEntry}
 use Rattle.facet_solver_reader.specs.Branches.{HasKnown}
 use Rattle.facet_solver_reader.specs.Documents.{Member}

@@ -2,8 +2,8 @@
 use Rattle.std.specs.Prelude.{◌≡◌, ℕ, All, List, map, Option, Some, None, ⊤}
 use Rattle.facet_solver_reader.specs.declared.count.Count.TheVariants.{One}
 use Rattle.facet_solver_reader.specs.declared.nodes.Nodes.{Nodes}
-use Rattle.facet_solver_reader.specs.declared.only.steps.Step as code
-use Rattle.facet_solver_reader.specs.declared.read.object.Object as read
+use Rattle.facet_solver_reader.specs.declared.read.steps.Step as code
+use Rattle.facet_solver_reader.specs.declared.count.object.Object as read
 use Rattle.facet_solver_reader.specs.declared.tables.Tables.{Tables}
 use Rattle.facet_solver_reader.specs.Branches.{ReadsList, ReadsPart}
 use Rattle.facet_solver_reader.specs.Choices.{Choice, ChoiceAt, Reading, lacking, having, taking}

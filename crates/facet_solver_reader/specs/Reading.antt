@@ -9,8 +9,8 @@ use Rattle.facet_solver_reader.specs.Branches.{ReadsAt, ReadsList, ReadsPart}
 use Rattle.facet_solver_reader.specs.Choices.{ChoiceAt}
 use Rattle.facet_solver_reader.specs.declared.count.Count.{Count}
 use Rattle.facet_solver_reader.specs.declared.nodes.Nodes.{Nodes}
-use Rattle.facet_solver_reader.specs.declared.read.memo.MemoEntry.{MemoEntry}
-use Rattle.facet_solver_reader.specs.declared.read.object.Object as code
+use Rattle.facet_solver_reader.specs.declared.count.memo.MemoEntry.{MemoEntry}
+use Rattle.facet_solver_reader.specs.declared.count.object.Object as code
 use Rattle.facet_solver_reader.specs.declared.tables.Tables.{Tables}
 use Rattle.facet_solver_reader.specs.declared.tables.List.{List as ListEntry}
 use Rattle.facet_solver_reader.specs.Documents.{Tree, object, text, Member, Members, view}

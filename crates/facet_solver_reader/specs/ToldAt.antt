@@ -8,8 +8,8 @@ use Rattle.facet_solver_shape.specs.Names.{Name}
 use Rattle.facet_solver_reader.specs.declared.count.Count.TheVariants.{One}
 use Rattle.facet_solver_reader.specs.declared.document.Document.{Document}
 use Rattle.facet_solver_reader.specs.declared.nodes.Nodes.{Nodes}
-use Rattle.facet_solver_reader.specs.declared.only.not_one.NotOne.{NotOne}
-use Rattle.facet_solver_reader.specs.declared.only.not_one.NotOne.TheVariants.{NoneOrSeveral, OutOfMemory}
+use Rattle.facet_solver_reader.specs.declared.read.not_one.NotOne.{NotOne}
+use Rattle.facet_solver_reader.specs.declared.read.not_one.NotOne.TheVariants.{NoneOrSeveral, OutOfMemory}
 use Rattle.facet_solver_reader.specs.declared.reading.ObjectReading.{ObjectReading}
 use Rattle.facet_solver_reader.specs.declared.reading.Reading as code
 use Rattle.facet_solver_reader.specs.declared.reading.ReadingKind.TheVariants as kinds

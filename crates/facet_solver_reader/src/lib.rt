@@ -17,7 +17,6 @@ mod field_at;
 mod joins;
 mod key;
 mod nodes;
-mod only;
 mod part;
 mod parts;
 mod place;

@@ -1,37 +1,21 @@
-//! How many readings values have, cut at two.
+//! The only reading of a value, or that it has none or several.
 //!
-//! A value is read as a target by what that comes to, an object by a list of parts: each list that
-//! its choices go through is counted once, those of branches first.
-mod catch_all;
-mod chosen;
+//! A value is read at once: it has one reading exactly where its parts have one each. Readings are
+//! counted first only where several variants could read a value, or a catch-all may take members, so
+//! that nothing is read twice. What an object's choice goes through is found as a list of steps, so
+//! that no call goes as deep as flattened fields nest.
 mod content;
 mod each;
-mod list;
+mod found;
+mod known;
 mod members;
-mod memo;
-mod name_filter;
+mod not_one;
 mod object;
-mod scalar;
-mod selection;
-mod tag;
-mod tagged;
+mod steps;
 mod target;
+mod tells;
 mod untagged;
 mod variant;
 
-pub(crate) use chosen::{chosen_branch, lone_branch};
-pub(crate) use content::count_no_content;
-pub(crate) use list::{count_list, fails_at_once, is_other_tag};
-pub(crate) use members::members_of;
-pub(crate) use memo::{Asked, Memo};
-pub(crate) use object::{
-    Object, count_all, count_object, filter_of, has_unknown, has_unknown_beside, list_counts,
-};
-pub(crate) use scalar::{count_scalar, is_told_at_once};
-pub(crate) use selection::{count_one_branch, count_selection, fits, touches, touches_rest};
-pub(crate) use tagged::named_list;
-pub(crate) use target::{count_shape, count_tag, count_target};
-pub(crate) use untagged::{
-    count_alternative, count_fallbacks, count_untagged, is_null, reads_content,
-};
-pub(crate) use variant::{count_contents, count_units};
+pub(crate) use not_one::NotOne;
+pub(crate) use target::read_target;

@@ -12,12 +12,11 @@ ghost use Rattle.facet_solver_reader.specs.Why.{IsWhyNot};
 
 mod error;
 
-use crate::count::Count;
+use crate::count::{Count, Memo, count_target};
 use crate::document::Document;
 use crate::nodes::{DocumentError, Nodes};
-use crate::only::{NotOne, read_target};
 use crate::part::Target;
-use crate::read::{Memo, count_target};
+use crate::read::{NotOne, read_target};
 use crate::read_error::ReadError;
 use crate::reading::Reading;
 use crate::tables::Tables;

@@ -28,12 +28,11 @@ mod tag;
 mod untagged;
 mod walk;
 
-use crate::count::Count;
+use crate::count::{Count, Memo, count_shape};
 use crate::document::Document;
 use crate::nodes::Nodes;
 use crate::part::Target;
 use crate::place::Place;
-use crate::read::{Memo, count_shape};
 use crate::read_error::{NoReading, Obstacle, ReadError, Several};
 use crate::tables::Tables;
 use facet_solver_shape::ShapeId;

@@ -1,119 +1,144 @@
-//! The readings of several values, which are products.
-ghost use Rattle.std.specs.Prelude.{◌≡◌, ◌<◌, All, IfOk, length};
+//! The only readings of several values.
+ghost use Rattle.std.specs.Prelude.{◌≡◌, ◌++◌, ◌∷◌, ◌<◌, [], All, OnOk};
+ghost use Rattle.facet_solver_reader.specs.declared.count.Count.TheVariants.{One};
 ghost use Rattle.facet_solver_reader.specs.Counted.{Counted};
 ghost use Rattle.facet_solver_reader.specs.Nodes.{count, value_of};
 ghost use Rattle.facet_solver_reader.specs.Reading.{AreSound};
 ghost use Rattle.facet_solver_reader.specs.Readings.{inner};
 ghost use Rattle.facet_solver_reader.specs.Rules.{a_list, a_map, a_tuple};
 ghost use Rattle.facet_solver_reader.specs.Tables.{ShapeIsServed, rules_at};
+ghost use Rattle.facet_solver_reader.specs.ToldAt.{IsRead, IsToldAs};
 ghost use Rattle.facet_solver_reader.specs.Values.{ReadsEnd};
 
-use super::Memo;
-use super::target::count_shape;
-use crate::count::Count;
+use super::known::keep_read;
+use super::not_one::NotOne;
+use super::target::read_shape;
+use crate::count::Memo;
 use crate::document::Document;
 use crate::key::is_key;
 use crate::nodes::Nodes;
+use crate::reading::{Reading, ReadingKind};
 use crate::tables::Tables;
 use facet_solver_shape::ShapeId;
 use std::alloc::AllocError;
 
-/// How often the items of a list are read as a shape.
-#[cycle(count)]
-pub(super) fn count_items(
-    tables: &Tables<'_>,
-    nodes: &Nodes<'_, '_>,
+/// The only reading of a list as items of a shape.
+#[cycle(read)]
+pub(super) fn read_items<'c, 'v, 'd>(
+    tables: &Tables<'c>,
+    nodes: &Nodes<'v, 'd>,
     memo: &mut Memo,
     node: usize,
     shape: ShapeId,
-) -> Result<Count, AllocError>
+) -> Result<Reading<'c, 'v, 'd>, NotOne>
     requires sound { AreSound tables.now nodes.now memo.old.entries.items }
     requires inside { node < count nodes.now }
     requires served { ShapeIsServed tables.now shape }
     ensures sound { AreSound tables.now nodes.now memo.new.entries.items }
-    ensures count { IfOk result (Counted (ReadsEnd (rules_at tables.now)
-        (inner (rules_at tables.now)) (a_list shape) (value_of nodes.now node))) }
+    ensures told { IsRead (IsToldAs tables.now nodes.now node (a_list shape))
+        (Counted (ReadsEnd (rules_at tables.now) (inner (rules_at tables.now)) (a_list shape)
+        (value_of nodes.now node)) One) result }
 {
     let Document::List(items) = nodes.value(node) else {
-        return Ok(Count::None);
+        return Err(NotOne::NoneOrSeveral);
     };
-    let mut count = Count::One;
+    let mut readings = Vec::with_capacity(tables.alloc, items.len())?;
     for index in 0..items.len() {
         let item = nodes.child(node, index);
-        let next = count_shape(tables, nodes, memo, item, shape, tables.steps)?;
-        if next.is_none() {
-            return Ok(Count::None);
+        match read_shape(tables, nodes, memo, item, shape, tables.steps) {
+            Ok(reading) => push(&mut readings, reading)?,
+            Err(error) => {
+                keep_read(tables, nodes, memo, node, shape, index)?;
+                return Err(error);
+            }
         }
-        count = count.times(next);
     }
-    Ok(count)
+    Ok(Reading::plain(tables.alloc, ReadingKind::List(readings)))
 }
 
-/// How often the values of a list are read as the shape at their place.
-#[cycle(count)]
-pub(super) fn count_tuple(
-    tables: &Tables<'_>,
-    nodes: &Nodes<'_, '_>,
+/// The only reading of a list as values of the shape at their place.
+#[cycle(read)]
+pub(super) fn read_tuple<'c, 'v, 'd>(
+    tables: &Tables<'c>,
+    nodes: &Nodes<'v, 'd>,
     memo: &mut Memo,
     node: usize,
     shapes: &[ShapeId],
-) -> Result<Count, AllocError>
+) -> Result<Reading<'c, 'v, 'd>, NotOne>
     requires sound { AreSound tables.now nodes.now memo.old.entries.items }
     requires inside { node < count nodes.now }
     requires served { All (ShapeIsServed tables.now) shapes.now }
     ensures sound { AreSound tables.now nodes.now memo.new.entries.items }
-    ensures count { IfOk result (Counted (ReadsEnd (rules_at tables.now)
-        (inner (rules_at tables.now)) (a_tuple shapes.now) (value_of nodes.now node))) }
+    ensures told { IsRead (IsToldAs tables.now nodes.now node (a_tuple shapes.now))
+        (Counted (ReadsEnd (rules_at tables.now) (inner (rules_at tables.now))
+        (a_tuple shapes.now) (value_of nodes.now node)) One) result }
 {
     let Document::List(items) = nodes.value(node) else {
-        return Ok(Count::None);
+        return Err(NotOne::NoneOrSeveral);
     };
-    if items.len() != shapes.len() {
-        return Ok(Count::None);
+    if shapes.len() != items.len() {
+        return Err(NotOne::NoneOrSeveral);
     }
-    let mut count = Count::One;
+    let mut readings = Vec::with_capacity(tables.alloc, shapes.len())?;
     for index in 0..shapes.len() {
         let item = nodes.child(node, index);
-        let next = count_shape(tables, nodes, memo, item, shapes[index], tables.steps)?;
-        if next.is_none() {
-            return Ok(Count::None);
-        }
-        count = count.times(next);
+        let reading = read_shape(tables, nodes, memo, item, shapes[index], tables.steps)?;
+        push(&mut readings, reading)?;
     }
-    Ok(count)
+    Ok(Reading::plain(tables.alloc, ReadingKind::List(readings)))
 }
 
-/// How often the members of an object are read as the entries of a map.
-#[cycle(count)]
-pub(super) fn count_entries(
-    tables: &Tables<'_>,
-    nodes: &Nodes<'_, '_>,
+/// The only reading of an object as the entries of a map.
+#[cycle(read)]
+pub(super) fn read_entries<'c, 'v, 'd>(
+    tables: &Tables<'c>,
+    nodes: &Nodes<'v, 'd>,
     memo: &mut Memo,
     node: usize,
     key: ShapeId,
     value: ShapeId,
-) -> Result<Count, AllocError>
+) -> Result<Reading<'c, 'v, 'd>, NotOne>
     requires sound { AreSound tables.now nodes.now memo.old.entries.items }
     requires inside { node < count nodes.now }
     requires served { ShapeIsServed tables.now value }
     ensures sound { AreSound tables.now nodes.now memo.new.entries.items }
-    ensures count { IfOk result (Counted (ReadsEnd (rules_at tables.now)
-        (inner (rules_at tables.now)) (a_map key value) (value_of nodes.now node))) }
+    ensures told { IsRead (IsToldAs tables.now nodes.now node (a_map key value))
+        (Counted (ReadsEnd (rules_at tables.now) (inner (rules_at tables.now)) (a_map key value)
+        (value_of nodes.now node)) One) result }
 {
     let Document::Object(members) = nodes.value(node) else {
-        return Ok(Count::None);
+        return Err(NotOne::NoneOrSeveral);
     };
-    let mut count = Count::One;
+    let mut names = Vec::with_capacity(tables.alloc, members.len())?;
+    let mut values = Vec::with_capacity(tables.alloc, members.len())?;
     for index in 0..members.len() {
-        if !is_key(tables.shapes, key, members[index].0) {
-            return Ok(Count::None);
+        let name = members[index].0;
+        if !is_key(tables.shapes, key, name) {
+            return Err(NotOne::NoneOrSeveral);
         }
+        names.push(name)?;
         let member = nodes.child(node, index);
-        let next = count_shape(tables, nodes, memo, member, value, tables.steps)?;
-        if next.is_none() {
-            return Ok(Count::None);
+        match read_shape(tables, nodes, memo, member, value, tables.steps) {
+            Ok(reading) => push(&mut values, reading)?,
+            Err(error) => {
+                keep_read(tables, nodes, memo, node, value, index)?;
+                return Err(error);
+            }
         }
-        count = count.times(next);
     }
-    Ok(count)
+    Ok(Reading::plain(tables.alloc, ReadingKind::Map { names, values }))
+}
+
+/// Adds a reading at the end.
+pub(super) fn push<'c, 'v, 'd>(
+    readings: &mut Vec<Reading<'c, 'v, 'd>>,
+    reading: Reading<'c, 'v, 'd>,
+) -> Result<(), AllocError>
+    ensures { OnOk result
+        (readings.new.items ≡ readings.old.items ++ reading.entry ∷ []) }
+{
+    match readings.push(reading) {
+        Ok(()) => Ok(()),
+        Err(_) => Err(AllocError),
+    }
 }

@@ -1,133 +1,133 @@
-//! The readings of a value as a target.
-ghost use Rattle.std.specs.Prelude.{◌≡◌, ◌<◌, IfOk, length};
+//! The only reading of a value as a target.
+ghost use Rattle.std.specs.Prelude.{◌≡◌, ◌<◌};
+ghost use Rattle.facet_solver_reader.specs.declared.count.Count.TheVariants.{One};
 ghost use Rattle.facet_solver_reader.specs.Nodes.{count};
-ghost use Rattle.facet_solver_reader.specs.Reading.{AreSound, IsCount};
-ghost use Rattle.facet_solver_reader.specs.Counted.{Counted};
-ghost use Rattle.facet_solver_reader.specs.Reached.{IsRanked};
-ghost use Rattle.facet_solver_reader.specs.Documents.{view};
 ghost use Rattle.facet_solver_reader.specs.Parts.{of_shape};
+ghost use Rattle.facet_solver_reader.specs.Reached.{IsRanked};
+ghost use Rattle.facet_solver_reader.specs.Reading.{AreSound, IsCount};
 ghost use Rattle.facet_solver_reader.specs.Tables.{IsEnd, IsServed, ShapeIsServed, rules_at};
-ghost use Rattle.facet_solver_reader.specs.Values.{ReadsTag};
+ghost use Rattle.facet_solver_reader.specs.ToldAt.{IsAsItIs, IsRead, IsToldAt};
 ghost use Rattle.facet_solver_reader.specs.Views.{target_view};
 
-use super::content::count_content;
-use super::each::{count_entries, count_items, count_tuple};
-use super::object::count_object;
-use super::scalar::{count_scalar, is_told_at_once};
-use super::untagged::count_untagged;
-use super::variant::count_named;
-use super::{Asked, Memo};
-use crate::count::Count;
+use super::content::read_content;
+use super::each::{read_entries, read_items, read_tuple};
+use super::not_one::NotOne;
+use super::object::read_object;
+use super::untagged::read_untagged;
+use super::variant::read_named;
+use crate::count::{Count, Memo, count_scalar, count_tag};
 use crate::document::Document;
 use crate::end::End;
 use crate::nodes::Nodes;
 use crate::part::Target;
+use crate::reading::Reading;
 use crate::tables::Tables;
 use facet_solver_shape::ShapeId;
-use std::alloc::AllocError;
 
-/// How often a value is read as a target, which asks the same value on in fewer than so many steps.
-#[cycle(count)]
-pub(crate) fn count_target(
-    tables: &Tables<'_>,
-    nodes: &Nodes<'_, '_>,
+/// The only reading of a value as a target, which asks the same value on in fewer than so many
+/// steps.
+#[cycle(read)]
+pub(crate) fn read_target<'c, 'v, 'd>(
+    tables: &Tables<'c>,
+    nodes: &Nodes<'v, 'd>,
     memo: &mut Memo,
     node: usize,
-    target: &Target<'_>,
+    target: &Target<'c>,
     steps: usize,
-) -> Result<Count, AllocError>
+) -> Result<Reading<'c, 'v, 'd>, NotOne>
     requires sound { AreSound tables.now nodes.now memo.old.entries.items }
     requires inside { node < count nodes.now }
     requires served { IsServed tables.now (target_view target.now) }
     requires ranked { IsRanked steps (rules_at tables.now) (target_view target.now) }
     ensures sound { AreSound tables.now nodes.now memo.new.entries.items }
-    ensures count { IfOk result
-        (IsCount tables.now nodes.now node (target_view target.now)) }
+    ensures told { IsRead (IsToldAt tables.now nodes.now node (target_view target.now))
+        (IsCount tables.now nodes.now node (target_view target.now) One) result }
 {
     match target {
-        Target::Shape(shape) => count_shape(tables, nodes, memo, node, *shape, steps),
+        Target::Shape(shape) => read_shape(tables, nodes, memo, node, *shape, steps),
         Target::Content(shape, variant) => {
-            count_content(tables, nodes, memo, node, *shape, *variant, steps)
+            read_content(tables, nodes, memo, node, *shape, *variant, steps)
         }
-        Target::Tag(name) => Ok(count_tag(nodes.value(node), name)),
+        Target::Tag(name) => {
+            let value = nodes.value(node);
+            as_counted(tables, value, count_tag(value, name))
+        }
     }
 }
 
-/// How often a value is the text of a tag.
-pub(crate) fn count_tag(value: &Document<'_>, name: &str) -> Count
-    ensures { Counted (ReadsTag name.now (view value.now)) result }
-{
-    match value {
-        Document::Text(text) if *text == name => Count::One,
-        _ => Count::None,
-    }
-}
-
-/// How often a value is read as a shape. Where that is not told at once, it is found once for each
-/// value.
-#[cycle(count)]
-pub(crate) fn count_shape(
-    tables: &Tables<'_>,
-    nodes: &Nodes<'_, '_>,
+/// The only reading of a value as a shape.
+#[cycle(read)]
+pub(super) fn read_shape<'c, 'v, 'd>(
+    tables: &Tables<'c>,
+    nodes: &Nodes<'v, 'd>,
     memo: &mut Memo,
     node: usize,
     shape: ShapeId,
     steps: usize,
-) -> Result<Count, AllocError>
+) -> Result<Reading<'c, 'v, 'd>, NotOne>
     requires sound { AreSound tables.now nodes.now memo.old.entries.items }
     requires inside { node < count nodes.now }
     requires served { ShapeIsServed tables.now shape }
     requires ranked { IsRanked steps (rules_at tables.now) (of_shape shape) }
     ensures sound { AreSound tables.now nodes.now memo.new.entries.items }
-    ensures count { IfOk result (IsCount tables.now nodes.now node (of_shape shape)) }
+    ensures told { IsRead (IsToldAt tables.now nodes.now node (of_shape shape))
+        (IsCount tables.now nodes.now node (of_shape shape) One) result }
 {
-    let end = tables.end(shape);
-    if is_told_at_once(end) {
-        return count_end(tables, nodes, memo, node, shape, end, steps);
-    }
-    let asked = Asked::Shape(shape);
-    if let Some(count) = memo.get(node, &asked) {
-        return Ok(count);
-    }
-    let count = count_end(tables, nodes, memo, node, shape, end, steps)?;
-    memo.put(node, &asked, count)?;
-    Ok(count)
+    read_end(tables, nodes, memo, node, shape, tables.end(shape), steps)
 }
 
-/// How often a value is read by what a shape comes to.
-#[cycle(count)]
-fn count_end(
-    tables: &Tables<'_>,
-    nodes: &Nodes<'_, '_>,
+/// The only reading of a value by what a shape comes to.
+#[cycle(read)]
+fn read_end<'c, 'v, 'd>(
+    tables: &Tables<'c>,
+    nodes: &Nodes<'v, 'd>,
     memo: &mut Memo,
     node: usize,
     shape: ShapeId,
-    end: &End<'_>,
+    end: &End<'c>,
     steps: usize,
-) -> Result<Count, AllocError>
+) -> Result<Reading<'c, 'v, 'd>, NotOne>
     requires sound { AreSound tables.now nodes.now memo.old.entries.items }
     requires inside { node < count nodes.now }
     requires end { IsEnd tables.now shape end.now }
     requires ranked { IsRanked steps (rules_at tables.now) (of_shape shape) }
     ensures sound { AreSound tables.now nodes.now memo.new.entries.items }
-    ensures count { IfOk result (IsCount tables.now nodes.now node (of_shape shape)) }
+    ensures told { IsRead (IsToldAt tables.now nodes.now node (of_shape shape))
+        (IsCount tables.now nodes.now node (of_shape shape) One) result }
 {
     match end {
         End::Option(inside) => match nodes.value(node) {
-            Document::Null => Ok(Count::One),
-            _ => count_shape(tables, nodes, memo, node, *inside, steps - 1),
+            Document::Null => Ok(Reading::as_it_is(tables.alloc, nodes.value(node))),
+            _ => read_shape(tables, nodes, memo, node, *inside, steps - 1),
         },
-        End::List(item) => count_items(tables, nodes, memo, node, *item),
-        End::Tuple(shapes) => count_tuple(tables, nodes, memo, node, shapes),
-        End::Map(key, value) => count_entries(tables, nodes, memo, node, *key, *value),
+        End::List(item) => read_items(tables, nodes, memo, node, *item),
+        End::Tuple(shapes) => read_tuple(tables, nodes, memo, node, shapes),
+        End::Map(key, value) => read_entries(tables, nodes, memo, node, *key, *value),
         End::Object(list) => match nodes.value(node) {
-            Document::Object(_) => count_object(tables, nodes, memo, node, *list),
-            _ => Ok(Count::None),
+            Document::Object(_) => read_object(tables, nodes, memo, node, *list),
+            _ => Err(NotOne::NoneOrSeveral),
         },
-        End::NamedVariant(variants) => count_named(tables, nodes, memo, node, variants),
+        End::NamedVariant(variants) => read_named(tables, nodes, memo, node, variants),
         End::UntaggedVariant(joined, alone) => {
-            count_untagged(tables, nodes, memo, node, *joined, alone, steps)
+            read_untagged(tables, nodes, memo, node, joined, alone, steps)
         }
-        _ => Ok(count_scalar(end, nodes.value(node))),
+        _ => {
+            let value = nodes.value(node);
+            as_counted(tables, value, count_scalar(end, value))
+        }
+    }
+}
+
+/// A value as it is, if it is read so.
+pub(super) fn as_counted<'c, 'v, 'd>(
+    tables: &Tables<'c>,
+    value: &'v Document<'d>,
+    count: Count,
+) -> Result<Reading<'c, 'v, 'd>, NotOne>
+    ensures { IsRead (IsAsItIs value.entry) (count ≡ One) result }
+{
+    match count {
+        Count::One => Ok(Reading::as_it_is(tables.alloc, value)),
+        _ => Err(NotOne::NoneOrSeveral),
     }
 }

@@ -6,10 +6,9 @@ ghost use Rattle.facet_solver_reader.specs.Blaming.{IsAsked, IsPosition};
 
 use super::left::left_by_names;
 use super::missing::missing_names;
-use crate::count::Count;
+use crate::count::{Count, Memo, Object, count_list};
 use crate::nodes::Nodes;
 use crate::part::ListId;
-use crate::read::{Memo, Object, count_list};
 use crate::tables::{List, Tables};
 use std::alloc::AllocError;
 

@@ -8,11 +8,10 @@ ghost use Rattle.facet_solver_reader.specs.Blaming.{IsBesides, IsNext};
 
 use super::name::shape_name;
 use super::walk::{Here, Next, into};
-use crate::count::Count;
+use crate::count::{Count, Memo, members_of};
 use crate::key::is_key;
 use crate::nodes::Nodes;
 use crate::part::Target;
-use crate::read::{Memo, members_of};
 use crate::read_error::Obstacle;
 use crate::tables::{List, Tables};
 use facet_solver_shape::ShapeId;

@@ -7,9 +7,9 @@ ghost use Rattle.facet_solver_reader.specs.Tables.{AreTables, ListIsServed, Part
 ghost use Rattle.facet_solver_reader.specs.Views.{list_view, part_view, selection_view};
 
 use super::asked::position_of;
+use crate::count::{Object, fails_at_once, fits, touches};
 use crate::nodes::Nodes;
 use crate::part::{ListId, Part, Selection};
-use crate::read::{Object, fails_at_once, fits, touches};
 use crate::tables::{List, Tables};
 use std::alloc::AllocError;
 

@@ -8,9 +8,9 @@ ghost use Rattle.facet_solver_reader.specs.Blaming.{AreMissing, PartLacks};
 ghost use Rattle.facet_solver_reader.specs.Why.{Lacks};
 
 use super::asked::position_of;
+use crate::count::Object;
 use crate::nodes::Nodes;
 use crate::part::Part;
-use crate::read::Object;
 use crate::tables::{List, Tables};
 use std::alloc::AllocError;
 

@@ -10,11 +10,10 @@ ghost use Rattle.facet_solver_reader.specs.declared.count.Count.TheVariants.{Non
 
 use super::name::shape_name;
 use super::walk::{Here, Next, into};
-use crate::count::Count;
+use crate::count::{Count, Memo};
 use crate::document::Document;
 use crate::end::NamedVariant;
 use crate::nodes::Nodes;
-use crate::read::Memo;
 use crate::read_error::Obstacle;
 use crate::tables::Tables;
 use facet_solver_shape::ShapeId;

@@ -10,9 +10,9 @@ ghost use Rattle.facet_solver_reader.specs.Why.{IsTagOf, LacksTag, Requires, Sta
 
 use super::name::branch_of;
 use super::walk::Here;
+use crate::count::{Object, is_other_tag};
 use crate::nodes::Nodes;
 use crate::part::{ListId, MemberPart, Part, Selection, Target};
-use crate::read::{Object, is_other_tag};
 use crate::read_error::{Given, Obstacle};
 use crate::tables::{List, Tables};
 use std::alloc::AllocError;
