@@ -88,6 +88,12 @@ module _ (nodes : Nodes) (numbering : IsNumbering nodes) (node : ℕ) (o : Openi
     member_there k m at_k =
         child_there k m.value (ap (λ v. slice_get (children v) k) object_is ∙ slice_get-map (λ (m : Member). m.value) (members ms) k ∙ ap (option_map (λ (m : Member). m.value)) at_k)
 
+    -- the name of a member leads to the value of its number
+    pub member_leads : (k : ℕ) (m : Member) → slice_get (members ms) k ≡ Some m → (o.first + k < count nodes) × (find (members ms) m.name ≡ Some (value_of nodes (o.first + k)))
+    member_leads k m at_k =
+        let there = member_there k m at_k in
+        (there.0, find-at (members ms) k m apart_there at_k ∙ ap Some (sym there.1))
+
     -- what is found among its names
     pub member_found : (x : Name) (r : Option ℕ)
         → MatchOption r ((n : ℕ) → ¬ Contains (entries (take (length (members ms)) (drop o.names nodes.by_name.items))) (x, n)) (λ n. Contains (entries (take (length (members ms)) (drop o.names nodes.by_name.items))) (x, n))

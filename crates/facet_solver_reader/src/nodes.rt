@@ -1,5 +1,5 @@
 //! The values of a document, by numbers.
-ghost use Rattle.std.specs.Prelude.{◌≡◌, ◌<◌, IfErr, IfOk, MatchOption, None, Some, length, slice_get};
+ghost use Rattle.std.specs.Prelude.{◌≡◌, ◌<◌, IfErr, IfOk, IsTrue, MatchOption, None, Some, length, slice_get};
 ghost use Rattle.facet_solver_reader.specs.Documents.{view};
 ghost use Rattle.facet_solver_reader.specs.Objects.{find};
 ghost use Rattle.facet_solver_reader.specs.Places.{at, inside, step_of, NamesStandOnce};
@@ -131,6 +131,46 @@ impl<'t, 'd> Nodes<'t, 'd> {
         };
         let start = self.openings[node].names;
         find_by_name(&self.by_name[start..start + members.len()], name)
+    }
+
+    /// The same. It is looked for first at a number, which is moved behind the member that is found:
+    /// mostly an object has its members in the order in which they are asked for.
+    pub(crate) fn next_member(&self, node: usize, name: &str, next: &mut usize) -> Option<usize>
+        requires numbering { IsNumbering self.now }
+        requires in_range { node < count self.now }
+        ensures { MatchOption result
+            (find (members_in (value_of self.now node)) name.now ≡ None)
+            (λ found. (found < count self.now)
+            × (find (members_in (value_of self.now node)) name.now
+            ≡ Some (value_of self.now found))) }
+    {
+        let number = if self.is_member(node, name, *next) {
+            *next
+        } else {
+            self.member(node, name)?
+        };
+        *next = number.saturating_add(1);
+        Some(number)
+    }
+
+    /// Whether a number is that of the value of an object's member of a name.
+    fn is_member(&self, node: usize, name: &str, number: usize) -> bool
+        requires numbering { IsNumbering self.now }
+        requires in_range { node < count self.now }
+        ensures { IsTrue result → (number < count self.now)
+            × (find (members_in (value_of self.now node)) name.now
+            ≡ Some (value_of self.now number)) }
+    {
+        let Document::Object(members) = self.value(node) else {
+            return false;
+        };
+        let Some(index) = number.checked_sub(self.openings[node].first) else {
+            return false;
+        };
+        match members.get(index) {
+            Some(member) => member.0 == name,
+            None => false,
+        }
     }
 
     /// Where a value stands in the document.

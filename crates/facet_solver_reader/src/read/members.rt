@@ -48,9 +48,10 @@ pub(super) fn read_fields<'c, 'v, 'd>(
         (found.members_in (map step_view steps.now))) result }
 {
     let mut values = Vec::with_capacity(tables.alloc, members_among(steps))?;
+    let mut next = 0;
     for step in steps {
         if let Step::Field(_, member) = step {
-            let reading = read_field(tables, nodes, memo, object, member)?;
+            let reading = read_field(tables, nodes, memo, object, member, &mut next)?;
             push(&mut values, reading)?;
         }
     }
@@ -67,7 +68,8 @@ fn members_among(steps: &[Step<'_, '_>]) -> usize
         .count()
 }
 
-/// The only reading of a member, or its absence.
+/// The only reading of a member, or its absence. The member is looked for first at a number, which
+/// is moved behind it.
 #[cycle(read)]
 fn read_field<'c, 'v, 'd>(
     tables: &Tables<'c>,
@@ -75,6 +77,7 @@ fn read_field<'c, 'v, 'd>(
     memo: &mut Memo,
     object: &Object<'_, 'c>,
     member: &MemberPart<'c>,
+    next: &mut usize,
 ) -> Result<Reading<'c, 'v, 'd>, NotOne>
     requires sound { AreSound tables.now nodes.now memo.old.entries.items }
     requires object { IsObject tables.now nodes.now object.now }
@@ -84,7 +87,7 @@ fn read_field<'c, 'v, 'd>(
         (IsPartCount tables.now nodes.now object.now (a_member (member_view member.now)) One)
         result }
 {
-    match nodes.member(object.node, member.name) {
+    match nodes.next_member(object.node, member.name, next) {
         Some(value) => read_target(tables, nodes, memo, value, &member.target, tables.steps),
         None if member.required => Err(NotOne::NoneOrSeveral),
         None => Ok(Reading::plain(tables.alloc, ReadingKind::Absent)),

@@ -81,7 +81,8 @@ fn names_of_each<'c>(alloc: Global, parts: &[Part<'c>]) -> Result<Vec<&'c str>, 
 
 /// Adds the names of the members of a part, each once.
 fn push_names<'c>(part: &Part<'c>, names: &mut Vec<&'c str>) -> Result<(), AllocError>
-    ensures { (o : placed.Ordered) → PartIsNamedIn o part.now → OnOk result (AreAdded o (part_view part.now)
+    ensures { (o : placed.Ordered) → PartIsNamedIn o part.now → OnOk result
+        (AreAdded o (part_view part.now)
         (names_of names.old.items) (names_of names.new.items)) }
 {
     match part {

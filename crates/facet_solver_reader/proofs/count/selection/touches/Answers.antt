@@ -1,4 +1,4 @@
-use Rattle.std.proofs.Common.{◌≡◌, refl, true, false}
+use Rattle.std.proofs.Common.{◌≡◌, true, false}
 use Rattle.facet_solver_reader.specs.Nodes.{members_in, value_of}
 use Rattle.facet_solver_reader.specs.Reading.{object_view}
 use Rattle.facet_solver_reader.specs.Views.{selection_view}
@@ -12,7 +12,7 @@ returns-then-knows_member c = (
       touched c.args.tables.now c.requires.tables c.args.selection.now c.requires.named
       (object_view c.args.nodes.now c.args.object.now)
       (c.knows_member.ensures.0 c.if-knows_member.true),
-  λ k. refl,
+  λ k. c.if-knows_member.true,
 )
 
 pub returns-else-knows_member : goal.returns-else-knows_member

@@ -5,12 +5,9 @@ use Rattle.facet_solver_shape.specs.Names.{Name, names_of}
 use Rattle.facet_solver_reader.specs.Parts.{Part}
 use Rattle.facet_solver_reader.specs.Placing.{AreNamesOf, PartIsNamedIn}
 use Rattle.facet_solver_reader.specs.Views.{part_view, parts_view}
-use Rattle.facet_solver_reader.proofs.PartNames.{names_moved, names_of_more, names_of_no_parts, parts_more}
+use Rattle.facet_solver_reader.proofs.PartNames.{names_moved, names_of_more, parts_more}
 use Rattle.facet_solver_reader.proofs.Quantifiers.{all_at}
 use Rattle.facet_solver_reader.proofs.tables.names.names_of_each.Goals as goal
-
-pub loop-part-init : goal.loop-part-init
-loop-part-init c = λ o named. subst (λ (v : List (Bor Name)). AreNamesOf o [] (names_of v)) (sym c.new-names.ensures.items) (names_of_no_parts o)
 
 pub loop-part-preserved : goal.loop-part-preserved
 loop-part-preserved c = λ o named.

@@ -19,8 +19,8 @@ has_name-requires c =
     let of = c.in_ok-list.ensures in
     (c.requires.tables.lists of.index c.in_ok-list.list.now of.listed).sorted
 
-pub returns-then-selection-has_name : goal.returns-then-selection-has_name
-returns-then-selection-has_name c =
+pub returns-then-has_name : goal.returns-then-has_name
+returns-then-has_name c =
     let t = c.args.tables.now in
     let s = selection_view c.args.selection.now in
     let id = list_view c.args.branch in
@@ -47,7 +47,7 @@ returns-then-selection-has_name c =
             has = has;
             known =
                 (c.requires.named.known m.name).0
-                (sym c.selection-has_name.ensures ∙ c.if-selection-has_name.true);
+                (sym c.has_name-then-not-has_name.ensures ∙ c.if-has_name.true);
             unknown = λ k.
                 let is : c.has_name.result ≡ true = knows.1 k in
                 let isnt : c.has_name.result ≡ false = c.if-not-has_name.true in
