@@ -3,7 +3,7 @@ use Rattle.std.proofs.Common.{◌≡◌, ◌↔◌, ◌∙◌, sym, ap, subst, r
 use Rattle.std.proofs.Common.{List, Bool, true, false, not, ◌&&◌, ◌||◌, IsTrue, Option, Some, None}
 use Rattle.std.proofs.Common.{[], ◌∷◌, cond, map}
 use Rattle.std.proofs.Common.{bytes_eq, get_or, slice_get}
-use Rattle.std.proofs.lemmas.List.Folds.{Any-from_list_any, list_any-from_Any, list_any_at, find_at}
+use Rattle.std.proofs.lemmas.List.Folds.{Any-from_list_any, list_any-from_Any, find_at}
 use Rattle.std.proofs.lemmas.Option.{same_Some, slice_get-map}
 use Rattle.std.proofs.lemmas.Slice.Eq.{bytes_eq-Decides}
 use Rattle.std.specs.Borrow.{Bor}

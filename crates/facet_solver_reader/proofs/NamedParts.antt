@@ -1,6 +1,5 @@
 -- The selections among the parts of a list of the tables have their names.
-use Rattle.std.proofs.Common.{◌≡◌, ◌<◌, ◌∙◌, sym, ap, subst, ℕ, List, Some, get_or, length, slice_get}
-use Rattle.std.specs.List.{All}
+use Rattle.std.proofs.Common.{◌≡◌, ◌<◌, ◌∙◌, sym, ap, ℕ, List, Some, get_or, length, slice_get}
 use Rattle.std.proofs.lemmas.Option.{slice_get-get_or}
 use Rattle.facet_solver_reader.specs.declared.part.Part.{Part}
 use Rattle.facet_solver_reader.specs.declared.tables.List.{List as ListEntry}

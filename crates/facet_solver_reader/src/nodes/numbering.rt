@@ -8,6 +8,9 @@ use super::{DocumentError, Node, Nodes, Opening};
 use crate::document::Document;
 use std::alloc::{AllocError, Global};
 
+/// For so many values there is room at first, so that small documents ask for memory once.
+const FEW_VALUES: usize = 16;
+
 impl<'t, 'd> Nodes<'t, 'd> {
     /// The root, which is not opened.
     pub(super) fn root(
@@ -17,15 +20,15 @@ impl<'t, 'd> Nodes<'t, 'd> {
         ensures { IfOk result (λ nodes. IsUnderWay nodes
             × (nodes_of nodes ≡ under 0 (view document.now ∷ []))) }
     {
-        let mut nodes = Vec::new(alloc);
+        let mut nodes = Vec::with_capacity(alloc, FEW_VALUES)?;
         nodes.push(Node {
             document,
             parent: 0,
         })?;
         Ok(Nodes {
             nodes,
-            openings: Vec::new(alloc),
-            by_name: Vec::new(alloc),
+            openings: Vec::with_capacity(alloc, FEW_VALUES)?,
+            by_name: Vec::with_capacity(alloc, FEW_VALUES)?,
         })
     }
 

@@ -1,11 +1,11 @@
-use Rattle.std.proofs.Common.{◌≡◌, ◌+◌, ◌<◌, ◌∙◌, List, Some, ap, arith, length, refl, slice_get, subst, sym}
+use Rattle.std.proofs.Common.{◌≡◌, ◌+◌, ◌∙◌, List, Some, ap, arith, length, refl, slice_get, subst, sym}
 use Rattle.std.proofs.lemmas.Option.{slice_get_read}
 use Rattle.std.proofs.lemmas.Slice.Eq.{bytes_eq-Decides}
 use Rattle.std.specs.Borrow.{Bor}
 use Rattle.facet_solver_shape.specs.Names.{Name}
 use Rattle.facet_solver_reader.specs.declared.document.Document.{Document}
 use Rattle.facet_solver_reader.specs.Documents.{Tree, members, members_view, object, view}
-use Rattle.facet_solver_reader.specs.Nodes.{count, members_in, value_of}
+use Rattle.facet_solver_reader.specs.Nodes.{members_in, value_of}
 use Rattle.facet_solver_reader.specs.Objects.{find}
 use Rattle.facet_solver_reader.proofs.Numbering.{member_leads}
 use Rattle.facet_solver_reader.proofs.Seen.{member_seen, seen_at, seen_members}

@@ -1,9 +1,8 @@
-use Rattle.std.proofs.Common.{◌≡◌, ◌<◌, ℕ, inl, inr, ap, sym, ◌∙◌, subst, arith, length, set}
+use Rattle.std.proofs.Common.{◌<◌, inl, inr, ap, sym, ◌∙◌, subst, arith, length}
 use Rattle.std.proofs.Math.Seq.{map-set_same}
 use Rattle.std.proofs.lemmas.Bool.{cases_lt}
 use Rattle.std.proofs.lemmas.List.{get_or-set_other, length-map}
 use Rattle.std.proofs.lemmas.Grind.{get_or-set_at}
-use Rattle.facet_solver_reader.specs.declared.part.Part.{Part}
 use Rattle.facet_solver_reader.specs.Placing.{PartIsNamedIn}
 use Rattle.facet_solver_reader.specs.Views.{part_view}
 use Rattle.facet_solver_reader.proofs.tables.names.name_selections.Goals as goal

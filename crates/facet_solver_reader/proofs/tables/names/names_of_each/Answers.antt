@@ -1,7 +1,7 @@
-use Rattle.std.proofs.Common.{arith, sym, ap, subst, take, List, [], Bor, Some, ◌∙◌}
+use Rattle.std.proofs.Common.{arith, sym, ap, subst, take, List, Some, ◌∙◌}
 use Rattle.std.proofs.lemmas.List.{take_all}
 use Rattle.std.proofs.lemmas.Option.{slice_get-get_or}
-use Rattle.facet_solver_shape.specs.Names.{Name, names_of}
+use Rattle.facet_solver_shape.specs.Names.{names_of}
 use Rattle.facet_solver_reader.specs.Parts.{Part}
 use Rattle.facet_solver_reader.specs.Placing.{AreNamesOf, PartIsNamedIn}
 use Rattle.facet_solver_reader.specs.Views.{part_view, parts_view}
