@@ -43,7 +43,10 @@ pub fn answer(
     let unknown = unknown_at(types, id, manner.unknown);
     let shapes = types.shapes();
     match Reader::new(alloc, shapes, id, unknown) {
-        Ok(reader) => read_bytes(alloc, &reader, manner.form, document),
+        Ok(reader) => {
+            let mut scratch = Scratch::new(alloc);
+            read_bytes(alloc, &reader, &mut scratch, manner.form, document)
+        }
         Err(error) => refused(alloc, path, &error),
     }
 }
@@ -59,17 +62,19 @@ pub(crate) fn unknown_at(types: &Types, id: ShapeId, unknown: Unknown) -> Unknow
     }
 }
 
-/// The answer that a reader has for the bytes of a document.
+/// The answer that a reader has for the bytes of a document. The scratch is for one document after
+/// another: to make one takes as long as to read a small document.
 pub(crate) fn read_bytes(
     alloc: Global,
     reader: &Reader<'_>,
+    scratch: &mut Scratch,
     form: Form,
     document: &[u8],
 ) -> Result<Answer, AllocError>
     ensures { IfOk result (λ a. AnswersBytes reader.now document.now (answer_view a)) }
 {
     match str::from_utf8(document) {
-        Ok(text) => read_text(alloc, reader, form, text),
+        Ok(text) => read_text(alloc, reader, scratch, form, text),
         Err(error) => utf8::answer(alloc, Status::BadDocument, DOCUMENT, document, error),
     }
 }
@@ -78,13 +83,13 @@ pub(crate) fn read_bytes(
 fn read_text(
     alloc: Global,
     reader: &Reader<'_>,
+    scratch: &mut Scratch,
     form: Form,
     text: &str,
 ) -> Result<Answer, AllocError>
     ensures { IfOk result (λ a. AnswersText reader.now text.now (answer_view a)) }
 {
-    let mut scratch = Scratch::new(alloc);
-    match parse(alloc, text, &mut scratch) {
+    match parse(alloc, text, scratch) {
         Ok(document) => read_document(alloc, reader, form, &document),
         Err(error) => no_json(alloc, error),
     }

@@ -15,6 +15,7 @@ use crate::question::Form;
 use crate::quoted::Quoted;
 use crate::read::read_bytes;
 use crate::status::Status;
+use facet_solver_json::Scratch;
 use facet_solver_reader::Reader;
 use std::alloc::{AllocError, Global};
 use std::io::{self, BufRead, BufReader, Read, Write};
@@ -50,6 +51,7 @@ pub(super) fn answer_each<I: Read, O: Write, E: Write>(
         × WritesAnswers is_shown (streams (O.contents output.old) (E.contents errors.old))
         (streams (O.contents output.new) (E.contents errors.new)) answers) }
 {
+    let mut scratch = Scratch::new(alloc);
     let input = match BufReader::new(alloc, input) {
         Ok(input) => input,
         Err(error) => return Err(Stop::Unread(error)),
@@ -60,7 +62,7 @@ pub(super) fn answer_each<I: Read, O: Write, E: Write>(
             Ok(line) => line,
             Err(error) => return Err(Stop::Unread(error)),
         };
-        match answer_line(alloc, output, reader, &line) {
+        match answer_line(alloc, output, reader, &mut scratch, &line) {
             Ok(status) => count.add(status),
             Err(_failed) => return Err(Stop::Unwritten),
         }
@@ -76,13 +78,14 @@ fn answer_line<O: Write>(
     alloc: Global,
     output: &mut O,
     reader: &Reader<'_>,
+    scratch: &mut Scratch,
     line: &[u8],
 ) -> io::Result<Status>
     ensures { IfOk result (λ status. (a : Told) × (a.status ≡ status)
         × (AnswersBytes reader.now line.now a ⊎ (a ≡ refused))
         × Appends (O.contents output.old) (O.contents output.new) (answer_text a)) }
 {
-    match answered(alloc, reader, line) {
+    match answered(alloc, reader, scratch, line) {
         Ok(answer) => {
             output.write_all(answer.text.as_bytes())?;
             Ok(answer.status)
@@ -95,11 +98,16 @@ fn answer_line<O: Write>(
 }
 
 /// The answer to a line, with the line of JSON for it as its text.
-fn answered(alloc: Global, reader: &Reader<'_>, line: &[u8]) -> Result<Answer, AllocError>
+fn answered(
+    alloc: Global,
+    reader: &Reader<'_>,
+    scratch: &mut Scratch,
+    line: &[u8],
+) -> Result<Answer, AllocError>
     ensures { IfOk result (λ answer. (a : Told) × (a.status ≡ answer.status)
         × AnswersBytes reader.now line.now a × (string_bytes answer.text ≡ answer_text a)) }
 {
-    let Answer { status, text } = read_bytes(alloc, reader, Form::Json, line)?;
+    let Answer { status, text } = read_bytes(alloc, reader, scratch, Form::Json, line)?;
     let text = line_text(alloc, status, text.as_str())?;
     Ok(Answer { status, text })
 }

@@ -10,8 +10,8 @@ pub returns-in-Ok : goal.returns-in-Ok
 returns-in-Ok c =
     IfOk-weaker c.read_document.result _ _ (λ a ends. is_json (view c.in-Ok.document) c.in-Ok.ensures.ok ends) c.read_document.ensures
 
-pub returns : goal.returns
-returns c =
+pub returns-in-Err : goal.returns-in-Err
+returns-in-Err c =
     IfOk-weaker c.no_json.result _ _
     (λ a said.
     answers_no_json c.args.reader.now c.args.text.now c.in-Err.error (answer_view a) said.0
