@@ -63,7 +63,7 @@ pub(crate) fn unknown_at(types: &Types, id: ShapeId, unknown: Unknown) -> Unknow
 }
 
 /// The answer that a reader has for the bytes of a document. The scratch is for one document after
-/// another: to make one takes as long as to read a small document.
+/// another, since the room of a new one is cleared first.
 pub(crate) fn read_bytes(
     alloc: Global,
     reader: &Reader<'_>,
