@@ -1,10 +1,10 @@
 -- Marks of lists, and the indices that are marked.
-use Rattle.std.proofs.Common.{◌≡◌, ◌⊎◌, inl, inr, refl, sym, ap, subst, ◌∙◌, ℕ, zero, suc, ◌<◌, ◌+◌, ◌≤◌, arith, List, [], ◌∷◌, ◌++◌, length, Bool, true, false, Option, Some, None, MatchOption, slice_get, set, take, drop, append-nil, Result, Ok, Err, IfOk, Vec, Global}
+use Rattle.std.proofs.Common.{◌≡◌, ◌⊎◌, inl, inr, refl, sym, ap, subst, ◌∙◌, ℕ, zero, suc, ◌<◌, ◌+◌, ◌≤◌, arith, List, [], ◌∷◌, ◌++◌, length, Bool, true, Option, Some, None, MatchOption, slice_get, set, take, drop, append-nil, Result, Ok, Err, IfOk, Vec, Global}
 use Rattle.std.specs.declared.alloc.AllocError.{AllocError}
 use Rattle.std.specs.Option.{option_and_then}
 use Rattle.std.specs.Bool.{⊤}
 use Rattle.std.specs.List.{All}
-use Rattle.std.proofs.lemmas.Bool.{cases_eq, cases_lt, false≢true}
+use Rattle.std.proofs.lemmas.Bool.{cases_eq, cases_lt}
 use Rattle.std.proofs.Math.ListN.{length-set}
 use Rattle.std.proofs.lemmas.List.{drop_all, take_all}
 use Rattle.std.proofs.lemmas.Option.{same_Some, slice_get_within}
@@ -304,19 +304,6 @@ below_ok o ps marks (Ok v) f h = f v.items h
 below_ok o ps marks (Err e) f h = h
 
 -- ---- marks in memory
-
--- one that is not set
-pub push_unmarked : (old new : List Bool) → new ≡ old ++ false ∷ [] → ((k : ℕ) → ¬ IsMarked old k)
-    → (k : ℕ) → ¬ IsMarked new k
-push_unmarked old new is none k m = go (at_either old (false ∷ []) k true (subst (λ ms. slice_get ms k ≡ Some true) is m))
-  where
-    only : (i : ℕ) → slice_get (false ∷ []) i ≡ Some true → ⊥
-    only zero at = false≢true (same_Some false true at)
-    only (suc i) at = cc
-
-    go : (slice_get old k ≡ Some true) ⊎ ((i : ℕ) × (k ≡ length old + i) × (slice_get (false ∷ []) i ≡ Some true)) → ⊥
-    go (inl at) = none k at
-    go (inr at) = only at.0 at.2
 
 -- marks that are all written
 pub written : (xs ys : List Bool) (n : ℕ) → length xs ≡ n → length ys ≡ n

@@ -17,7 +17,7 @@ pub(super) fn branches(
     ensures { IfOk result (λ bs.
         map list_view bs.items ≡ spec.branches_from id zero variants.now) }
 {
-    let mut branches = Vec::new(alloc);
+    let mut branches = Vec::with_capacity(alloc, variants.len())?;
     for (k, _) in variants.iter().enumerate() {
         branches.push(ListId::Branch(id, k))?;
     }

@@ -19,7 +19,7 @@ pub(super) fn parts_of_fields<'c>(
     ensures { IfOk result (λ parts.
         parts_view parts.items ≡ spec.parts_of_fields shapes.now fields.now) }
 {
-    let mut parts = Vec::new(alloc);
+    let mut parts = Vec::with_capacity(alloc, fields.len())?;
     for field in fields {
         match part_of(alloc, shapes, field) {
             Ok(part) => push(&mut parts, part)?,

@@ -22,7 +22,7 @@ pub(super) fn push<'c>(parts: &mut Vec<Part<'c>>, part: Part<'c>) -> Result<(), 
 pub(super) fn only<'c>(alloc: Global, part: Part<'c>) -> Result<Vec<Part<'c>>, AllocError>
     ensures { IfOk result (λ parts. parts_view parts.items ≡ part_view part.entry ∷ []) }
 {
-    let mut parts = Vec::new(alloc);
+    let mut parts = Vec::with_capacity(alloc, 1)?;
     push(&mut parts, part)?;
     Ok(parts)
 }

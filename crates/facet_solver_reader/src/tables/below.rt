@@ -58,11 +58,7 @@ fn no_marks(alloc: Global, count: usize) -> Result<Vec<bool>, AllocError>
     ensures long { IfOk result (λ marks. length marks.items ≡ count) }
     ensures none { IfOk result (λ marks. (k : ℕ) → ¬ IsMarked marks.items k) }
 {
-    let mut marks = Vec::with_capacity(alloc, count)?;
-    for _ in 0..count {
-        marks.push(false)?;
-    }
-    Ok(marks)
+    vec![in alloc; false; count]
 }
 
 /// Marks indices.
@@ -80,7 +76,7 @@ fn mark_each(indices: &[usize], marks: &mut [bool])
 fn rising(alloc: Global, marks: &[bool]) -> Result<Vec<usize>, AllocError>
     ensures { IfOk result (λ indices. IsRisingOf marks.now indices.items) }
 {
-    let mut indices = Vec::new(alloc);
+    let mut indices = Vec::with_capacity(alloc, marked_len(marks).saturating_add(1))?;
     for index in 0..marks.len() {
         if marks[index] {
             indices.push(index)?;
@@ -88,4 +84,9 @@ fn rising(alloc: Global, marks: &[bool]) -> Result<Vec<usize>, AllocError>
     }
     indices.push(marks.len())?;
     Ok(indices)
+}
+
+/// How many indices are marked.
+pub(super) fn marked_len(marks: &[bool]) -> usize {
+    marks.iter().filter(|is_marked| **is_marked).count()
 }

@@ -71,12 +71,25 @@ fn names_of_each<'c>(alloc: Global, parts: &[Part<'c>]) -> Result<Vec<&'c str>, 
     ensures names { (o : placed.Ordered) → All (PartIsNamedIn o) parts.now → IfOk result (λ names.
         AreNamesOf o (parts_view parts.now) (names_of names.items)) }
 {
-    let mut names = Vec::new(alloc);
+    let mut names = Vec::with_capacity(alloc, names_len(parts))?;
     for part in parts {
         push_names(part, &mut names)?;
     }
     names.sort_unstable();
     Ok(names)
+}
+
+/// How many names parts have, those of each counted by themselves.
+fn names_len(parts: &[Part<'_>]) -> usize {
+    let mut len: usize = 0;
+    for part in parts {
+        len = len.saturating_add(match part {
+            Part::Member(_) => 1,
+            Part::CatchAll(_) => 0,
+            Part::Selection(selection) => selection.names.len(),
+        });
+    }
+    len
 }
 
 /// Adds the names of the members of a part, each once.

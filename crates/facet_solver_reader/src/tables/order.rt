@@ -10,6 +10,7 @@ ghost use Rattle.facet_solver_reader.specs.Slots.{HasSlot};
 ghost use Rattle.facet_solver_reader.specs.Views.{list_view, part_view, parts_view};
 
 use super::List;
+use super::below::marked_len;
 use super::every::EveryList;
 use super::fault::Fault;
 use super::names::{name_selections, names_of, takes_rest};
@@ -39,7 +40,7 @@ pub(super) fn in_order<'c>(
     ensures err { IfErr result (IsWhyUnordered types.now) }
     ensures about { IfErr result (IsAbout (IsMarkedList every.now marks.now)) }
 {
-    let mut ordered = Ordered::new(alloc, types)?;
+    let mut ordered = Ordered::new(alloc, types, marked_len(marks))?;
     // In place of `?`, for which no proof is generated at an error of this type.
     if let Err(fault) = ordered.place_all(alloc, types, every, marks) {
         return Err(fault);
@@ -51,16 +52,14 @@ pub(super) fn in_order<'c>(
 }
 
 impl<'c> Ordered<'c> {
-    /// No lists.
-    fn new(alloc: Global, types: &Types<'c>) -> Result<Ordered<'c>, AllocError>
+    /// No lists, with room for so many.
+    fn new(alloc: Global, types: &Types<'c>, room: usize) -> Result<Ordered<'c>, AllocError>
         ensures { IfOk result (λ ordered. (every : all.EveryList) (marks : Marks)
             → IsUnderWay types.now every marks ordered) }
     {
         let slots = Slots::new(alloc, types.shapes())?;
-        Ok(Ordered {
-            lists: Vec::new(alloc),
-            slots,
-        })
+        let lists = Vec::with_capacity(alloc, room)?;
+        Ok(Ordered { lists, slots })
     }
 
     /// A list, if it is placed.
