@@ -81,7 +81,6 @@ pub mod AllReached
 pub mod Ranked
 pub mod RankRounds
 pub mod AllTables
-pub mod MarkedBelow
 pub mod VariantIndices
 pub mod ChosenBranch
 pub mod StepsLeft
@@ -97,6 +96,7 @@ pub mod ToldSeveral
 pub mod NothingTold
 pub mod UnknownNames
 pub mod FoundSteps
+pub mod Gathered
 pub mod ToldMembers
 pub mod OneObject
 pub mod OneParts

@@ -16,7 +16,6 @@ use Rattle.facet_solver_reader.specs.Slots.{HasSlot, index_of}
 use Rattle.facet_solver_reader.specs.Tables.{knows}
 use Rattle.facet_solver_reader.specs.Types.{parts_of}
 use Rattle.facet_solver_reader.specs.Views.{parts_view}
-use Rattle.facet_solver_reader.proofs.MarkedBelow.{strictly}
 use Rattle.facet_solver_reader.proofs.Opened.{at_after, at_either, at_front}
 use Rattle.facet_solver_reader.proofs.Quantifiers.{all_at, all_from}
 use Rattle.facet_solver_reader.proofs.Slotted.{same_list}
@@ -160,7 +159,7 @@ module _ (shapes : Catalogue) (old new : Ordered) (id : ListId) (unplaced : IsUn
       known = λ x. subst (λ i. IsTrue (knows more.entry x) ↔ IsKnown (Chooses (parts_of shapes) i) x) (sym more.is_of) (next.known x);
       sorted = next.sorted;
       named = next.named;
-      rising = strictly more.entry.below.items next.below.rises;
+      rising = next.below.rising;
       in_order = in_order;
       last =
           let b = next.below in

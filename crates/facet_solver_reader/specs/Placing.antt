@@ -1,7 +1,8 @@
 -- What the lists that are placed know, and what holds while more are placed.
-use Rattle.std.specs.Prelude.{◌+◌, ◌≡◌, ◌↔◌, ◌⊎◌, ◌<◌, ◌∷◌, ◌++◌, [], ⊤, ℕ, Bool, true, false, IsSorted, IsTrue, List, All, Any, Contains, Option, Some, None, MatchOption, count_by, length, slice_get, option_and_then}
+use Rattle.std.specs.Prelude.{◌≡◌, ◌↔◌, ◌<◌, ◌∷◌, ◌++◌, [], ⊤, ℕ, Bool, true, false, IsSorted, IsTrue, List, All, Any, Contains, Option, Some, None, MatchOption, count_by, length, slice_get, option_and_then}
 use Rattle.std.specs.Borrow.{Bor}
 use Rattle.std.specs.List.{list_any}
+use Rattle.std.specs.List.Sorted.{IsStrictlyIncreasing}
 use Rattle.std.specs.Option.{is_none, option_map_or}
 use Rattle.std.specs.Str.{bytes_eq}
 use Rattle.facet_solver_shape.specs.Catalogues.{Catalogue}
@@ -157,11 +158,6 @@ pub record IsPlacing (shapes : Catalogue) (o : Ordered) : Type 0 where
   pub ready : (index : ℕ) (l : ListEntry) → slice_get o.lists.items index ≡ Some l
       → All (PartIsReady shapes o index) (parts_view l.parts.items)
 
--- each number of a list is below the next
-abbrev pub Rises : List ℕ → Type 0
-Rises xs =
-    (q k j : ℕ) → slice_get xs q ≡ Some k → slice_get xs (q + 1) ≡ Some j → k < j
-
 -- the indices of the lists below parts, each after those of its branches, and then the next index
 pub record AreBelow (o : Ordered) (ps : List Part) (below : List ℕ) : Type 0 where
   pub front : List ℕ
@@ -170,7 +166,7 @@ pub record AreBelow (o : Ordered) (ps : List Part) (below : List ℕ) : Type 0 w
       → (l : ListEntry) × (slice_get o.lists.items index ≡ Some l)
       × All (ArePartsBefore o front position) (parts_view l.parts.items)
   pub of_parts : All (ArePartsBefore o front (length front)) ps
-  pub rises : Rises below
+  pub rising : IsStrictlyIncreasing below
 
 -- a list is as its type says, and its parts are placed, if they have a choice
 pub record IsNextList (shapes : Catalogue) (o : Ordered) (id : ListId) (l : ListEntry) : Type 0
@@ -217,43 +213,22 @@ pub record IsUnderWay (shapes : Catalogue) (every : EveryList) (marks : List Boo
 abbrev pub unplaced : EveryList → Ordered → ℕ
 unplaced every o = count_by (λ l. is_none (index_of o.slots (list_view l.id))) every.lists.items
 
--- the index of a list is marked, if it is placed
-abbrev pub ListIsMarked : Ordered → List Bool → ListId → Type 0
-ListIsMarked o marks id = MatchOption (index_of o.slots id) ⊤ (IsMarked marks)
+-- the index of a list is among some, if it is placed
+abbrev pub ListIsAmong : Ordered → List ℕ → ListId → Type 0
+ListIsAmong o indices id = MatchOption (index_of o.slots id) ⊤ (Contains indices)
 
 -- so is that of each branch of a part
-abbrev pub PartIsMarked : Ordered → List Bool → Part → Type 0
-PartIsMarked o marks (a_selection s) = All (ListIsMarked o marks) s.branches
-PartIsMarked o marks _ = ⊤
+abbrev pub PartIsAmong : Ordered → List ℕ → Part → Type 0
+PartIsAmong o indices (a_selection s) = All (ListIsAmong o indices) s.branches
+PartIsAmong o indices _ = ⊤
 
--- what is marked stays so
-abbrev pub KeepsMarks : List Bool → List Bool → Type 0
-KeepsMarks old new = (k : ℕ) → IsMarked old k → IsMarked new k
+-- what is among some indices is among others
+abbrev pub AreKept : List ℕ → List ℕ → Type 0
+AreKept old new = (k : ℕ) → Contains old k → Contains new k
 
--- of lists that are marked the branches are so too
-pub record AreMarksBelow (o : Ordered) (marks : List Bool) : Type 0 where
-  pub long : length marks ≡ length o.lists.items
-  pub closed : (index : ℕ) → IsMarked marks index
-      → (l : ListEntry) × (slice_get o.lists.items index ≡ Some l)
-      × All (PartIsMarked o marks) (parts_view l.parts.items)
-
--- the first indices of a list are marked, and nothing else is
-pub record AreMarkedUpto (old : List Bool) (indices : List ℕ) (n : ℕ) (new : List Bool) : Type 0
-  where
-    pub long : length new ≡ length old
-    pub kept : KeepsMarks old new
-    pub from : (k : ℕ) → IsMarked new k
-        → IsMarked old k ⊎ ((q : ℕ) × (slice_get indices q ≡ Some k))
-    pub has : (q k : ℕ) → q < n → slice_get indices q ≡ Some k → k < length old
-        → IsMarked new k
-
--- the indices that are marked, rising, and then the next index
-pub record IsRisingOf (marks : List Bool) (indices : List ℕ) : Type 0 where
-  pub front : List ℕ
-  pub indices_are : indices ≡ front ++ length marks ∷ []
-  pub rises : Rises indices
-  pub marked : (q k : ℕ) → slice_get front q ≡ Some k → IsMarked marks k
-  pub before : (p k j : ℕ) → slice_get front p ≡ Some k → j < k → IsMarked marks j
-      → (q : ℕ) × (q < p) × (slice_get front q ≡ Some j)
-  pub has : (j : ℕ) → IsMarked marks j
-      → (q : ℕ) × (q < length front) × (slice_get front q ≡ Some j)
+-- indices of lists, with those of their branches
+abbrev pub AreGathered : Ordered → List ℕ → Type 0
+AreGathered o indices =
+    (index : ℕ) → Contains indices index
+    → (l : ListEntry) × (slice_get o.lists.items index ≡ Some l)
+    × All (PartIsAmong o indices) (parts_view l.parts.items)

@@ -1,8 +1,7 @@
 //! The indices of the lists that choices of parts go through.
-ghost use Rattle.std.specs.Prelude.{◌≡◌, ℕ, IfOk, length};
+ghost use Rattle.std.specs.Prelude.{◌≡◌, IfOk, OnOk};
 ghost use Rattle.facet_solver_shape.specs.Catalogues.{Catalogue};
-ghost use Rattle.facet_solver_reader.specs.OrderedLists.{IsMarked};
-ghost use Rattle.facet_solver_reader.specs.Placing.{AreBelow, AreMarkedUpto, AreMarksBelow, IsPlacing, IsRisingOf, KeepsMarks, ListIsMarked, PartIsMarked};
+ghost use Rattle.facet_solver_reader.specs.Placing.{AreBelow, AreGathered, AreKept, IsPlacing, ListIsAmong, PartIsAmong};
 ghost use Rattle.facet_solver_reader.specs.Views.{list_view, part_view, parts_view};
 
 use super::order::Ordered;
@@ -17,76 +16,49 @@ impl<'c> Ordered<'c> {
         ensures { IfOk result (λ below.
             AreBelow self.now (parts_view parts.now) below.items) }
     {
-        let mut marks = no_marks(alloc, self.lists.len())?;
+        let mut gathered = Vec::new(alloc);
         for part in parts {
-            self.mark_part(part, &mut marks);
+            self.gather_part(part, &mut gathered)?;
         }
-        rising(alloc, &marks)
+        gathered.sort_unstable();
+        gathered.dedup();
+        let mut below = Vec::with_capacity(alloc, gathered.len().saturating_add(1))?;
+        below.extend_from_slice(&gathered)?;
+        below.push(self.lists.len())?;
+        Ok(below)
     }
 
-    /// Marks the lists that choices of a part go through.
-    fn mark_part(&self, part: &Part<'c>, marks: &mut [bool])
+    /// Adds the indices of the lists that choices of a part go through.
+    fn gather_part(&self, part: &Part<'c>, gathered: &mut Vec<usize>) -> Result<(), AllocError>
         requires placing { (shapes : Catalogue) × IsPlacing shapes self.now }
-        requires closed { AreMarksBelow self.now marks.old }
-        ensures closed { AreMarksBelow self.now marks.new }
-        ensures kept { KeepsMarks marks.old marks.new }
-        ensures marked { PartIsMarked self.now marks.new (part_view part.now) }
+        requires closed { AreGathered self.now gathered.old.items }
+        ensures closed { OnOk result (AreGathered self.now gathered.new.items) }
+        ensures kept { OnOk result (AreKept gathered.old.items gathered.new.items) }
+        ensures among { OnOk result
+            (PartIsAmong self.now gathered.new.items (part_view part.now)) }
     {
         if let Part::Selection(selection) = part {
             for branch in &selection.branches {
-                self.mark_list(branch, marks);
+                self.gather_list(branch, gathered)?;
             }
         }
+        Ok(())
     }
 
-    /// Marks the lists that choices of a list go through, and the list, if it is placed.
-    fn mark_list(&self, id: &ListId, marks: &mut [bool])
+    /// Adds the indices of the lists that choices of a list go through, if it is placed: the last is
+    /// its own.
+    fn gather_list(&self, id: &ListId, gathered: &mut Vec<usize>) -> Result<(), AllocError>
         requires placing { (shapes : Catalogue) × IsPlacing shapes self.now }
-        requires closed { AreMarksBelow self.now marks.old }
-        ensures closed { AreMarksBelow self.now marks.new }
-        ensures kept { KeepsMarks marks.old marks.new }
-        ensures marked { ListIsMarked self.now marks.new (list_view id.now) }
+        requires closed { AreGathered self.now gathered.old.items }
+        ensures closed { OnOk result (AreGathered self.now gathered.new.items) }
+        ensures kept { OnOk result (AreKept gathered.old.items gathered.new.items) }
+        ensures among { OnOk result
+            (ListIsAmong self.now gathered.new.items (list_view id.now)) }
     {
-        if let Some(list) = self.entry(*id) {
-            mark_each(&list.below, marks);
-        }
+        let Some(list) = self.entry(*id) else {
+            return Ok(());
+        };
+        gathered.extend_from_slice(&list.below)?;
+        Ok(())
     }
-}
-
-/// So many marks, none of which is set.
-fn no_marks(alloc: Global, count: usize) -> Result<Vec<bool>, AllocError>
-    ensures long { IfOk result (λ marks. length marks.items ≡ count) }
-    ensures none { IfOk result (λ marks. (k : ℕ) → ¬ IsMarked marks.items k) }
-{
-    vec![in alloc; false; count]
-}
-
-/// Marks indices.
-fn mark_each(indices: &[usize], marks: &mut [bool])
-    ensures { AreMarkedUpto marks.old indices.now (length indices.now) marks.new }
-{
-    for index in indices {
-        if *index < marks.len() {
-            marks[*index] = true;
-        }
-    }
-}
-
-/// The indices that are marked, rising, and then the next index.
-fn rising(alloc: Global, marks: &[bool]) -> Result<Vec<usize>, AllocError>
-    ensures { IfOk result (λ indices. IsRisingOf marks.now indices.items) }
-{
-    let mut indices = Vec::with_capacity(alloc, marked_len(marks).saturating_add(1))?;
-    for index in 0..marks.len() {
-        if marks[index] {
-            indices.push(index)?;
-        }
-    }
-    indices.push(marks.len())?;
-    Ok(indices)
-}
-
-/// How many indices are marked.
-pub(super) fn marked_len(marks: &[bool]) -> usize {
-    marks.iter().filter(|is_marked| **is_marked).count()
 }

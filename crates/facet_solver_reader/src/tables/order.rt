@@ -10,7 +10,6 @@ ghost use Rattle.facet_solver_reader.specs.Slots.{HasSlot};
 ghost use Rattle.facet_solver_reader.specs.Views.{list_view, part_view, parts_view};
 
 use super::List;
-use super::below::marked_len;
 use super::every::EveryList;
 use super::fault::Fault;
 use super::names::{name_selections, names_of, takes_rest};
@@ -40,7 +39,7 @@ pub(super) fn in_order<'c>(
     ensures err { IfErr result (IsWhyUnordered types.now) }
     ensures about { IfErr result (IsAbout (IsMarkedList every.now marks.now)) }
 {
-    let mut ordered = Ordered::new(alloc, types, marked_len(marks))?;
+    let mut ordered = Ordered::new(alloc, types, marked_count(marks))?;
     // In place of `?`, for which no proof is generated at an error of this type.
     if let Err(fault) = ordered.place_all(alloc, types, every, marks) {
         return Err(fault);
@@ -49,6 +48,11 @@ pub(super) fn in_order<'c>(
         return Err(Fault::ContainsItself(every.lists[number].id));
     }
     Ok(ordered)
+}
+
+/// How many lists are marked.
+fn marked_count(marks: &[bool]) -> usize {
+    marks.iter().filter(|is_marked| **is_marked).count()
 }
 
 impl<'c> Ordered<'c> {
