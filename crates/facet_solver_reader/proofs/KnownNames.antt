@@ -24,7 +24,7 @@ use Rattle.facet_solver_reader.specs.declared.count.selection.Passed.{Passed}
 use Rattle.facet_solver_reader.specs.Passed.{IsOther, IsPassed}
 use Rattle.facet_solver_reader.specs.Reading.{IsListed, member_view}
 use Rattle.facet_solver_reader.specs.Rules.{Rules}
-use Rattle.facet_solver_reader.specs.SelectionNames.{IsNamed, KnowsMember, has_known}
+use Rattle.facet_solver_reader.specs.SelectionNames.{HasBranchNames, KnowsMember, has_known}
 use Rattle.facet_solver_reader.specs.Tables.{AreTables, knows, rules_at}
 use Rattle.facet_solver_reader.specs.Views.{list_view, selection_view}
 use Rattle.facet_solver_reader.proofs.CountingObjects.{both, itself, known_by_list, not_true}
@@ -222,7 +222,7 @@ module _ (s : code_selection.Selection) (ms : List Member) where
             )
 
 module _ (t : Tables) (tables : AreTables t) (s : code_selection.Selection)
-    (names : IsNamed (rules_at t).lists s) where
+    (names : HasBranchNames (rules_at t).lists s) where
   module _ (l : ListEntry) (listed : IsListed t l) where
     -- what a list of the tables knows
     known_iff : (x : Name) → IsTrue (knows l (named x))

@@ -100,6 +100,7 @@ pub mod Gathered
 pub mod ToldMembers
 pub mod OneObject
 pub mod OneParts
+pub mod OnlyBranches
 pub mod OnlyNamed
 pub mod ToldObject
 pub mod ToldRests

@@ -18,8 +18,8 @@ use Rattle.facet_solver_reader.specs.EveryList.{IsChosen}
 use Rattle.facet_solver_reader.specs.Known.{Chooses, ChoosesAll, ChoosesAt, HasChoice, IsDistinct, IsKnown, Key, named, rest}
 use Rattle.facet_solver_reader.specs.OrderedLists.{IsPlacedAt, IsTwiceAt, IsTwiceIn, IsWhyUnordered}
 use Rattle.facet_solver_reader.specs.Parts.{ListId, Part, a_member, a_selection, a_catch_all}
-use Rattle.facet_solver_reader.specs.Placing.{ArePartNames, AreSharing, IsPlacing, IsRestOf, IsShared, IsUnplaced, IsWhyShared, PartIsNamedIn, PartIsPlaced, goes_by, is_rest, list_knows, part_knows}
-use Rattle.facet_solver_reader.specs.SelectionNames.{PartIsNamed}
+use Rattle.facet_solver_reader.specs.Placing.{ArePartNames, AreSharing, IsPlacing, IsRestOf, IsShared, IsUnplaced, IsWhyShared, PartHasBranchNamesIn, PartIsPlaced, goes_by, is_rest, list_knows, part_knows}
+use Rattle.facet_solver_reader.specs.SelectionNames.{PartHasBranchNames}
 use Rattle.facet_solver_reader.specs.Slots.{index_of}
 use Rattle.facet_solver_reader.specs.Tables.{knows}
 use Rattle.facet_solver_reader.specs.Types.{parts_of}
@@ -112,8 +112,8 @@ module _ (shapes : Catalogue) (o : Ordered) (h : IsPlacing shapes o) where
 
   -- so where a selection has the names that it knows by these lists, it has those of its branches'
   -- choices
-  named_of_part : (p : code_part.Part) → PartIsPlaced shapes o (part_view p) → PartIsNamedIn o p
-      → PartIsNamed (parts_of shapes) p
+  named_of_part : (p : code_part.Part) → PartIsPlaced shapes o (part_view p) → PartHasBranchNamesIn o p
+      → PartHasBranchNames (parts_of shapes) p
   named_of_part (code_part.TheVariants.Member m) ready h = tt
   named_of_part (code_part.TheVariants.CatchAll k) ready h = tt
   named_of_part (code_part.TheVariants.Selection s) ready h = record {
@@ -127,7 +127,7 @@ module _ (shapes : Catalogue) (o : Ordered) (h : IsPlacing shapes o) where
   }
 
   pub named_of_parts : (ps : List code_part.Part) → All (PartIsPlaced shapes o) (parts_view ps)
-      → All (PartIsNamedIn o) ps → All (PartIsNamed (parts_of shapes)) ps
+      → All (PartHasBranchNamesIn o) ps → All (PartHasBranchNames (parts_of shapes)) ps
   named_of_parts ps ready h k d within =
       let p = get_or ps k d in
       named_of_part p

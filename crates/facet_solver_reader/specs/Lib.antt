@@ -52,6 +52,7 @@ pub mod SureSteps
 pub mod Told
 pub mod Planned
 pub mod Chosen
+pub mod OnlyBranch
 pub mod ToldAt
 pub mod ToldObjects
 pub mod Found

@@ -13,7 +13,7 @@ use Rattle.facet_solver_reader.specs.EveryList.{IsChosen}
 use Rattle.facet_solver_reader.specs.Known.{Chooses, ChoosesAt, IsDistinct, IsKnown, Key, named, rest}
 use Rattle.facet_solver_reader.specs.Parts.{ListId, Part, a_selection}
 use Rattle.facet_solver_reader.specs.Repeated.{Repeats}
-use Rattle.facet_solver_reader.specs.SelectionNames.{PartIsNamed}
+use Rattle.facet_solver_reader.specs.SelectionNames.{PartHasBranchNames}
 use Rattle.facet_solver_reader.specs.Slots.{index_of}
 use Rattle.facet_solver_reader.specs.Tables.{knows}
 use Rattle.facet_solver_reader.specs.Types.{parts_of}
@@ -49,7 +49,7 @@ pub record IsPlaced (shapes : Catalogue) (o : Ordered) (index : ℕ) (l : ListEn
   pub known : (x : Key)
       → IsTrue (knows l x) ↔ IsKnown (Chooses (parts_of shapes) (list_view l.id)) x
   pub sorted : IsSorted name_ref_cmp l.names.items
-  pub named : All (PartIsNamed (parts_of shapes)) l.parts.items
+  pub named : All (PartHasBranchNames (parts_of shapes)) l.parts.items
   pub in_order : AreIndicesInOrder o l.below.items
   pub rising : IsStrictlyIncreasing l.below.items
   pub last : (q : ℕ) × (length l.below.items ≡ q + 1) × (slice_get l.below.items q ≡ Some index)

@@ -20,7 +20,7 @@ use Rattle.facet_solver_reader.specs.Known.{Chooses, IsDistinct, IsKnown, Key, n
 use Rattle.facet_solver_reader.specs.OrderedLists.{ArePartsBefore, IsMarked, IsPlaced, IsPlacedAt}
 use Rattle.facet_solver_reader.specs.Parts.{ListId, Part, a_member, a_selection, a_catch_all}
 use Rattle.facet_solver_reader.specs.Places.{IsRepeated}
-use Rattle.facet_solver_reader.specs.SelectionNames.{PartIsNamed}
+use Rattle.facet_solver_reader.specs.SelectionNames.{PartHasBranchNames}
 use Rattle.facet_solver_reader.specs.Slots.{HasSlot, IsOfCatalogue, IsSet, index_of}
 use Rattle.facet_solver_reader.specs.Tables.{knows}
 use Rattle.facet_solver_reader.specs.Types.{parts_of}
@@ -60,15 +60,15 @@ pub record AreThose (P : Name → Type 0) (names : List Name) : Type 0 where
   pub once : (x : Name) → IsRepeated names x → ⊥
 
 -- a selection has the names that it knows by the lists that are placed, rising
-pub record IsNamedIn (o : Ordered) (s : code_selection.Selection) : Type 0 where
+pub record HasBranchNamesIn (o : Ordered) (s : code_selection.Selection) : Type 0 where
   pub sorted : IsSorted name_ref_cmp s.names.items
   pub those : AreThose (λ x. IsTrue (part_knows o (named x) (a_selection (selection_view s))))
       (names_of s.names.items)
 
 -- so has a part, if it is a selection
-abbrev pub PartIsNamedIn : Ordered → code_part.Part → Type 0
-PartIsNamedIn o (code_part.TheVariants.Selection s) = IsNamedIn o s
-PartIsNamedIn o _ = ⊤
+abbrev pub PartHasBranchNamesIn : Ordered → code_part.Part → Type 0
+PartHasBranchNamesIn o (code_part.TheVariants.Selection s) = HasBranchNamesIn o s
+PartHasBranchNamesIn o _ = ⊤
 
 -- the names that a part knows are added behind others
 pub record AreAdded (o : Ordered) (p : Part) (old new : List Name) : Type 0 where
@@ -176,7 +176,7 @@ pub record IsNextList (shapes : Catalogue) (o : Ordered) (id : ListId) (l : List
     pub distinct : IsDistinct (Chooses (parts_of shapes) id)
     pub known : (x : Key) → IsTrue (knows l x) ↔ IsKnown (Chooses (parts_of shapes) id) x
     pub sorted : IsSorted name_ref_cmp l.names.items
-    pub named : All (PartIsNamed (parts_of shapes)) l.parts.items
+    pub named : All (PartHasBranchNames (parts_of shapes)) l.parts.items
     pub below : AreBelow o (parts_view l.parts.items) l.below.items
 
 -- one more list is placed

@@ -16,14 +16,14 @@ abbrev pub has_known : Selection → Name → Bool
 has_known s x = list_any (λ n. bytes_eq n.now x) s.names.items
 
 -- a selection has the names of its branches' choices, rising
-pub record IsNamed (lists : Lists) (s : Selection) : Type 0 where
+pub record HasBranchNames (lists : Lists) (s : Selection) : Type 0 where
   pub sorted : IsSorted name_ref_cmp s.names.items
   pub known : (x : Name) → IsTrue (has_known s x) ↔ IsKnownIn lists (selection_view s) (named x)
 
 -- so has a part, if it is a selection
-abbrev pub PartIsNamed : Lists → code_part.Part → Type 0
-PartIsNamed lists (code_part.TheVariants.Selection s) = IsNamed lists s
-PartIsNamed lists _ = ⊤
+abbrev pub PartHasBranchNames : Lists → code_part.Part → Type 0
+PartHasBranchNames lists (code_part.TheVariants.Selection s) = HasBranchNames lists s
+PartHasBranchNames lists _ = ⊤
 
 -- an object has a member whose name a selection has
 pub record KnowsMember (s : Selection) (members : List Member) : Type 0 where

@@ -12,7 +12,7 @@ use Rattle.facet_solver_reader.specs.Known.{Chooses, HasChoice, IsDistinct, IsKn
 use Rattle.facet_solver_reader.specs.Parts.{of_map, of_anything, ListId, Part, a_member, a_selection, a_catch_all, Target, of_shape, of_content, of_tag}
 use Rattle.facet_solver_reader.specs.Reached.{IsRanked}
 use Rattle.facet_solver_reader.specs.Rules.{Rules, End, Content, no_content, as_shape, as_tuple, as_object, an_option, a_list, a_tuple, a_map, an_object, a_named_variant, an_untagged_variant}
-use Rattle.facet_solver_reader.specs.SelectionNames.{PartIsNamed}
+use Rattle.facet_solver_reader.specs.SelectionNames.{PartHasBranchNames}
 use Rattle.facet_solver_reader.specs.Slots.{index_of}
 use Rattle.facet_solver_reader.specs.Tags.{AreTags}
 use Rattle.facet_solver_reader.specs.Types.{rules_of}
@@ -119,7 +119,7 @@ pub record IsList (t : Tables) (index : ℕ) (l : ListEntry) : Type 0 where
   pub known : (x : Key)
       → IsTrue (knows l x) ↔ IsKnown (Chooses (rules_at t).lists (list_view l.id)) x
   pub sorted : IsSorted name_ref_cmp l.names.items
-  pub named : All (PartIsNamed (rules_at t).lists) l.parts.items
+  pub named : All (PartHasBranchNames (rules_at t).lists) l.parts.items
   pub in_order : AreInOrder t l.below.items
   pub rising : IsStrictlyIncreasing l.below.items
   pub last : (q : ℕ) × (length l.below.items ≡ q + 1) × (slice_get l.below.items q ≡ Some index)

@@ -1,27 +1,28 @@
 //! The branch by which an object is read, where it is read by a selection in one way.
 ghost use Rattle.std.specs.Prelude.{◌<◌, All, IfSome, IsTrue, length};
 ghost use Rattle.facet_solver_reader.specs.declared.count.Count.TheVariants.{One};
-ghost use Rattle.facet_solver_reader.specs.Branches.{ReadsList};
-ghost use Rattle.facet_solver_reader.specs.Choices.{Choice};
+ghost use Rattle.facet_solver_reader.specs.Branches.{ReadsList, ReadsPart};
+ghost use Rattle.facet_solver_reader.specs.Choices.{Choice, ChoiceAt};
 ghost use Rattle.facet_solver_reader.specs.Chosen.{IsAlone, IsChosen};
 ghost use Rattle.facet_solver_reader.specs.LookedUp.{IsLast};
 ghost use Rattle.facet_solver_reader.specs.Nodes.{IsNumbering, members_in, value_of};
+ghost use Rattle.facet_solver_reader.specs.OnlyBranch.{IsOnlyBranch};
 ghost use Rattle.facet_solver_reader.specs.Parts.{a_selection};
-ghost use Rattle.facet_solver_reader.specs.Reading.{AreListCounts, IsObject, IsPartCount, object_view};
+ghost use Rattle.facet_solver_reader.specs.Reading.{AreListCounts, IsListed, IsObject, IsPartCount, object_view};
 ghost use Rattle.facet_solver_reader.specs.Readings.{ReadsValue};
-ghost use Rattle.facet_solver_reader.specs.SelectionNames.{IsNamed};
-ghost use Rattle.facet_solver_reader.specs.Tables.{AreTables, IsPartOfList, ListIsServed, PartIsBefore, rules_at};
-ghost use Rattle.facet_solver_reader.specs.Views.{list_view, selection_view};
+ghost use Rattle.facet_solver_reader.specs.SelectionNames.{HasBranchNames};
+ghost use Rattle.facet_solver_reader.specs.Tables.{AreTables, IsPartOfList, ListIsServed, PartIsBefore, PartIsServed, rules_at};
+ghost use Rattle.facet_solver_reader.specs.Views.{list_view, part_view, selection_view};
 
 use super::list::some_fails_at_once;
 use super::object::Object;
 use super::selection::{Passed, count_branch, touches};
-use super::tag::{LookedUp, fails_at_first};
+use super::tag::{LookedUp, fails_at_first, lacks_some};
 use super::tagged::tagged_branch;
 use crate::count::Count;
 use crate::nodes::Nodes;
-use crate::part::{ListId, Selection};
-use crate::tables::Tables;
+use crate::part::{ListId, Part, Selection};
+use crate::tables::{List, Tables};
 
 /// The branch, by its index, by which an object is read that has one reading by a selection; `None`
 /// where the selection is absent.
@@ -37,7 +38,7 @@ pub(crate) fn chosen_branch<'r>(
     requires object { IsObject tables.now nodes.now object.now }
     requires counts { AreListCounts tables.now nodes.now object.now counts.now }
     requires served { All (ListIsServed tables.now) (selection_view selection.now).branches }
-    requires named { IsNamed (rules_at tables.now).lists selection.now }
+    requires named { HasBranchNames (rules_at tables.now).lists selection.now }
     requires before { PartIsBefore tables.now object.now.list.now.below.items (length counts.now)
         (a_selection (selection_view selection.now)) }
     requires one { IsPartCount tables.now nodes.now object.now
@@ -127,5 +128,66 @@ fn fails_by_branch<'c, 't, 'd>(
     if fails_at_first(nodes, object, list, last) {
         return true;
     }
-    some_fails_at_once(nodes, object.node, &list.parts)
+    if some_fails_at_once(nodes, object.node, &list.parts) {
+        return true;
+    }
+    fails_below(tables, nodes, object, list)
+}
+
+/// Whether an object is known to lack a required member of a list that each choice of a list goes
+/// through: the fields of a struct that it flattens, or of the struct that a variant holds.
+fn fails_below(
+    tables: &Tables<'_>,
+    nodes: &Nodes<'_, '_>,
+    object: &Object<'_, '_>,
+    list: &List<'_>,
+) -> bool
+    requires tables { AreTables tables.now }
+    requires object { IsObject tables.now nodes.now object.now }
+    requires listed { IsListed tables.now list.now }
+    ensures { IsTrue result → (c : Choice) → ReadsList (rules_at tables.now)
+        (ReadsValue (rules_at tables.now)) (object_view nodes.now object.now)
+        (list_view list.now.id) c → ⊥ }
+{
+    for part in &list.parts {
+        if fails_by_part(tables, nodes, object, part) {
+            return true;
+        }
+    }
+    false
+}
+
+/// The same of a part that has one list, which each choice goes through.
+fn fails_by_part(
+    tables: &Tables<'_>,
+    nodes: &Nodes<'_, '_>,
+    object: &Object<'_, '_>,
+    part: &Part<'_>,
+) -> bool
+    requires tables { AreTables tables.now }
+    requires object { IsObject tables.now nodes.now object.now }
+    requires served { PartIsServed tables.now (part_view part.now) }
+    ensures { IsTrue result → (a : ChoiceAt) → ReadsPart (rules_at tables.now)
+        (ReadsValue (rules_at tables.now)) (object_view nodes.now object.now)
+        (part_view part.now) a → ⊥ }
+{
+    let Some(branch) = only_branch(part) else {
+        return false;
+    };
+    let Some(list) = tables.list(branch) else {
+        return true;
+    };
+    lacks_some(nodes, object, &list.parts)
+}
+
+/// The list of a part that has one, which is never absent.
+fn only_branch(part: &Part<'_>) -> Option<ListId>
+    ensures { IfSome result (λ branch. IsOnlyBranch (part_view part.now) (list_view branch)) }
+{
+    match part {
+        Part::Selection(selection) if !selection.optional && selection.branches.len() == 1 => {
+            Some(selection.branches[0])
+        }
+        _ => None,
+    }
 }

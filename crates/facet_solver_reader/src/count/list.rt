@@ -5,7 +5,7 @@ ghost use Rattle.facet_solver_reader.specs.Nodes.{IsNumbering, count, members_in
 ghost use Rattle.facet_solver_reader.specs.Parts.{a_member};
 ghost use Rattle.facet_solver_reader.specs.Reading.{AreListCounts, AreSound, IsListCount, IsNextList, IsObject, IsPartCount, fails_at_once, is_other_tag};
 ghost use Rattle.facet_solver_reader.specs.Documents.{view};
-ghost use Rattle.facet_solver_reader.specs.SelectionNames.{PartIsNamed};
+ghost use Rattle.facet_solver_reader.specs.SelectionNames.{PartHasBranchNames};
 ghost use Rattle.facet_solver_reader.specs.Tables.{IsServed, PartIsBefore, PartIsServed, rules_at};
 ghost use Rattle.facet_solver_reader.specs.Views.{member_view, part_view, target_view};
 
@@ -106,7 +106,7 @@ fn count_part(
     requires object { IsObject tables.now nodes.now object.now }
     requires counts { AreListCounts tables.now nodes.now object.now counts.now }
     requires served { PartIsServed tables.now (part_view part.now) }
-    requires named { PartIsNamed (rules_at tables.now).lists part.now }
+    requires named { PartHasBranchNames (rules_at tables.now).lists part.now }
     requires before { PartIsBefore tables.now object.now.list.now.below.items (length counts.now)
         (part_view part.now) }
     ensures sound { AreSound tables.now nodes.now memo.new.entries.items }

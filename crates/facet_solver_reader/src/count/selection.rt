@@ -15,7 +15,7 @@ ghost use Rattle.facet_solver_reader.specs.Parts.{a_selection};
 ghost use Rattle.facet_solver_reader.specs.Passed.{IsOther, IsPassed};
 ghost use Rattle.facet_solver_reader.specs.Reading.{AreListCounts, IsBranchCount, IsListed, IsObject, IsPartCount, object_view};
 ghost use Rattle.facet_solver_reader.specs.Readings.{ReadsValue};
-ghost use Rattle.facet_solver_reader.specs.SelectionNames.{IsNamed, KnowsMember, has_known};
+ghost use Rattle.facet_solver_reader.specs.SelectionNames.{HasBranchNames, KnowsMember, has_known};
 ghost use Rattle.facet_solver_reader.specs.Tables.{AreTables, BranchIsBefore, ListIsServed, PartIsBefore, knows, rules_at};
 ghost use Rattle.facet_solver_reader.specs.Views.{list_view, selection_view};
 
@@ -76,7 +76,7 @@ pub(crate) fn count_selection(
     requires object { IsObject tables.now nodes.now object.now }
     requires counts { AreListCounts tables.now nodes.now object.now counts.now }
     requires served { All (ListIsServed tables.now) (selection_view selection.now).branches }
-    requires named { IsNamed (rules_at tables.now).lists selection.now }
+    requires named { HasBranchNames (rules_at tables.now).lists selection.now }
     requires before { PartIsBefore tables.now object.now.list.now.below.items (length counts.now)
         (a_selection (selection_view selection.now)) }
     ensures { IsPartCount tables.now nodes.now object.now
@@ -101,7 +101,7 @@ fn count_branches<'r>(
     requires object { IsObject tables.now nodes.now object.now }
     requires counts { AreListCounts tables.now nodes.now object.now counts.now }
     requires served { All (ListIsServed tables.now) (selection_view selection.now).branches }
-    requires named { IsNamed (rules_at tables.now).lists selection.now }
+    requires named { HasBranchNames (rules_at tables.now).lists selection.now }
     requires before { PartIsBefore tables.now object.now.list.now.below.items (length counts.now)
         (a_selection (selection_view selection.now)) }
     requires present { CanBePresent (rules_at tables.now) (object_view nodes.now object.now)
@@ -142,7 +142,7 @@ pub(crate) fn count_branch<'r>(
     requires object { IsObject tables.now nodes.now object.now }
     requires counts { AreListCounts tables.now nodes.now object.now counts.now }
     requires served { All (ListIsServed tables.now) (selection_view selection.now).branches }
-    requires named { IsNamed (rules_at tables.now).lists selection.now }
+    requires named { HasBranchNames (rules_at tables.now).lists selection.now }
     requires branch { ListIsServed tables.now (list_view branch) }
     requires before { BranchIsBefore tables.now object.now.list.now.below.items
         (length counts.now) (list_view branch) }
@@ -191,7 +191,7 @@ pub(crate) fn count_one_branch<'r>(
     requires object { IsObject tables.now nodes.now object.now }
     requires counts { AreListCounts tables.now nodes.now object.now counts.now }
     requires served { All (ListIsServed tables.now) (selection_view selection.now).branches }
-    requires named { IsNamed (rules_at tables.now).lists selection.now }
+    requires named { HasBranchNames (rules_at tables.now).lists selection.now }
     requires branch { ListIsServed tables.now (list_view branch) }
     requires before { BranchIsBefore tables.now object.now.list.now.below.items
         (length counts.now) (list_view branch) }
@@ -236,7 +236,7 @@ pub(crate) fn touches(
     requires numbering { IsNumbering nodes.now }
     requires object { IsObject tables.now nodes.now object.now }
     requires served { All (ListIsServed tables.now) (selection_view selection.now).branches }
-    requires named { IsNamed (rules_at tables.now).lists selection.now }
+    requires named { HasBranchNames (rules_at tables.now).lists selection.now }
     ensures { IsTrue result ↔ Touches (rules_at tables.now) (object_view nodes.now object.now)
         (selection_view selection.now) }
 {
@@ -270,7 +270,7 @@ pub(crate) fn fits<'r>(
     requires numbering { IsNumbering nodes.now }
     requires object { IsObject tables.now nodes.now object.now }
     requires served { All (ListIsServed tables.now) (selection_view selection.now).branches }
-    requires named { IsNamed (rules_at tables.now).lists selection.now }
+    requires named { HasBranchNames (rules_at tables.now).lists selection.now }
     requires listed { IsListed tables.now list.now }
     ensures yes { IsTrue result → Fits (rules_at tables.now) (object_view nodes.now object.now)
         (selection_view selection.now) (list_view list.now.id) }
@@ -294,7 +294,7 @@ fn fits_next<'r>(
     requires numbering { IsNumbering nodes.now }
     requires object { IsObject tables.now nodes.now object.now }
     requires served { All (ListIsServed tables.now) (selection_view selection.now).branches }
-    requires named { IsNamed (rules_at tables.now).lists selection.now }
+    requires named { HasBranchNames (rules_at tables.now).lists selection.now }
     requires listed { IsListed tables.now list.now }
     requires passed { IsPassed (rules_at tables.now) (object_view nodes.now object.now)
         (selection_view selection.now) passed.old }

@@ -127,3 +127,25 @@ fn lacks(nodes: &Nodes<'_, '_>, object: &Object<'_, '_>, member: &MemberPart<'_>
     }
     !object.filter.may_have(member.name)
 }
+
+/// Whether one of some parts is a required member that an object is known to lack.
+pub(super) fn lacks_some(nodes: &Nodes<'_, '_>, object: &Object<'_, '_>, parts: &[Part<'_>]) -> bool
+    requires { HoldsNames (members_in (value_of nodes.now object.now.node)) object.now.filter }
+    ensures { IsTrue result → IsTrue (list_any
+        (λ part. fails_at_once (members_in (value_of nodes.now object.now.node)) (part_view part))
+        parts.now) }
+{
+    parts.iter().any(|part| lacks_part(nodes, object, part))
+}
+
+/// Whether a part is a required member that an object is known to lack.
+fn lacks_part(nodes: &Nodes<'_, '_>, object: &Object<'_, '_>, part: &Part<'_>) -> bool
+    requires { HoldsNames (members_in (value_of nodes.now object.now.node)) object.now.filter }
+    ensures { IsTrue result → IsTrue
+        (fails_at_once (members_in (value_of nodes.now object.now.node)) (part_view part.now)) }
+{
+    match part {
+        Part::Member(member) => lacks(nodes, object, member),
+        _ => false,
+    }
+}

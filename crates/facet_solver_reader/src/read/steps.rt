@@ -10,7 +10,7 @@ ghost use Rattle.facet_solver_reader.specs.Planned.{IsPlanIfOne};
 ghost use Rattle.facet_solver_reader.specs.Reading.{AreSound, IsListCount, IsObject, IsPartCount};
 ghost use Rattle.facet_solver_reader.specs.Steps.{place_below};
 ghost use Rattle.facet_solver_reader.specs.SureSteps.{is_selection, sure_steps};
-ghost use Rattle.facet_solver_reader.specs.SelectionNames.{IsNamed};
+ghost use Rattle.facet_solver_reader.specs.SelectionNames.{HasBranchNames};
 ghost use Rattle.facet_solver_reader.specs.Tables.{AreTables, IsPartOfList, ListIsServed, PartIsBefore, rules_at};
 ghost use Rattle.facet_solver_reader.specs.UnderWay.{AreKnownCounts, IsGoing, IsInnermost, IsLeftOut, IsSelected, with_inner};
 ghost use Rattle.facet_solver_reader.specs.ToldAt.{IsNotOne};
@@ -134,7 +134,7 @@ fn choose(
     requires object { IsObject tables.now nodes.now object.now }
     requires counts { AreKnownCounts tables.now nodes.now object.now counts.old }
     requires served { All (ListIsServed tables.now) (selection_view selection.now).branches }
-    requires named { IsNamed (rules_at tables.now).lists selection.now }
+    requires named { HasBranchNames (rules_at tables.now).lists selection.now }
     requires before { PartIsBefore tables.now object.now.list.now.below.items
         (length object.now.list.now.below.items) (a_selection (selection_view selection.now)) }
     requires part { IsPartOfList tables.now (a_selection (selection_view selection.now)) }
@@ -179,7 +179,7 @@ fn is_sure(
     requires numbering { IsNumbering nodes.now }
     requires object { IsObject tables.now nodes.now object.now }
     requires served { All (ListIsServed tables.now) (selection_view selection.now).branches }
-    requires named { IsNamed (rules_at tables.now).lists selection.now }
+    requires named { HasBranchNames (rules_at tables.now).lists selection.now }
     requires branch { ListIsServed tables.now (list_view branch) }
     requires at { (k : ℕ)
         × (slice_get (selection_view selection.now).branches k ≡ Some (list_view branch)) }

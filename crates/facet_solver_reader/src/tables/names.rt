@@ -7,7 +7,7 @@ ghost use Rattle.facet_solver_reader.specs.declared.tables.order.Ordered as plac
 ghost use Rattle.facet_solver_reader.specs.Known.{named, rest};
 ghost use Rattle.facet_solver_reader.specs.Parts.{a_selection};
 ghost use Rattle.facet_solver_reader.specs.Places.{IsRepeated};
-ghost use Rattle.facet_solver_reader.specs.Placing.{AreAdded, AreNamesOf, ArePartNames, AreThose, IsRestOf, IsShared, IsWhyShared, PartIsNamedIn, list_knows, part_knows};
+ghost use Rattle.facet_solver_reader.specs.Placing.{AreAdded, AreNamesOf, ArePartNames, AreThose, IsRestOf, IsShared, IsWhyShared, PartHasBranchNamesIn, list_knows, part_knows};
 ghost use Rattle.facet_solver_reader.specs.Views.{list_view, part_view, parts_view, selection_view};
 
 use super::fault::Fault;
@@ -22,7 +22,7 @@ pub(super) fn name_selections<'c>(
     parts: &mut Vec<Part<'c>>,
 ) -> Result<(), AllocError>
     ensures same { OnOk result (parts_view parts.new.items ≡ parts_view parts.old.items) }
-    ensures named { OnOk result (All (PartIsNamedIn ordered.now) parts.new.items) }
+    ensures named { OnOk result (All (PartHasBranchNamesIn ordered.now) parts.new.items) }
 {
     for part in parts.iter_mut() {
         name_part(alloc, ordered, part)?;
@@ -37,7 +37,7 @@ fn name_part<'c>(
     part: &mut Part<'c>,
 ) -> Result<(), AllocError>
     ensures same { part_view part.new ≡ part_view part.old }
-    ensures named { OnOk result (PartIsNamedIn ordered.now part.new) }
+    ensures named { OnOk result (PartHasBranchNamesIn ordered.now part.new) }
 {
     if let Part::Selection(selection) = part {
         selection.names = names_of_selection(alloc, ordered, selection)?;
@@ -53,7 +53,7 @@ pub(super) fn names_of<'c>(
     list: ListId,
     parts: &[Part<'c>],
 ) -> Result<Vec<&'c str>, Fault<'c>>
-    requires named { All (PartIsNamedIn ordered.now) parts.now }
+    requires named { All (PartHasBranchNamesIn ordered.now) parts.now }
     ensures ok { IfOk result (λ names.
         ArePartNames ordered.now (parts_view parts.now) names.items) }
     ensures err { IfErr result (IsWhyShared ordered.now (list_view list) (parts_view parts.now)) }
@@ -68,7 +68,7 @@ pub(super) fn names_of<'c>(
 /// The names of the members of each part, rising.
 fn names_of_each<'c>(alloc: Global, parts: &[Part<'c>]) -> Result<Vec<&'c str>, AllocError>
     ensures sorted { IfOk result (λ names. IsSorted name_ref_cmp names.items) }
-    ensures names { (o : placed.Ordered) → All (PartIsNamedIn o) parts.now → IfOk result (λ names.
+    ensures names { (o : placed.Ordered) → All (PartHasBranchNamesIn o) parts.now → IfOk result (λ names.
         AreNamesOf o (parts_view parts.now) (names_of names.items)) }
 {
     let mut names = Vec::with_capacity(alloc, names_len(parts))?;
@@ -94,7 +94,7 @@ fn names_len(parts: &[Part<'_>]) -> usize {
 
 /// Adds the names of the members of a part, each once.
 fn push_names<'c>(part: &Part<'c>, names: &mut Vec<&'c str>) -> Result<(), AllocError>
-    ensures { (o : placed.Ordered) → PartIsNamedIn o part.now → OnOk result
+    ensures { (o : placed.Ordered) → PartHasBranchNamesIn o part.now → OnOk result
         (AreAdded o (part_view part.now)
         (names_of names.old.items) (names_of names.new.items)) }
 {

@@ -5,7 +5,7 @@ ghost use Rattle.facet_solver_reader.specs.declared.nodes.Nodes.{Nodes};
 ghost use Rattle.facet_solver_reader.specs.Nodes.{IsNumbering, count, members_in, value_of};
 ghost use Rattle.facet_solver_reader.specs.Parts.{a_selection};
 ghost use Rattle.facet_solver_reader.specs.Reading.{AreSound, IsObject};
-ghost use Rattle.facet_solver_reader.specs.SelectionNames.{IsNamed};
+ghost use Rattle.facet_solver_reader.specs.SelectionNames.{HasBranchNames};
 ghost use Rattle.facet_solver_reader.specs.Tables.{AreTables, ListIsServed, PartIsBefore, rules_at};
 ghost use Rattle.facet_solver_reader.specs.Views.{list_view, selection_view};
 ghost use Rattle.facet_solver_reader.specs.Blaming.{IsAsked, IsAmong, IsBranchOf, IsFound};
@@ -36,7 +36,7 @@ pub(super) fn none_in_selection<'c, 'd>(
     requires sound { AreSound tables.now nodes.now memo.old.entries.items }
     requires asked { IsAsked tables.now nodes.now asked.now }
     requires served { All (ListIsServed tables.now) (selection_view selection.now).branches }
-    requires named { IsNamed (rules_at tables.now).lists selection.now }
+    requires named { HasBranchNames (rules_at tables.now).lists selection.now }
     requires before { PartIsBefore tables.now asked.now.object.list.now.below.items
         (length asked.now.counts.items) (a_selection (selection_view selection.now)) }
     ensures sound { AreSound tables.now nodes.now memo.new.entries.items }
@@ -69,7 +69,7 @@ fn one_branch(
     requires numbering { IsNumbering nodes.now }
     requires object { IsObject tables.now nodes.now asked.now.object }
     requires served { All (ListIsServed tables.now) (selection_view selection.now).branches }
-    requires named { IsNamed (rules_at tables.now).lists selection.now }
+    requires named { HasBranchNames (rules_at tables.now).lists selection.now }
 {
     match selection.branches.as_slice() {
         [branch] => position_of(tables, &asked.object, *branch),
@@ -88,7 +88,7 @@ pub(super) fn misfits_of<'c, 'd>(
     requires sound { AreSound tables.now nodes.now memo.old.entries.items }
     requires asked { IsAsked tables.now nodes.now asked.now }
     requires served { All (ListIsServed tables.now) (selection_view selection.now).branches }
-    requires named { IsNamed (rules_at tables.now).lists selection.now }
+    requires named { HasBranchNames (rules_at tables.now).lists selection.now }
     ensures sound { AreSound tables.now nodes.now memo.new.entries.items }
     ensures misfits { IfOk result (λ misfits. All (IsMisfit (rules_at tables.now)
         (value_of nodes.now asked.now.object.node)) misfits.items) }
@@ -125,7 +125,7 @@ fn add_misfit<'c, 'd>(
     requires sound { AreSound tables.now nodes.now memo.old.entries.items }
     requires asked { IsAsked tables.now nodes.now asked.now }
     requires served { All (ListIsServed tables.now) (selection_view selection.now).branches }
-    requires named { IsNamed (rules_at tables.now).lists selection.now }
+    requires named { HasBranchNames (rules_at tables.now).lists selection.now }
     requires branch { IsBranchOf (selection_view selection.now) (list_view branch.now) }
     requires misfits { All (IsMisfit (rules_at tables.now)
         (value_of nodes.now asked.now.object.node)) misfits.old.items }
@@ -159,7 +159,7 @@ fn misfit_of<'c, 'd>(
     requires sound { AreSound tables.now nodes.now memo.old.entries.items }
     requires asked { IsAsked tables.now nodes.now asked.now }
     requires served { All (ListIsServed tables.now) (selection_view selection.now).branches }
-    requires named { IsNamed (rules_at tables.now).lists selection.now }
+    requires named { HasBranchNames (rules_at tables.now).lists selection.now }
     requires branch { IsBranchOf (selection_view selection.now) (list_view branch.now) }
     ensures sound { AreSound tables.now nodes.now memo.new.entries.items }
     ensures misfit { IfOk result (λ misfit. IfSome misfit (IsMisfit (rules_at tables.now)
@@ -213,7 +213,7 @@ fn no_key<'d>(
     requires tables { AreTables tables.now }
     requires object { IsObject tables.now nodes.now object.now }
     requires served { All (ListIsServed tables.now) (selection_view selection.now).branches }
-    requires named { IsNamed (rules_at tables.now).lists selection.now }
+    requires named { HasBranchNames (rules_at tables.now).lists selection.now }
     requires branch { IsBranchOf (selection_view selection.now) (list_view branch) }
     ensures { IfSome result (λ name. IsNoKey (rules_at tables.now)
         (members_in (value_of nodes.now object.now.node)) (list_view branch) name.now) }

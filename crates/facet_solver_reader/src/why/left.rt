@@ -2,7 +2,7 @@
 ghost use Rattle.std.specs.Prelude.{All};
 ghost use Rattle.facet_solver_reader.specs.Nodes.{IsNumbering};
 ghost use Rattle.facet_solver_reader.specs.Reading.{IsListed, IsObject};
-ghost use Rattle.facet_solver_reader.specs.SelectionNames.{IsNamed, PartIsNamed};
+ghost use Rattle.facet_solver_reader.specs.SelectionNames.{HasBranchNames, PartHasBranchNames};
 ghost use Rattle.facet_solver_reader.specs.Tables.{AreTables, ListIsServed, PartIsServed, rules_at};
 ghost use Rattle.facet_solver_reader.specs.Views.{list_view, part_view, selection_view};
 
@@ -65,7 +65,7 @@ fn part_is_left(
     requires numbering { IsNumbering nodes.now }
     requires object { IsObject tables.now nodes.now object.now }
     requires served { PartIsServed tables.now (part_view part.now) }
-    requires named { PartIsNamed (rules_at tables.now).lists part.now }
+    requires named { PartHasBranchNames (rules_at tables.now).lists part.now }
 {
     match part {
         Part::Member(_) => !fails_at_once(nodes, object.node, part),
@@ -91,7 +91,7 @@ fn first_left(
     requires numbering { IsNumbering nodes.now }
     requires object { IsObject tables.now nodes.now object.now }
     requires served { All (ListIsServed tables.now) (selection_view selection.now).branches }
-    requires named { IsNamed (rules_at tables.now).lists selection.now }
+    requires named { HasBranchNames (rules_at tables.now).lists selection.now }
 {
     for branch in &selection.branches {
         let position = left_at(tables, nodes, object, selection, *branch, left);
@@ -115,7 +115,7 @@ fn left_at(
     requires numbering { IsNumbering nodes.now }
     requires object { IsObject tables.now nodes.now object.now }
     requires served { All (ListIsServed tables.now) (selection_view selection.now).branches }
-    requires named { IsNamed (rules_at tables.now).lists selection.now }
+    requires named { HasBranchNames (rules_at tables.now).lists selection.now }
     requires branch { ListIsServed tables.now (list_view branch) }
 {
     let position = position_of(tables, object, branch)?;
@@ -140,7 +140,7 @@ pub(super) fn only_left(
     requires numbering { IsNumbering nodes.now }
     requires object { IsObject tables.now nodes.now object.now }
     requires served { All (ListIsServed tables.now) (selection_view selection.now).branches }
-    requires named { IsNamed (rules_at tables.now).lists selection.now }
+    requires named { HasBranchNames (rules_at tables.now).lists selection.now }
 {
     let mut only = None;
     for branch in &selection.branches {

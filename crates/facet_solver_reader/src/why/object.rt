@@ -3,7 +3,7 @@ ghost use Rattle.std.specs.Prelude.{◌≡◌, ◌<◌, IfOk, IfSome};
 ghost use Rattle.facet_solver_reader.specs.Nodes.{count, members_in, value_of};
 ghost use Rattle.facet_solver_reader.specs.Parts.{a_catch_all, a_member};
 ghost use Rattle.facet_solver_reader.specs.Reading.{AreSound, IsObject};
-ghost use Rattle.facet_solver_reader.specs.SelectionNames.{PartIsNamed};
+ghost use Rattle.facet_solver_reader.specs.SelectionNames.{PartHasBranchNames};
 ghost use Rattle.facet_solver_reader.specs.Tables.{AreTables, ListIsServed, PartIsServed, rules_at};
 ghost use Rattle.facet_solver_reader.specs.Views.{catch_all_view, list_view, member_view, part_view};
 ghost use Rattle.facet_solver_reader.specs.Blaming.{IsAsked, IsBelow, IsFound, IsNext, IsPartOf};
@@ -161,7 +161,7 @@ fn none_in_part<'c, 'd>(
     requires asked { IsAsked tables.now nodes.now asked.now }
     requires below { IsBelow tables.now asked.now.object list.now }
     requires part { IsPartOf list.now (part_view part.now) }
-    requires named { PartIsNamed (rules_at tables.now).lists part.now }
+    requires named { PartHasBranchNames (rules_at tables.now).lists part.now }
     ensures sound { AreSound tables.now nodes.now memo.new.entries.items }
     ensures found { IfOk result (λ found. IfSome found
         (IsFound tables.now nodes.now (value_of nodes.now asked.now.object.node))) }

@@ -5,7 +5,7 @@ ghost use Rattle.facet_solver_reader.specs.Documents.{Tree};
 ghost use Rattle.facet_solver_reader.specs.Nodes.{count, value_of};
 ghost use Rattle.facet_solver_reader.specs.Parts.{a_selection};
 ghost use Rattle.facet_solver_reader.specs.Reading.{AreSound, IsObject, object_view};
-ghost use Rattle.facet_solver_reader.specs.SelectionNames.{IsNamed};
+ghost use Rattle.facet_solver_reader.specs.SelectionNames.{HasBranchNames};
 ghost use Rattle.facet_solver_reader.specs.Tables.{AreTables, ListIsServed, PartIsBefore, PartIsServed, rules_at};
 ghost use Rattle.facet_solver_reader.specs.Views.{list_view, part_view, selection_view};
 ghost use Rattle.facet_solver_reader.specs.Blaming.{IsBelow, IsBranchOf, IsNext, IsTallied};
@@ -160,7 +160,7 @@ fn branches_of<'c>(
     requires tables { AreTables tables.now }
     requires tallied { IsTallied tables.now nodes.now tallied.now.object.node tallied.now }
     requires served { All (ListIsServed tables.now) (selection_view selection.now).branches }
-    requires named { IsNamed (rules_at tables.now).lists selection.now }
+    requires named { HasBranchNames (rules_at tables.now).lists selection.now }
     requires before { PartIsBefore tables.now tallied.now.object.list.now.below.items
         (length tallied.now.counts.items) (a_selection (selection_view selection.now)) }
     ensures { IfOk result (λ branches. All (IsReadBy (rules_at tables.now)
@@ -189,7 +189,7 @@ fn add_branch<'c>(
     requires tables { AreTables tables.now }
     requires tallied { IsTallied tables.now nodes.now tallied.now.object.node tallied.now }
     requires served { All (ListIsServed tables.now) (selection_view selection.now).branches }
-    requires named { IsNamed (rules_at tables.now).lists selection.now }
+    requires named { HasBranchNames (rules_at tables.now).lists selection.now }
     requires before { PartIsBefore tables.now tallied.now.object.list.now.below.items
         (length tallied.now.counts.items) (a_selection (selection_view selection.now)) }
     requires present { CanBePresent (rules_at tables.now)

@@ -3,7 +3,7 @@ ghost use Rattle.std.specs.Prelude.{All, IfOk, IfSome, length};
 ghost use Rattle.facet_solver_reader.specs.Nodes.{value_of};
 ghost use Rattle.facet_solver_reader.specs.Parts.{a_selection};
 ghost use Rattle.facet_solver_reader.specs.Reading.{AreSound};
-ghost use Rattle.facet_solver_reader.specs.SelectionNames.{IsNamed, PartIsNamed};
+ghost use Rattle.facet_solver_reader.specs.SelectionNames.{HasBranchNames, PartHasBranchNames};
 ghost use Rattle.facet_solver_reader.specs.Tables.{AreTables, IsServed, ListIsServed, PartIsBefore, PartIsServed, rules_at};
 ghost use Rattle.facet_solver_reader.specs.Views.{member_view, part_view, selection_view};
 ghost use Rattle.facet_solver_reader.specs.Blaming.{IsAsked, IsBelow, IsInner};
@@ -92,7 +92,7 @@ fn stop_in_part<'c, 'd>(
     requires sound { AreSound tables.now nodes.now memo.old.entries.items }
     requires asked { IsAsked tables.now nodes.now asked.now }
     requires served { PartIsServed tables.now (part_view part.now) }
-    requires named { PartIsNamed (rules_at tables.now).lists part.now }
+    requires named { PartHasBranchNames (rules_at tables.now).lists part.now }
     requires before { PartIsBefore tables.now asked.now.object.list.now.below.items
         (length asked.now.counts.items) (part_view part.now) }
     ensures sound { AreSound tables.now nodes.now memo.new.entries.items }
@@ -144,7 +144,7 @@ fn stop_at_selection<'c, 'd>(
     requires tables { AreTables tables.now }
     requires asked { IsAsked tables.now nodes.now asked.now }
     requires served { All (ListIsServed tables.now) (selection_view selection.now).branches }
-    requires named { IsNamed (rules_at tables.now).lists selection.now }
+    requires named { HasBranchNames (rules_at tables.now).lists selection.now }
     requires before { PartIsBefore tables.now asked.now.object.list.now.below.items
         (length asked.now.counts.items) (a_selection (selection_view selection.now)) }
     ensures { IfSome result (IsInner (rules_at tables.now)

@@ -24,17 +24,26 @@ returns-then-fails_at_first-clause-fails c = λ yes d r.
     (object_view c.args.nodes.now c.args.object.now) i d)
     (sym of.same) r)
 
-pub returns-clause-fails : goal.returns-clause-fails
-returns-clause-fails c = λ yes d r.
+pub returns-then-some_fails_at_once-clause-fails : goal.returns-then-some_fails_at_once-clause-fails
+returns-then-some_fails_at_once-clause-fails c = λ yes d r.
     let t = c.args.tables.now in
     let of = c.in-Some.ensures in
     let ms = members_in (value_of c.args.nodes.now c.args.object.now.node) in
     none_by_list t c.args.nodes.now c.args.object.now c.requires.tables of.index
     c.in-Some.list.now of.listed
     (ap (list_any (λ part. fails_at_once ms (part_view part))) (sym c.deref.ensures.value)
-    ∙ sym c.some_fails_at_once.ensures ∙ yes)
+    ∙ sym c.some_fails_at_once.ensures ∙ c.if-some_fails_at_once.true)
     d
     (subst
     (λ i. ReadsList (rules_at t) (ReadsValue (rules_at t))
     (object_view c.args.nodes.now c.args.object.now) i d)
     (sym of.same) r)
+
+pub returns-clause-fails : goal.returns-clause-fails
+returns-clause-fails c = λ yes d r.
+    let t = c.args.tables.now in
+    c.fails_below.ensures yes d
+    (subst
+    (λ i. ReadsList (rules_at t) (ReadsValue (rules_at t))
+    (object_view c.args.nodes.now c.args.object.now) i d)
+    (sym c.in-Some.ensures.same) r)

@@ -3,7 +3,7 @@ use Rattle.std.proofs.Math.Seq.{map-set_same}
 use Rattle.std.proofs.lemmas.Bool.{cases_lt}
 use Rattle.std.proofs.lemmas.List.{get_or-set_other, length-map}
 use Rattle.std.proofs.lemmas.Grind.{get_or-set_at}
-use Rattle.facet_solver_reader.specs.Placing.{PartIsNamedIn}
+use Rattle.facet_solver_reader.specs.Placing.{PartHasBranchNamesIn}
 use Rattle.facet_solver_reader.specs.Views.{part_view}
 use Rattle.facet_solver_reader.proofs.tables.names.name_selections.Goals as goal
 
@@ -18,7 +18,7 @@ loop-part-preserved c =
       map-set_same part_view ps i p c.part-item.result c.name_part.ensures.same
           ∙ c.loop-part.invariant.0,
       λ k d less. elim (cases_lt k i) [
-        | inl before ↦ subst (PartIsNamedIn o) (sym (get_or-set_other ps i k p d (λ e. omega (arith, e, before)))) (c.loop-part.invariant.1 k d before)
-        | inr later ↦ subst (PartIsNamedIn o) (sym (get_or-set_at ps i k p d (omega (arith, less, later)) within)) c.in_ok-name_part.ensures.named
+        | inl before ↦ subst (PartHasBranchNamesIn o) (sym (get_or-set_other ps i k p d (λ e. omega (arith, e, before)))) (c.loop-part.invariant.1 k d before)
+        | inr later ↦ subst (PartHasBranchNamesIn o) (sym (get_or-set_at ps i k p d (omega (arith, less, later)) within)) c.in_ok-name_part.ensures.named
       ],
     )

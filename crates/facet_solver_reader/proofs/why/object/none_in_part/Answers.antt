@@ -1,5 +1,5 @@
 use Rattle.std.proofs.Common.{ap, length, subst}
-use Rattle.facet_solver_reader.specs.SelectionNames.{PartIsNamed}
+use Rattle.facet_solver_reader.specs.SelectionNames.{PartHasBranchNames}
 use Rattle.facet_solver_reader.specs.Tables.{PartIsBefore, PartIsServed, rules_at}
 use Rattle.facet_solver_reader.specs.Views.{part_view}
 use Rattle.facet_solver_reader.proofs.Blaming.{listed_of_below, part_before, part_served}
@@ -35,4 +35,4 @@ none_taken-requires-clause-served c =
 
 pub none_in_selection-requires-clause-named : goal.none_in_selection-requires-clause-named
 none_in_selection-requires-clause-named c =
-    subst (PartIsNamed (rules_at c.args.tables.now).lists) c.in-Selection.is c.requires.named
+    subst (PartHasBranchNames (rules_at c.args.tables.now).lists) c.in-Selection.is c.requires.named

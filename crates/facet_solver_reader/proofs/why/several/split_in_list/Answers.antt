@@ -1,5 +1,5 @@
 use Rattle.std.proofs.Common.{ap, length, map, subst}
-use Rattle.facet_solver_reader.specs.SelectionNames.{PartIsNamed}
+use Rattle.facet_solver_reader.specs.SelectionNames.{PartHasBranchNames}
 use Rattle.facet_solver_reader.specs.Tables.{PartIsBefore, PartIsServed, rules_at}
 use Rattle.facet_solver_reader.specs.Views.{part_view, parts_view}
 use Rattle.facet_solver_reader.proofs.Blaming.{listed_of_below, part_before, part_served}
@@ -38,7 +38,7 @@ branches_of-requires-clause-before c =
 
 pub branches_of-requires-clause-named : goal.branches_of-requires-clause-named
 branches_of-requires-clause-named c =
-    subst (PartIsNamed (rules_at c.args.tables.now).lists) c.in-Selection.is
+    subst (PartHasBranchNames (rules_at c.args.tables.now).lists) c.in-Selection.is
     (part_named c.args.tables.now c.requires.tables c.args.list.now
     (listed_of_below c.args.tables.now c.requires.tables c.args.tallied.now.object c.args.list.now
     c.requires.below)

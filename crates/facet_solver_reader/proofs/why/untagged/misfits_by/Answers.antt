@@ -1,5 +1,5 @@
 use Rattle.std.proofs.Common.{ap, map, subst}
-use Rattle.facet_solver_reader.specs.SelectionNames.{PartIsNamed}
+use Rattle.facet_solver_reader.specs.SelectionNames.{PartHasBranchNames}
 use Rattle.facet_solver_reader.specs.Tables.{PartIsServed, rules_at}
 use Rattle.facet_solver_reader.specs.Views.{part_view, parts_view}
 use Rattle.facet_solver_reader.proofs.Blaming.{listed_of_below, own_below, part_served}
@@ -27,7 +27,7 @@ misfits_of-requires-clause-named c =
     let t = c.args.tables.now in
     let tables = c.requires.sound.tables in
     let o = c.args.asked.now.object in
-    subst (PartIsNamed (rules_at t).lists) c.in-Selection.is
+    subst (PartHasBranchNames (rules_at t).lists) c.in-Selection.is
     (part_named t tables o.list.now
     (listed_of_below t tables o o.list.now
     (own_below t tables c.args.nodes.now o c.requires.asked.object))

@@ -20,7 +20,7 @@ use Rattle.facet_solver_reader.specs.Known.{Chooses, HasChoice}
 use Rattle.facet_solver_reader.specs.Parts.{ListId, Selection, a_selection}
 use Rattle.facet_solver_reader.specs.Planned as planned
 use Rattle.facet_solver_reader.specs.Reading.{IsListCount, IsObject, IsPartCount}
-use Rattle.facet_solver_reader.specs.SelectionNames.{PartIsNamed}
+use Rattle.facet_solver_reader.specs.SelectionNames.{PartHasBranchNames}
 use Rattle.facet_solver_reader.specs.Tables.{AreTables, ListIsServed, rules_at}
 use Rattle.facet_solver_reader.specs.Steps.{place_below}
 use Rattle.facet_solver_reader.specs.UnderWay.{IsEntered, IsGoing, IsInnermost, IsSelected}
@@ -182,7 +182,7 @@ choose-requires-clause-named c =
     let below = below_last t c.args.nodes.now c.args.object.now tables c.args.self.now.frames.items f
     c.args.self.now.steps.items c.requires.under_way in
     let look = c.in-Some.ensures.lookup in
-    subst (PartIsNamed (rules_at t).lists) c.in-Selection.is
+    subst (PartHasBranchNames (rules_at t).lists) c.in-Selection.is
     (part_named t tables f.list.now (record { index = below.index; listed = below.listed })
     c.deref.result.now c.deref.ensures.value f.next c.in-Some.part.now look.3.0 look.1)
 

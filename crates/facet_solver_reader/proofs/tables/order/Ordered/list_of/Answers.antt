@@ -3,7 +3,7 @@ use Rattle.std.specs.List.{All}
 use Rattle.std.specs.Option.{option_map}
 use Rattle.facet_solver_reader.specs.declared.part.Part.{Part}
 use Rattle.facet_solver_reader.specs.declared.tables.List.{List as ListEntry}
-use Rattle.facet_solver_reader.specs.Placing.{AreBelow, ArePartNames, IsRestOf, IsWhyShared, PartIsNamedIn}
+use Rattle.facet_solver_reader.specs.Placing.{AreBelow, ArePartNames, IsRestOf, IsWhyShared, PartHasBranchNamesIn}
 use Rattle.facet_solver_reader.specs.Types.{parts_of}
 use Rattle.facet_solver_reader.specs.Views.{list_view, parts_view}
 use Rattle.facet_solver_reader.proofs.Lists.{no_choice_of_no_list}
@@ -73,5 +73,5 @@ returns-in-Err-takes_rest-clause-about c =
 pub names_of-requires : goal.names_of-requires
 names_of-requires c =
     record {
-      named = subst (All (PartIsNamedIn c.args.self.now)) (sym c.deref.ensures.value) c.in_ok-name_selections.ensures.named;
+      named = subst (All (PartHasBranchNamesIn c.args.self.now)) (sym c.deref.ensures.value) c.in_ok-name_selections.ensures.named;
     }
