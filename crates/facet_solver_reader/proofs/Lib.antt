@@ -48,6 +48,7 @@ pub mod Ways
 pub mod CountingLists
 pub mod CountingObjects
 pub mod Places
+pub mod NextNames
 pub mod NodeNames
 pub mod TagTexts
 pub mod Trees

@@ -10,20 +10,21 @@ use Rattle.std.proofs.lemmas.Cmp.{on_total}
 use Rattle.std.proofs.Math.ListN.{get_or-map}
 use Rattle.std.proofs.Common.{◌⊎◌, Option, None, MatchOption, take, drop}
 use Rattle.std.proofs.lemmas.List.{get_or-drop, get_or-take, length-drop, length-map, length-take}
-use Rattle.std.proofs.lemmas.List.Sorted.{ranks_by, sorted_far}
+use Rattle.std.proofs.lemmas.List.Sorted.{IsPermutation-refl, ranks_by, sorted_far}
 use Rattle.std.proofs.lemmas.Map.Text.{is_eq-slice_cmp}
 use Rattle.std.proofs.lemmas.Option.{slice_get-map, slice_get-get_or, slice_get_within, get_or_from_slice_get, same_Some, some_pair_parts}
 use Rattle.std.proofs.lemmas.Slice.Eq.{bytes_eq-Decides}
 use Rattle.facet_solver_shape.specs.Names.{Name, name_ref_cmp, names_of}
 use Rattle.facet_solver_shape.proofs.RepeatedNames.{not_repeated_sorted}
 use Rattle.facet_solver_reader.specs.Places.{IsRepeated}
-use Rattle.facet_solver_reader.specs.Nodes.{AreByName, Named, entries, names_among}
+use Rattle.facet_solver_reader.specs.Nodes.{AreByName, AreNamesOf, Named, entries, names_among}
 
 -- a name with a number
 abbrev pub Item : Type 0
 Item = Bor Name × ℕ
 
-name_ref_total : IsTotalOrder name_ref_cmp
+-- names behind references are in a total order
+pub name_ref_total : IsTotalOrder name_ref_cmp
 name_ref_total = on_total (λ (n : Bor Name). n.now) nat_list_cmp_total
 
 -- the name at an index
@@ -104,6 +105,16 @@ repeated_here es later d e some within equal =
       };
       name_is = refl;
     }
+
+-- no names are those of no members
+pub no_names : (first : ℕ) → AreNamesOf [] first []
+no_names first = record {
+  same = IsPermutation-refl [];
+  by_name = record {
+    sorted = λ k d low less. absurd (omega (arith, less));
+    apart = λ twice. let within = slice_get_within [] twice.second twice.name twice.at_second in absurd (omega (arith, within));
+  };
+}
 
 -- ---- names at indices
 

@@ -1,5 +1,5 @@
 -- What numbered values say of a document.
-use Rattle.std.proofs.Common.{◌≡◌, ℕ, ◌+◌, ◌-◌, ◌<◌, ◌≤◌, List, [], ◌∷◌, map, length, take, drop, Some, None, Option, slice_get, get_or, refl, sym, ap, ◌∙◌, arith, Contains, subst, MatchOption}
+use Rattle.std.proofs.Common.{◌≡◌, ℕ, ◌+◌, ◌-◌, ◌<◌, ◌≤◌, List, [], ◌∷◌, map, length, take, drop, Some, None, Option, slice_get, get_or, refl, sym, ap, ◌∙◌, arith, Contains, IsPermutation, subst, MatchOption}
 use Rattle.std.specs.Option.{option_map}
 use Rattle.std.proofs.lemmas.Option.{slice_get-map, slice_get-get_or, slice_get_read, slice_get_within, get_or_from_slice_get, option_and_then_some}
 use Rattle.std.proofs.lemmas.List.{length-map}
@@ -11,8 +11,8 @@ use Rattle.facet_solver_reader.specs.declared.nodes.Nodes.{Nodes}
 use Rattle.facet_solver_reader.specs.Documents.{Tree, null, object, Members, members, Member, view}
 use Rattle.facet_solver_reader.specs.Objects.{find}
 use Rattle.facet_solver_reader.specs.Places.{Step, to_member, inside, at, names_in, NamesStandOnce}
-use Rattle.facet_solver_reader.specs.Nodes.{AreNamesOf, IsInside, IsNumbering, IsOpened, IsUnderWay, Node, children, count, entries, members_in, nodes_of, opened, parent_of, value_of, values_in}
-use Rattle.facet_solver_reader.proofs.Trees.{child_inside, find-at, found_at, repeats_sorted, entry_of_member, member_of_entry}
+use Rattle.facet_solver_reader.specs.Nodes.{AreNamesOf, IsInside, IsNumbering, IsOpened, IsUnderWay, Named, Node, children, count, entries, first_in, members_in, nodes_of, numbered, opened, parent_of, value_of, values_in}
+use Rattle.facet_solver_reader.proofs.Trees.{child_inside, child_of_member, find-at, found_at, repeats_sorted, entry_of_member, member_of_entry}
 
 -- ---- the value of a number
 
@@ -56,7 +56,7 @@ module _ (nodes : Nodes) (numbering : IsNumbering nodes) (node : ℕ) (o : Openi
   opening_at : slice_get nodes.openings.items node ≡ Some o
   opening_at = slice_get_read nodes.openings.items (opened nodes) node o refl has_opening is
 
-  pub is_opened : IsOpened (nodes_of nodes) nodes.by_name.items o (value_of nodes node)
+  is_opened : IsOpened (nodes_of nodes) nodes.by_name.items o (value_of nodes node)
   is_opened = numbering.under_way.opened node o (value_of nodes node) opening_at (value_there nodes node within)
 
   -- a child has its number
@@ -72,44 +72,83 @@ module _ (nodes : Nodes) (numbering : IsNumbering nodes) (node : ℕ) (o : Openi
       let there = child_there index c at_index in
       (there.0, at_index ∙ ap Some (sym there.1))
 
-  -- an object's members by name
-  module _ (ms : Members) (object_is : value_of nodes node ≡ object ms) where
-    pub names_within : o.names + length (members ms) ≤ length nodes.by_name.items
-    names_within = subst (λ v. o.names + length (members_in v) ≤ length nodes.by_name.items) object_is is_opened.within
+  -- the number of its first child
+  first_is : first_in nodes node ≡ o.first
+  first_is =
+      let first : Opening → ℕ = λ o. o.first in
+      get_or_from_slice_get (map first nodes.openings.items) node o.first 0
+      (slice_get-map first nodes.openings.items node ∙ ap (option_map first) opening_at)
 
-    pub names_there : AreNamesOf (members ms) o.first (take (length (members ms)) (drop o.names nodes.by_name.items))
-    names_there = subst (λ v. AreNamesOf (members_in v) o.first (take (length (members_in v)) (drop o.names nodes.by_name.items))) object_is is_opened.names_are
+  -- its members by name, as many as it has
+  module _ (len : ℕ) (all : len ≡ length (members_in (value_of nodes node))) where
+    pub names_within : o.names + len ≤ length nodes.by_name.items
+    names_within = let within = is_opened.within in omega (arith, all, within)
 
-    pub apart_there : ¬ RepeatsName (names_in (members ms))
-    apart_there twice = names_there.by_name.apart (repeats_sorted (members ms) o.first _ names_there.same twice)
+    pub names_there : (es : Named) → es ≡ nodes.by_name.items
+        → AreNamesOf (members_in (value_of nodes node)) (first_in nodes node)
+        (take (o.names + len - o.names) (drop o.names es))
+    names_there es same =
+        let ms = members_in (value_of nodes node) in
+        let lengths : length ms ≡ o.names + len - o.names = omega (arith, all) in
+        let part : take (length ms) (drop o.names nodes.by_name.items)
+        ≡ take (o.names + len - o.names) (drop o.names es) =
+        λ i. take (lengths i) (drop o.names (sym same i)) in
+        subst (AreNamesOf ms (first_in nodes node)) part
+        (subst (λ n. AreNamesOf ms n (take (length ms) (drop o.names nodes.by_name.items)))
+        (sym first_is) is_opened.names_are)
 
-    -- the value of a member has its number
-    member_there : (k : ℕ) (m : Member) → slice_get (members ms) k ≡ Some m → (o.first + k < count nodes) × (value_of nodes (o.first + k) ≡ m.value)
-    member_there k m at_k =
-        child_there k m.value (ap (λ v. slice_get (children v) k) object_is ∙ slice_get-map (λ (m : Member). m.value) (members ms) k ∙ ap (option_map (λ (m : Member). m.value)) at_k)
+  pub apart_there : ¬ RepeatsName (names_in (members_in (value_of nodes node)))
+  apart_there twice =
+      let there = is_opened.names_are in
+      there.by_name.apart (repeats_sorted (members_in (value_of nodes node)) o.first _ there.same twice)
 
-    -- the name of a member leads to the value of its number
-    pub member_leads : (k : ℕ) (m : Member) → slice_get (members ms) k ≡ Some m → (o.first + k < count nodes) × (find (members ms) m.name ≡ Some (value_of nodes (o.first + k)))
-    member_leads k m at_k =
-        let there = member_there k m at_k in
-        (there.0, find-at (members ms) k m apart_there at_k ∙ ap Some (sym there.1))
+  -- the value of a member has its number
+  member_there : (k : ℕ) (m : Member) → slice_get (members_in (value_of nodes node)) k ≡ Some m
+      → (o.first + k < count nodes) × (value_of nodes (o.first + k) ≡ m.value)
+  member_there k m at_k = child_there k m.value (child_of_member (value_of nodes node) k m at_k)
 
-    -- what is found among its names
-    pub member_found : (x : Name) (r : Option ℕ)
-        → MatchOption r ((n : ℕ) → ¬ Contains (entries (take (length (members ms)) (drop o.names nodes.by_name.items))) (x, n)) (λ n. Contains (entries (take (length (members ms)) (drop o.names nodes.by_name.items))) (x, n))
-        → MatchOption r (find (members ms) x ≡ None) (λ n. (n < count nodes) × (find (members ms) x ≡ Some (value_of nodes n)))
-    member_found x None none = go (find (members ms) x) refl
+  -- the name of a member leads to the value of its number
+  pub member_leads : (k : ℕ) (m : Member) → slice_get (members_in (value_of nodes node)) k ≡ Some m
+      → (o.first + k < count nodes)
+      × (find (members_in (value_of nodes node)) m.name ≡ Some (value_of nodes (o.first + k)))
+  member_leads k m at_k =
+      let there = member_there k m at_k in (
+        there.0,
+        find-at (members_in (value_of nodes node)) k m apart_there at_k ∙ ap Some (sym there.1),
+      )
+
+  -- what is found among the names of its members
+  module _ (es : Named) (names : AreNamesOf (members_in (value_of nodes node)) (first_in nodes node) es)
+      (x : Name) where
+    abbrev ms : List Member
+    ms = members_in (value_of nodes node)
+
+    same : IsPermutation (numbered o.first ms) (entries es)
+    same = subst (λ n. IsPermutation (numbered n ms) (entries es)) first_is names.same
+
+    pub member_found : (r : Option ℕ)
+        → MatchOption r ((n : ℕ) → ¬ Contains (entries es) (x, n))
+        (λ n. Contains (entries es) (x, n))
+        → MatchOption r (find ms x ≡ None)
+        (λ n. (n < count nodes) × (find ms x ≡ Some (value_of nodes n)))
+    member_found None none = go (find ms x) refl
       where
-        go : (r : Option Tree) → find (members ms) x ≡ r → r ≡ None
+        go : (r : Option Tree) → find ms x ≡ r → r ≡ None
         go None e = refl
         go (Some v) e =
-            let one = found_at (members ms) x v e in
-            absurd (none (o.first + one.0) (subst (λ y. Contains (entries (take (length (members ms)) (drop o.names nodes.by_name.items))) (y, o.first + one.0)) one.3 (entry_of_member (members ms) o.first _ names_there.same one.0 one.1 one.2)))
-    member_found x (Some n) held =
-        let one = member_of_entry (members ms) o.first _ names_there.same x n held in
+            let one = found_at ms x v e in
+            let there = entry_of_member ms o.first es same one.0 one.1 one.2 in
+            absurd (none (o.first + one.0)
+            (subst (λ y. Contains (entries es) (y, o.first + one.0)) one.3 there))
+    member_found (Some n) held =
+        let one = member_of_entry ms o.first es same x n held in
         let there = member_there one.0 one.1 one.2 in
-        let number_is : o.first + one.0 ≡ n = one.4 in
-        (omega (arith, there.0, number_is), ap (find (members ms)) (sym one.3) ∙ find-at (members ms) one.0 one.1 apart_there one.2 ∙ ap Some (sym there.1 ∙ ap (value_of nodes) number_is))
+        let number_is : o.first + one.0 ≡ n = one.4 in (
+          omega (arith, there.0, number_is),
+          ap (find ms) (sym one.3)
+              ∙ find-at ms one.0 one.1 apart_there one.2
+              ∙ ap Some (sym there.1 ∙ ap (value_of nodes) number_is),
+        )
 
 -- ---- the value around a value
 module _ (nodes : Nodes) (under_way : IsUnderWay nodes) (node : ℕ) (n : code_node.Node) (some : 0 < node) (within : node < count nodes) (is : n ≡ get_or nodes.nodes.items node n) where
@@ -191,7 +230,22 @@ module _ (nodes : Nodes) (numbering : IsNumbering nodes) where
       let j = number_at place 0 document (object ms) root there in
       let within = value_within nodes j.0 (object ms) j.1 in
       let o = opening_of j.0 within in
-      apart_there nodes numbering j.0 o.0 within (sym (get_or_from_slice_get nodes.openings.items j.0 o.0 o.0 o.1)) ms (value_is nodes j.0 (object ms) j.1) twice
+      let opening_is = sym (get_or_from_slice_get nodes.openings.items j.0 o.0 o.0 o.1) in
+      apart_there nodes numbering j.0 o.0 within opening_is
+      (subst (λ v. RepeatsName (names_in (members_in v))) (sym (value_is nodes j.0 (object ms) j.1)) twice)
+
+  -- what is found among the names of an object's members is a member
+  pub found_by_names : (node : ℕ) → node < count nodes → (es : Named)
+      → AreNamesOf (members_in (value_of nodes node)) (first_in nodes node) es
+      → (x : Name) (r : Option ℕ)
+      → MatchOption r ((n : ℕ) → ¬ Contains (entries es) (x, n)) (λ n. Contains (entries es) (x, n))
+      → MatchOption r (find (members_in (value_of nodes node)) x ≡ None)
+      (λ n. (n < count nodes)
+      × (find (members_in (value_of nodes node)) x ≡ Some (value_of nodes n)))
+  found_by_names node within =
+      let o = opening_of node within in
+      let opening_is = sym (get_or_from_slice_get nodes.openings.items node o.0 o.0 o.1) in
+      member_found nodes numbering node o.0 within opening_is
 
 -- where all values are opened
 pub numbering_from : (nodes : Nodes) (document : Tree) → IsUnderWay nodes → count nodes ≤ opened nodes → slice_get (values_in (nodes_of nodes)) 0 ≡ Some document → IsNumbering nodes

@@ -1,22 +1,25 @@
 -- The names that parts know, by the lists that are placed.
-use Rattle.std.proofs.Common.{◌≡◌, ◌⊎◌, ◌↔◌, inl, inr, refl, sym, ap, subst, ◌∙◌, ⊎_elim, ℕ, zero, suc, ◌<◌, ◌+◌, ◌-◌, ◌≤◌, arith, List, [], ◌∷◌, ◌++◌, length, get_or, Bor, Bool, true, false, Some, slice_get, Contains, IsPermutation, IsSorted, IsTrue, bytes_eq, is_lt, nat_cmp, Option, None, take, not, add-one, Result, Ok, Err, IfOk, Vec, Global}
+use Rattle.std.proofs.Common.{cond, is_eq, Less, ◌≡◌, ◌⊎◌, ◌↔◌, inl, inr, refl, sym, ap, subst, ◌∙◌, ⊎_elim, ℕ, zero, suc, ◌<◌, ◌+◌, ◌-◌, ◌≤◌, arith, List, [], ◌∷◌, ◌++◌, length, get_or, Bor, Bool, true, false, Some, slice_get, Contains, IsPermutation, IsSorted, IsTrue, bytes_eq, Option, None, take, add-one, Result, Ok, Err, IfOk, Vec, Global}
 use Rattle.std.specs.declared.alloc.AllocError.{AllocError}
-use Rattle.std.specs.List.{Any, list_any}
-use Rattle.std.specs.Cmp.Lexicographic.{slice_cmp}
+use Rattle.std.specs.List.{Any, dedup, dedup_from, list_any}
+use Rattle.std.specs.Cmp.Lexicographic.{nat_list_cmp_total, on_texts_equal, texts_ties}
 use Rattle.std.proofs.Math.Seq.{take-suc}
 use Rattle.std.specs.Option.{option_map, option_map_or}
-use Rattle.std.proofs.lemmas.Bool.{cases_lt, false≢true}
-use Rattle.std.proofs.lemmas.List.{map-append, take_all, length-append, length-map, get_or_append_left, get_or-append_right}
+use Rattle.std.proofs.lemmas.Bool.{false≢true}
+use Rattle.std.proofs.lemmas.List.{map-append, take_all, length-map}
 use Rattle.std.proofs.lemmas.List.Elements.{Contains-append_left, Contains-append_right, Contains-append_cases}
 use Rattle.std.proofs.lemmas.List.Folds.{Any-from_list_any, list_any-from_Any}
+use Rattle.std.proofs.lemmas.List.Kept.{Contains-dedup, Contains-from_dedup, IsStrictlySortedBy-dedup}
 use Rattle.std.proofs.lemmas.List.Quantifiers.{Any-push}
 use Rattle.std.proofs.lemmas.List.Sorted.{Contains-permutation, IsPermutation-map, IsPermutation-sym}
 use Rattle.std.proofs.lemmas.Option.{get_or_from_slice_get, slice_get-get_or, slice_get-map, slice_get_within, same_Some}
+use Rattle.std.proofs.lemmas.Map.Keys.{Less-from_sorted}
+use Rattle.std.proofs.lemmas.Map.Text.{is_eq-slice_cmp}
 use Rattle.std.proofs.lemmas.Slice.Eq.{bytes_eq-Decides}
 use Rattle.facet_solver_shape.specs.Catalogues.{RepeatsName}
 use Rattle.facet_solver_shape.specs.Names.{Name, name_ref_cmp, names_of}
 use Rattle.facet_solver_shape.proofs.Lists.{list_any-map}
-use Rattle.facet_solver_shape.proofs.RepeatedNames.{not_repeated_sorted}
+use Rattle.facet_solver_shape.proofs.RepeatedNames.{not_back, not_repeated_sorted}
 use Rattle.facet_solver_reader.specs.declared.tables.order.Ordered.{Ordered}
 use Rattle.facet_solver_reader.specs.declared.part.ListId.{ListId}
 use Rattle.facet_solver_reader.specs.declared.part.MemberPart as code_member
@@ -30,7 +33,7 @@ use Rattle.facet_solver_reader.specs.Places.{IsRepeated}
 use Rattle.facet_solver_reader.specs.Placing.{AreAdded, AreNamesOf, ArePartNames, AreThose, IsShared, entry_of, list_knows, part_knows}
 use Rattle.facet_solver_reader.specs.Tables.{knows}
 use Rattle.facet_solver_reader.specs.Views.{list_view, member_view, part_view, parts_view, selection_view}
-use Rattle.facet_solver_reader.proofs.NodeNames.{at_contained, contains_at}
+use Rattle.facet_solver_reader.proofs.NodeNames.{at_contained, contains_at, name_ref_total}
 use Rattle.facet_solver_reader.proofs.Opened.{at_after, at_either, at_front}
 use Rattle.facet_solver_reader.proofs.Quantifiers.{any_at, any_is_at, any_of_front, any_of_last, any_upto_more}
 use Rattle.facet_solver_reader.proofs.RepeatedNames.{IsRepeated-permutation}
@@ -281,161 +284,85 @@ repeated_here ns later d e some within equal =
     (name_at ns (later - 1) d (omega (arith, within)) ∙ ap Some same)
     (name_at ns later e within)
 
--- the names at fewer indices than so many, each once
-pub record AreDistinctUpto (ns : List (Bor Name)) (n : ℕ) (distinct : List (Bor Name)) : Type 0 where
-  pub sorted : IsSorted name_ref_cmp distinct
-  pub differ : DifferBelow distinct (length distinct)
-  pub none : n ≡ 0 → length distinct ≡ 0
-  pub last : (k : ℕ) (d : Bor Name) → k + 1 ≡ n
-      → (0 < length distinct)
-      × ((get_or ns k d).now ≡ (get_or distinct (length distinct - 1) d).now)
-  pub from : (x : Name) → Contains (names_of distinct) x → Contains (names_of ns) x
-  pub has : (k : ℕ) (d : Bor Name) → k < n → Contains (names_of distinct) (get_or ns k d).now
+-- whether two names are the same, behind references
+abbrev pub same_name : Bor Name → Bor Name → Bool
+same_name m n = bytes_eq m.now n.now
 
-module _ (ns : List (Bor Name)) (n : ℕ) (ds : List (Bor Name)) (h : AreDistinctUpto ns n ds) (within : n < length ns) where
-  -- a name that is the one before again
-  pub distinct_same : (d e : Bor Name) → 0 < n
-      → bytes_eq (get_or ns (n - 1) d).now (get_or ns n e).now ≡ true
-      → AreDistinctUpto ns (n + 1) ds
-  distinct_same d e some equal = record {
-    sorted = h.sorted;
-    differ = h.differ;
-    from = h.from;
-    none = λ z. absurd (omega arith);
-    last = λ k c at.
-        let here : k ≡ n = omega (arith, at) in
-        let up : (n - 1) + 1 ≡ n = omega (arith, some) in
-        let before = h.last (n - 1) c up in
-        (before.0, ap (λ i. (get_or ns i c).now) here ∙ sym (same c) ∙ before.1);
-    has = λ k c less. elim (cases_lt k n) [
-      | inl earlier ↦ h.has k c earlier
-      | inr later ↦
-          let here : n ≡ k = omega (arith, less, later) in
-          subst (Contains (names_of ds)) (same c ∙ ap (λ i. (get_or ns i c).now) here)
-          (h.has (n - 1) c (omega (arith, some)))
-    ];
+-- what `dedup` leaves of names behind references is what it leaves of the names
+names_deduped_from : (n : Bor Name) (ns : List (Bor Name))
+    → names_of (dedup_from same_name n ns) ≡ dedup_from bytes_eq n.now (names_of ns)
+names_deduped_from n [] = refl
+names_deduped_from n (m ∷ ns) =
+    go (names_deduped_from n ns) (names_deduped_from m ns) (bytes_eq m.now n.now)
+  where
+    go : names_of (dedup_from same_name n ns) ≡ dedup_from bytes_eq n.now (names_of ns)
+        → names_of (dedup_from same_name m ns) ≡ dedup_from bytes_eq m.now (names_of ns)
+        → (b : Bool)
+        → names_of (cond b (dedup_from same_name n ns) (n ∷ dedup_from same_name m ns))
+        ≡ cond b (dedup_from bytes_eq n.now (names_of ns))
+        (n.now ∷ dedup_from bytes_eq m.now (names_of ns))
+    go same other true = same
+    go same other false = ap (λ xs. n.now ∷ xs) other
+
+names_deduped : (ns : List (Bor Name))
+    → names_of (dedup same_name ns) ≡ dedup bytes_eq (names_of ns)
+names_deduped [] = refl
+names_deduped (n ∷ ns) = names_deduped_from n ns
+
+-- `dedup` leaves the names that there are
+pub deduped_has : (ns : List (Bor Name)) (x : Name)
+    → Contains (names_of (dedup same_name ns)) x ↔ Contains (names_of ns) x
+deduped_has ns x = (
+  λ c. Contains-from_dedup bytes_eq (names_of ns) x (subst (λ xs. Contains xs x) (names_deduped ns) c),
+  λ c.
+      subst (λ xs. Contains xs x) (sym (names_deduped ns))
+      (Contains-dedup (on_texts_equal (λ (y : Name). y)) (λ y z. (bytes_eq-Decides y z).0)
+      (names_of ns) x c),
+)
+
+module _ (ns : List (Bor Name)) (sorted : IsSorted name_ref_cmp ns) where
+  -- of sorted names it leaves names that rise
+  rising : (k : ℕ) (d : Bor Name) → k + 1 < length (dedup same_name ns)
+      → name_ref_cmp (get_or (dedup same_name ns) k d) (get_or (dedup same_name ns) (k + 1) d)
+      ≡ Less
+  rising k d less =
+      Less-from_sorted name_ref_cmp (dedup same_name ns) k (k + 1) d
+      (IsStrictlySortedBy-dedup name_ref_total (λ m n. texts_ties m.now n.now) ns sorted)
+      (omega arith) less
+
+  -- so they are sorted
+  pub deduped_sorted : IsSorted name_ref_cmp (dedup same_name ns)
+  deduped_sorted k d low less =
+      let ds = dedup same_name ns in
+      not_back nat_list_cmp_total (get_or ds k d).now (get_or ds (k + 1) d).now (rising k d less)
+
+  -- and each is there once
+  pub deduped_once : (x : Name) → IsRepeated (names_of (dedup same_name ns)) x → ⊥
+  deduped_once x r =
+      let ds = dedup same_name ns in
+      differ_all ds deduped_sorted
+      (λ k d less.
+      sym (is_eq-slice_cmp (get_or ds k d).now (get_or ds (k + 1) d).now)
+      ∙ ap is_eq (rising k d less))
+      r.twice
+
+  -- so it leaves the names of a kind, each once, where there are these
+  pub deduped_those : (P : Name → Type 0) → ((x : Name) → Contains (names_of ns) x ↔ P x)
+      → AreThose P (names_of (dedup same_name ns))
+  deduped_those P those = record {
+    has = λ x. (
+      λ c. (those x).0 ((deduped_has ns x).0 c),
+      λ q. (deduped_has ns x).1 ((those x).1 q),
+    );
+    once = deduped_once;
   }
-    where
-      same : (c : Bor Name) → (get_or ns (n - 1) c).now ≡ (get_or ns n c).now
-      same c =
-          ap (λ (x : Bor Name). x.now) (get_or_any ns (n - 1) c d (omega (arith, within)))
-          ∙ (bytes_eq-Decides (get_or ns (n - 1) d).now (get_or ns n e).now).0 equal
-          ∙ ap (λ (x : Bor Name). x.now) (get_or_any ns n e c within)
 
-  module _ (sorted : IsSorted name_ref_cmp ns) (x : Bor Name) (is : x ≡ get_or ns n x) where
-    -- another name
-    pub distinct_more :
-        (n ≡ 0) ⊎ ((0 < n) × ((d e : Bor Name)
-        → bytes_eq (get_or ns (n - 1) d).now (get_or ns n e).now ≡ false))
-        → AreDistinctUpto ns (n + 1) (ds ++ x ∷ [])
-    distinct_more other = record {
-      sorted = λ k d low less. rises k d (omega (arith, less, long));
-      differ = λ k d less. differs k d (omega (arith, less, long));
-      none = λ z. absurd (omega arith);
-      last = λ k c at.
-          let here : k ≡ n = omega (arith, at) in (
-            omega (arith, long),
-            ap (λ i. (get_or ns i c).now) here ∙ ap (λ (x : Bor Name). x.now) (get_or_any ns n c x within ∙ sym is)
-                ∙ ap (λ (x : Bor Name). x.now) (sym (at_last (length (ds ++ x ∷ []) - 1) c (omega (arith, long)))),
-          );
-      from = λ y c. elim (Contains-append_cases (names_of ds) (x.now ∷ []) y (subst (λ l. Contains l y) names_more c)) [
-        | inl a ↦ h.from y a
-        | inr b ↦
-            let same = (bytes_eq-Decides x.now y).0 ((one_contained x.now y).0 b) in
-            contains_at (names_of ns) n y (name_at ns n x within ∙ ap Some (ap (λ (x : Bor Name). x.now) (sym is) ∙ same))
-      ];
-      has = λ k c less. subst (λ l. Contains l (get_or ns k c).now) (sym names_more) (elim (cases_lt k n) [
-        | inl earlier ↦ Contains-append_left (names_of ds) (x.now ∷ []) (get_or ns k c).now (h.has k c earlier)
-        | inr later ↦
-            let here : k ≡ n = omega (arith, less, later) in
-            let same : x.now ≡ (get_or ns k c).now =
-            ap (λ (x : Bor Name). x.now) (is ∙ get_or_any ns n x c within) ∙ ap (λ i. (get_or ns i c).now) (sym here) in
-            Contains-append_right (names_of ds) (x.now ∷ []) (get_or ns k c).now
-            ((one_contained x.now (get_or ns k c).now).1 ((bytes_eq-Decides x.now (get_or ns k c).now).1 same))
-      ]);
-    }
-      where
-        long : length (ds ++ x ∷ []) ≡ length ds + 1
-        long = length-append ds (x ∷ [])
-
-        names_more : names_of (ds ++ x ∷ []) ≡ names_of ds ++ x.now ∷ []
-        names_more = map-append (λ (n : Bor Name). n.now) ds (x ∷ [])
-
-        at_last : (k : ℕ) (d : Bor Name) → k ≡ length ds → get_or (ds ++ x ∷ []) k d ≡ x
-        at_last k d e =
-            let zeroth : k - length ds ≡ 0 = omega (arith, e) in
-            get_or-append_right ds (x ∷ []) (length ds) k d refl (omega (arith, e))
-            ∙ ap (λ i. get_or (x ∷ []) i d) zeroth
-
-        at_before : (k : ℕ) (d : Bor Name) → k < length ds → get_or (ds ++ x ∷ []) k d ≡ get_or ds k d
-        at_before k d less = get_or_append_left ds (x ∷ []) d k less
-
-        -- the last of them is as the name before
-        before_last : (k : ℕ) (d : Bor Name) → k + 1 ≡ length ds
-            → (0 < n) × ((get_or ds k d).now ≡ (get_or ns (n - 1) d).now)
-        before_last k d e =
-            let some : 0 < n = not_first k e in
-            let up : (n - 1) + 1 ≡ n = omega (arith, some) in
-            let here : length ds - 1 ≡ k = omega (arith, e) in
-            (some, sym ((h.last (n - 1) d up).1 ∙ ap (λ i. (get_or ds i d).now) here))
-          where
-            not_first : (k : ℕ) → k + 1 ≡ length ds → 0 < n
-            not_first k e = elim (cases_lt 0 n) [
-              | inl some ↦ some
-              | inr zeroth ↦ absurd (omega (arith, h.none (omega (arith, zeroth)), e))
-            ]
-
-        rises : (k : ℕ) (d : Bor Name) → k < length ds
-            → is_lt (name_ref_cmp (get_or (ds ++ x ∷ []) (k + 1) d) (get_or (ds ++ x ∷ []) k d)) ≡ false
-        rises k d less = elim (cases_lt (k + 1) (length ds)) [
-          | inl inner ↦
-              ap (λ y. is_lt (name_ref_cmp y (get_or (ds ++ x ∷ []) k d))) (at_before (k + 1) d inner)
-              ∙ ap (λ y. is_lt (name_ref_cmp (get_or ds (k + 1) d) y)) (at_before k d less)
-              ∙ h.sorted k d (omega arith) inner
-          | inr outer ↦
-              let end : k + 1 ≡ length ds = omega (arith, less, outer) in
-              let b = before_last k d end in
-              let up : (n - 1) + 1 ≡ n = omega (arith, b.0) in
-              ap (λ y. is_lt (name_ref_cmp y (get_or (ds ++ x ∷ []) k d))) (at_last (k + 1) d end)
-              ∙ ap (λ y. is_lt (name_ref_cmp x y)) (at_before k d less)
-              ∙ ap (λ y. is_lt (slice_cmp nat_cmp x.now y)) b.1
-              ∙ ap (λ y. is_lt (name_ref_cmp y (get_or ns (n - 1) d))) (is ∙ get_or_any ns n x d within ∙ ap (λ i. get_or ns i d) (sym up))
-              ∙ sorted (n - 1) d (omega arith) (omega (arith, up, within))
-        ]
-
-        differs : (k : ℕ) (d : Bor Name) → k < length ds
-            → bytes_eq (get_or (ds ++ x ∷ []) k d).now (get_or (ds ++ x ∷ []) (k + 1) d).now ≡ false
-        differs k d less = elim (cases_lt (k + 1) (length ds)) [
-          | inl inner ↦
-              ap (λ (y : Bor Name). bytes_eq y.now (get_or (ds ++ x ∷ []) (k + 1) d).now) (at_before k d less)
-              ∙ ap (λ (y : Bor Name). bytes_eq (get_or ds k d).now y.now) (at_before (k + 1) d inner)
-              ∙ h.differ k d inner
-          | inr outer ↦
-              let end : k + 1 ≡ length ds = omega (arith, less, outer) in
-              let b = before_last k d end in
-              ap (λ (y : Bor Name). bytes_eq y.now (get_or (ds ++ x ∷ []) (k + 1) d).now) (at_before k d less)
-              ∙ ap (λ (y : Bor Name). bytes_eq (get_or ds k d).now y.now) (at_last (k + 1) d end)
-              ∙ ap (λ y. bytes_eq y x.now) b.1
-              ∙ ap (λ (y : Bor Name). bytes_eq (get_or ns (n - 1) d).now y.now) is
-              ∙ ⊎_elim (λ (z : n ≡ 0). absurd (omega (arith, b.0, z)))
-              (λ (o : (0 < n) × ((d e : Bor Name) → bytes_eq (get_or ns (n - 1) d).now (get_or ns n e).now ≡ false)). o.1 d x) other
-        ]
-
--- all of them
-pub distinct_all : (ns ds : List (Bor Name)) (n : ℕ) → length ns ≤ n → AreDistinctUpto ns n ds
-    → AreThose (Contains (names_of ns)) (names_of ds)
-distinct_all ns ds n all h = record {
-  has = λ x. (
-    λ c. h.from x c,
-    λ c.
-        let long = length-map ns (λ (n : Bor Name). n.now) in
-        let within : c.0 < length ns = let l : c.0 < length (names_of ns) = c.1 in omega (arith, l, long) in
-        let blank : Bor Name = record { ref_ptr = (0, 0); now = [] } in
-        let same : (get_or ns c.0 blank).now ≡ x = same_Some (get_or ns c.0 blank).now x (sym (name_at ns c.0 blank within) ∙ at_contained (names_of ns) x c) in
-        subst (Contains (names_of ds)) same (h.has c.0 blank (omega (arith, within, all))),
-  );
-  once = λ x r. differ_all ds h.sorted h.differ r.twice;
-}
+-- what is so of names is so of a vector that is made of them
+pub made_of : (P : List (Bor Name) → Type 0) (names : List (Bor Name))
+    (r : Result (Vec (Bor Name) Global) AllocError)
+    → IfOk r (λ v. v.items ≡ names) → P names → IfOk r (λ v. P v.items)
+made_of P names (Ok v) is h = subst P (sym is) h
+made_of P names (Err e) is h = is
 
 -- ---- the names of lists that are placed
 
@@ -523,15 +450,6 @@ module _ (o : Ordered) (ids : List ListId) (i : ℕ) (d : ListId) (names : List 
     ],
   )
 
--- what the opposite of a test says
-pub not_true : (b : Bool) → not b ≡ true → b ≡ false
-not_true true e = absurd (cc)
-not_true false e = refl
-
-pub not_false : (b : Bool) → not b ≡ false → b ≡ true
-not_false true e = refl
-not_false false e = absurd (cc)
-
 -- the names of all lists of a selection, in whatever order, are those that it knows
 pub names_of_branches : (o : Ordered) (s : code_selection.Selection) (n : ℕ)
     (names sorted : List (Bor Name)) → length s.branches.items ≤ n
@@ -553,16 +471,6 @@ names_of_branches o s n names sorted all h moved x =
           Contains-permutation (names_of names) (names_of sorted) x there
           ((h x).1 (subst (Any (HasName o x)) (sym whole) (Any-from_list_any test ids (sym same ∙ k)))),
     )
-
--- names of one kind are those of another that are the same
-pub those_too : (P Q : Name → Type 0) (r : Result (Vec (Bor Name) Global) AllocError)
-    → ((x : Name) → P x ↔ Q x)
-    → IfOk r (λ v. AreThose P (names_of v.items)) → IfOk r (λ v. AreThose Q (names_of v.items))
-those_too P Q (Ok v) same h = record {
-  has = λ x. (λ c. (same x).0 ((h.has x).0 c), λ q. (h.has x).1 ((same x).1 q));
-  once = h.once;
-}
-those_too P Q (Err e) same h = h
 
 -- a member adds its name
 pub member_added : (o : Ordered) (m : code_member.MemberPart) (old new : List (Bor Name))

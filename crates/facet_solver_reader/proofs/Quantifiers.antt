@@ -2,7 +2,13 @@
 use Rattle.std.proofs.Common.{◌≡◌, ◌⊎◌, ◌↔◌, inl, inr, sym, ap, ◌∙◌, subst, ⊎_elim, ℕ, zero, suc}
 use Rattle.std.proofs.Common.{◌<◌, ◌+◌, length, get_or, take, List, [], ◌∷◌, ◌++◌, refl, Some}
 use Rattle.std.proofs.Common.{slice_get, add-one, arith}
-use Rattle.std.specs.List.{All, AllPairs, Any}
+use Rattle.std.proofs.Common.{Bool, Option, true, false}
+use Rattle.std.specs.List.{All, AllPairs, Any, list_any, position, position_or_len}
+use Rattle.std.specs.Option.{is_some}
+use Rattle.std.proofs.lemmas.Bool.{cases_lt}
+use Rattle.std.proofs.lemmas.Grind.{common_steps}
+use Rattle.std.proofs.lemmas.List.Folds.{list_any_at, list_any_none}
+use Rattle.std.proofs.lemmas.List.Sums.{fails_before_first, passes_at_first}
 use Rattle.std.proofs.Math.Seq.{take-suc}
 use Rattle.std.proofs.lemmas.List.Quantifiers.{Any-push}
 use Rattle.std.proofs.lemmas.Option.{slice_get-get_or, slice_get_within, get_or_from_slice_get}
@@ -124,3 +130,19 @@ pairs_of_more {A} R x xs = (
     go a b zero (suc j) d lt h = a j d (omega arith)
     go a b (suc i) zero d lt h = absurd (omega arith)
     go a b (suc i) (suc j) d lt h = b i j d (omega arith) (omega arith)
+
+-- there is a first element that passes a test where one passes
+pub position_told : {X : Type 0} (p : X → Bool) (xs : List X) (r : Option ℕ) → r ≡ position p xs
+    → is_some r ≡ list_any p xs
+position_told p [] r e = ap is_some e
+position_told p (x ∷ xs) r e =
+    let n = position_or_len p (x ∷ xs) in
+    ap is_some e ∙ elim (cases_lt n (length (x ∷ xs))) [
+      | inl less ↦
+          let found : is_some (position p (x ∷ xs)) ≡ true = grind (arith, common_steps) in
+          found ∙ sym (list_any_at p (x ∷ xs) n x less (passes_at_first p (x ∷ xs) x less))
+      | inr past ↦
+          let none : is_some (position p (x ∷ xs)) ≡ false = grind (arith, common_steps) in
+          none ∙ sym (list_any_none p (x ∷ xs)
+          (λ k d within. fails_before_first p (x ∷ xs) k d (omega (arith, within, past))))
+    ]

@@ -174,6 +174,18 @@ child_inside (text x) s c e = absurd (cc)
 child_inside (object ms) (to_item k) c e = absurd (cc)
 child_inside (list ts) (to_member x) c e = absurd (cc)
 
+-- the value of a member is a child
+pub child_of_member : (v : Tree) (k : ℕ) (m : Member) → slice_get (members_in v) k ≡ Some m
+    → slice_get (children v) k ≡ Some m.value
+child_of_member (object ms) k m at =
+    slice_get-map (λ (m : Member). m.value) (members ms) k
+    ∙ ap (option_map (λ (m : Member). m.value)) at
+child_of_member null k m at = absurd (cc)
+child_of_member (truth b) k m at = absurd (cc)
+child_of_member (number n) k m at = absurd (cc)
+child_of_member (text x) k m at = absurd (cc)
+child_of_member (list ts) k m at = absurd (cc)
+
 -- one step more, before others
 pub at-step : (v w : Tree) (s : Step) (rest : List Step) → inside v s ≡ Some w → at v (s ∷ rest) ≡ at w rest
 at-step v w s rest e = ap (option_and_then (λ u. at u rest)) e
@@ -183,6 +195,11 @@ pub long_members : (ms : List (Bor Name × Document)) → length (members (membe
 long_members ms =
     ap length (member-view ms)
     ∙ length-map ms (λ (m : Bor Name × Document). let one : Member = record { name = m.0.now; value = view m.1 } in one)
+
+pub long_object : (ms : Vec (Bor Name × Document) Global) (v : Tree) → v ≡ view (code.Object ms)
+    → length (members_in v) ≡ length ms.items
+long_object ms v is =
+    ap (λ u. length (members_in u)) (is ∙ view-Object ms) ∙ long_members ms.items
 
 -- the member of an index in memory
 pub member_read : (ms : List (Bor Name × Document)) (k : ℕ) (m : Bor Name × Document) → k < length ms → m ≡ get_or ms k m → slice_get (members (members_view ms)) k ≡ Some (record { name = m.0.now; value = view m.1 })
@@ -204,6 +221,27 @@ items_step (Document-F.Object ms) k c other there = absurd (other ms (code.rolls
 
 pub item_inside : (d : Document) → ItemsInside d (view d)
 item_inside = ind-Document (λ d. ItemsInside d (view d)) (λ x y is. subst (ItemsInside (roll-Document x)) (sym (fold-roll-Document Tree view_step x)) (items_step x))
+
+-- what is no object has no members
+abbrev HasNoMembers : Document → Tree → Type 0
+HasNoMembers d v =
+    ((ms : Vec (Bor Name × Document) Global) → d ≡ code.Object ms → ⊥) → members_in v ≡ []
+
+no_members_step : (x : Document-F Document)
+    → HasNoMembers (roll-Document x) (view_step (map-Document Document Tree view x))
+no_members_step Document-F.Null other = refl
+no_members_step (Document-F.Bool b) other = refl
+no_members_step (Document-F.Number n) other = refl
+no_members_step (Document-F.Text x) other = refl
+no_members_step (Document-F.List ds) other = refl
+no_members_step (Document-F.Object ms) other = absurd (other ms (code.rolls-Object ms))
+
+pub no_members : (d : Document) → HasNoMembers d (view d)
+no_members =
+    ind-Document (λ d. HasNoMembers d (view d))
+    (λ x y is.
+    subst (HasNoMembers (roll-Document x)) (sym (fold-roll-Document Tree view_step x))
+    (no_members_step x))
 
 -- what is no list and no object has nothing inside it
 abbrev NothingInside : Document → Tree → Type 0

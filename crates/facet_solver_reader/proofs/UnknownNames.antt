@@ -1,17 +1,22 @@
 -- The names of members that no choice of a list has.
 use Rattle.std.proofs.Common.{◌≡◌, ◌∷◌, ◌++◌, [], Bool, List, ap, false, if◌then◌else◌, refl}
-use Rattle.std.proofs.Common.{sym, true, ◌∙◌, ℕ, ◌+◌, ◌<◌, take, map, length, get_or, arith, not, ◌||◌}
+use Rattle.std.proofs.Common.{Bor, sym, true, ◌∙◌, ℕ, ◌+◌, ◌<◌, take, map, length, get_or, arith, not, ◌||◌}
+use Rattle.std.specs.List.{list_any}
 use Rattle.std.proofs.lemmas.Bool.Decides.{same_from_decides}
+use Rattle.std.proofs.lemmas.List.Folds.{list_any_at, list_any_more}
+use Rattle.std.proofs.lemmas.List.Sorted.{list_any-IsPermutation}
 use Rattle.std.proofs.lemmas.List.{append-nil, length-map, take_more}
 use Rattle.std.proofs.lemmas.Option.{get_or_from_slice_get}
-use Rattle.facet_solver_shape.specs.Names.{Name}
+use Rattle.facet_solver_shape.specs.Names.{Name, names_of}
+use Rattle.facet_solver_shape.proofs.Lists.{list_any-map}
 use Rattle.facet_solver_reader.specs.declared.nodes.Nodes.{Nodes}
 use Rattle.facet_solver_reader.specs.declared.count.object.Object as code
 use Rattle.facet_solver_reader.specs.declared.tables.List.{List as ListEntry}
 use Rattle.facet_solver_reader.specs.declared.tables.Tables.{Tables}
 use Rattle.facet_solver_reader.specs.Documents.{Member}
 use Rattle.facet_solver_reader.specs.Known.{named}
-use Rattle.facet_solver_reader.specs.Nodes.{members_in, value_of}
+use Rattle.facet_solver_reader.specs.Nodes.{AreNamesOf, Named, members_in, names_among, value_of}
+use Rattle.facet_solver_reader.specs.Places.{names_in}
 use Rattle.facet_solver_reader.specs.Parts.{ListId}
 use Rattle.facet_solver_reader.specs.Reading.{IsListed, IsObject, object_view}
 use Rattle.facet_solver_reader.specs.Tables.{AreTables, IsListOf, has_unknown, knows, rules_at}
@@ -19,6 +24,7 @@ use Rattle.facet_solver_reader.specs.Told.{AreUnknown, a_known, an_unknown, no_m
 use Rattle.facet_solver_reader.specs.ToldObjects.{unknown_names}
 use Rattle.facet_solver_reader.proofs.CountingObjects.{known_by_list, seen_read}
 use Rattle.facet_solver_reader.proofs.CountingObjects.{unknown_by_list}
+use Rattle.facet_solver_reader.proofs.Trees.{same_names}
 
 -- the names of more members come behind
 pub unknown_names-append : (l : ListEntry) (ms ns : List Member)
@@ -44,6 +50,38 @@ none_unknown l (m ∷ ms) e = at (none_unknown l ms) (knows l (named m.name)) e
         → (if b then unknown_names l ms else m.name ∷ unknown_names l ms) ≡ []
     at rest true none = rest none
     at rest false none = absurd (cc)
+
+-- whether a list lacks a name
+abbrev pub lacks_name : ListEntry → Name → Bool
+lacks_name l x = not (knows l (named x))
+
+-- whether it lacks one of several
+abbrev pub lacks_names : ListEntry → Named → Bool
+lacks_names l es = list_any (λ (e : Bor Name × ℕ). lacks_name l e.0.now) es
+
+-- an object has a member of a name that a list lacks where its names, sorted, have one
+pub unknown_by_name : (l : ListEntry) (ms : List Member) (first : ℕ) (es : Named)
+    → AreNamesOf ms first es → lacks_names l es ≡ has_unknown l ms
+unknown_by_name l ms first es names =
+    sym (list_any-map (λ (n : Bor Name). lacks_name l n.now) (λ (e : Bor Name × ℕ). e.0) es)
+    ∙ sym (list_any-map (lacks_name l) (λ (n : Bor Name). n.now) (names_among es))
+    ∙ sym (list_any-IsPermutation (lacks_name l) (names_in ms) (names_of (names_among es))
+    (same_names ms first es names.same))
+    ∙ list_any-map (lacks_name l) (λ (m : Member). m.name) ms
+
+module _ (l : ListEntry) (es : Named) (i : ℕ) (d : Bor Name × ℕ) (within : i < length es) where
+  -- a name that the list lacks settles it
+  pub unknown_at : knows l (named (get_or es i d).0.now) ≡ false → lacks_names l es ≡ true
+  unknown_at missing =
+      list_any_at (λ (e : Bor Name × ℕ). lacks_name l e.0.now) es i d within (ap not missing)
+
+  -- one name more that it has
+  pub known_more : lacks_names l (take i es) ≡ false
+      → knows l (named (get_or es i d).0.now) ≡ true → lacks_names l (take (i + 1) es) ≡ false
+  known_more none there =
+      list_any_more (λ (e : Bor Name × ℕ). lacks_name l e.0.now) es i d within
+      ∙ ap (λ b. b || lacks_name l (get_or es i d).0.now) none
+      ∙ ap not there
 
 module _ {X : Type 0} (see : X → Member) (xs : List X) (l : ListEntry) (i : ℕ) (x : X)
     (within : i < length xs) (is : x ≡ get_or xs i x) where

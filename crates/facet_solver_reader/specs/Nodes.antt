@@ -116,6 +116,10 @@ value_of nodes i = slice_index_or (values_in (nodes_of nodes)) i null
 abbrev pub parent_of : Nodes → ℕ → ℕ
 parent_of nodes i = slice_index (map (λ n. n.parent) (nodes_of nodes)) i
 
+-- the number of the first value inside the value of a number
+abbrev pub first_in : Nodes → ℕ → ℕ
+first_in nodes i = slice_index (map (λ o. o.first) nodes.openings.items) i
+
 -- names are added whose entries are these
 pub record IsAppended (old new : Named) (es : List (Name × ℕ)) : Type 0 where
   pub names : Named

@@ -20,6 +20,7 @@ mod selection;
 mod tag;
 mod tagged;
 mod target;
+mod unknown;
 mod untagged;
 mod variant;
 
@@ -28,13 +29,12 @@ pub(crate) use content::count_no_content;
 pub(crate) use list::{count_list, fails_at_once, is_other_tag};
 pub(crate) use members::members_of;
 pub(crate) use memo::{Asked, Memo};
-pub(crate) use object::{
-    Object, count_all, count_object, filter_of, has_unknown, has_unknown_beside, list_counts,
-};
+pub(crate) use object::{Object, count_all, count_object, filter_of, list_counts};
 pub(crate) use scalar::{count_scalar, is_told_at_once};
 pub(crate) use selection::{count_one_branch, count_selection, fits, touches, touches_rest};
 pub(crate) use tagged::named_list;
 pub(crate) use target::{count_shape, count_tag, count_target};
+pub(crate) use unknown::{has_unknown, has_unknown_beside};
 pub(crate) use untagged::{
     count_alternative, count_fallbacks, count_untagged, is_null, reads_content,
 };

@@ -3,7 +3,7 @@ ghost use Rattle.std.specs.Prelude.{◌≡◌, ◌<◌, IfErr, IfOk, IsTrue, Mat
 ghost use Rattle.facet_solver_reader.specs.Documents.{view};
 ghost use Rattle.facet_solver_reader.specs.Objects.{find};
 ghost use Rattle.facet_solver_reader.specs.Places.{at, inside, step_of, NamesStandOnce};
-ghost use Rattle.facet_solver_reader.specs.Nodes.{children, members_in, count, parent_of, value_of, IsNumbering, IsUnderWay, IsWhy};
+ghost use Rattle.facet_solver_reader.specs.Nodes.{children, members_in, count, first_in, parent_of, value_of, AreNamesOf, IsNumbering, IsUnderWay, IsWhy};
 
 mod by_name;
 mod numbering;
@@ -11,7 +11,7 @@ mod numbering;
 use crate::document::Document;
 use crate::place::{Place, PlaceSegment};
 use by_name::NamedNode;
-pub(crate) use by_name::{find_by_name, is_among, sort_by_name};
+pub(crate) use by_name::{find_by_name, is_among, is_next_among, sort_by_name};
 use std::alloc::{AllocError, Global};
 
 /// A value, and the number of the value around it. That of the root is 0.
@@ -115,6 +115,32 @@ impl<'t, 'd> Nodes<'t, 'd> {
         self.openings[node].first + index
     }
 
+    /// The members of an object by name, each with the number of its value: none, if the value is
+    /// no object.
+    pub(crate) fn by_name(&self, node: usize) -> &[NamedNode<'d>]
+        requires numbering { IsNumbering self.now }
+        requires in_range { node < count self.now }
+        ensures { AreNamesOf (members_in (value_of self.now node)) (first_in self.now node)
+            result.now }
+    {
+        match self.value(node) {
+            Document::Object(members) => self.members_by_name(node, members.len()),
+            _ => &[],
+        }
+    }
+
+    /// The same, where it is known how many members the value has.
+    fn members_by_name(&self, node: usize, len: usize) -> &[NamedNode<'d>]
+        requires numbering { IsNumbering self.now }
+        requires in_range { node < count self.now }
+        requires all { len ≡ length (members_in (value_of self.now node)) }
+        ensures { AreNamesOf (members_in (value_of self.now node)) (first_in self.now node)
+            result.now }
+    {
+        let start = self.openings[node].names;
+        &self.by_name[start..start + len]
+    }
+
     /// The number of the value of an object's member of that name; `None` where it has no such
     /// member, or is no object. Many names are halved until few are left, which are gone through.
     pub(crate) fn member(&self, node: usize, name: &str) -> Option<usize>
@@ -126,11 +152,12 @@ impl<'t, 'd> Nodes<'t, 'd> {
             × (find (members_in (value_of self.now node)) name.now
             ≡ Some (value_of self.now found))) }
     {
-        let Document::Object(members) = self.value(node) else {
-            return None;
-        };
-        let start = self.openings[node].names;
-        find_by_name(&self.by_name[start..start + members.len()], name)
+        match self.value(node) {
+            Document::Object(members) => {
+                find_by_name(self.members_by_name(node, members.len()), name)
+            }
+            _ => None,
+        }
     }
 
     /// The same. It is looked for first at a number, which is moved behind the member that is found:

@@ -20,7 +20,7 @@ mod slots;
 mod tags;
 
 use crate::end::End;
-use crate::nodes::is_among;
+use crate::nodes::{is_among, is_next_among};
 use crate::part::{ListId, Part};
 use crate::types::Types;
 use every::EveryList;
@@ -54,6 +54,15 @@ impl List<'_> {
         ensures { result ≡ knows self.now (named name.now) }
     {
         is_among(name, &self.names)
+    }
+
+    /// The same. It is looked for first from an index on, which is moved behind the name that is
+    /// found.
+    pub(crate) fn has_name_next(&self, name: &str, next: &mut usize) -> bool
+        requires { IsSorted name_ref_cmp self.now.names.items }
+        ensures { result ≡ knows self.now (named name.now) }
+    {
+        is_next_among(name, &self.names, next)
     }
 }
 

@@ -1,6 +1,5 @@
 //! The readings of an object by a list of parts.
-ghost use Rattle.std.specs.Prelude.{◌≡◌, ◌&&◌, ◌<◌, IfOk, IfSome, IsSorted, length};
-ghost use Rattle.facet_solver_shape.specs.Names.{name_ref_cmp};
+ghost use Rattle.std.specs.Prelude.{◌≡◌, ◌&&◌, ◌<◌, IfOk, length};
 ghost use Rattle.facet_solver_reader.specs.Counted.{Counted};
 ghost use Rattle.facet_solver_reader.specs.NameFilters.{HoldsNames};
 ghost use Rattle.facet_solver_reader.specs.Nodes.{count, members_in, value_of};
@@ -8,9 +7,7 @@ ghost use Rattle.facet_solver_reader.specs.Objects.{ReadsAll, ReadsObject};
 ghost use Rattle.facet_solver_reader.specs.Reading.{AreListCounts, AreSound, IsListCount, IsListed, IsObject};
 ghost use Rattle.facet_solver_reader.specs.Readings.{ReadsValue};
 ghost use Rattle.facet_solver_reader.specs.Tables as spec;
-ghost use Rattle.facet_solver_reader.specs.Known.{named};
-ghost use Rattle.facet_solver_reader.specs.SmallerLists.{KnowsAllOf};
-ghost use Rattle.facet_solver_reader.specs.Tables.{ListIsServed, knows, rules_at};
+ghost use Rattle.facet_solver_reader.specs.Tables.{ListIsServed, rules_at};
 ghost use Rattle.facet_solver_reader.specs.Views.{list_view};
 
 use super::Memo;
@@ -18,6 +15,7 @@ use super::list::count_list;
 use super::members::members_of;
 use super::name_filter::NameFilter;
 use super::tag::fails_at_first;
+use super::unknown::has_unknown;
 use crate::count::Count;
 use crate::nodes::Nodes;
 use crate::part::ListId;
@@ -115,51 +113,6 @@ pub(crate) fn count_all(
         filter,
     };
     count_members(tables, nodes, memo, &object)
-}
-
-/// Whether an object has a member of a name that no choice of a list has.
-pub(crate) fn has_unknown(nodes: &Nodes<'_, '_>, node: usize, list: &List<'_>) -> bool
-    requires inside { node < count nodes.now }
-    requires sorted { IsSorted name_ref_cmp list.now.names.items }
-    ensures { result ≡ spec.has_unknown list.now (members_in (value_of nodes.now node)) }
-{
-    has_unknown_beside(nodes, node, list, None)
-}
-
-/// The same, where the list has each name of a smaller one, in which names are looked up first.
-pub(crate) fn has_unknown_beside(
-    nodes: &Nodes<'_, '_>,
-    node: usize,
-    list: &List<'_>,
-    smaller: Option<&List<'_>>,
-) -> bool
-    requires inside { node < count nodes.now }
-    requires sorted { IsSorted name_ref_cmp list.now.names.items }
-    requires smaller_sorted { IfSome smaller (λ l. IsSorted name_ref_cmp l.now.names.items) }
-    requires within { IfSome smaller (λ l. KnowsAllOf l.now list.now) }
-    ensures { result ≡ spec.has_unknown list.now (members_in (value_of nodes.now node)) }
-{
-    for member in members_of(nodes.value(node)) {
-        if !has_name_beside(list, smaller, member.0) {
-            return true;
-        }
-    }
-    false
-}
-
-/// Whether a list has a name, which is looked up first in a smaller one, if there is one.
-fn has_name_beside(list: &List<'_>, smaller: Option<&List<'_>>, name: &str) -> bool
-    requires sorted { IsSorted name_ref_cmp list.now.names.items }
-    requires smaller_sorted { IfSome smaller (λ l. IsSorted name_ref_cmp l.now.names.items) }
-    requires within { IfSome smaller (λ l. KnowsAllOf l.now list.now) }
-    ensures { result ≡ knows list.now (named name.now) }
-{
-    if let Some(smaller) = smaller {
-        if smaller.has_name(name) {
-            return true;
-        }
-    }
-    list.has_name(name)
 }
 
 /// The filter of an object's names. It tells nothing where hardly anything asks for it: where the

@@ -2,16 +2,17 @@
 ghost use Rattle.std.specs.Prelude.{◌≡◌, ◌≤◌, ℕ, drop, length, take, Contains, IsPermutation, IsSorted, IsTrue, MatchOption};
 ghost use Rattle.std.specs.List.{list_any};
 ghost use Rattle.std.specs.Str.{bytes_eq};
-ghost use Rattle.facet_solver_shape.specs.Catalogues.{RepeatsName};
 ghost use Rattle.facet_solver_shape.specs.Names.{name_ref_cmp, names_of};
 ghost use Rattle.facet_solver_reader.specs.Places.{IsLeastRepeated};
 ghost use Rattle.facet_solver_reader.specs.Nodes.{AreByName, entries, names_among};
+
+use std::cmp::Ordering;
 
 /// So many names are gone through faster than they are halved.
 const FEW_NAMES: usize = 8;
 
 /// The name of a member, and the number of its value.
-pub(super) type NamedNode<'d> = (&'d str, usize);
+pub(crate) type NamedNode<'d> = (&'d str, usize);
 
 /// Sorts those from an index on by name. If a name is twice among them it tells that name, of
 /// several the least by its bytes.
@@ -76,6 +77,56 @@ pub(crate) fn is_among(name: &str, names: &[&str]) -> bool
     } else {
         names.binary_search(&name).is_ok()
     }
+}
+
+/// The same. It is looked for first from an index on, which is moved behind the name that is found:
+/// of names that are asked for in their order, each stands there.
+pub(crate) fn is_next_among(name: &str, names: &[&str], next: &mut usize) -> bool
+    requires { IsSorted name_ref_cmp names.now }
+    ensures { result ≡ list_any (λ n. bytes_eq n.now name.now) names.now }
+{
+    if names.len() <= FEW_NAMES {
+        is_next_of_few(name, names, next)
+    } else {
+        is_next_of_many(name, names, next)
+    }
+}
+
+/// Whether a name is one of few, which are gone through from an index on, and then from the first.
+fn is_next_of_few(name: &str, names: &[&str], next: &mut usize) -> bool
+    ensures { result ≡ list_any (λ n. bytes_eq n.now name.now) names.now }
+{
+    let start = names.len().min(*next);
+    let (before, rest) = names.split_at(start);
+    if let Some(index) = rest.iter().position(|known| *known == name) {
+        *next = start + index + 1;
+        return true;
+    }
+    before.iter().any(|known| *known == name)
+}
+
+/// Whether a name is one of many sorted ones. Where the one at an index is before it, only those
+/// behind that are halved.
+fn is_next_of_many(name: &str, names: &[&str], next: &mut usize) -> bool
+    requires { IsSorted name_ref_cmp names.now }
+    ensures { result ≡ list_any (λ n. bytes_eq n.now name.now) names.now }
+{
+    let mut start = 0;
+    if let Some(known) = names.get(*next) {
+        match (*known).cmp(name) {
+            Ordering::Less => start = *next + 1,
+            Ordering::Equal => {
+                *next += 1;
+                return true;
+            }
+            Ordering::Greater => {}
+        }
+    }
+    let found = names[start..].binary_search(&name);
+    if let Ok(index) = found {
+        *next = start + index + 1;
+    }
+    found.is_ok()
 }
 
 /// The number that stands with a name. Few names are gone through, since that is faster.

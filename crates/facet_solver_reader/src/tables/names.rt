@@ -1,5 +1,5 @@
 //! The names that the choices of a list have.
-ghost use Rattle.std.specs.Prelude.{◌≡◌, All, Contains, IfErr, IfOk, IsSorted, IsTrue, MatchOption, OnOk, map};
+ghost use Rattle.std.specs.Prelude.{◌≡◌, All, IfErr, IfOk, IsSorted, IsTrue, MatchOption, OnOk, map};
 ghost use Rattle.std.specs.List.{list_any};
 ghost use Rattle.facet_solver_shape.specs.Catalogues.{RepeatsName};
 ghost use Rattle.facet_solver_shape.specs.Names.{name_ref_cmp, names_of};
@@ -68,8 +68,8 @@ pub(super) fn names_of<'c>(
 /// The names of the members of each part, rising.
 fn names_of_each<'c>(alloc: Global, parts: &[Part<'c>]) -> Result<Vec<&'c str>, AllocError>
     ensures sorted { IfOk result (λ names. IsSorted name_ref_cmp names.items) }
-    ensures names { (o : placed.Ordered) → All (PartHasBranchNamesIn o) parts.now → IfOk result (λ names.
-        AreNamesOf o (parts_view parts.now) (names_of names.items)) }
+    ensures names { (o : placed.Ordered) → All (PartHasBranchNamesIn o) parts.now
+        → IfOk result (λ names. AreNamesOf o (parts_view parts.now) (names_of names.items)) }
 {
     let mut names = Vec::with_capacity(alloc, names_len(parts))?;
     for part in parts {
@@ -123,34 +123,9 @@ fn names_of_selection<'c>(
         }
     }
     names.sort_unstable();
-    distinct(alloc, &names)
-}
-
-/// Each of sorted names once.
-fn distinct<'c>(alloc: Global, names: &[&'c str]) -> Result<Vec<&'c str>, AllocError>
-    requires { IsSorted name_ref_cmp names.now }
-    ensures sorted { IfOk result (λ distinct. IsSorted name_ref_cmp distinct.items) }
-    ensures those { IfOk result (λ distinct.
-        AreThose (Contains (names_of names.now)) (names_of distinct.items)) }
-{
-    let mut distinct = Vec::with_capacity(alloc, distinct_len(names))?;
-    for index in 0..names.len() {
-        if index == 0 || names[index - 1] != names[index] {
-            distinct.push(names[index])?;
-        }
-    }
-    Ok(distinct)
-}
-
-/// How many names sorted ones are, each counted once.
-fn distinct_len(names: &[&str]) -> usize {
-    let mut len: usize = 0;
-    for index in 0..names.len() {
-        if index == 0 || names[index - 1] != names[index] {
-            len = len.saturating_add(1);
-        }
-    }
-    len
+    names.dedup();
+    // Branches may share most names: what is kept has just the room that its names take.
+    Vec::from_slice(alloc, &names)
 }
 
 /// The first of sorted names that is the next one too.

@@ -1,6 +1,6 @@
 //! What stops a reading of an object by a list of parts.
 ghost use Rattle.std.specs.Prelude.{◌≡◌, ◌<◌, IfOk, IfSome};
-ghost use Rattle.facet_solver_reader.specs.Nodes.{count, members_in, value_of};
+ghost use Rattle.facet_solver_reader.specs.Nodes.{IsNumbering, count, members_in, value_of};
 ghost use Rattle.facet_solver_reader.specs.Parts.{a_catch_all, a_member};
 ghost use Rattle.facet_solver_reader.specs.Reading.{AreSound, IsObject};
 ghost use Rattle.facet_solver_reader.specs.SelectionNames.{PartHasBranchNames};
@@ -42,6 +42,7 @@ pub(super) fn object_by<'r, 'c>(
     id: ListId,
 ) -> Option<Object<'r, 'c>>
     requires tables { AreTables tables.now }
+    requires numbering { IsNumbering nodes.now }
     requires inside { node < count nodes.now }
     requires served { ListIsServed tables.now (list_view id) }
     ensures object { IfSome result (λ object. IsObject tables.now nodes.now object) }

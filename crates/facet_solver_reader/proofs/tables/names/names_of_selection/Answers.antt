@@ -1,12 +1,15 @@
-use Rattle.std.proofs.Common.{◌≡◌, ◌↔◌, ◌<◌, length, None, ◌+◌, ◌++◌, List, Bor, Some, Vec, Global, ap, sym, ◌∙◌, subst, get_or, take, arith, Contains, IsTrue}
+use Rattle.std.proofs.Common.{◌≡◌, ◌<◌, ◌≤◌, IsSorted, length, None, ◌+◌, ◌++◌, List, Bor, Some, Vec, Global, ap, sym, ◌∙◌, subst, get_or, take, arith, IsTrue}
+use Rattle.std.specs.List.{dedup}
 use Rattle.std.proofs.lemmas.List.{map-append}
-use Rattle.facet_solver_shape.specs.Names.{Name, names_of}
+use Rattle.std.proofs.lemmas.List.Filters.{dedup_is}
+use Rattle.facet_solver_shape.specs.Names.{Name, name_ref_cmp, names_of}
 use Rattle.facet_solver_reader.specs.declared.part.ListId.{ListId}
 use Rattle.facet_solver_reader.specs.Known.{named}
 use Rattle.facet_solver_reader.specs.Parts.{a_selection}
-use Rattle.facet_solver_reader.specs.Placing.{entry_of, part_knows}
+use Rattle.facet_solver_reader.specs.Placing.{AreThose, entry_of, part_knows}
 use Rattle.facet_solver_reader.specs.Views.{list_view, selection_view}
-use Rattle.facet_solver_reader.proofs.PartNames.{AreNamesOfLists, names_of_branches, names_of_list, names_of_no_list, those_too}
+use Rattle.facet_solver_reader.proofs.PartNames.{AreNamesOfLists, deduped_sorted, deduped_those, made_of, names_of_branches}
+use Rattle.facet_solver_reader.proofs.PartNames.{names_of_list, names_of_no_list, same_name}
 use Rattle.facet_solver_reader.proofs.tables.names.names_of_selection.Goals as goal
 use Rattle.facet_solver_reader.proofs.tables.names.names_of_selection.Goals.{in-Some+in_ok-extend_from_slice, in_default}
 
@@ -36,12 +39,30 @@ loop-branch-preserved c =
           (names_of_no_list o ids i id (names_of c.loop-branch.names.items) within c.loop-branch.invariant entry)
     ]
 
+-- the names that are kept
+module _ (c : goal.After-drop-names-2) where
+  sorted : IsSorted name_ref_cmp c.sort_unstable.new.self.items
+  sorted = c.sort_unstable.ensures.sorted
+
+  kept : c.deref-2.result.now ≡ dedup same_name c.sort_unstable.new.self.items
+  kept = c.deref-2.ensures.value ∙ dedup_is _ _ _ c.dedup.ensures.filtered
+
+pub returns-clause-sorted : goal.returns-clause-sorted
+returns-clause-sorted c =
+    made_of (IsSorted name_ref_cmp) c.deref-2.result.now c.from_slice.result
+    c.from_slice.ensures.items
+    (subst (IsSorted name_ref_cmp) (sym (kept c)) (deduped_sorted _ (sorted c)))
+
 pub returns-clause-those : goal.returns-clause-those
 returns-clause-those c =
     let o = c.args.ordered.now in
     let s = c.args.selection.now in
-    those_too (Contains (names_of c.deref-2.result.now)) (λ x. IsTrue (part_knows o (named x) (a_selection (selection_view s)))) c.distinct.result
-    (subst (λ (ns : List (Bor Name)). (x : Name) → Contains (names_of ns) x ↔ IsTrue (part_knows o (named x) (a_selection (selection_view s)))) (sym c.deref-2.ensures.value)
-    (names_of_branches o s c.loop-branch.branch-index c.loop-branch.names.items c.sort_unstable.new.self.items
-    (omega (arith, c.loop-branch-test.false, c.deref-branch-items.ensures.len, s.branches.ok.0)) c.loop-branch.invariant c.sort_unstable.ensures.permutation))
-    c.distinct.ensures.those
+    let P : Name → Type 0 = λ x. IsTrue (part_knows o (named x) (a_selection (selection_view s))) in
+    let all : length s.branches.items ≤ c.loop-branch.branch-index =
+    omega (arith, c.loop-branch-test.false, c.deref-branch-items.ensures.len, s.branches.ok.0) in
+    made_of (λ ns. AreThose P (names_of ns)) c.deref-2.result.now c.from_slice.result
+    c.from_slice.ensures.items
+    (subst (λ ns. AreThose P (names_of ns)) (sym (kept c))
+    (deduped_those _ (sorted c) P
+    (names_of_branches o s c.loop-branch.branch-index c.loop-branch.names.items
+    c.sort_unstable.new.self.items all c.loop-branch.invariant c.sort_unstable.ensures.permutation)))

@@ -8,7 +8,7 @@ use Rattle.facet_solver_reader.specs.Tables.{knows}
 use Rattle.facet_solver_reader.specs.declared.tables.List.{List as ListEntry}
 use Rattle.facet_solver_reader.proofs.CountingObjects.{all_seen, all_seen_more, seen_read}
 use Rattle.facet_solver_reader.proofs.Quantifiers.{all_of_none, any_at}
-use Rattle.facet_solver_reader.proofs.count.object.has_unknown_beside.Goals as goal
+use Rattle.facet_solver_reader.proofs.count.unknown.has_unknown_beside.Goals as goal
 
 -- whether a list lacks a member's name
 abbrev lacks : ListEntry → Member → Bool

@@ -4,7 +4,7 @@ use Rattle.facet_solver_reader.specs.Documents.{Member}
 use Rattle.facet_solver_reader.specs.Known.{named}
 use Rattle.facet_solver_reader.specs.Reading.{member_view}
 use Rattle.facet_solver_reader.specs.Tables.{knows}
-use Rattle.facet_solver_reader.proofs.count.object.has_unknown_beside.Given as goal
+use Rattle.facet_solver_reader.proofs.count.unknown.has_unknown_beside.Given as goal
 
 -- the list has the names of the members before this one
 abbrev pub invariant-loop-member : goal.invariant-loop-member
