@@ -100,25 +100,15 @@ fn write_branch(
     text.open("{")?;
     for number in 0..=shared {
         if place == Some(number) {
-            write_member(text, random, "own", variant)?;
+            text.numbered_member("own", variant, random.below(1_000))?;
         }
         if number < shared {
-            write_member(text, random, "shared", number)?;
+            text.numbered_member("shared", number, random.below(1_000))?;
         }
     }
     if let Own::Twice = own {
         let other = variant.wrapping_add(1).checked_rem(variants).unwrap_or(0);
-        write_member(text, random, "own", other)?;
+        text.numbered_member("own", other, random.below(1_000))?;
     }
     Ok(text.close("}")?)
-}
-
-fn write_member(
-    text: &mut JsonText,
-    random: &mut Random,
-    word: &str,
-    number: u64,
-) -> Result<(), Fault> {
-    text.numbered_name(word, number)?;
-    Ok(text.whole(random.below(1_000))?)
 }

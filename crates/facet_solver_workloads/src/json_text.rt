@@ -182,4 +182,15 @@ impl JsonText {
         self.name(name)?;
         self.whole(number)
     }
+
+    /// A member whose name is of a word and a number.
+    pub fn numbered_member(
+        &mut self,
+        word: &str,
+        number: u64,
+        value: u64,
+    ) -> Result<(), AllocError> {
+        self.numbered_name(word, number)?;
+        self.whole(value)
+    }
 }

@@ -34,6 +34,7 @@ mod records;
 mod results;
 mod services;
 mod start;
+mod structs;
 mod types;
 mod wide;
 mod words;
@@ -87,6 +88,7 @@ fn run(name: &str, job: &mut Job) -> Result<(), Fault> {
         "branches" => branches::sample(job),
         "paths" => paths::sample(job),
         "payloads" => payloads::sample(job),
+        "structs" => structs::sample(job),
         _ => Err(Fault::Type),
     }
 }
