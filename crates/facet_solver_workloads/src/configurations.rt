@@ -90,7 +90,11 @@ fn load(
             }
             Ok(())
         }
-        Err(Refused::UnknownKey(key)) => digest.refusal(&key.name()),
+        Err(Refused::UnknownKey(key)) => {
+            digest.count_refusal();
+            digest.name(key.name());
+            Ok(())
+        }
         Err(Refused::Solver(error)) => digest.refusal(&error),
     }
 }

@@ -1,6 +1,7 @@
-//! One number for all results of a part of a workload.
+//! One number for all results of a part of a workload, and one for the words of its errors.
 
 use crate::fault::Fault;
+use crate::refusals::Refusal;
 use std::fmt;
 use std::fmt::{Display, Write};
 
@@ -11,43 +12,57 @@ const PRIME: u64 = 0x0000_0100_0000_01b3;
 /// By what a number is multiplied, so that each of its bits changes the higher ones.
 const SPREAD: u64 = 0x9e37_79b9_7f4a_7c15;
 
-/// A hash of all that is added to it, and how many calls had a result, and how many an error.
-///
-/// What is printed is added byte by byte (FNV-1a), in whatever pieces it comes. Numbers and names
-/// are added by words of eight bytes, which costs a tenth of that.
+/// A hash of what is printed, which is added byte by byte (FNV-1a), in whatever pieces it comes.
 #[derive(Clone, Copy)]
-pub struct Digest {
-    hash: u64,
-    answered: u64,
-    refused: u64,
-}
+struct Hash(u64);
 
-impl Write for Digest {
+impl Write for Hash {
     fn write_str(&mut self, part: &str) -> fmt::Result {
-        let mut hash = self.hash;
+        let mut hash = self.0;
         for byte in part.bytes() {
             hash = (hash ^ u64::from(byte)).wrapping_mul(PRIME);
         }
-        self.hash = hash;
+        self.0 = hash;
         Ok(())
     }
+}
+
+impl Display for Hash {
+    fn fmt<W: fmt::Write>(&self, f: &mut fmt::Formatter<W>) -> fmt::Result {
+        write!(f, "{:016x}", self.0)
+    }
+}
+
+/// A hash of all that is added to it, one of the words of errors, and how many calls had a result,
+/// and how many an error.
+///
+/// Numbers and names are added by words of eight bytes, which costs a tenth of what printed bytes
+/// cost.
+#[derive(Clone, Copy)]
+pub struct Digest {
+    answers: Hash,
+    texts: Hash,
+    answered: u64,
+    refused: u64,
 }
 
 impl Display for Digest {
     fn fmt<W: fmt::Write>(&self, f: &mut fmt::Formatter<W>) -> fmt::Result {
         let Digest {
-            hash,
+            answers,
+            texts: _,
             answered,
             refused,
-        } = *self;
-        write!(f, "{hash:016x} {answered} answered {refused} refused")
+        } = self;
+        write!(f, "{answers} {answered} answered {refused} refused")
     }
 }
 
 impl Digest {
     pub fn new() -> Self {
         Digest {
-            hash: START,
+            answers: Hash(START),
+            texts: Hash(START),
             answered: 0,
             refused: 0,
         }
@@ -55,7 +70,7 @@ impl Digest {
 
     /// The hash so far.
     pub fn hash(&self) -> u64 {
-        self.hash
+        self.answers.0
     }
 
     /// Adds a number.
@@ -64,7 +79,7 @@ impl Digest {
     }
 
     fn word(&mut self, word: u64) {
-        self.hash = (self.hash.rotate_left(5) ^ word).wrapping_mul(SPREAD);
+        self.answers = Hash((self.answers.0.rotate_left(5) ^ word).wrapping_mul(SPREAD));
     }
 
     /// Adds a name: its length, its bytes by words, and its last eight bytes once more, so that no
@@ -77,11 +92,6 @@ impl Digest {
         }
         let last = bytes.len().saturating_sub(8);
         self.word(word_of(&bytes[last..]));
-    }
-
-    /// Adds a text.
-    pub fn text<D: Display>(&mut self, text: &D) -> Result<(), Fault> {
-        Ok(write!(self, "{text}\n")?)
     }
 
     /// Counts a call that had a result.
@@ -97,13 +107,24 @@ impl Digest {
     /// Adds the result of a call.
     pub fn answer<D: Display>(&mut self, result_text: &D) -> Result<(), Fault> {
         self.count_answer();
-        self.text(result_text)
+        Ok(write!(self.answers, "{result_text}\n")?)
     }
 
-    /// Adds the error of a call.
-    pub fn refusal<D: Display>(&mut self, error: &D) -> Result<(), Fault> {
+    /// Adds the error of a call: what has to stay of it, and its words to the hash of these.
+    pub fn refusal<R: Refusal>(&mut self, error: &R) -> Result<(), Fault> {
         self.count_refusal();
-        self.text(error)
+        error.add_to(self);
+        Ok(write!(self.texts, "{error}\n")?)
+    }
+
+    /// Tells the part of this name in a line, and in one more the words of its errors, if there
+    /// are any.
+    pub fn tell(&self, part: &str, report: &mut String) -> Result<(), Fault> {
+        write!(report, "{part} {self}\n")?;
+        if self.refused > 0 {
+            write!(report, "text {part} {}\n", self.texts)?;
+        }
+        Ok(())
     }
 }
 

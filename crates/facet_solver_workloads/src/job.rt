@@ -40,6 +40,6 @@ impl Job {
 
     /// Tells a part of the workload.
     pub fn tell(&mut self, part: &str, digest: Digest) -> Result<(), Fault> {
-        Ok(write!(self.report, "{part} {digest}\n")?)
+        digest.tell(part, &mut self.report)
     }
 }

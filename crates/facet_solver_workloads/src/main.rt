@@ -31,6 +31,7 @@ mod payloads;
 mod random;
 mod reads;
 mod records;
+mod refusals;
 mod results;
 mod services;
 mod start;

@@ -238,8 +238,16 @@ fn read_events(
             digest.count_answer();
             Ok(())
         }
-        Err(Unread::Misplaced(index)) => digest.refusal(&index),
-        Err(Unread::Unfinished) => digest.refusal(&"unfinished"),
+        Err(Unread::Misplaced(index)) => {
+            digest.count_refusal();
+            digest.number(index);
+            Ok(())
+        }
+        Err(Unread::Unfinished) => {
+            digest.count_refusal();
+            digest.name("unfinished");
+            Ok(())
+        }
         Err(Unread::Solver(error)) => digest.refusal(&error),
     }
 }

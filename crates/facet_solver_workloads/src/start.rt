@@ -125,7 +125,11 @@ fn tabulate(alloc: Global, readable: &Readable, digest: &mut Digest) -> Result<(
     }
     match ambiguity_table(alloc, shapes, root, None, Format::Flat, 1_000) {
         Ok(table) => digest.answer(&table),
-        Err(NoTable::TooMany(count)) => digest.refusal(&count.unwrap_or(0)),
+        Err(NoTable::TooMany(count)) => {
+            digest.count_refusal();
+            digest.number(count.unwrap_or(0) as usize);
+            Ok(())
+        }
         Err(NoTable::Schema(error)) => digest.refusal(&error),
     }
 }
