@@ -1,0 +1,80 @@
+"""The small runs of `costs.txt`, and what they write, which is stored in `outputs.txt`.
+
+A program of workloads tells each part in a line, and the words of the errors of a part in a line
+`text PART HASH`: words may change where answers stay.
+"""
+
+import dataclasses
+import pathlib
+import re
+
+HERE = pathlib.Path(__file__).resolve().parent
+COSTS, OUTPUTS, WORKLOADS = HERE / "costs.txt", HERE / "outputs.txt", HERE / "workloads.txt"
+LINE = re.compile(r"(\w+): (\w+) ([^|]+?)(?: \| (.*))?")
+HEAD = re.compile(rb"^== (\w+)\n", re.MULTILINE)
+TEXT = re.compile(rb"^text .*\n", re.MULTILINE)
+
+
+class WrongFile(Exception):
+    """A file of bench/ has a wrong line, or lacks one."""
+
+
+@dataclasses.dataclass(frozen=True)
+class SmallRun:
+    """A run: its name, its crate, its words, and the text of its costs, if that is stored."""
+
+    name: str
+    crate: str
+    words: tuple
+    costs: str | None
+
+    def arguments(self):
+        """The words that its program is given."""
+        return [word for word in self.words if not word.startswith("<")]
+
+    def given(self):
+        """The file that is its standard input, if there is one."""
+        return HERE / self.words[-1][1:] if self.words[-1].startswith("<") else None
+
+
+def small_runs():
+    """The runs, at least one of each workload."""
+    found = []
+    for line in COSTS.read_text().splitlines():
+        if not (it := LINE.fullmatch(line)):
+            raise WrongFile(f"{COSTS.name} has a wrong line: {line}")
+        name, crate, words, costs = it.groups()
+        found.append(SmallRun(name, crate, tuple(words.split()), costs))
+    names = [run.name for run in found]
+    if names != sorted({*names}):
+        raise WrongFile(f"{COSTS.name} is not sorted by name, or has a name twice")
+    for line in WORKLOADS.read_text().splitlines():
+        if line.split() and line.split()[0] not in names:
+            raise WrongFile(f"{COSTS.name} has no line for {line.split()[0]}")
+    return found
+
+
+def stored_outputs():
+    """What each run has to write, by its name."""
+    _, *parts = HEAD.split(OUTPUTS.read_bytes())
+    found = {name.decode(): wrote for name, wrote in zip(parts[::2], parts[1::2])}
+    if missing := {run.name for run in small_runs()} - found.keys():
+        raise WrongFile(f"{OUTPUTS.name} has nothing of {', '.join(sorted(missing))}")
+    return found
+
+
+def store_outputs(outputs):
+    """Stores what each run wrote."""
+    OUTPUTS.write_bytes(
+        b"".join(b"== %s\n%s" % (name.encode(), wrote) for name, wrote in outputs.items())
+    )
+
+
+def answers(wrote):
+    """What was written, without the words of errors."""
+    return TEXT.sub(b"", wrote)
+
+
+def texts(wrote):
+    """The lines of the words of errors."""
+    return TEXT.findall(wrote)
