@@ -12,7 +12,7 @@ import time
 import traceback
 
 from . import proof
-from .streams import ERRORS, NAMES, OUTPUT, keep_numbers, tell, write
+from .streams import ERRORS, INPUT, NAMES, OUTPUT, keep_numbers, tell, write
 
 WRONG_ARGUMENTS, FAILED, UNWRITTEN, NO_RT = 64, 70, 74, 127
 SECONDS = 600  # How long a run without proofs may take.
@@ -179,8 +179,16 @@ class Program:
         self.say(f"the program is proved and built, in {round(time.monotonic() - begin)} s")
         return 0
 
-    def become(self, words=()):
-        """Runs the proved program in the place of the script, with these arguments."""
+    def become(self, words=(), given=None):
+        """Runs the proved program in the place of the script, with these arguments.
+
+        It has these bytes on standard input, if there are any given.
+        """
+        if given is not None:
+            with tempfile.TemporaryFile() as file:
+                write(file.fileno(), given)
+                os.lseek(file.fileno(), 0, os.SEEK_SET)
+                os.dup2(file.fileno(), INPUT)
         # Python ignores SIGPIPE and SIGXFSZ, and so does the program then: the write fails.
         os.execv(self.path, [self.path, *words])
 

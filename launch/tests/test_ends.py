@@ -46,7 +46,8 @@ class Streams(Repository):
         self.assertEqual((status, output), (BAD_INPUT, ""))
 
     def test_input_that_is_closed_or_cannot_be_read(self):
-        for line in (f"{READ} <&-", f"{READ} 0>/dev/null", f"{READ} <&- >&- 2>&-"):
+        streams = "<&-", "0>/dev/null", "--toml <&-", "<&- >&- 2>&-"
+        for line in (f"{READ} {it}" for it in streams):
             with self.subTest(line=line):
                 status, output, said = self.shell(line)
                 self.assertEqual((status, output), (64, ""), said)
@@ -61,10 +62,12 @@ class Streams(Repository):
     def test_a_file_may_not_grow(self):
         few = {"preexec_fn": lambda: resource.setrlimit(resource.RLIMIT_FSIZE, (9, 9))}
         document = b"n = 1234567890\n"
-        status, output, said = self.read("types.rs", document=document, **few)
-        self.assertEqual((status, output), (70, ""))
-        self.assertIn("File too large", said)
-        self.prove()
+        for words in ([], ["--toml"]):
+            status, output, said = self.read("types.rs", *words, document=document, **few)
+            self.assertEqual((status, output), (70, ""))
+            self.assertIn("File too large", said)
+            self.prove()
+        self.assertEqual(self.read("types.rs", *words, document=document, **few)[0], 70)
         status, *_ = self.shell(f"ulimit -f 1; head -c 5000 /dev/zero | {READ} >answer")
         self.assertEqual(status, UNWRITTEN)
         self.expect_nothing_left()
