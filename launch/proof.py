@@ -62,7 +62,7 @@ def lines_of(crate):
 
 
 def walked(folder):
-    """What is in a folder and in those below it, in order: paths, and whether each is a folder.
+    """What is in a folder and in those below it, in order: each path, and what reads it if it can.
 
     No link is followed, and a folder that is not there has nothing.
     """
@@ -70,16 +70,26 @@ def walked(folder):
         entries = sorted(os.scandir(folder), key=lambda it: it.name)
     except FileNotFoundError:
         return
-    yield folder, True
+    yield folder, None
     for entry in entries:
         if entry.is_dir(follow_symlinks=False):
             yield from walked(entry.path)
         else:
-            yield entry.path, False
+            yield entry.path, read_link if entry.is_symlink() else read_file
+
+
+def read_link(path):
+    """Where a link leads. rt refuses it, so of a link nothing else counts."""
+    return os.fsencode(os.readlink(path))
+
+
+def read_file(path):
+    with open(path, "rb", buffering=0) as file:
+        return file.read()
 
 
 def places(crate):
-    """The paths of the sources of a crate and of those below it, and whether each is a folder."""
+    """The paths of the sources of a crate and of those below it, and what reads each."""
     for name in lines_of(crate):
         for kind in KINDS:
             yield from walked(f"{TOP}/crates/{name}/{kind}")
@@ -92,25 +102,17 @@ def marks(crate):
         yield path, it.st_ino, it.st_size, it.st_mtime_ns, it.st_ctime_ns
 
 
-def contents(path):
-    """The bytes of a source. rt refuses a link, so of one only where it leads counts."""
-    if os.path.islink(path):
-        return os.fsencode(os.readlink(path))
-    with open(path, "rb", buffering=0) as file:
-        return file.read()
-
-
 def checksum_of_sources(crate):
     """A checksum of the lines of the crates, and of the name and the bytes of each source.
 
     It takes some 25 ms for this repository, so each call of a script can afford it.
     """
     found = hashlib.blake2b(repr(lines_of(crate)).encode())
-    for path, is_folder in places(crate):
-        if not is_folder:
-            data = contents(path)
-            name = os.path.relpath(path, TOP)
-            found.update(repr((name, len(data))).encode(errors="surrogateescape"))
+    above = len(f"{TOP}/")
+    for path, read in places(crate):
+        if read:
+            data = read(path)
+            found.update(f"{path[above:]!r} {len(data)} ".encode(errors="surrogateescape"))
             found.update(data)
     return found.hexdigest()
 

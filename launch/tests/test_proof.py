@@ -14,6 +14,7 @@ from launch.program import Program, progress
 from .stand_in import CRATES, KINDS, NAME, WORD, Repository
 
 HELD = "echo linked >held; exec sleep 100"  # What a proof does that does not end by itself.
+GO = 'while [ -d "$kit" ] && [ ! -f "$kit/go" ]; do sleep 0.05; done'  # It waits for a file.
 PROVING = "facet-read: proving and building the program ..\n"
 
 
@@ -221,13 +222,13 @@ class Proving(Repository):
         self.expect_unproved("no stamp says that the program is proved")
 
     def test_a_signal_that_is_ignored_stays_so(self):
-        self.environment["BEFORE"] = 'while [ ! -f "$kit/go" ]; do sleep 0.05; done'
+        self.environment["BEFORE"] = GO
         for number in (signal.SIGHUP, signal.SIGINT, signal.SIGTERM):
             with self.subTest(signal=number):
                 ignore = ["env", f"--ignore-signal={number.name[3:]}"]
                 process = self.start(*ignore, "./facet-read", "--prove", start_new_session=True)
                 self.rt_process()
-                os.killpg(process.pid, signal.SIGHUP if number == signal.SIGHUP else number)
+                os.killpg(process.pid, number)
                 (self.kit / "go").touch()
                 said = process.communicate()[1]
                 self.assertEqual(process.returncode, 0, said)
@@ -235,10 +236,7 @@ class Proving(Repository):
                     file.unlink()
 
     def test_it_waits_for_another_rt(self):
-        self.environment["BEFORE"] = """
-            echo "rt: waiting for another rt to finish in $PWD" >&2
-            while [ ! -f "$kit/go" ]; do sleep 0.05; done
-        """
+        self.environment["BEFORE"] = f'echo "rt: waiting for another rt to finish" >&2; {GO}'
         process = self.start("./facet-read", "--prove")
         self.assertEqual(process.stderr.readline(), PROVING)
         self.assertIn("waiting for another rt to finish", process.stderr.readline())
