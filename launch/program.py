@@ -173,7 +173,8 @@ class Program:
             self.say("the program is not proved and built")
             return FAILED
         if not self.keep(before):
-            self.path.unlink()  # rt notices no source that is written and then written back.
+            # By its own stamp rt would take it again, where a source was written and written back.
+            self.path.unlink(missing_ok=True)
             self.say("a source changed meanwhile, so the proof counts for nothing; prove it again")
             return FAILED
         self.say(f"the program is proved and built, in {round(time.monotonic() - begin)} s")

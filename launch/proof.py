@@ -43,9 +43,9 @@ def kit():
     # The file that `rt version` prints, which takes it longer than all else that is done here.
     file = pathlib.Path(rt).resolve().parent.parent / "KIT-ID"
     if file.is_file():
-        return file.read_text().strip()
+        return " ".join(file.read_text().split())
     how = {"stdin": subprocess.DEVNULL, "capture_output": True, "text": True}
-    return subprocess.run([rt, "version"], **how).stdout.strip()
+    return " ".join(subprocess.run([rt, "version"], **how).stdout.split())
 
 
 def lines_of(crate):

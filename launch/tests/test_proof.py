@@ -2,9 +2,9 @@
 
 import os
 import pathlib
+import pty
 import shutil
 import signal
-import subprocess
 import unittest
 from unittest import mock
 
@@ -225,8 +225,9 @@ class Proving(Repository):
         self.environment["BEFORE"] = GO
         for number in (signal.SIGHUP, signal.SIGINT, signal.SIGTERM):
             with self.subTest(signal=number):
-                ignore = ["env", f"--ignore-signal={number.name[3:]}"]
-                process = self.start(*ignore, "./facet-read", "--prove", start_new_session=True)
+                how = {"preexec_fn": lambda: signal.signal(number, signal.SIG_IGN)}
+                how["start_new_session"] = True
+                process = self.start("./facet-read", "--prove", **how)
                 self.rt_process()
                 os.killpg(process.pid, number)
                 (self.kit / "go").touch()
@@ -243,6 +244,21 @@ class Proving(Repository):
         (self.kit / "go").touch()
         said = process.communicate()[1]
         self.assertEqual(process.returncode, 0, said)
+
+    def test_how_far_it_is_stands_in_one_line_of_a_terminal(self):
+        self.environment["BEFORE"] = f"echo so far: 3 of 9 functions; {GO}"
+        ours, theirs = pty.openpty()
+        with open(ours, "rb", buffering=0) as terminal:
+            process = self.start("./facet-read", "--prove", stderr=theirs)
+            os.close(theirs)
+            said = b""
+            while b"3 of 9 functions" not in said:
+                said += terminal.read(4096)
+            (self.kit / "go").touch()
+            self.assertEqual(process.wait(), 0)
+            said += terminal.read(4096)
+        self.assertIn(b"\r\033[Kbeginning, 3 of 9 functions, ", said)
+        self.assertIn(b"\r\033[Kfacet-read: the program is proved and built, in ", said)
 
     def test_the_stamp_cannot_be_written(self):
         folder = pathlib.Path(f"{self.program}.proved")
