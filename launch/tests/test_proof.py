@@ -66,15 +66,16 @@ class Stale(Repository):
                 source.write_text(f"{crate} proofs\n")
                 self.expect_proved()
 
-    def test_bytes_that_move_from_a_file_to_the_next(self):
+    def test_a_file_that_has_the_name_and_the_bytes_of_the_next(self):
         first, second = (self.source("base", "src").with_name(it) for it in ("a", "b"))
-        texts = (b"", b"x"), (b"x", b"")
-        sums = set()
-        for text, other in texts:
-            first.write_bytes(text)
-            second.write_bytes(other)
-            sums.add(proof.checksum_of_sources(NAME))
-        self.assertEqual(len(sums), len(texts))
+        first.write_text("")
+        second.write_text("x")
+        sums = [proof.checksum_of_sources(NAME)]
+        second.unlink()
+        for between in (" ", " 1 "):
+            first.write_text(f"{str(second.relative_to(self.top))!r}{between}x")
+            sums.append(proof.checksum_of_sources(NAME))
+        self.assertEqual(len({*sums}), len(sums))
 
     def test_an_older_file_comes_in_the_place_of_a_newer_one(self):
         source = self.source("base", "src")
@@ -228,7 +229,9 @@ class Proving(Repository):
                 how = {"preexec_fn": lambda: signal.signal(number, signal.SIG_IGN)}
                 how["start_new_session"] = True
                 process = self.start("./facet-read", "--prove", **how)
-                self.rt_process()
+                rt = self.rt_process()
+                # In a session of its own the terminal does not reach it.
+                self.assertEqual(os.getsid(rt) == rt, number == signal.SIGHUP)
                 os.killpg(process.pid, number)
                 (self.kit / "go").touch()
                 said = process.communicate()[1]
