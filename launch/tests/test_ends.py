@@ -152,9 +152,7 @@ class Places(Repository):
 
     def test_types_that_cannot_be_read(self):
         for name, why in (("none.rs", "No such file or directory"), ("/", "Is a directory")):
-            status, output, said = self.read(name)
-            self.assertEqual((status, output), (64, ""))
-            self.assertTrue(said.endswith(f"facet-read: {name}: {why}\n"))
+            self.assertEqual(self.read(name), (64, "", f"facet-read: {name}: {why}\n"))
 
     def test_the_script_by_a_link_and_from_another_folder(self):
         (self.room / "reads").symlink_to(self.top / "facet-read")
