@@ -31,7 +31,8 @@ done
 cat || exit {UNWRITTEN}
 exit {WORD}
 """
-# `rt run` does what the variables BEFORE and BEHIND say, before it links and behind that.
+# `rt run` does what the variables BEFORE and BEHIND say, before it links and behind that. So does
+# `rt ci`, whose last line is LAST.
 RT = f"""\
 #!/bin/sh
 set -e
@@ -40,13 +41,15 @@ verb=$1
 shift
 case $verb in
 version) cat "$kit/KIT-ID" ;;
-run)
+run | ci)
+    [ "$verb" = run ] || cd crates/{NAME}
     echo $$ >"$kit/pid"
     eval "$BEFORE"
     mkdir -p out
     cp "$kit/program" out/{NAME}
     eval "$BEHIND"
     echo "rt: running out/{NAME}; to give it other input, run that file yourself" >&2
+    echo "$LAST"
     ;;
 try)
     room=$(mktemp -d)

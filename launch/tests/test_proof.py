@@ -11,7 +11,7 @@ from unittest import mock
 from launch import proof
 from launch.program import Program, progress
 
-from .stand_in import CRATES, KINDS, NAME, WORD, Repository
+from .stand_in import CRATES, KINDS, NAME, TOP, WORD, Repository
 
 HELD = "echo linked >held; exec sleep 100"  # What a proof does that does not end by itself.
 GO = 'while [ -d "$kit" ] && [ ! -f "$kit/go" ]; do sleep 0.05; done'  # It waits for a file.
@@ -282,6 +282,47 @@ class Proving(Repository):
     def test_it_says_nothing_where_standard_error_is_closed(self):
         self.assertEqual(self.shell("./facet-read --prove 2>&-"), (0, "", ""))
         self.assertEqual(self.read("types.rs")[0], WORD)
+
+
+class Gate(Repository):
+    """What `rt ci` leaves, which `test` calls."""
+
+    def ci(self, last, before=""):
+        """Has `test` call `rt ci`, which ends with this line, and gives how many tests failed."""
+        text = (TOP / "test").read_text().replace("sys.exit(main())", "print(ci().failed)")
+        (self.top / "test").write_text(text)
+        (self.top / "crates" / NAME / "src" / "main.rt").touch()
+        self.environment |= {"LAST": last, "BEFORE": before}
+        status, output, said = self.call("python3", "test")
+        self.assertEqual(status, 0, said)
+        return int(output.splitlines()[-1])
+
+    def expect_proved(self, wanted):
+        """The program counts as proved, or does not."""
+        _, _, said = self.read("types.rs")
+        self.assertEqual("without proofs" not in said, wanted, said)
+
+    def test_a_program_that_it_builds_is_proved(self):
+        self.assertEqual(self.ci("5 passed, 0 failed"), 0)
+        self.expect_proved(True)
+
+    def test_one_that_it_builds_where_another_fails(self):
+        self.assertEqual(self.ci("5 passed, 2 failed"), 2)
+        self.expect_proved(True)
+
+    def test_one_that_it_does_not_build_is_not(self):
+        self.prove()
+        self.assertEqual(self.ci("0 passed, 1 failed", before="echo $LAST; exit 1"), 1)
+        self.expect_proved(False)
+
+    def test_one_that_it_may_have_built_in_part_is_not(self):
+        self.assertEqual(self.ci("Killed"), 1)
+        self.expect_proved(False)
+
+    def test_one_whose_source_changed_meanwhile_is_not(self):
+        more = "echo more >>../middle/specs/deep/file"
+        self.assertEqual(self.ci("5 passed, 0 failed", before=more), 0)
+        self.expect_proved(False)
 
 
 class Progress(unittest.TestCase):
