@@ -14,7 +14,7 @@ use Rattle.facet_solver_types.specs.declared.fault.Fault.TheVariants.{At}
 use Rattle.facet_solver_types.specs.declared.problem.Expected.TheVariants as expected
 use Rattle.facet_solver_types.specs.declared.problem.Problem.TheVariants as problem
 use Rattle.facet_solver_shape.specs.declared.shape.DomMark.TheVariants as dom
-use Rattle.facet_solver_types.specs.AttributeEntries.{entries_from}
+use Rattle.facet_solver_types.specs.AttributeEntries.{entries_from, parts_from}
 use Rattle.facet_solver_types.specs.AttributeLists.{attributes}
 use Rattle.facet_solver_types.specs.Characters.{blank_len, continues_name}
 use Rattle.facet_solver_types.specs.FirstParts.{first_part, first_token, gap_len}
@@ -128,14 +128,33 @@ pub passed_rows :
     ≡ Ok (means.Nothing ∷ []))
     × (meanings on.Enum (codes "#[derive(Debug)]")
     ≡ Ok ([]))
-    × (meanings on.Enum (codes "#[cfg_attr(x, y)]")
-    ≡ Ok ([]))
     × (meanings on.NamedField (codes "#[serde(default)] #[facet(flatten)]")
     ≡ Ok (means.Default ∷ means.Flatten ∷ []))
     × (meanings on.NamedField (codes "#[serde(rename = \"x\")] #[facet(rename = r\"x\")]")
     ≡ Ok (means.Rename ∷ means.Rename ∷ []))
 unfolding tokens_from first_part first_token gap_len blank_len continues_name is_keyword mark opening_of text_token begins_character character same_bracket entries_from begins_attribute run_from nest_after pieces_from chars encode
-passed_rows = (refl, refl, refl, refl, refl, refl)
+passed_rows = (refl, refl, refl, refl, refl)
+
+-- what a `cfg_attr` holds counts as if it stood alone, and its condition is not asked
+pub cfg_attr_rows :
+    (meanings on.NamedField (codes "#[cfg_attr(x, serde(default))]")
+    ≡ Ok (means.Default ∷ []))
+    × (meanings on.NamedField (codes "#[cfg_attr(all(a, b = \"c\"), serde(rename = \"x\"), y, facet(default))] #[serde(skip)]")
+    ≡ Ok (means.Rename ∷ means.Default ∷ means.Skip ∷ []))
+    × (meanings on.Enum (codes "#[cfg_attr(a, cfg_attr(b, serde(tag = \"t\")), serde(content = \"c\"),)]")
+    ≡ Ok (means.Tag ∷ means.Content ∷ []))
+    × (meanings on.Enum (codes "#[cfg_attr(x, derive(Debug), y)]")
+    ≡ Ok ([]))
+    × (meanings on.Enum (codes "#[cfg_attr(serde(untagged))] #[cfg_attr] #[cfg_attr()]")
+    ≡ Ok ([]))
+    × (meanings on.NamedField (codes "#[cfg_attr(x, serde(alias = \"y\"))]")
+    ≡ Err (At 20 (problem.Attribute (refusal.Misused misuse.Unsupported))))
+    × (meanings on.NamedField (codes "#[cfg_attr(x, serde)]")
+    ≡ Err (At 19 (problem.Expected expected.AttributeList)))
+    × (meanings on.NamedField (codes "#[cfg_attr(x, serde(rename = \"y\"), facet(rename = \"z\"))]")
+    ≡ Err (At 41 (problem.Attribute refusal.Clashes)))
+unfolding tokens_from first_part first_token gap_len blank_len continues_name is_keyword mark opening_of text_token begins_character character same_bracket entries_from parts_from begins_attribute run_from nest_after pieces_from chars encode
+cfg_attr_rows = (refl, refl, refl, refl, refl, refl, refl, refl)
 
 -- attributes that mean nothing there
 pub refused_rows :
@@ -157,10 +176,8 @@ pub refused_rows :
     ≡ Err (At 2 (problem.Attribute (refusal.Misused misuse.Unsupported))))
     × (meanings on.NamedField (codes "#[flatten]")
     ≡ Err (At 2 (problem.Attribute (refusal.Misused misuse.Unsupported))))
-    × (meanings on.Enum (codes "#[cfg_attr(x, serde(untagged))]")
-    ≡ Err (At 2 (problem.Attribute (refusal.Misused misuse.Unsupported))))
 unfolding tokens_from first_part first_token gap_len blank_len continues_name is_keyword mark opening_of text_token begins_character character same_bracket entries_from begins_attribute run_from nest_after pieces_from chars encode
-refused_rows = (refl, refl, refl, refl, refl, refl, refl, refl, refl, refl)
+refused_rows = (refl, refl, refl, refl, refl, refl, refl, refl, refl)
 
 -- values that are not taken
 pub value_rows :

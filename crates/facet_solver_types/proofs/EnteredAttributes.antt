@@ -1,7 +1,10 @@
 -- The entries of attributes, one attribute after another.
 use Rattle.std.proofs.Common.{◌≡◌, ℕ, zero, suc, ◌-◌, ◌<◌, true, false, cond, List, [], ◌∷◌, ◌++◌, length, drop, Ok, Err, refl, sym, ap, ◌∙◌, arith, append_assoc}
-use Rattle.facet_solver_types.specs.AttributeEntries.{Entries, entries_from, first_entries, joined}
+use Rattle.facet_solver_types.specs.AttributeEntries.{Entries, cfg_attr_entries, entries_from}
+use Rattle.facet_solver_types.specs.AttributeEntries.{entries_in, first_entries, joined, part_len}
+use Rattle.facet_solver_types.specs.AttributeEntries.{parts_from}
 use Rattle.facet_solver_types.specs.Entries.{Entry}
+use Rattle.facet_solver_types.specs.Passages.{Passage, after, up_to}
 use Rattle.facet_solver_types.specs.Prefixes.{attribute_len, begins_attribute}
 use Rattle.facet_solver_types.specs.Tokens.{Token}
 use Rattle.facet_solver_types.proofs.Listed.{before}
@@ -35,6 +38,43 @@ attribute_none [] other = refl
 attribute_none (t ∷ ts) other =
     ap (λ b. cond b (joined (first_entries (t ∷ ts))
     (entries_from (attribute_len false (t ∷ ts) - 1) ts)) (Ok [])) other
+
+-- the tokens of a part are passed over
+part_passed : (end n : ℕ) (ts : List Token) → parts_from end n ts ≡ parts_from end 0 (drop n ts)
+unfolding parts_from
+part_passed end zero ts = refl
+part_passed end (suc n) [] = refl
+part_passed end (suc n) (t ∷ ts) = part_passed end n ts
+
+-- a part of a `cfg_attr`, and those after it
+pub part_more : (len : ℕ) (left : Passage) → 0 < length left.tokens
+    → len ≡ part_len left.tokens → 0 < len
+    → cfg_attr_entries left ≡ joined (entries_in (up_to len left)) (cfg_attr_entries (after len left))
+unfolding parts_from
+part_more len left some is filled = more len left.tokens some is filled
+  where
+    more : (n : ℕ) (ts : List Token) → 0 < length ts → n ≡ part_len ts → 0 < n
+        → parts_from left.end 0 ts
+        ≡ joined (entries_in (up_to n (record { tokens = ts; end = left.end })))
+        (parts_from left.end 0 (drop n ts))
+    more n [] some is filled = absurd (omega arith)
+    more zero (t ∷ ts) some is filled = absurd (omega arith)
+    more (suc n) (t ∷ ts) some is filled =
+        let first : ℕ → Entries =
+        λ k. entries_in (up_to k (record { tokens = t ∷ ts; end = left.end })) in
+        let less : suc n - 1 ≡ n = omega arith in
+        ap (λ k. joined (first k) (parts_from left.end (k - 1) ts)) (sym is)
+        ∙ ap (λ k. joined (first (suc n)) (parts_from left.end k ts)) less
+        ∙ ap (joined (first (suc n))) (part_passed left.end n ts)
+
+-- no part is left
+pub part_none : (left : Passage) → length left.tokens ≡ 0 → cfg_attr_entries left ≡ Ok []
+unfolding parts_from
+part_none left none = over left.tokens none
+  where
+    over : (ts : List Token) → length ts ≡ 0 → parts_from left.end 0 ts ≡ Ok []
+    over [] none = refl
+    over (t ∷ ts) none = absurd (omega arith)
 
 -- those of one attribute more were read
 pub before_joined : (es more : List Entry) (later : Entries)

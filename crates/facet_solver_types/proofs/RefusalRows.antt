@@ -7,7 +7,7 @@ use Rattle.facet_solver_types.specs.declared.attribute.meaning.Subject.{Subject}
 use Rattle.facet_solver_types.specs.declared.attribute.meaning.Subject.TheVariants as on
 use Rattle.facet_solver_types.specs.declared.fault.Fault.{Fault}
 use Rattle.facet_solver_types.specs.declared.fault.Fault.TheVariants.{At, Catalogue, OutOfMemory}
-use Rattle.facet_solver_types.specs.AttributeEntries.{entries_from}
+use Rattle.facet_solver_types.specs.AttributeEntries.{entries_from, parts_from}
 use Rattle.facet_solver_types.specs.Attributes.{Attribute}
 use Rattle.facet_solver_types.specs.Characters.{blank_len, continues_name}
 use Rattle.facet_solver_types.specs.Errors.{met_at, problem_text}
@@ -68,9 +68,9 @@ pub outside_rows :
     ≡ codes "'flatten' cannot be said: write it in #[serde(..)]")
     × (told on.Enum (codes "#[serde(tag = \"t\")] #[untagged]")
     ≡ codes "'untagged' cannot be said: write it in #[serde(..)]")
-    × (told on.Enum (codes "#[cfg_attr(x, serde(untagged))]")
-    ≡ codes "'cfg_attr' cannot be said: write what is in it")
-unfolding tokens_from first_part first_token gap_len blank_len continues_name is_keyword mark opening_of text_token begins_character character same_bracket entries_from begins_attribute run_from nest_after pieces_from is_same chars encode
+    × (told on.Enum (codes "#[cfg_attr(x, untagged)]")
+    ≡ codes "'untagged' cannot be said: write it in #[serde(..)]")
+unfolding tokens_from first_part first_token gap_len blank_len continues_name is_keyword mark opening_of text_token begins_character character same_bracket entries_from parts_from begins_attribute run_from nest_after pieces_from is_same chars encode
 outside_rows = (refl, refl, refl, refl)
 
 -- a raw word is told as it is written, and helped as without `r#`

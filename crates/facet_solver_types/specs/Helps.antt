@@ -22,5 +22,4 @@ help_for word =
     ∷ (codes "opaque", codes "write proxy = T beside it")
     ∷ (codes "flatten", codes "write it in #[serde(..)]")
     ∷ (codes "untagged", codes "write it in #[serde(..)]")
-    ∷ (codes "cfg_attr", codes "write what is in it")
     ∷ []) (bare word)

@@ -24,7 +24,6 @@ pub(super) fn help_for(word: &str) -> Option<&'static str>
         "is_numeric" => Some("write each variant by its name"),
         "opaque" => Some("write proxy = T beside it"),
         "flatten" | "untagged" => Some("write it in #[serde(..)]"),
-        "cfg_attr" => Some("write what is in it"),
         _ => None,
     }
 }

@@ -1,6 +1,6 @@
 //! The entries of the attributes of serde and facet that stand before something.
-ghost use Rattle.std.specs.Prelude.{◌≡◌};
-ghost use Rattle.facet_solver_types.specs.AttributeEntries.{attribute_entries, entries_in, has_list, is_named, is_ours, is_refused, outside_entry, own_entries};
+ghost use Rattle.std.specs.Prelude.{◌≡◌, ◌<◌, ◌≤◌, IsTrue, length};
+ghost use Rattle.facet_solver_types.specs.AttributeEntries.{all_entries_in, attribute_entries, cfg_attr_entries, entries_in, is_named, is_ours, is_refused, outside_entry, own_entries, part_len, sees_cfg_attr};
 ghost use Rattle.facet_solver_types.specs.Entries.{entries_view, entry_view};
 ghost use Rattle.facet_solver_types.specs.Outcomes.{Gives};
 ghost use Rattle.facet_solver_types.specs.Passages.{passage_view};
@@ -10,6 +10,7 @@ use super::entry::{Entry, EntryValue, entries, value_at};
 use super::first::{is_name, sees_open};
 use super::inside::inside;
 use super::prefixes::{attribute_len, begins_attribute};
+use super::run::{Run, run_len};
 use crate::fault::Fault;
 use crate::passage::Passage;
 use crate::problem::Expected;
@@ -30,26 +31,11 @@ fn is_ours(token: &Token<'_>) -> bool
     is_named("serde", token) || is_named("facet", token)
 }
 
-/// Whether a list of serde or of facet stands somewhere among tokens.
-fn has_list(tokens: &[Token<'_>]) -> bool
-    ensures { result ≡ has_list (tokens_view tokens.now) }
-{
-    for at in 0..tokens.len() {
-        if is_ours(&tokens[at]) && sees_open(Bracket::Round, &tokens[at + 1..]) {
-            return true;
-        }
-    }
-    false
-}
-
 /// Whether an attribute of another name asks what only serde's or facet's own can say, by its name
 /// and what stands behind it.
 fn is_refused(name: &Token<'_>, behind: &[Token<'_>]) -> bool
     ensures { result ≡ is_refused (token_view name.now) (tokens_view behind.now) }
 {
-    if is_named("cfg_attr", name) {
-        return has_list(behind);
-    }
     if is_named("serde_as", name) {
         return sees_open(Bracket::Round, behind);
     }
@@ -98,6 +84,66 @@ fn entries_in<'s, 't>(alloc: Global, inner: Passage<'s, 't>) -> Result<Vec<Entry
     Ok(Vec::new(alloc))
 }
 
+/// Whether `cfg_attr` stands first, before a bracket.
+fn sees_cfg_attr(tokens: &[Token<'_>]) -> bool
+    ensures value { result ≡ sees_cfg_attr (tokens_view tokens.now) }
+    ensures two { IsTrue result → 1 < length tokens.now }
+{
+    match tokens.split_first() {
+        Some((name, behind)) => is_named("cfg_attr", name) && sees_open(Bracket::Round, behind),
+        None => false,
+    }
+}
+
+/// How many tokens the part of a `cfg_attr` has that stands first: its own name with the condition,
+/// an attribute, or one mark between these.
+fn part_len(tokens: &[Token<'_>]) -> usize
+    requires { 0 < length tokens.now }
+    ensures value { result ≡ part_len (tokens_view tokens.now) }
+    ensures within { (0 < result) × (result ≤ length tokens.now) }
+{
+    if sees_cfg_attr(tokens) {
+        return run_len(Run::Value, &tokens[2..]) + 2;
+    }
+    let len = run_len(Run::Value, tokens);
+    if len == 0 { 1 } else { len }
+}
+
+/// The entries of the attributes that a `cfg_attr` holds, as if each stood alone. Its condition is
+/// not asked, and what another in it holds stands among the others.
+fn cfg_attr_entries<'s, 't>(
+    alloc: Global,
+    inner: Passage<'s, 't>,
+) -> Result<Vec<Entry<'s, 't>>, Fault>
+    ensures { Gives (λ found. entries_view found.items)
+        (cfg_attr_entries (passage_view inner.entry)) result }
+{
+    let mut found = Vec::new(alloc);
+    let mut left = inner;
+    while !left.tokens.is_empty() {
+        let len = part_len(left.tokens);
+        let entries = entries_in(alloc, left.up_to(len))?;
+        found.extend_from_slice(&entries)?;
+        left = left.after(len);
+    }
+    Ok(found)
+}
+
+/// The entries of an attribute, by what stands in its brackets, and of those that it holds.
+fn all_entries_in<'s, 't>(
+    alloc: Global,
+    inner: Passage<'s, 't>,
+) -> Result<Vec<Entry<'s, 't>>, Fault>
+    ensures { Gives (λ found. entries_view found.items)
+        (all_entries_in (passage_view inner.entry)) result }
+{
+    if sees_cfg_attr(inner.tokens) {
+        cfg_attr_entries(alloc, inner)
+    } else {
+        entries_in(alloc, inner)
+    }
+}
+
 /// The entries of serde's and facet's attributes. Each attribute is closed, so that nothing is told
 /// of what stands after them.
 pub(crate) fn attribute_entries<'s, 't>(
@@ -113,7 +159,7 @@ pub(crate) fn attribute_entries<'s, 't>(
         end: 0,
     };
     while begins_attribute(false, left.tokens) {
-        let entries = entries_in(alloc, inside(left.after(1)))?;
+        let entries = all_entries_in(alloc, inside(left.after(1)))?;
         found.extend_from_slice(&entries)?;
         left = left.after(attribute_len(false, left.tokens));
     }

@@ -2,7 +2,7 @@ use Rattle.std.proofs.Common.{◌≡◌, ◌≢◌, ◌∙◌, ◌++◌, true, f
 use Rattle.std.proofs.Common.{append-nil}
 use Rattle.std.proofs.lemmas.List.{map-append}
 use Rattle.facet_solver_types.specs.declared.fault.Fault.TheVariants.{OutOfMemory}
-use Rattle.facet_solver_types.specs.AttributeEntries.{attribute_entries, entries_from, entries_in}
+use Rattle.facet_solver_types.specs.AttributeEntries.{all_entries_in, attribute_entries, entries_from}
 use Rattle.facet_solver_types.specs.AttributeEntries.{first_entries, joined}
 use Rattle.facet_solver_types.specs.Entries.{entries_view, entry_view}
 use Rattle.facet_solver_types.specs.Inside.{inside}
@@ -23,10 +23,10 @@ returns-in_err-entries c =
     let fault = c.in_err-entries.field-0.0 in
     let begins : begins_attribute false ts ≡ true =
     sym c.begins_attribute.ensures.value ∙ c.loop-left-test.true in
-    let first : first_entries ts ≡ entries_in (passage_view c.inside.result) =
-    ap (λ e. entries_in (inside (after 1 (passage_of e ts)))) {y = l.left.end} (sym l.invariant.end)
-    ∙ ap (λ p. entries_in (inside p)) (sym c.after.ensures.value)
-    ∙ ap entries_in (sym c.inside.ensures) in
+    let first : first_entries ts ≡ all_entries_in (passage_view c.inside.result) =
+    ap (λ e. all_entries_in (inside (after 1 (passage_of e ts)))) {y = l.left.end} (sym l.invariant.end)
+    ∙ ap (λ p. all_entries_in (inside p)) (sym c.after.ensures.value)
+    ∙ ap all_entries_in (sym c.inside.ensures) in
     let seen = view_len l.left.tokens.now in
     let filled = c.begins_attribute.ensures.some c.loop-left-test.true in
     let rest = entries_from 0 (drop (attribute_len false ts) ts) in
@@ -47,10 +47,10 @@ loop-left-preserved c =
     let more = entries_view c.in_ok-entries.entries.items in
     let begins : begins_attribute false ts ≡ true =
     sym c.begins_attribute.ensures.value ∙ c.loop-left-test.true in
-    let first : first_entries ts ≡ entries_in (passage_view c.inside.result) =
-    ap (λ e. entries_in (inside (after 1 (passage_of e ts)))) {y = l.left.end} (sym l.invariant.end)
-    ∙ ap (λ p. entries_in (inside p)) (sym c.after.ensures.value)
-    ∙ ap entries_in (sym c.inside.ensures) in
+    let first : first_entries ts ≡ all_entries_in (passage_view c.inside.result) =
+    ap (λ e. all_entries_in (inside (after 1 (passage_of e ts)))) {y = l.left.end} (sym l.invariant.end)
+    ∙ ap (λ p. all_entries_in (inside p)) (sym c.after.ensures.value)
+    ∙ ap all_entries_in (sym c.inside.ensures) in
     let seen = view_len l.left.tokens.now in
     let filled = c.begins_attribute.ensures.some c.loop-left-test.true in
     let rest = entries_from 0 (drop n ts) in
