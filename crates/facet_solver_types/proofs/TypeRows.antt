@@ -103,7 +103,7 @@ forms text =
     and_then (whole_type (record { declarations = some; this = name_at 0 (codes "User"); begin = 0 }) (record { tokens = ts; end = length text }))
     (λ mention. Ok (map (λ e. e.form) mention.entries)))
 
--- types that brackets make, and text behind `&`
+-- types that brackets make
 pub bracket_rows :
     (ids (codes "()") ≡ Ok (codes "()" ∷ codes "()" ∷ []))
     × (ids (codes "(u8)") ≡ Ok (codes "u8" ∷ codes "u8" ∷ []))
@@ -111,10 +111,21 @@ pub bracket_rows :
     × (ids (codes "(u8,u16)") ≡ Ok (codes "(u8, u16)" ∷ codes "(u8, u16)" ∷ codes "u8" ∷ codes "u16" ∷ []))
     × (ids (codes "[u8]") ≡ Ok (codes "[u8]" ∷ codes "[u8]" ∷ codes "u8" ∷ []))
     × (ids (codes "[u8;N*2]") ≡ Ok (codes "[u8; N * 2]" ∷ codes "[u8; N * 2]" ∷ codes "u8" ∷ []))
-    × (ids (codes "&str") ≡ Ok (codes "&str" ∷ codes "&str" ∷ []))
-    × (ids (codes "&'a str") ≡ Ok (codes "&str" ∷ codes "&str" ∷ []))
 unfolding tokens_from first_part first_token gap_len blank_len continues_name is_keyword mark opening_of text_token begins_character character same_bracket run_from nest_after pieces_from written_type front_len mentions
-bracket_rows = (refl, refl, refl, refl, refl, refl, refl, refl)
+bracket_rows = (refl, refl, refl, refl, refl, refl)
+
+-- types behind `&`: `str` and `[u8]` are texts, another is itself
+pub reference_rows :
+    (ids (codes "&str") ≡ Ok (codes "&str" ∷ codes "&str" ∷ []))
+    × (ids (codes "&'a str") ≡ Ok (codes "&str" ∷ codes "&str" ∷ []))
+    × (ids (codes "&'a [u8]") ≡ Ok (codes "&[u8]" ∷ codes "&[u8]" ∷ []))
+    × (forms (codes "&[u8]") ≡ Ok (form.scalar scalars.Str ∷ []))
+    × (ids (codes "&[u16]") ≡ Ok (codes "[u16]" ∷ codes "[u16]" ∷ codes "u16" ∷ []))
+    × (ids (codes "&'static u8") ≡ Ok (codes "u8" ∷ codes "u8" ∷ []))
+    × (ids (codes "&&str") ≡ Ok (codes "&str" ∷ codes "&str" ∷ []))
+    × (forms (codes "&Path") ≡ Ok (form.scalar scalars.String ∷ []))
+unfolding tokens_from first_part first_token gap_len blank_len continues_name is_keyword mark opening_of text_token begins_character character same_bracket run_from nest_after pieces_from written_type front_len mentions
+reference_rows = (refl, refl, refl, refl, refl, refl, refl, refl)
 
 -- types by names: paths and lifetimes are dropped, aliases followed, declared types left out
 pub name_rows :
@@ -144,6 +155,48 @@ pub form_rows :
 unfolding tokens_from first_part first_token gap_len blank_len continues_name is_keyword mark opening_of text_token begins_character character same_bracket run_from nest_after pieces_from written_type front_len mentions
 form_rows = (refl, refl, refl, refl, refl, refl, refl, refl, refl, refl, refl)
 
+-- types that are what the type in them is
+pub wrapper_rows :
+    (ids (codes "Mutex<Vec<u8>>") ≡ Ok (codes "Vec<u8>" ∷ codes "Vec<u8>" ∷ codes "u8" ∷ []))
+    × (ids (codes "RwLock<Self>") ≡ Ok (codes "User" ∷ []))
+    × (ids (codes "Cell<RefCell<u8>>") ≡ Ok (codes "u8" ∷ codes "u8" ∷ []))
+    × (ids (codes "cmp::Reverse<Id>") ≡ Ok (codes "u64" ∷ codes "u64" ∷ []))
+    × (ids (codes "Wrapping<Saturating<i8>>") ≡ Ok (codes "i8" ∷ codes "i8" ∷ []))
+    × (ids (codes "NonZero<u8>") ≡ Ok (codes "u8" ∷ codes "u8" ∷ []))
+    × (ids (codes "SmallVec<[u8; 4]>") ≡ Ok (codes "[u8; 4]" ∷ codes "[u8; 4]" ∷ codes "u8" ∷ []))
+    × (ids (codes "Cell<u8, u8>") ≡ Err (At 0 (OfType (problem.Takes arity.One))))
+unfolding tokens_from first_part first_token gap_len blank_len continues_name is_keyword mark opening_of text_token begins_character character same_bracket run_from nest_after pieces_from written_type front_len mentions
+wrapper_rows = (refl, refl, refl, refl, refl, refl, refl, refl)
+
+-- what is passed over behind the types that a name takes, or in it
+pub passed_rows :
+    (ids (codes "HashMap<u8, bool, S>")
+    ≡ Ok (codes "HashMap<u8, bool>" ∷ codes "HashMap<u8, bool>" ∷ codes "u8" ∷ codes "bool" ∷ []))
+    × (forms (codes "IndexSet<u8, S<u8>>")
+    ≡ Ok (form.set (codes "u8") ∷ form.scalar scalars.U8 ∷ []))
+    × (ids (codes "HashMap<u8, bool, S, A>") ≡ Err (At 0 (OfType (problem.Takes arity.Two))))
+    × (ids (codes "BTreeSet<u8, S>") ≡ Err (At 0 (OfType (problem.Takes arity.One))))
+    × (ids (codes "ArrayVec<u8, 4>") ≡ Ok (codes "[u8; 4]" ∷ codes "[u8; 4]" ∷ codes "u8" ∷ []))
+    × (ids (codes "ArrayVec<u8>") ≡ Err (At 0 (OfType (problem.Takes arity.Two))))
+    × (ids (codes "PhantomData<fn(T, U) -> V>") ≡ Ok (codes "()" ∷ codes "()" ∷ []))
+    × (forms (codes "PhantomData<T>") ≡ Ok (form.scalar scalars.Unit ∷ []))
+    × (ids (codes "PhantomData") ≡ Err (At 0 (OfType (problem.Takes arity.One))))
+unfolding tokens_from first_part first_token gap_len blank_len continues_name is_keyword mark opening_of text_token begins_character character same_bracket run_from nest_after pieces_from written_type front_len mentions
+passed_rows = (refl, refl, refl, refl, refl, refl, refl, refl, refl)
+
+-- values of any kind, numbers of any kind, and maps of these
+pub any_rows :
+    (forms (codes "JsonValue") ≡ Ok (form.dynamic ∷ []))
+    × (forms (codes "Box<RawValue>") ≡ Ok (form.pointer (codes "RawValue") ∷ form.dynamic ∷ []))
+    × (forms (codes "OwnedValue") ≡ Ok (form.dynamic ∷ []))
+    × (forms (codes "IgnoredAny") ≡ Ok (form.dynamic ∷ []))
+    × (forms (codes "Number") ≡ Ok (form.scalar scalars.F64 ∷ []))
+    × (forms (codes "serde_json::Map<String, Value>")
+    ≡ Ok (form.mapping (codes "String") (codes "Value")
+    ∷ form.scalar scalars.String ∷ form.dynamic ∷ []))
+unfolding tokens_from first_part first_token gap_len blank_len continues_name is_keyword mark opening_of text_token begins_character character same_bracket run_from nest_after pieces_from written_type front_len mentions
+any_rows = (refl, refl, refl, refl, refl, refl)
+
 -- what is no type
 pub fault_rows :
     (ids (codes "Strng") ≡ Err (At 0 (OfType problem.Unknown)))
@@ -157,7 +210,8 @@ pub fault_rows :
     × (ids (codes "Of") ≡ Err (At 0 Generic))
     × (ids (codes "dyn Any") ≡ Err (At 0 (Expected FieldType)))
     × (ids (codes "Box<dyn Any>") ≡ Err (At 4 (Expected FieldType)))
-    × (ids (codes "&u8") ≡ Err (At 0 (Expected FieldType)))
+    × (ids (codes "&mut u8") ≡ Err (At 1 (Expected FieldType)))
+    × (ids (codes "&'a") ≡ Err (At 3 (Expected FieldType)))
     × (ids (codes "u8 u16") ≡ Err (At 3 (Expected FieldType)))
     × (ids (codes "(u8) u16") ≡ Err (At 5 (Expected FieldType)))
     × (ids (codes "[]") ≡ Err (At 1 (Expected FieldType)))
@@ -165,7 +219,7 @@ pub fault_rows :
     × (ids (codes "a::") ≡ Err (At 3 (Expected FieldType)))
     × (ids (codes "Self::Item") ≡ Err (At 4 (Expected FieldType)))
 unfolding tokens_from first_part first_token gap_len blank_len continues_name is_keyword mark opening_of text_token begins_character character same_bracket run_from nest_after pieces_from written_type front_len mentions
-fault_rows = (refl, refl, refl, refl, refl, refl, refl, refl, refl, refl, refl, refl, refl, refl, refl, refl, refl, refl)
+fault_rows = (refl, refl, refl, refl, refl, refl, refl, refl, refl, refl, refl, refl, refl, refl, refl, refl, refl, refl, refl)
 
 -- an entry
 abbrev entry : List ℕ → Form → TypeEntry

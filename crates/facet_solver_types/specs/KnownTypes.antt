@@ -10,14 +10,14 @@ use Rattle.facet_solver_types.specs.declared.type_problem.Arity.TheVariants as a
 use Rattle.facet_solver_types.specs.declared.typing.known.Applied.{Applied}
 use Rattle.facet_solver_types.specs.declared.typing.known.Applied.TheVariants as made
 use Rattle.facet_solver_types.specs.declared.typing.known.Known.{Known}
-use Rattle.facet_solver_types.specs.declared.typing.known.Known.TheVariants.{Scalar, Dynamic, Cow, Applied as AppliedTo}
+use Rattle.facet_solver_types.specs.declared.typing.known.Known.TheVariants.{Scalar, Dynamic, Cow, Phantom, ArrayVec, Wrapper, Hashed, Applied as AppliedTo}
 
 -- texts: any text is read
 abbrev pub text : Name → Option ScalarType
 text =
     said_by ((codes "String", scalars.String) ∷ (codes "PathBuf", scalars.String)
-    ∷ (codes "OsString", scalars.String) ∷ (codes "IpAddr", scalars.String)
-    ∷ (codes "Ipv4Addr", scalars.String) ∷ (codes "Ipv6Addr", scalars.String)
+    ∷ (codes "Path", scalars.String) ∷ (codes "OsString", scalars.String)
+    ∷ (codes "IpAddr", scalars.String) ∷ (codes "Ipv4Addr", scalars.String) ∷ (codes "Ipv6Addr", scalars.String)
     ∷ (codes "SocketAddr", scalars.String) ∷ [])
 
 -- numbers with a sign, and texts
@@ -50,25 +50,50 @@ scalar name =
     option_or
     (said_by ((codes "bool", scalars.Bool) ∷ (codes "char", scalars.Char)
     ∷ (codes "str", scalars.Str) ∷ (codes "f32", scalars.F32)
-    ∷ (codes "f64", scalars.F64) ∷ []) name)
+    ∷ (codes "f64", scalars.F64) ∷ (codes "Number", scalars.F64) ∷ []) name)
     (unsigned name)
 
--- the types that take types
+-- what is made of types
 abbrev pub applied_type : Name → Option Applied
 applied_type =
     said_by ((codes "Option", made.Option)
     ∷ (codes "Vec", made.List) ∷ (codes "VecDeque", made.List)
     ∷ (codes "LinkedList", made.List) ∷ (codes "BinaryHeap", made.List)
-    ∷ (codes "HashSet", made.Set) ∷ (codes "BTreeSet", made.Set) ∷ (codes "IndexSet", made.Set)
-    ∷ (codes "HashMap", made.Map) ∷ (codes "BTreeMap", made.Map) ∷ (codes "IndexMap", made.Map)
+    ∷ (codes "BTreeSet", made.Set) ∷ (codes "BTreeMap", made.Map) ∷ (codes "Map", made.Map)
     ∷ (codes "Box", made.Pointer) ∷ (codes "Rc", made.Pointer) ∷ (codes "Arc", made.Pointer)
     ∷ [])
+
+-- what is made of types and may name a hasher behind them
+abbrev pub hashed_type : Name → Option Applied
+hashed_type =
+    said_by ((codes "HashSet", made.Set) ∷ (codes "IndexSet", made.Set)
+    ∷ (codes "HashMap", made.Map) ∷ (codes "IndexMap", made.Map) ∷ [])
+
+-- the types that take types
+abbrev pub made_type : Name → Option Known
+made_type name =
+    option_or (option_map Hashed (hashed_type name)) (option_map AppliedTo (applied_type name))
+
+-- the types that are what a document has for the type in them
+abbrev pub wrapper : Name → Option Known
+wrapper name =
+    option_or
+    (said_by ((codes "Cell", Wrapper) ∷ (codes "RefCell", Wrapper)
+    ∷ (codes "Mutex", Wrapper) ∷ (codes "RwLock", Wrapper)
+    ∷ (codes "Wrapping", Wrapper) ∷ (codes "Saturating", Wrapper)
+    ∷ (codes "Reverse", Wrapper) ∷ (codes "NonZero", Wrapper) ∷ (codes "SmallVec", Wrapper)
+    ∷ []) name)
+    (made_type name)
 
 -- the types that are no scalars
 abbrev pub other_type : Name → Option Known
 other_type name =
-    option_or (said_by ((codes "Value", Dynamic) ∷ (codes "Cow", Cow) ∷ []) name)
-    (option_map AppliedTo (applied_type name))
+    option_or
+    (said_by ((codes "Value", Dynamic) ∷ (codes "JsonValue", Dynamic)
+    ∷ (codes "RawValue", Dynamic) ∷ (codes "OwnedValue", Dynamic)
+    ∷ (codes "IgnoredAny", Dynamic) ∷ (codes "Cow", Cow)
+    ∷ (codes "PhantomData", Phantom) ∷ (codes "ArrayVec", ArrayVec) ∷ []) name)
+    (wrapper name)
 
 -- all of them
 abbrev pub known_type : Name → Option Known

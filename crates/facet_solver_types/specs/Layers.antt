@@ -1,5 +1,5 @@
 -- What a type is outside, with its name looked up, and the types in it.
-use Rattle.std.specs.Prelude.{ℕ, Bool, false, ◌&&◌, ◌==◌, if◌then◌else◌, List, [], ◌∷◌, length, codes, Option, Some, None, Result, Ok, Err}
+use Rattle.std.specs.Prelude.{ℕ, ◌+◌, Bool, false, ◌&&◌, ◌==◌, if◌then◌else◌, List, [], ◌∷◌, length, take, codes, Option, Some, None, Result, Ok, Err}
 use Rattle.facet_solver_shape.specs.Names.{Name}
 use Rattle.facet_solver_shape.specs.declared.shape.ScalarType.{ScalarType}
 use Rattle.facet_solver_shape.specs.declared.shape.ScalarType.TheVariants as scalars
@@ -22,7 +22,7 @@ use Rattle.facet_solver_types.specs.Pieces.{and_then}
 use Rattle.facet_solver_types.specs.Scopes.{Scope, find}
 use Rattle.facet_solver_types.specs.Tokens.{Token, tokens_view}
 use Rattle.facet_solver_types.specs.Understood.{Declaration, Declared, alias}
-use Rattle.facet_solver_types.specs.WrittenTypes.{NamedType, Written, is_str, passages_view, written_type, unit, enclosed, tuple as tuple_of, slice as slice_of, array as array_of, text, this, named}
+use Rattle.facet_solver_types.specs.WrittenTypes.{NamedType, Written, is_str, passages_view, written_type, unit, enclosed, tuple as tuple_of, slice as slice_of, array as array_of, text, bytes, this, named}
 
 -- what a type is outside: the one in it, a declared one, a scalar, a dynamic value, what a name
 -- makes of those in it, an array with its length, a slice or a tuple
@@ -97,6 +97,23 @@ abbrev pub is_text : List Passage → Bool
 is_text [] = false
 is_text (passage ∷ others) = is_str passage.tokens && length others == 0
 
+-- a type by a name without the hasher that may stand behind so many types
+abbrev pub without_hasher : Arity → NamedType → NamedType
+without_hasher arity n =
+    if length n.types == count_of arity + 1
+    then record n { types = take (count_of arity) n.types } else n
+
+-- what a name makes of the types that it takes
+abbrev pub made_of : Applied → NamedType → Result Layer Fault
+made_of kind n =
+    and_then (taken (arity_of kind) n)
+    (λ types. Ok (record { head = applied n.name.text kind; parts = types }))
+
+-- an array of the first of two types, where the second stands for its length; a name that takes two
+abbrev pub array_of_two : Token → List Passage → Result Layer Fault
+array_of_two name (item ∷ len ∷ []) = Ok (around (array len.tokens) item)
+array_of_two name types = Err (wrong name.offset (Takes arity.Two))
+
 -- a type that needs no declaration
 abbrev pub known_as : NamedType → Known → Result Layer Fault
 known_as n (known.Scalar kind) =
@@ -106,9 +123,13 @@ known_as n known.Dynamic =
 known_as n known.Cow =
     if is_text n.types then Ok (leaf (scalar (codes "Cow<str>") scalars.CowStr))
     else Err (wrong n.name.offset Unknown)
-known_as n (known.Applied kind) =
-    and_then (taken (arity_of kind) n)
-    (λ types. Ok (record { head = applied n.name.text kind; parts = types }))
+known_as n known.Phantom =
+    and_then (taken arity.One n) (λ types. Ok (leaf (scalar (codes "()") scalars.Unit)))
+known_as n known.ArrayVec = array_of_two n.name n.types
+known_as n known.Wrapper =
+    and_then (taken arity.One n) (λ types. Ok (record { head = same; parts = types }))
+known_as n (known.Hashed kind) = made_of kind (without_hasher (arity_of kind) n)
+known_as n (known.Applied kind) = made_of kind n
 
 -- a type by a name that is declared nowhere
 abbrev pub undeclared : NamedType → Option Known → Result Layer Fault
@@ -132,6 +153,7 @@ layer_of scope (tuple_of parts) = Ok (record { head = tuple; parts = parts })
 layer_of scope (slice_of item) = Ok (around slice item)
 layer_of scope (array_of item len) = Ok (around (array len) item)
 layer_of scope text = Ok (leaf (scalar (codes "&str") scalars.Str))
+layer_of scope bytes = Ok (leaf (scalar (codes "&[u8]") scalars.Str))
 layer_of scope this = Ok (leaf (declared scope.this.text))
 layer_of scope (named n) = named_layer scope n
 

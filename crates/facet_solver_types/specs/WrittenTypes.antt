@@ -12,7 +12,7 @@ use Rattle.facet_solver_types.specs.declared.problem.Expected.TheVariants as exp
 use Rattle.facet_solver_types.specs.declared.problem.Problem.TheVariants.{Expected}
 use Rattle.facet_solver_types.specs.declared.token.Bracket.TheVariants.{Round, Square}
 use Rattle.facet_solver_types.specs.Entries.{is_entry_word, is_over}
-use Rattle.facet_solver_types.specs.FirstTokens.{is_lifetime, is_name, is_path, sees_mark, sees_open, sees_path, sees_word}
+use Rattle.facet_solver_types.specs.FirstTokens.{is_lifetime, is_name, is_open, is_path, sees_mark, sees_open, sees_path, sees_word}
 use Rattle.facet_solver_types.specs.Inside.{inside}
 use Rattle.facet_solver_types.specs.Passages.{Passage, after, passage_view, unexpected, up_to}
 use Rattle.facet_solver_types.specs.Pieces.{and_then, pieces}
@@ -25,7 +25,8 @@ pub record NamedType : Type 0 where
   pub is_path : Bool
   pub types : List Passage
 
--- a type: `()`, `(T)`, a tuple, `[T]`, `[T; length]`, `&str`, `Self`, or one by a name
+-- a type: `()`, `(T)` or `&T`, a tuple, `[T]`, `[T; length]`, `&str`, `&[u8]`, `Self`, or one by a
+-- name
 pub data Written : Type 0 where
   unit : Written
   enclosed : Passage → Written
@@ -33,6 +34,7 @@ pub data Written : Type 0 where
   slice : Passage → Written
   array : Passage → List Token → Written
   text : Written
+  bytes : Written
   this : Written
   named : NamedType → Written
 
@@ -56,6 +58,7 @@ written_view (code.TheVariants.Tuple parts) = tuple (passages_view parts.items)
 written_view (code.TheVariants.Slice item) = slice (passage_view item)
 written_view (code.TheVariants.Array item len) = array (passage_view item) (tokens_view len.now)
 written_view code.TheVariants.Text = text
+written_view code.TheVariants.Bytes = bytes
 written_view code.TheVariants.This = this
 written_view (code.TheVariants.Named n) = named (named_view n)
 
@@ -95,12 +98,21 @@ sees_lifetime (token ∷ tokens) = is_lifetime token.kind
 abbrev pub lifetime_len : List Token → ℕ
 lifetime_len tokens = if sees_lifetime tokens then 1 else 0
 
--- a type after `&`, maybe with a lifetime: it is `str`
-abbrev pub reference : Passage → Result Written Fault
-reference passage =
-    let rest = drop 1 passage.tokens in
-    if is_str (drop (lifetime_len rest) rest) then Ok text
-    else Err (unexpected expected.FieldType passage)
+-- whether tokens are `[u8]`
+abbrev pub is_bytes : List Token → Bool
+is_bytes (first ∷ item ∷ last ∷ []) =
+    is_open Square first.kind && is_name item.kind && bytes_eq item.text (codes "u8")
+is_bytes tokens = false
+
+-- what stands behind a `&`: `str` and `[u8]` are texts then, another type is itself
+abbrev pub referred : Passage → Written
+referred held =
+    if is_str held.tokens then text
+    else (if is_bytes held.tokens then bytes else enclosed held)
+
+-- a type after `&`, maybe with a lifetime
+abbrev pub reference : Passage → Written
+reference passage = referred (after (lifetime_len (drop 1 passage.tokens)) (after 1 passage))
 
 -- `Self`, alone
 abbrev pub this_type : Passage → Result Written Fault
@@ -174,6 +186,6 @@ written_type passage =
     then and_then (held_by passage) (λ held. Ok (in_round held))
     else (if sees_open Square passage.tokens
     then and_then (held_by passage) (λ held. Ok (in_square held))
-    else (if sees_mark 38 passage.tokens then reference passage
+    else (if sees_mark 38 passage.tokens then Ok (reference passage)
     else (if sees_word (codes "Self") passage.tokens then this_type passage
     else path_type passage)))

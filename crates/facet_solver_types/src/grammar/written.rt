@@ -4,10 +4,12 @@ ghost use Rattle.facet_solver_types.specs.Outcomes.{Gives};
 ghost use Rattle.facet_solver_types.specs.Passages.{passage_view};
 ghost use Rattle.facet_solver_types.specs.Pieces.{pieces};
 ghost use Rattle.facet_solver_types.specs.Tokens.{token_view, tokens_view};
-ghost use Rattle.facet_solver_types.specs.WrittenTypes.{front_len, goes_on, has_angles, held_by, in_angles, in_round, in_square, is_lifetime_alone, is_str, lifetime_len, named_after, passages_view, path_type, reference, sees_lifetime, this_type, type_name, types_after, without_lifetimes, written_type, written_view};
+ghost use Rattle.facet_solver_types.specs.WrittenTypes.{front_len, goes_on, has_angles, held_by, in_angles, in_round, in_square, is_bytes, is_lifetime_alone, is_str, lifetime_len, named_after, passages_view, path_type, reference, referred, sees_lifetime, this_type, type_name, types_after, without_lifetimes, written_type, written_view};
 
 use super::entry::is_entry_word;
-use super::first::{is_lifetime, is_name, is_path, sees_mark, sees_open, sees_path, sees_word};
+use super::first::{
+    is_lifetime, is_name, is_open, is_path, sees_mark, sees_open, sees_path, sees_word,
+};
 use super::inside::inside;
 use super::run::{Run, group_len, run_len};
 use crate::fault::Fault;
@@ -32,7 +34,7 @@ pub(crate) struct NamedType<'s, 't> {
 pub(crate) enum Written<'s, 't> {
     /// `()`.
     Unit,
-    /// In `( )`: the type that stands in them.
+    /// In `( )`, or behind a `&`: the type that stands there.
     Enclosed(Passage<'s, 't>),
     /// A tuple of these types.
     Tuple(Vec<Passage<'s, 't>>),
@@ -42,6 +44,8 @@ pub(crate) enum Written<'s, 't> {
     Array(Passage<'s, 't>, &'s [Token<'t>]),
     /// `&str`.
     Text,
+    /// `&[u8]`.
+    Bytes,
     /// `Self`.
     This,
     /// One by a name.
@@ -135,17 +139,38 @@ fn lifetime_len(tokens: &[Token<'_>]) -> usize
     if sees_lifetime(tokens) { 1 } else { 0 }
 }
 
-/// A type after `&`, maybe with a lifetime: it is `str`.
-fn reference<'s, 't>(passage: Passage<'s, 't>) -> Result<Written<'s, 't>, Fault>
-    requires { 0 < length passage.tokens.now }
-    ensures { Gives written_view (reference (passage_view passage.entry)) result }
+/// Whether tokens are `[u8]`.
+fn is_bytes(tokens: &[Token<'_>]) -> bool
+    ensures { result ≡ is_bytes (tokens_view tokens.now) }
 {
-    let rest = &passage.tokens[1..];
-    if is_str(&rest[lifetime_len(rest)..]) {
-        Ok(Written::Text)
-    } else {
-        Err(passage.unexpected(Expected::FieldType))
+    match tokens {
+        [first, item, _] => {
+            is_open(Bracket::Square, first.kind) && is_name(item.kind) && item.text == "u8"
+        }
+        _ => false,
     }
+}
+
+/// What stands behind a `&`: `str` and `[u8]` are texts then, another type is itself.
+fn referred<'s, 't>(held: Passage<'s, 't>) -> Written<'s, 't>
+    ensures { written_view result ≡ referred (passage_view held.entry) }
+{
+    if is_str(held.tokens) {
+        Written::Text
+    } else if is_bytes(held.tokens) {
+        Written::Bytes
+    } else {
+        Written::Enclosed(held)
+    }
+}
+
+/// A type after `&`, maybe with a lifetime.
+fn reference<'s, 't>(passage: Passage<'s, 't>) -> Written<'s, 't>
+    requires { 0 < length passage.tokens.now }
+    ensures { written_view result ≡ reference (passage_view passage.entry) }
+{
+    let rest = passage.after(1);
+    referred(rest.after(lifetime_len(rest.tokens)))
 }
 
 /// `Self`, alone.
@@ -299,7 +324,7 @@ pub(crate) fn written_type<'s, 't>(
         return Ok(in_square(held));
     }
     if sees_mark(b'&', passage.tokens) {
-        return reference(passage);
+        return Ok(reference(passage));
     }
     if sees_word("Self", passage.tokens) {
         return this_type(passage);

@@ -28,6 +28,14 @@ pub(crate) enum Known {
     Dynamic,
     /// A text that may be borrowed. It takes `str` alone.
     Cow,
+    /// Nothing, whatever type it takes.
+    Phantom,
+    /// An array of the type that it takes, as long as what stands behind that says.
+    ArrayVec,
+    /// What the type is that it takes.
+    Wrapper,
+    /// What may name a hasher behind the types that it takes.
+    Hashed(Applied),
     Applied(Applied),
 }
 
@@ -46,9 +54,45 @@ fn other_type(name: &str) -> Option<Known>
     ensures { result ≡ known_types.other_type name.now }
 {
     match name {
-        "Value" => Some(Known::Dynamic),
+        "Value" | "JsonValue" | "RawValue" | "OwnedValue" => Some(Known::Dynamic),
+        "IgnoredAny" => Some(Known::Dynamic),
         "Cow" => Some(Known::Cow),
-        _ => applied_type(name).map(|kind| Known::Applied(kind)),
+        "PhantomData" => Some(Known::Phantom),
+        "ArrayVec" => Some(Known::ArrayVec),
+        _ => wrapper(name),
+    }
+}
+
+/// The type of a name that is what the type in it is, or else that is made of types.
+fn wrapper(name: &str) -> Option<Known>
+    ensures { result ≡ known_types.wrapper name.now }
+{
+    match name {
+        "Cell" | "RefCell" | "Mutex" | "RwLock" => Some(Known::Wrapper),
+        "Wrapping" | "Saturating" | "Reverse" => Some(Known::Wrapper),
+        "NonZero" | "SmallVec" => Some(Known::Wrapper),
+        _ => made_type(name),
+    }
+}
+
+/// The type of a name that takes types.
+fn made_type(name: &str) -> Option<Known>
+    ensures { result ≡ known_types.made_type name.now }
+{
+    match hashed_type(name) {
+        Some(kind) => Some(Known::Hashed(kind)),
+        None => applied_type(name).map(|kind| Known::Applied(kind)),
+    }
+}
+
+/// What a name makes of the types that it takes, and may name a hasher behind them.
+fn hashed_type(name: &str) -> Option<Applied>
+    ensures { result ≡ known_types.hashed_type name.now }
+{
+    match name {
+        "HashSet" | "IndexSet" => Some(Applied::Set),
+        "HashMap" | "IndexMap" => Some(Applied::Map),
+        _ => None,
     }
 }
 
@@ -59,8 +103,8 @@ fn applied_type(name: &str) -> Option<Applied>
     match name {
         "Option" => Some(Applied::Option),
         "Vec" | "VecDeque" | "LinkedList" | "BinaryHeap" => Some(Applied::List),
-        "HashSet" | "BTreeSet" | "IndexSet" => Some(Applied::Set),
-        "HashMap" | "BTreeMap" | "IndexMap" => Some(Applied::Map),
+        "BTreeSet" => Some(Applied::Set),
+        "BTreeMap" | "Map" => Some(Applied::Map),
         "Box" | "Rc" | "Arc" => Some(Applied::Pointer),
         _ => None,
     }
@@ -75,7 +119,7 @@ fn scalar(name: &str) -> Option<ScalarType>
         "char" => Some(ScalarType::Char),
         "str" => Some(ScalarType::Str),
         "f32" => Some(ScalarType::F32),
-        "f64" => Some(ScalarType::F64),
+        "f64" | "Number" => Some(ScalarType::F64),
         _ => unsigned(name),
     }
 }
@@ -115,7 +159,7 @@ fn text(name: &str) -> Option<ScalarType>
     ensures { result ≡ known_types.text name.now }
 {
     match name {
-        "String" | "PathBuf" | "OsString" => Some(ScalarType::String),
+        "String" | "PathBuf" | "Path" | "OsString" => Some(ScalarType::String),
         "IpAddr" | "Ipv4Addr" | "Ipv6Addr" | "SocketAddr" => Some(ScalarType::String),
         _ => None,
     }

@@ -5,6 +5,7 @@ ghost use Rattle.facet_solver_types.specs.Layers.{layer_view};
 ghost use Rattle.facet_solver_types.specs.Outcomes.{Gives};
 ghost use Rattle.facet_solver_types.specs.Passages.{passage_view};
 ghost use Rattle.facet_solver_types.specs.Scopes.{declared_view, scope_view};
+ghost use Rattle.facet_solver_types.specs.Tokens.{token_view};
 ghost use Rattle.facet_solver_types.specs.Understood.{declared_view as what_view};
 ghost use Rattle.facet_solver_types.specs.WrittenTypes.{named_view, passages_view, written_view};
 
@@ -147,6 +148,53 @@ fn is_text(types: &[Passage<'_, '_>]) -> bool
     }
 }
 
+/// A type by a name without the hasher that may stand behind so many types.
+fn without_hasher<'d, 't>(arity: Arity, named: NamedType<'d, 't>) -> NamedType<'d, 't>
+    ensures { named_view result ≡ layers.without_hasher arity (named_view named.entry) }
+{
+    let count = count_of(arity);
+    let NamedType {
+        name,
+        is_path,
+        mut types,
+    } = named;
+    if types.len() == count + 1 {
+        types.truncate(count);
+    }
+    NamedType {
+        name,
+        is_path,
+        types,
+    }
+}
+
+/// What a name makes of the types that it takes.
+fn made_of<'d, 't>(kind: Applied, named: NamedType<'d, 't>) -> Result<Layer<'d, 't>, Fault>
+    ensures { Gives layer_view (layers.made_of kind (named_view named.entry)) result }
+{
+    let name = named.name.text;
+    let parts = taken(arity_of(kind), named)?;
+    Ok(Layer {
+        head: Head::Applied(name, kind),
+        parts,
+    })
+}
+
+/// An array of the first of two types, where the second stands for its length.
+fn array_of_two<'d, 't>(
+    alloc: Global,
+    name: Token<'t>,
+    types: &[Passage<'d, 't>],
+) -> Result<Layer<'d, 't>, Fault>
+    ensures { Gives layer_view
+        (layers.array_of_two (token_view name.entry) (passages_view types.now)) result }
+{
+    match types {
+        [item, len] => Ok(around(alloc, Head::Array(len.tokens), *item)?),
+        _ => Err(wrong(name, TypeProblem::Takes(Arity::Two))),
+    }
+}
+
 /// A type that needs no declaration.
 fn known_as<'d, 't>(
     alloc: Global,
@@ -172,13 +220,17 @@ fn known_as<'d, 't>(
                 Err(wrong(name, TypeProblem::Unknown))
             }
         }
-        Known::Applied(kind) => {
-            let parts = taken(arity_of(kind), named)?;
-            Ok(Layer {
-                head: Head::Applied(name.text, kind),
-                parts,
-            })
+        Known::Phantom => {
+            let _passed_over = taken(Arity::One, named)?;
+            Ok(leaf(alloc, Head::Scalar("()", ScalarType::Unit)))
         }
+        Known::ArrayVec => array_of_two(alloc, name, &named.types),
+        Known::Wrapper => Ok(Layer {
+            head: Head::Same,
+            parts: taken(Arity::One, named)?,
+        }),
+        Known::Hashed(kind) => made_of(kind, without_hasher(arity_of(kind), named)),
+        Known::Applied(kind) => made_of(kind, named),
     }
 }
 
@@ -220,6 +272,7 @@ fn layer_of<'d, 't>(
         Written::Slice(item) => Ok(around(alloc, Head::Slice, item)?),
         Written::Array(item, len) => Ok(around(alloc, Head::Array(len), item)?),
         Written::Text => Ok(leaf(alloc, Head::Scalar("&str", ScalarType::Str))),
+        Written::Bytes => Ok(leaf(alloc, Head::Scalar("&[u8]", ScalarType::Str))),
         Written::This => Ok(leaf(alloc, Head::Declared(scope.this.text))),
         Written::Named(named) => named_layer(alloc, scope, named),
     }
