@@ -29,9 +29,10 @@ COMMENT = re.compile(r"/\*|\*/")
 OPEN = {"(": ")", "[": "]", "{": "}"}
 CLOSE = set(OPEN.values())
 KINDS = ("struct", "enum")
+NOT_SERDE = {"rkyv", "miniserde"}  # Crates with a Deserialize that is not serde's.
 ROOTS = ("lib", "main")  # Files that are the root of a crate.
 # Names that mean the same in each module that declares no other.
-PRELUDE = {"Option", "Vec", "String", "Box", "Result", "Self", "Some", "None", "Ok", "Err"}
+PRELUDE = {"Option", "Vec", "String", "Box", "Result", "Self"}
 WORDS = {"dyn", "mut", "const", "fn", "impl", "for", "as", "unsafe", "extern", "ref", "where"}
 BASES = ("crate", "self", "super")  # What a path begins with that is of its own crate.
 ATTRIBUTES = ("serde", "facet")
@@ -55,16 +56,17 @@ class Item:
     is_top: bool  # Whether it stands in no mod or block of its file.
 
     @functools.cached_property
-    def derives(self):
-        """Whether it derives Deserialize."""
+    def derived(self):
+        """The paths ending in Deserialize of which a derive is asked."""
         lists = (it[1] for it in entries(self.attributes) if it[0] == "derive")
-        return any("Deserialize" in last_names(it) for it in lists)
+        found = {path for runs in lists for run in runs for path in paths(run)}
+        return {path for path in found if path[-1] == "Deserialize"}
 
     @functools.cached_property
     def is_generic(self):
-        """Whether it has type parameters, and not lifetimes alone."""
+        """Whether it has parameters other than lifetimes."""
         head = self.rest[: angles_end(self.rest, 0)]
-        return any(before.text in ("<", ",") and it.kind == "name" for before, it in pairs(head))
+        return any(before.text in "<," and it.kind == "name" for before, it in pairs(head))
 
     @functools.cached_property
     def needs(self):
@@ -142,11 +144,6 @@ def entries(attributes):
             yield from entries(inner[1:])
         else:
             yield name, inner or [rest]
-
-
-def last_names(runs):
-    """The last name of each path."""
-    return {run[-1].text for run in runs if run}
 
 
 def said(attributes):
@@ -278,6 +275,19 @@ class Source:
             self.named[item.name].append(item)
             for end in range(len(item.scope) + 1):
                 self.scopes.add(item.scope[:end])
+
+    def derives(self, item):
+        """Whether an item derives serde's Deserialize."""
+        return any(not NOT_SERDE & {*self.written(item.scope, it)} for it in item.derived)
+
+    def written(self, scope, path):
+        """A path with its first name as it is imported."""
+        for end in range(len(scope), -1, -1):
+            if (scope[:end], path[0]) in self.imports:
+                return (*self.imports[scope[:end], path[0]], *path[1:])
+            if end and not scope[end - 1].startswith("{"):
+                break
+        return path
 
     def look_up(self, scope, path, depth=0):
         """The declarations that a path means in a scope. None where it is of another crate."""
