@@ -19,14 +19,11 @@ const TYPES: &str = r#"
 
 /// What a text of JSON says of a job; or what is wrong with the types, the text, or the job.
 fn told(alloc: Global, types: &str, text: &str) -> Result<String, AllocError> {
-    let types = match Types::parse(alloc, types) {
+    let types = match Types::parse(alloc, types, Some("Job")) {
         Ok(types) => types,
         Err(error) => return error.to_string(alloc),
     };
-    let Some(root) = types.root() else {
-        return String::from_str(alloc, "several types are roots, or none");
-    };
-    match Reader::new(alloc, types.shapes(), root, Unknown::Refused) {
+    match Reader::new(alloc, types.shapes(), types.root(), Unknown::Refused) {
         Ok(reader) => told_by(alloc, &reader, text),
         Err(error) => error.to_string(alloc),
     }

@@ -21,6 +21,7 @@ mod probing;
 mod public_names;
 mod readme;
 mod resolution;
+mod rooted;
 mod runs;
 mod solving;
 mod texts;

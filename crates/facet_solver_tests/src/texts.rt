@@ -1,5 +1,6 @@
 //! What comes of texts of types, of which a file has many.
 
+use crate::rooted::{name_at, tuple_of};
 use facet_solver::{ShapeId, Shapes};
 use facet_solver_reader::{Reader, Unknown};
 use facet_solver_types::{Declarations, Problem, Types, TypesError};
@@ -34,7 +35,19 @@ pub fn run<R: AllocGlobal + Clock + Print>(rt: &R, file: &str) -> io::Result<()>
 
 /// The letter of a text.
 fn letter(alloc: Global, text: &str) -> &'static str {
-    match Types::parse(alloc, text) {
+    match Types::parse(alloc, text, None) {
+        Ok(types) => letter_of_types(alloc, &types).unwrap_or(REFUSED),
+        Err(error) => match tuple_of(alloc, &error) {
+            Ok(Some(root)) => letter_of_root(alloc, text, root.as_str()),
+            Ok(None) => letter_of_error(&error),
+            Err(AllocError) => REFUSED,
+        },
+    }
+}
+
+/// The letter of a text that is read for a root.
+fn letter_of_root(alloc: Global, text: &str, root: &str) -> &'static str {
+    match Types::parse(alloc, text, Some(root)) {
         Ok(types) => letter_of_types(alloc, &types).unwrap_or(REFUSED),
         Err(error) => letter_of_error(&error),
     }
@@ -44,13 +57,14 @@ fn letter(alloc: Global, text: &str) -> &'static str {
 /// printed so too.
 fn letter_of_types(alloc: Global, types: &Types) -> Result<&'static str, AllocError> {
     let text = printed(alloc, types.shapes())?;
-    let Ok(again) = Types::parse(alloc, text.as_str()) else {
+    let root = name_at(types.shapes(), types.root());
+    let Ok(again) = Types::parse(alloc, text.as_str(), Some(root)) else {
         return Ok("p");
     };
     if printed(alloc, again.shapes())? != text {
         return Ok("o");
     }
-    if !have_readers(alloc, types) {
+    if Reader::new(alloc, types.shapes(), types.root(), Unknown::Refused).is_err() {
         return Ok("r");
     }
     Ok(if have_one_order(types.shapes(), again.shapes()) {
@@ -65,38 +79,26 @@ fn printed(alloc: Global, shapes: &Shapes) -> Result<String, AllocError> {
     format!(in alloc; "{}", Declarations(shapes))
 }
 
-/// Whether documents can be read as each type that no other mentions.
-fn have_readers(alloc: Global, types: &Types) -> bool {
-    let shapes = types.shapes();
-    for root in types.roots() {
-        if Reader::new(alloc, shapes, *root, Unknown::Refused).is_err() {
-            return false;
-        }
-    }
-    true
-}
-
 /// Whether two catalogues have types of one name at each index.
 fn have_one_order(shapes: &Shapes, others: &Shapes) -> bool {
     for index in 0..shapes.len() {
-        if name_at(shapes, index) != name_at(others, index) {
+        let id = ShapeId::new(index);
+        if name_at(shapes, id) != name_at(others, id) {
             return false;
         }
     }
     true
-}
-
-fn name_at(shapes: &Shapes, index: usize) -> &str {
-    match shapes.get(ShapeId::new(index)) {
-        Some(shape) => shape.type_identifier.as_str(),
-        None => "",
-    }
 }
 
 /// The letter of a text that is refused.
 fn letter_of_error(error: &TypesError<'_>) -> &'static str {
     match error {
-        TypesError::Invalid { problem, .. } => letter_of_problem(*problem),
+        TypesError::Invalid(found) => match found.first() {
+            Some(first) => letter_of_problem(first.problem),
+            None => "?",
+        },
+        TypesError::Root { .. } => "R",
+        TypesError::Roots(_) => "V",
         TypesError::Catalogue(_) => "c",
         TypesError::OutOfMemory => REFUSED,
     }
@@ -111,7 +113,6 @@ fn letter_of_problem(problem: Problem) -> &'static str {
         Problem::OpenBracket => "B",
         Problem::ClosesNothing => "Z",
         Problem::Expected(_) => "E",
-        Problem::Generic => "G",
         Problem::Attribute(_) => "A",
         Problem::OfType(_) => "T",
         Problem::Shape(_) => "S",

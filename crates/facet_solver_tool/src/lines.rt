@@ -21,7 +21,7 @@ use crate::question::LinesQuestion;
 use crate::reply::tell;
 use crate::root::refused;
 use crate::status::Status;
-use crate::types::{no_root, no_types, root_of};
+use crate::types::no_types;
 use crate::{read, utf8};
 use each::{Stop, answer_each};
 use facet_solver_reader::Reader;
@@ -73,7 +73,7 @@ fn answer_text<I: Read, O: Write, E: Write + IsTerminal>(
         (streams (O.contents output.old) (E.contents errors.old))
         (streams (O.contents output.new) (E.contents errors.new)) result) }
 {
-    match Types::parse(alloc, text) {
+    match Types::parse(alloc, text, question.root) {
         Ok(types) => answer_types(alloc, input, output, errors, question, &types),
         Err(error) => tell(output, errors, no_types(alloc, question.types, &error)),
     }
@@ -94,11 +94,8 @@ fn answer_types<I: Read, O: Write, E: Write + IsTerminal>(
         (streams (O.contents output.old) (E.contents errors.old))
         (streams (O.contents output.new) (E.contents errors.new)) result) }
 {
-    let of_one = question.of_one();
-    match root_of(&of_one, types) {
-        Some(id) => answer_root(alloc, input, output, errors, question, types, id),
-        None => tell(output, errors, no_root(alloc, &of_one, types)),
-    }
+    let id = types.root();
+    answer_root(alloc, input, output, errors, question, types, id)
 }
 
 /// Answers about each line, as a root.

@@ -1,6 +1,4 @@
 //! What is asked.
-ghost use Rattle.std.specs.Prelude.{◌≡◌};
-ghost use Rattle.facet_solver_tool.specs.Questions.{lines_view, question_view};
 
 use facet_solver_reader::Unknown;
 
@@ -40,7 +38,7 @@ pub struct Question<'w> {
     pub task: Task,
     /// The path of the file that declares the types.
     pub types: &'w str,
-    /// The name of the root. Without it the root is the one type that no other mentions.
+    /// The root, which is any type. Without it the root is the one type that no other mentions.
     pub root: Option<&'w str>,
 }
 
@@ -52,22 +50,6 @@ pub struct LinesQuestion<'w> {
     pub unknown: Unknown,
     /// The path of the file that declares the types.
     pub types: &'w str,
-    /// The name of the root. Without it the root is the one type that no other mentions.
+    /// The root, which is any type. Without it the root is the one type that no other mentions.
     pub root: Option<&'w str>,
-}
-
-impl<'w> LinesQuestion<'w> {
-    /// The question about one of the documents.
-    pub fn of_one(&self) -> Question<'w>
-        ensures { question_view result ≡ lines_view self.now }
-    {
-        Question {
-            task: Task::Read(Manner {
-                unknown: self.unknown,
-                form: Form::Json,
-            }),
-            types: self.types,
-            root: self.root,
-        }
-    }
 }

@@ -16,8 +16,10 @@ use Rattle.facet_solver_types.specs.declared.problem.Problem.TheVariants as prob
 use Rattle.facet_solver_shape.specs.declared.shape.DomMark.TheVariants as dom
 use Rattle.facet_solver_types.specs.AttributeEntries.{entries_from, parts_from}
 use Rattle.facet_solver_types.specs.AttributeLists.{attributes}
+use Rattle.facet_solver_types.specs.Attributes.{Attribute}
 use Rattle.facet_solver_types.specs.Characters.{blank_len, continues_name}
 use Rattle.facet_solver_types.specs.FirstParts.{first_part, first_token, gap_len}
+use Rattle.facet_solver_types.specs.Gatherings.{Gathering}
 use Rattle.facet_solver_types.specs.Keywords.{is_keyword}
 use Rattle.facet_solver_types.specs.MarkTokens.{mark}
 use Rattle.facet_solver_types.specs.Pieces.{and_then, pieces_from}
@@ -27,11 +29,25 @@ use Rattle.facet_solver_types.specs.SameBracket.{same_bracket}
 use Rattle.facet_solver_types.specs.Texts.{begins_character, character, opening_of, text_token}
 use Rattle.facet_solver_types.specs.Tokens.{tokens, tokens_from}
 
+-- something, or the first of some faults
+abbrev unless_faulty : {A : Type 0} → List Fault → A → Result A Fault
+unless_faulty [] value = Ok value
+unless_faulty (fault ∷ others) value = Err fault
+
+-- what attributes mean, or the first fault of these
+abbrev meant : Gathering Attribute → Result (List Meaning) Fault
+meant found = unless_faulty found.faults (map (λ a. a.meaning) found.values)
+
 -- what the attributes of a text mean on a subject
 abbrev meanings : Subject → List ℕ → Result (List Meaning) Fault
-meanings subject text =
-    and_then (tokens text) (λ ts. and_then (attributes subject ts)
-    (λ found. Ok (map (λ a. a.meaning) found)))
+meanings subject text = and_then (tokens text) (λ ts. meant (attributes subject ts))
+
+-- what is wrong with the attributes of a text on a subject, and what the others mean
+abbrev all : Subject → List ℕ → Result (List Fault × List Meaning) Fault
+all subject text =
+    and_then (tokens text) (λ ts.
+    let found = attributes subject ts in
+    Ok (found.faults, map (λ a. a.meaning) found.values))
 
 -- on a field with a name
 pub field_rows :
@@ -91,8 +107,10 @@ pub struct_rows :
     ≡ Ok (means.DenyUnknownFields ∷ []))
     × (meanings on.NamedStruct (codes "#[serde(rename = \"x\")]")
     ≡ Ok (means.Nothing ∷ []))
+    × (meanings on.NamedStruct (codes "#[serde(tag = \"t\")]")
+    ≡ Ok (means.Nothing ∷ []))
 unfolding tokens_from first_part first_token gap_len blank_len continues_name is_keyword mark opening_of text_token begins_character character same_bracket entries_from begins_attribute run_from nest_after pieces_from chars encode
-struct_rows = (refl, refl, refl, refl, refl, refl, refl, refl)
+struct_rows = (refl, refl, refl, refl, refl, refl, refl, refl, refl)
 
 -- on an enum
 pub enum_rows :
@@ -107,7 +125,7 @@ pub enum_rows :
 unfolding tokens_from first_part first_token gap_len blank_len continues_name is_keyword mark opening_of text_token begins_character character same_bracket entries_from begins_attribute run_from nest_after pieces_from chars encode
 enum_rows = (refl, refl, refl, refl)
 
--- on a variant, and on a field of a tuple
+-- on a variant, on a field of a tuple, and on the one field of a tuple struct
 pub other_rows :
     (meanings on.Variant (codes "#[serde(rename = \"x\")]")
     ≡ Ok (means.Rename ∷ []))
@@ -117,8 +135,12 @@ pub other_rows :
     ≡ Ok (means.Skip ∷ []))
     × (meanings on.TupleField (codes "#[facet(proxy = String)]")
     ≡ Ok (means.Proxy ∷ []))
+    × (meanings on.TupleField (codes "#[serde(default = \"f\", skip, skip_deserializing)]")
+    ≡ Ok (means.Default ∷ means.Skip ∷ means.Skip ∷ []))
+    × (meanings on.NewtypeField (codes "#[serde(default, skip)] #[facet(proxy = String)]")
+    ≡ Ok (means.Nothing ∷ means.Nothing ∷ means.Proxy ∷ []))
 unfolding tokens_from first_part first_token gap_len blank_len continues_name is_keyword mark opening_of text_token begins_character character same_bracket entries_from begins_attribute run_from nest_after pieces_from chars encode
-other_rows = (refl, refl, refl, refl)
+other_rows = (refl, refl, refl, refl, refl, refl)
 
 -- what is passed over, and what is neither serde's nor facet's
 pub passed_rows :
@@ -166,7 +188,7 @@ pub refused_rows :
     ≡ Err (At 17 (problem.Attribute (refusal.Misused misuse.Unknown))))
     × (meanings on.Enum (codes "#[serde(flatten)]")
     ≡ Err (At 8 (problem.Attribute (refusal.Misused misuse.Misplaced))))
-    × (meanings on.NamedStruct (codes "#[serde(tag = \"t\")]")
+    × (meanings on.OtherStruct (codes "#[serde(tag = \"t\")]")
     ≡ Err (At 8 (problem.Attribute (refusal.Misused misuse.Misplaced))))
     × (meanings on.Variant (codes "#[serde(untagged)]")
     ≡ Err (At 8 (problem.Attribute (refusal.Misused misuse.Misplaced))))
@@ -183,6 +205,10 @@ refused_rows = (refl, refl, refl, refl, refl, refl, refl, refl, refl)
 pub value_rows :
     (meanings on.NamedField (codes "#[serde(rename)]")
     ≡ Err (At 8 (problem.Attribute (refusal.Takes form.Names))))
+    × (meanings on.NamedField (codes "#[serde(skip, default =, flatten)]")
+    ≡ Err (At 14 (problem.Attribute (refusal.Takes form.Default))))
+    × (meanings on.NamedField (codes "#[facet(metadata =)]")
+    ≡ Err (At 8 (problem.Attribute (refusal.Takes form.Value))))
     × (meanings on.NamedField (codes "#[serde(flatten = \"x\")]")
     ≡ Err (At 8 (problem.Attribute (refusal.Takes form.Nothing))))
     × (meanings on.Enum (codes "#[serde(tag = 3)]")
@@ -196,7 +222,7 @@ pub value_rows :
     × (meanings on.NamedField (codes "#[serde(rename = \"\\q\")]")
     ≡ Err (At 17 (problem.Attribute refusal.NoText)))
 unfolding tokens_from first_part first_token gap_len blank_len continues_name is_keyword mark opening_of text_token begins_character character same_bracket entries_from begins_attribute run_from nest_after pieces_from chars encode
-value_rows = (refl, refl, refl, refl, refl, refl, refl)
+value_rows = (refl, refl, refl, refl, refl, refl, refl, refl, refl)
 
 -- attributes that exclude each other
 pub clash_rows :
@@ -205,7 +231,7 @@ pub clash_rows :
     × (meanings on.Enum (codes "#[serde(content = \"c\")]")
     ≡ Err (At 8 (problem.Attribute refusal.NoTag)))
     × (meanings on.NamedField (codes "#[serde(flatten, rename = \"x\")]")
-    ≡ Err (At 17 (problem.Attribute refusal.Clashes)))
+    ≡ Ok (means.Flatten ∷ means.Rename ∷ []))
     × (meanings on.NamedField (codes "#[facet(text, element)]")
     ≡ Err (At 14 (problem.Attribute refusal.Clashes)))
     × (meanings on.NamedField (codes "#[serde(rename = \"x\", rename = \"y\")]")
@@ -252,3 +278,23 @@ pub syntax_rows :
     ≡ Err (At 13 (problem.Expected expected.Attribute)))
 unfolding tokens_from first_part first_token gap_len blank_len continues_name is_keyword mark opening_of text_token begins_character character same_bracket entries_from begins_attribute run_from nest_after pieces_from chars encode
 syntax_rows = (refl, refl, refl, refl, refl)
+
+-- each fault is told; what excludes others, or asks for one beside it, does so among those without
+pub fault_rows :
+    (all on.NamedField (codes "#[serde(fooled, default, alias = \"x\", flatten = 1)]")
+    ≡ Ok (
+      At 8 (problem.Attribute (refusal.Misused misuse.Unknown))
+          ∷ At 25 (problem.Attribute (refusal.Misused misuse.Unsupported))
+          ∷ At 38 (problem.Attribute (refusal.Takes form.Nothing)) ∷ [],
+      means.Default ∷ [],
+    ))
+    × (all on.Enum (codes "#[serde(tag = 3, content = \"c\", untagged)]")
+    ≡ Ok (
+      At 8 (problem.Attribute (refusal.Takes form.Text))
+          ∷ At 32 (problem.Attribute refusal.Clashes) ∷ [],
+      means.Content ∷ [],
+    ))
+    × (all on.NamedField (codes "#[serde(skip,, fooled)]")
+    ≡ Ok (At 13 (problem.Expected expected.Attribute) ∷ [], []))
+unfolding tokens_from first_part first_token gap_len blank_len continues_name is_keyword mark opening_of text_token begins_character character same_bracket entries_from begins_attribute run_from nest_after pieces_from chars encode
+fault_rows = (refl, refl, refl)

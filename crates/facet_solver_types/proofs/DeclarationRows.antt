@@ -15,31 +15,47 @@ use Rattle.facet_solver_types.specs.declared.attribute.value.Form.TheVariants as
 use Rattle.facet_solver_types.specs.declared.fault.Fault.{Fault}
 use Rattle.facet_solver_types.specs.declared.fault.Fault.TheVariants.{At}
 use Rattle.facet_solver_types.specs.declared.problem.Problem.TheVariants as problem
+use Rattle.facet_solver_types.specs.declared.type_problem.TypeProblem.TheVariants as type_problem
 use Rattle.facet_solver_types.specs.AttributeEntries.{entries_from}
 use Rattle.facet_solver_types.specs.Bodies.{variant}
 use Rattle.facet_solver_types.specs.Characters.{blank_len, continues_name}
 use Rattle.facet_solver_types.specs.Fields.{named_field}
 use Rattle.facet_solver_types.specs.FirstParts.{first_part, first_token, gap_len}
-use Rattle.facet_solver_types.specs.Items.{alias_of, enum_of, item, items, struct_of}
+use Rattle.facet_solver_types.specs.Items.{items, items_from, piece}
 use Rattle.facet_solver_types.specs.Keywords.{is_keyword}
-use Rattle.facet_solver_types.specs.Lifetimes.{lifetime_step, lifetimes_from}
 use Rattle.facet_solver_types.specs.MarkTokens.{mark}
+use Rattle.facet_solver_types.specs.NamedItems.{alias_of, enum_of, struct_of}
 use Rattle.facet_solver_types.specs.Pieces.{and_then, pieces_from}
 use Rattle.facet_solver_types.specs.Prefixes.{attributes_from, begins_attribute}
 use Rattle.facet_solver_types.specs.ReadItems.{declarations}
 use Rattle.facet_solver_types.specs.Runs.{nest_after, run_from}
 use Rattle.facet_solver_types.specs.SameBracket.{same_bracket}
 use Rattle.facet_solver_types.specs.Sought.{is_same}
-use Rattle.facet_solver_types.specs.Starts.{begins_head, begins_statement, item_len, items_from, path_from, path_step, start_of}
+use Rattle.facet_solver_types.specs.Starts.{begins_statement, item_len, named_call_len, path_from, path_step, qualified_start, qualifiers_len, run_and_end_len, start_of, visible_len, whole_call_len}
 use Rattle.facet_solver_types.specs.Texts.{begins_character, character, opening_of, text_token}
 use Rattle.facet_solver_types.specs.Tokens.{tokens, tokens_from}
-use Rattle.facet_solver_types.specs.Understood.{Declaration, Declared, DeclaredField, DeclaredVariant, Proxy, alias, enum, proxied, struct}
+use Rattle.facet_solver_types.specs.Understood.{Declaration, Declared, DeclaredField, DeclaredVariant, Proxy, alias, enum, proxied, struct, unread}
+use Rattle.facet_solver_types.specs.WrittenTypes.{front_len}
 
--- the declarations of a text
+-- the declarations of a text, with their faults
+abbrev declared : List ℕ → Result (List Declaration) Fault
+declared text =
+    and_then (tokens text) (λ ts.
+    and_then (items (record { tokens = ts; end = length text })) (λ found. Ok (declarations found)))
+
+-- all faults of the declarations of a text
+abbrev faults : List ℕ → Result (List Fault) Fault
+faults text = and_then (declared text) (λ found. Ok (flat_map (λ d. d.faults) found))
+
+-- declarations, or the first of some faults
+abbrev unless_faulty : List Fault → List Declaration → Result (List Declaration) Fault
+unless_faulty [] found = Ok found
+unless_faulty (fault ∷ others) found = Err fault
+
+-- the declarations of a text, or their first fault
 abbrev read : List ℕ → Result (List Declaration) Fault
 read text =
-    and_then (tokens text) (λ ts.
-    and_then (items (record { tokens = ts; end = length text })) declarations)
+    and_then (declared text) (λ found. unless_faulty (flat_map (λ d. d.faults) found) found)
 
 -- what is seen of declarations
 abbrev seen : {A : Type 0} → (Declaration → List A) → List ℕ → Result (List A) Fault
@@ -113,6 +129,7 @@ kind_of (struct kind fields transparent container) = codes "struct"
 kind_of (enum variants tagging) = codes "enum"
 kind_of (proxied proxies) = codes "proxied"
 kind_of (alias passage) = codes "alias"
+kind_of unread = codes "unread"
 
 -- the names of declarations, with that word
 abbrev kinds : List ℕ → Result (List (Name × Name)) Fault
@@ -144,12 +161,14 @@ pub name_rows :
     ≡ Ok ((codes "a", Some (codes "x")) ∷ []))
     × (names (codes "#[serde(rename_all = \"UPPERCASE\")] struct S { #[serde(flatten)] a: T }")
     ≡ Ok ((codes "a", None) ∷ []))
+    × (names (codes "struct S { #[serde(rename = \"x\", flatten)] a: T }")
+    ≡ Ok ((codes "a", None) ∷ []))
     × (names (codes "#[serde(rename_all = \"UPPERCASE\")] struct S(u8, u8);")
     ≡ Ok ((decimal 0, None) ∷ (decimal 1, None) ∷ []))
     × (names (codes "struct S { r#type: u8 }")
     ≡ Ok ((codes "type", None) ∷ []))
-unfolding alias_of attributes_from begins_attribute begins_character begins_head begins_statement blank_len character continues_name entries_from enum_of first_part first_token gap_len is_keyword is_same item item_len items_from lifetime_step lifetimes_from mark named_field nest_after opening_of path_from path_step pieces_from run_from same_bracket start_of struct_of text_token tokens_from variant chars encode
-name_rows = (refl, refl, refl, refl, refl, refl, refl, refl, refl, refl, refl)
+unfolding alias_of attributes_from begins_attribute begins_character begins_statement blank_len character chars continues_name encode entries_from enum_of first_part first_token front_len gap_len is_keyword is_same item_len items_from mark named_call_len named_field nest_after opening_of path_from path_step piece pieces_from qualified_start qualifiers_len run_and_end_len run_from same_bracket start_of struct_of text_token tokens_from variant visible_len whole_call_len
+name_rows = (refl, refl, refl, refl, refl, refl, refl, refl, refl, refl, refl, refl)
 
 -- what is said of fields: where `flatten` stands, `default`, `metadata` and a mark
 pub flag_rows :
@@ -165,7 +184,7 @@ pub flag_rows :
     ≡ Ok ((None, false, true, dom.None) ∷ (None, false, false, dom.Text) ∷ []))
     × (flags (codes "struct S(u8);")
     ≡ Ok ((None, false, false, dom.None) ∷ []))
-unfolding alias_of attributes_from begins_attribute begins_character begins_head begins_statement blank_len character continues_name entries_from enum_of first_part first_token gap_len is_keyword is_same item item_len items_from lifetime_step lifetimes_from mark named_field nest_after opening_of path_from path_step pieces_from run_from same_bracket start_of struct_of text_token tokens_from variant chars encode
+unfolding alias_of attributes_from begins_attribute begins_character begins_statement blank_len character chars continues_name encode entries_from enum_of first_part first_token front_len gap_len is_keyword is_same item_len items_from mark named_call_len named_field nest_after opening_of path_from path_step piece pieces_from qualified_start qualifiers_len run_and_end_len run_from same_bracket start_of struct_of text_token tokens_from variant visible_len whole_call_len
 flag_rows = (refl, refl, refl, refl, refl, refl)
 
 -- what is skipped is not there, and neither are fields that need not be there where one counts
@@ -184,7 +203,7 @@ pub left_out_rows :
     ≡ Ok [])
     × (variants (codes "enum E { #[serde(skip)] A, B }")
     ≡ Ok ((codes "B", codes "B", kind.Unit, []) ∷ []))
-unfolding alias_of attributes_from begins_attribute begins_character begins_head begins_statement blank_len character continues_name entries_from enum_of first_part first_token gap_len is_keyword is_same item item_len items_from lifetime_step lifetimes_from mark named_field nest_after opening_of path_from path_step pieces_from run_from same_bracket start_of struct_of text_token tokens_from variant chars encode
+unfolding alias_of attributes_from begins_attribute begins_character begins_statement blank_len character chars continues_name encode entries_from enum_of first_part first_token front_len gap_len is_keyword is_same item_len items_from mark named_call_len named_field nest_after opening_of path_from path_step piece pieces_from qualified_start qualifiers_len run_and_end_len run_from same_bracket start_of struct_of text_token tokens_from variant visible_len whole_call_len
 left_out_rows = (refl, refl, refl, refl, refl, refl)
 
 -- variants: their names, their kinds, and the names of their fields
@@ -207,7 +226,7 @@ pub variant_rows :
     × (variants (codes "#[serde(rename_all_fields = \"UPPERCASE\")] "
     ++ codes "enum E { #[serde(rename_all = \"kebab-case\")] A { b_c: u8 } }")
     ≡ Ok ((codes "A", codes "A", kind.Struct, Some (codes "b-c") ∷ []) ∷ []))
-unfolding alias_of attributes_from begins_attribute begins_character begins_head begins_statement blank_len character continues_name entries_from enum_of first_part first_token gap_len is_keyword is_same item item_len items_from lifetime_step lifetimes_from mark named_field nest_after opening_of path_from path_step pieces_from run_from same_bracket start_of struct_of text_token tokens_from variant chars encode
+unfolding alias_of attributes_from begins_attribute begins_character begins_statement blank_len character chars continues_name encode entries_from enum_of first_part first_token front_len gap_len is_keyword is_same item_len items_from mark named_call_len named_field nest_after opening_of path_from path_step piece pieces_from qualified_start qualifiers_len run_and_end_len run_from same_bracket start_of struct_of text_token tokens_from variant visible_len whole_call_len
 variant_rows = (refl, refl, refl, refl, refl, refl, refl)
 
 -- structs: their kind, how many fields they have, whether they stand for one, and for metadata
@@ -223,7 +242,7 @@ pub struct_rows :
     ≡ Ok ((kind.Struct, 1, true, false) ∷ []))
     × (structs (codes "#[facet(metadata_container)] struct S { a: u8 }")
     ≡ Ok ((kind.Struct, 1, false, true) ∷ []))
-unfolding alias_of attributes_from begins_attribute begins_character begins_head begins_statement blank_len character continues_name entries_from enum_of first_part first_token gap_len is_keyword is_same item item_len items_from lifetime_step lifetimes_from mark named_field nest_after opening_of path_from path_step pieces_from run_from same_bracket start_of struct_of text_token tokens_from variant chars encode
+unfolding alias_of attributes_from begins_attribute begins_character begins_statement blank_len character chars continues_name encode entries_from enum_of first_part first_token front_len gap_len is_keyword is_same item_len items_from mark named_call_len named_field nest_after opening_of path_from path_step piece pieces_from qualified_start qualifiers_len run_and_end_len run_from same_bracket start_of struct_of text_token tokens_from variant visible_len whole_call_len
 struct_rows = (refl, refl, refl, refl, refl)
 
 -- enums: how their variants are told
@@ -236,7 +255,7 @@ pub enum_rows :
     ≡ Ok ((Some (codes "t"), Some (codes "c"), false) ∷ []))
     × (taggings (codes "#[serde(untagged)] enum E { A }")
     ≡ Ok ((None, None, true) ∷ []))
-unfolding alias_of attributes_from begins_attribute begins_character begins_head begins_statement blank_len character continues_name entries_from enum_of first_part first_token gap_len is_keyword is_same item item_len items_from lifetime_step lifetimes_from mark named_field nest_after opening_of path_from path_step pieces_from run_from same_bracket start_of struct_of text_token tokens_from variant chars encode
+unfolding alias_of attributes_from begins_attribute begins_character begins_statement blank_len character chars continues_name encode entries_from enum_of first_part first_token front_len gap_len is_keyword is_same item_len items_from mark named_call_len named_field nest_after opening_of path_from path_step piece pieces_from qualified_start qualifiers_len run_and_end_len run_from same_bracket start_of struct_of text_token tokens_from variant visible_len whole_call_len
 enum_rows = (refl, refl, refl, refl)
 
 -- proxies: where each stands, its tokens with where they stand, and where they end
@@ -264,7 +283,7 @@ pub proxy_rows :
     ≡ Ok ((17, (25, codes "T") ∷ [], 25) ∷ []))
     × (proxies (codes "#[serde(from = \"\")] struct S;")
     ≡ Ok ((8, [], 15) ∷ []))
-unfolding alias_of attributes_from begins_attribute begins_character begins_head begins_statement blank_len character continues_name entries_from enum_of first_part first_token gap_len is_keyword is_same item item_len items_from lifetime_step lifetimes_from mark named_field nest_after opening_of path_from path_step pieces_from run_from same_bracket start_of struct_of text_token tokens_from variant chars encode
+unfolding alias_of attributes_from begins_attribute begins_character begins_statement blank_len character chars continues_name encode entries_from enum_of first_part first_token front_len gap_len is_keyword is_same item_len items_from mark named_call_len named_field nest_after opening_of path_from path_step piece pieces_from qualified_start qualifiers_len run_and_end_len run_from same_bracket start_of struct_of text_token tokens_from variant visible_len whole_call_len
 proxy_rows = (refl, refl, refl, refl, refl, refl)
 
 -- items: those that declare nothing are left out, and what is read as another type is not looked at
@@ -281,7 +300,7 @@ pub item_rows :
     × (strict (codes "#[serde(deny_unknown_fields)] "
     ++ codes "enum E { A } #[serde(deny_unknown_fields, from = \"E\")] struct S;")
     ≡ Ok (true ∷ true ∷ []))
-unfolding alias_of attributes_from begins_attribute begins_character begins_head begins_statement blank_len character continues_name entries_from enum_of first_part first_token gap_len is_keyword is_same item item_len items_from lifetime_step lifetimes_from mark named_field nest_after opening_of path_from path_step pieces_from run_from same_bracket start_of struct_of text_token tokens_from variant chars encode
+unfolding alias_of attributes_from begins_attribute begins_character begins_statement blank_len character chars continues_name encode entries_from enum_of first_part first_token front_len gap_len is_keyword is_same item_len items_from mark named_call_len named_field nest_after opening_of path_from path_step piece pieces_from qualified_start qualifiers_len run_and_end_len run_from same_bracket start_of struct_of text_token tokens_from variant visible_len whole_call_len
 item_rows = (refl, refl, refl, refl, refl)
 
 -- `opaque` without a proxy
@@ -296,7 +315,7 @@ pub opaque_rows :
     ≡ Err (At 19 (problem.Attribute (refusal.Misused misuse.Unsupported))))
     × (read (codes "struct S(#[facet(opaque)] u8);")
     ≡ Err (At 17 (problem.Attribute (refusal.Misused misuse.Unsupported))))
-unfolding alias_of attributes_from begins_attribute begins_character begins_head begins_statement blank_len character continues_name entries_from enum_of first_part first_token gap_len is_keyword is_same item item_len items_from lifetime_step lifetimes_from mark named_field nest_after opening_of path_from path_step pieces_from run_from same_bracket start_of struct_of text_token tokens_from variant chars encode
+unfolding alias_of attributes_from begins_attribute begins_character begins_statement blank_len character chars continues_name encode entries_from enum_of first_part first_token front_len gap_len is_keyword is_same item_len items_from mark named_call_len named_field nest_after opening_of path_from path_step piece pieces_from qualified_start qualifiers_len run_and_end_len run_from same_bracket start_of struct_of text_token tokens_from variant visible_len whole_call_len
 opaque_rows = (refl, refl, refl, refl, refl)
 
 -- `transparent` where not one field counts, or one is flattened
@@ -317,7 +336,7 @@ pub transparent_rows :
     ≡ Err (At 8 (problem.Attribute refusal.Flattens)))
     × (read (codes "#[serde(transparent)] enum E { A }")
     ≡ Err (At 8 (problem.Attribute (refusal.Misused misuse.Misplaced))))
-unfolding alias_of attributes_from begins_attribute begins_character begins_head begins_statement blank_len character continues_name entries_from enum_of first_part first_token gap_len is_keyword is_same item item_len items_from lifetime_step lifetimes_from mark named_field nest_after opening_of path_from path_step pieces_from run_from same_bracket start_of struct_of text_token tokens_from variant chars encode
+unfolding alias_of attributes_from begins_attribute begins_character begins_statement blank_len character chars continues_name encode entries_from enum_of first_part first_token front_len gap_len is_keyword is_same item_len items_from mark named_call_len named_field nest_after opening_of path_from path_step piece pieces_from qualified_start qualifiers_len run_and_end_len run_from same_bracket start_of struct_of text_token tokens_from variant visible_len whole_call_len
 transparent_rows = (refl, refl, refl, refl, refl, refl, refl, refl)
 
 -- names that are not ASCII, under a case
@@ -336,7 +355,7 @@ pub letter_rows :
     ≡ Ok (Some (codes "e") ∷ []))
     × (others (codes "struct S { " ++ (195 ∷ 169 ∷ codes ": u8 }"))
     ≡ Ok (None ∷ []))
-unfolding alias_of attributes_from begins_attribute begins_character begins_head begins_statement blank_len character continues_name entries_from enum_of first_part first_token gap_len is_keyword is_same item item_len items_from lifetime_step lifetimes_from mark named_field nest_after opening_of path_from path_step pieces_from run_from same_bracket start_of struct_of text_token tokens_from variant chars encode
+unfolding alias_of attributes_from begins_attribute begins_character begins_statement blank_len character chars continues_name encode entries_from enum_of first_part first_token front_len gap_len is_keyword is_same item_len items_from mark named_call_len named_field nest_after opening_of path_from path_step piece pieces_from qualified_start qualifiers_len run_and_end_len run_from same_bracket start_of struct_of text_token tokens_from variant visible_len whole_call_len
 letter_rows = (refl, refl, refl, refl, refl)
 
 -- texts that are no types, and the first of several faults
@@ -347,8 +366,8 @@ pub order_rows :
     ≡ Err (At 15 problem.ClosesNothing))
     × (read (codes "#[serde(from = \"a ` b\")] struct S;")
     ≡ Err (At 15 (problem.NoToken 96)))
-    × (read (codes "struct S { #[serde(skip, fooled)] a: u8 }")
-    ≡ Err (At 25 (problem.Attribute (refusal.Misused misuse.Unknown))))
+    × (names (codes "struct S { #[serde(skip, fooled)] a: u8 }")
+    ≡ Ok [])
     × (read (codes "struct S { #[serde(fooled)] a: u8, #[serde(alias = \"x\")] b: u8 }")
     ≡ Err (At 19 (problem.Attribute (refusal.Misused misuse.Unknown))))
     × (read (codes "#[serde(alias = \"x\")] struct S { #[serde(fooled)] a: u8 }")
@@ -359,9 +378,41 @@ pub order_rows :
     ≡ Err (At 44 (problem.Attribute refusal.NotAscii)))
     × (kinds (codes "enum E { #[serde(skip)] A { #[serde(fooled)] a: u8 } }")
     ≡ Ok ((codes "E", codes "enum") ∷ []))
-    × (read (codes "enum E { #[serde(flatten, skip)] A }")
-    ≡ Err (At 17 (problem.Attribute (refusal.Misused misuse.Misplaced))))
+    × (variants (codes "enum E { #[serde(flatten, skip)] A }")
+    ≡ Ok [])
     × (read (codes "#[serde(transparent)] struct S { a: u8, #[serde(fooled)] b: u8 }")
     ≡ Err (At 48 (problem.Attribute (refusal.Misused misuse.Unknown))))
-unfolding alias_of attributes_from begins_attribute begins_character begins_head begins_statement blank_len character continues_name entries_from enum_of first_part first_token gap_len is_keyword is_same item item_len items_from lifetime_step lifetimes_from mark named_field nest_after opening_of path_from path_step pieces_from run_from same_bracket start_of struct_of text_token tokens_from variant chars encode
+unfolding alias_of attributes_from begins_attribute begins_character begins_statement blank_len character chars continues_name encode entries_from enum_of first_part first_token front_len gap_len is_keyword is_same item_len items_from mark named_call_len named_field nest_after opening_of path_from path_step piece pieces_from qualified_start qualifiers_len run_and_end_len run_from same_bracket start_of struct_of text_token tokens_from variant visible_len whole_call_len
 order_rows = (refl, refl, refl, refl, refl, refl, refl, refl, refl, refl)
+
+-- skipped fields of tuples: those behind them move up, but for a lone one beside them
+pub tuple_rows :
+    (names (codes "struct S(#[serde(skip)] u8, u16, #[serde(default)] u32);")
+    ≡ Ok ((decimal 0, None) ∷ (decimal 1, None) ∷ []))
+    × (names (codes "struct S(u8, #[serde(skip)] u16);")
+    ≡ Ok ((decimal 1, None) ∷ []))
+    × (names (codes "struct S(#[serde(skip)] u8);")
+    ≡ Ok ((decimal 0, None) ∷ []))
+    × (structs (codes "#[serde(transparent)] struct S(u8, #[serde(skip)] u16);")
+    ≡ Ok ((kind.TupleStruct, 1, true, false) ∷ []))
+    × (structs (codes "#[serde(transparent)] struct S(u8, #[serde(default)] u16);")
+    ≡ Ok ((kind.TupleStruct, 1, true, false) ∷ []))
+    × (variants (codes "enum E { A(#[serde(skip)] u8), B(#[serde(skip)] u8, u16) }")
+    ≡ Ok ((codes "A", codes "A", kind.Tuple, [])
+    ∷ (codes "B", codes "B", kind.Tuple, None ∷ []) ∷ []))
+unfolding alias_of attributes_from begins_attribute begins_character begins_statement blank_len character chars continues_name encode entries_from enum_of first_part first_token front_len gap_len is_keyword is_same item_len items_from mark named_call_len named_field nest_after opening_of path_from path_step piece pieces_from qualified_start qualifiers_len run_and_end_len run_from same_bracket start_of struct_of text_token tokens_from variant visible_len whole_call_len
+tuple_rows = (refl, refl, refl, refl, refl, refl)
+
+-- all faults, field by field and variant by variant: those that have some are left out
+pub fault_rows :
+    (faults (codes "#[serde(alias = \"x\")] struct S { #[serde(fooled)] a: u8, #[serde(fooled)] b: T }")
+    ≡ Ok (At 8 (problem.Attribute (refusal.Misused misuse.Unsupported))
+    ∷ At 41 (problem.Attribute (refusal.Misused misuse.Unknown))
+    ∷ At 65 (problem.Attribute (refusal.Misused misuse.Unknown)) ∷ []))
+    × (faults (codes "enum E { #[serde(fooled)] A(#[serde(fooled)] u8), B(#[serde(fooled)] u8) } "
+    ++ codes "#[serde(fooled)] struct S;")
+    ≡ Ok (At 17 (problem.Attribute (refusal.Misused misuse.Unknown))
+    ∷ At 60 (problem.Attribute (refusal.Misused misuse.Unknown))
+    ∷ At 83 (problem.Attribute (refusal.Misused misuse.Unknown)) ∷ []))
+unfolding alias_of attributes_from begins_attribute begins_character begins_statement blank_len character chars continues_name encode entries_from enum_of first_part first_token front_len gap_len is_keyword is_same item_len items_from mark named_call_len named_field nest_after opening_of path_from path_step piece pieces_from qualified_start qualifiers_len run_and_end_len run_from same_bracket start_of struct_of text_token tokens_from variant visible_len whole_call_len
+fault_rows = (refl, refl)

@@ -6,11 +6,14 @@ pub mod Parts
 pub mod Turns
 pub mod WrittenTurns
 pub mod MentionTurns
-pub mod Every
+pub mod Settled
+pub mod Leads
+pub mod UseTurns
 pub mod ListedItems
+pub mod ListedParameters
 pub mod Paths
+pub mod Qualifiers
 pub mod Listed
-pub mod ListedLifetimes
 pub mod Views
 pub mod Attributes
 pub mod Columns
@@ -20,8 +23,8 @@ pub mod Pieces
 pub mod Digits
 pub mod EnteredAttributes
 pub mod ReadNames
-pub mod AttributeTurns
 pub mod GatherTurns
+pub mod GatheringTurns
 pub mod Decimals
 pub mod Numbered
 pub mod ReadBack
@@ -38,6 +41,5 @@ pub mod LiteralRows
 pub mod AttributeRows
 pub mod RefusalRows
 pub mod FaultRows
-pub mod TypeRows
 pub mod DeclarationRows
 pub mod ShapeRows

@@ -1,58 +1,76 @@
--- The items of a text, one at a time.
-use Rattle.std.proofs.Common.{◌≡◌, ℕ, zero, suc, ◌-◌, ◌<◌, List, [], ◌∷◌, ◌++◌, length, drop, Result, Ok, Err, refl, ap, sym, ◌∙◌, arith, append-nil}
+-- The items of a text, a piece at a time.
+use Rattle.std.proofs.Common.{◌≡◌, ℕ, zero, suc, ◌-◌, ◌<◌, List, [], ◌∷◌, ◌++◌, length, drop, Result, Ok, Err, refl, ap, sym, ◌∙◌, arith, append_assoc, append-nil}
 use Rattle.facet_solver_types.specs.declared.fault.Fault.{Fault}
 use Rattle.facet_solver_types.specs.Declarations.{Item}
+use Rattle.facet_solver_types.specs.Enclosings.{Enclosing, Piece, around_after, in_block, items_of}
+use Rattle.facet_solver_types.specs.Items.{items_from, items_in, piece, then_items}
 use Rattle.facet_solver_types.specs.Passages.{Passage, after, up_to}
-use Rattle.facet_solver_types.specs.Pieces.{each}
-use Rattle.facet_solver_types.specs.Starts.{item_len, item_pieces, items_from}
+use Rattle.facet_solver_types.specs.Pieces.{and_then}
+use Rattle.facet_solver_types.specs.Starts.{piece_len}
 use Rattle.facet_solver_types.specs.Tokens.{Token}
-use Rattle.facet_solver_types.proofs.Listed.{before, each_fault, each_more}
+use Rattle.facet_solver_types.proofs.Listed.{before}
+use Rattle.facet_solver_types.proofs.Views.{passage_of}
 
--- the tokens of an item are passed over
-passed : (end n : ℕ) (ts : List Token) → items_from end n ts ≡ items_from end 0 (drop n ts)
+-- the tokens of a piece are passed over
+passed : (around : List Enclosing) (end n : ℕ) (ts : List Token) → items_from around end n ts ≡ items_from around end 0 (drop n ts)
 unfolding items_from
-passed end zero ts = refl
-passed end (suc n) [] = refl
-passed end (suc n) (t ∷ ts) = passed end n ts
+passed around end zero ts = refl
+passed around end (suc n) [] = refl
+passed around end (suc n) (t ∷ ts) = passed around end n ts
 
--- the first item, and the others
-items_more : (p : Passage) → 0 < length p.tokens → 0 < item_len p.tokens → item_pieces p ≡ up_to (item_len p.tokens) p ∷ item_pieces (after (item_len p.tokens) p)
+-- those of a piece that has some
+on : (around : List Enclosing) (end n : ℕ) (t : Token) (ts : List Token) → 0 < n → items_from around end (n - 1) ts ≡ items_from around end 0 (drop n (t ∷ ts))
+on around end zero t ts some = absurd (omega arith)
+on around end (suc n) t ts some = let less : suc n - 1 ≡ n = omega arith in ap (λ k. items_from around end k ts) less ∙ passed around end n ts
+
+-- the first piece, and the items after it
+first : (around : List Enclosing) (end : ℕ) (t : Token) (ts : List Token) (len : ℕ) → len ≡ piece_len (in_block around) (t ∷ ts) → items_from around end 0 (t ∷ ts) ≡ then_items around (piece around (up_to len (passage_of end (t ∷ ts)))) (λ around. items_from around end (len - 1) ts)
 unfolding items_from
-items_more p some filled = more p.tokens some filled
+first around end t ts len len_is = ap (λ n. then_items around (piece around (up_to n (passage_of end (t ∷ ts)))) (λ around. items_from around end (n - 1) ts)) (sym len_is)
+
+-- the items of a piece, and those after it
+abbrev with_items : Piece → Result (List Item) Fault → Result (List Item) Fault
+with_items x others = and_then others (λ items. Ok (items_of x ++ items))
+
+-- a piece with a fault
+piece_fault : (around : List Enclosing) (left : Passage) (len : ℕ) (fault : Fault) → 0 < length left.tokens → len ≡ piece_len (in_block around) left.tokens → piece around (up_to len left) ≡ Err fault → items_in around left ≡ Err fault
+piece_fault around left len fault some len_is e = at left.tokens some len_is e
   where
-    on : (n : ℕ) (t : Token) (ts : List Token) → 0 < n → items_from p.end (n - 1) ts ≡ items_from p.end 0 (drop n (t ∷ ts))
-    on zero t ts some = absurd (omega arith)
-    on (suc n) t ts some = let less : suc n - 1 ≡ n = omega arith in ap (λ k. items_from p.end k ts) less ∙ passed p.end n ts
+    at : (ts : List Token) → 0 < length ts → len ≡ piece_len (in_block around) ts → piece around (up_to len (passage_of left.end ts)) ≡ Err fault → items_from around left.end 0 ts ≡ Err fault
+    at [] some len_is e = absurd (omega arith)
+    at (t ∷ ts) some len_is e = first around left.end t ts len len_is ∙ ap (λ r. then_items around r (λ around. items_from around left.end (len - 1) ts)) e
 
-    more : (ts : List Token) → 0 < length ts → 0 < item_len ts → items_from p.end 0 ts ≡ up_to (item_len ts) (record { tokens = ts; end = p.end }) ∷ items_from p.end 0 (drop (item_len ts) ts)
-    more [] some filled = absurd (omega arith)
-    more (t ∷ ts) some filled = ap (λ l. up_to (item_len (t ∷ ts)) (record { tokens = t ∷ ts; end = p.end }) ∷ l) (on (item_len (t ∷ ts)) t ts filled)
-
--- no item
-items_none : (p : Passage) → length p.tokens ≡ 0 → item_pieces p ≡ []
-unfolding items_from
-items_none p none = over p.tokens none
+-- a piece that is read
+piece_ok : (around : List Enclosing) (left : Passage) (len : ℕ) (x : Piece) → 0 < length left.tokens → 0 < len → len ≡ piece_len (in_block around) left.tokens → piece around (up_to len left) ≡ Ok x → items_in around left ≡ with_items x (items_in (around_after x around) (after len left))
+piece_ok around left len x some filled len_is e = at left.tokens some len_is e
   where
-    over : (ts : List Token) → length ts ≡ 0 → items_from p.end 0 ts ≡ []
-    over [] none = refl
-    over (t ∷ ts) none = absurd (omega arith)
+    at : (ts : List Token) → 0 < length ts → len ≡ piece_len (in_block around) ts → piece around (up_to len (passage_of left.end ts)) ≡ Ok x → items_from around left.end 0 ts ≡ with_items x (items_from (around_after x around) left.end 0 (drop len ts))
+    at [] some len_is e = absurd (omega arith)
+    at (t ∷ ts) some len_is e =
+        first around left.end t ts len len_is ∙ ap (λ r. then_items around r (λ around. items_from around left.end (len - 1) ts)) e
+        ∙ ap (with_items x) (on (around_after x around) left.end len t ts filled)
 
--- a turn of a loop over the items of a passage
-module _ (rule : Passage → Result Item Fault) (found : List Item) (left : Passage) (len : ℕ) (piece : Passage) (some : 0 < length left.tokens) (filled : 0 < len) (len_is : len ≡ item_len left.tokens) (piece_is : piece ≡ up_to len left) where
-  first : before found (each rule (item_pieces left)) ≡ before found (each rule (piece ∷ item_pieces (after len left)))
-  first =
-      ap (λ ps. before found (each rule ps)) (items_more left some (omega (arith, len_is, filled)))
-      ∙ ap (λ k. before found (each rule (up_to k left ∷ item_pieces (after k left)))) (sym len_is)
-      ∙ ap (λ p. before found (each rule (p ∷ item_pieces (after len left)))) (sym piece_is)
+-- items that were found go before those of a piece
+several : (found xs : List Item) (r : Result (List Item) Fault) → before found (and_then r (λ items. Ok (xs ++ items))) ≡ before (found ++ xs) r
+several found xs (Ok later) = ap Ok (sym (append_assoc found xs later))
+several found xs (Err fault) = refl
 
-  pub item_fault : (fault : Fault) → rule piece ≡ Err fault → before found (each rule (item_pieces left)) ≡ Err fault
-  item_fault fault e = first ∙ each_fault rule found piece (item_pieces (after len left)) fault e
+-- a turn of a loop over the pieces of a passage
+module _ (around : List Enclosing) (found : List Item) (left : Passage) (len : ℕ) (part : Passage) (some : 0 < length left.tokens) (filled : 0 < len) (len_is : len ≡ piece_len (in_block around) left.tokens) (part_is : part ≡ up_to len left) where
+  pub item_fault : (fault : Fault) → piece around part ≡ Err fault → before found (items_in around left) ≡ Err fault
+  item_fault fault e = ap (before found) (piece_fault around left len fault some len_is (ap (piece around) (sym part_is) ∙ e))
 
-  pub item_ok : (rest : Passage) (x : Item) → rest ≡ after len left → rule piece ≡ Ok x → before found (each rule (item_pieces left)) ≡ before (found ++ x ∷ []) (each rule (item_pieces rest))
+  pub item_ok : (rest : Passage) (x : Piece) → rest ≡ after len left → piece around part ≡ Ok x → before found (items_in around left) ≡ before (found ++ items_of x) (items_in (around_after x around) rest)
   item_ok rest x rest_is e =
-      first ∙ each_more rule found piece (item_pieces (after len left)) x e
-      ∙ ap (λ p. before (found ++ x ∷ []) (each rule (item_pieces p))) (sym rest_is)
+      ap (before found) (piece_ok around left len x some filled len_is (ap (piece around) (sym part_is) ∙ e))
+      ∙ several found (items_of x) (items_in (around_after x around) (after len left))
+      ∙ ap (λ p. before (found ++ items_of x) (items_in (around_after x around) p)) (sym rest_is)
 
 -- all were read
-pub items_read : (rule : Passage → Result Item Fault) (found : List Item) (left : Passage) → length left.tokens ≡ 0 → before found (each rule (item_pieces left)) ≡ Ok found
-items_read rule found left none = ap (λ ps. before found (each rule ps)) (items_none left none) ∙ ap Ok (append-nil found)
+pub items_read : (around : List Enclosing) (found : List Item) (left : Passage) → length left.tokens ≡ 0 → before found (items_in around left) ≡ Ok found
+unfolding items_from
+items_read around found left none = ap (before found) (over left.tokens none) ∙ ap Ok (append-nil found)
+  where
+    over : (ts : List Token) → length ts ≡ 0 → items_from around left.end 0 ts ≡ Ok []
+    over [] none = refl
+    over (t ∷ ts) none = absurd (omega arith)

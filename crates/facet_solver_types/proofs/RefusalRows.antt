@@ -1,5 +1,5 @@
 -- What is told of attributes that mean nothing where they stand: the definitions, row by row.
-use Rattle.std.proofs.Common.{◌≡◌, ℕ, List, [], ◌++◌, None, Result, Ok, Err, codes, refl}
+use Rattle.std.proofs.Common.{◌≡◌, ℕ, List, [], ◌∷◌, ◌++◌, None, Ok, Err, codes, refl}
 use Rattle.std.specs.Str.{chars}
 use lib.Utf8.{encode}
 use Rattle.facet_solver_types.specs.declared.attribute.meaning.Misuse.TheVariants.{Unsupported}
@@ -8,14 +8,13 @@ use Rattle.facet_solver_types.specs.declared.attribute.meaning.Subject.TheVarian
 use Rattle.facet_solver_types.specs.declared.fault.Fault.{Fault}
 use Rattle.facet_solver_types.specs.declared.fault.Fault.TheVariants.{At, Catalogue, OutOfMemory}
 use Rattle.facet_solver_types.specs.AttributeEntries.{entries_from, parts_from}
-use Rattle.facet_solver_types.specs.Attributes.{Attribute}
 use Rattle.facet_solver_types.specs.Characters.{blank_len, continues_name}
 use Rattle.facet_solver_types.specs.Errors.{met_at, problem_text}
 use Rattle.facet_solver_types.specs.FirstParts.{first_part, first_token, gap_len}
 use Rattle.facet_solver_types.specs.Helps.{help_for}
 use Rattle.facet_solver_types.specs.Keywords.{is_keyword}
 use Rattle.facet_solver_types.specs.MarkTokens.{mark}
-use Rattle.facet_solver_types.specs.Pieces.{and_then, pieces_from}
+use Rattle.facet_solver_types.specs.Pieces.{pieces_from}
 use Rattle.facet_solver_types.specs.Prefixes.{begins_attribute}
 use Rattle.facet_solver_types.specs.Refusals.{misused_text}
 use Rattle.facet_solver_types.specs.Runs.{nest_after, run_from}
@@ -23,18 +22,27 @@ use Rattle.facet_solver_types.specs.SaidOn.{said_on}
 use Rattle.facet_solver_types.specs.SameBracket.{same_bracket}
 use Rattle.facet_solver_types.specs.Sought.{is_same}
 use Rattle.facet_solver_types.specs.Texts.{begins_character, character, opening_of, text_token}
-use Rattle.facet_solver_types.specs.Tokens.{tokens, tokens_from}
+use Rattle.facet_solver_types.specs.Tokens.{Read, tokens, tokens_from}
 
 -- what is told of a fault of a text, without its place; nothing where there is none
-abbrev told_of : List ℕ → Result (List Attribute) Fault → List ℕ
-told_of text (Ok found) = []
-told_of text (Err (At offset problem)) = problem_text problem (met_at offset text)
-told_of text (Err (Catalogue refusal)) = []
-told_of text (Err OutOfMemory) = []
+abbrev told_of : List ℕ → Fault → List ℕ
+told_of text (At offset problem) = problem_text problem (met_at offset text)
+told_of text (Catalogue refusal) = []
+told_of text OutOfMemory = []
+
+-- the same of the first of some
+abbrev first_told : List ℕ → List Fault → List ℕ
+first_told text [] = []
+first_told text (fault ∷ others) = told_of text fault
+
+-- the same of the tokens of a text on a subject
+abbrev told_by : Subject → List ℕ → Read → List ℕ
+told_by subject text (Ok tokens) = first_told text (said_on subject tokens).faults
+told_by subject text (Err fault) = told_of text fault
 
 -- what is told of the attributes of a text on a subject
 abbrev told : Subject → List ℕ → List ℕ
-told subject text = told_of text (and_then (tokens text) (said_on subject))
+told subject text = told_by subject text (tokens text)
 
 -- what cannot be said in serde's and facet's attributes
 pub help_rows :

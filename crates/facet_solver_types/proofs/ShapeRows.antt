@@ -5,17 +5,17 @@ use Rattle.facet_solver_shape.specs.declared.shape.DomMark.TheVariants as marks
 use Rattle.facet_solver_shape.specs.declared.shape.ScalarType.TheVariants as scalars
 use Rattle.facet_solver_shape.specs.declared.shape.ShapeKind.TheVariants as kinds
 use Rattle.facet_solver_shape.specs.declared.shape.StructKind.TheVariants as structs
-use Rattle.facet_solver_types.specs.declared.fault.Fault.{Fault}
 use Rattle.facet_solver_types.specs.declared.fault.Fault.TheVariants.{At}
 use Rattle.facet_solver_types.specs.declared.problem.Problem.TheVariants as problem
 use Rattle.facet_solver_types.specs.declared.shape_problem.ShapeProblem.TheVariants as why
 use Rattle.facet_solver_types.specs.declared.token.TokenKind.TheVariants as tokens
-use Rattle.facet_solver_types.specs.CataloguedTypes.{catalogue_of, roots}
+use Rattle.facet_solver_types.specs.CataloguedTypes.{catalogue_of}
+use Rattle.facet_solver_types.specs.Failures.{Failure, needed}
 use Rattle.facet_solver_types.specs.MadeShapes.{declared_shape, kind_of, tuple_field}
 use Rattle.facet_solver_types.specs.Passages.{Passage}
 use Rattle.facet_solver_types.specs.ShapeViews.{Kind, Shape, other, structure}
 use Rattle.facet_solver_types.specs.TypeEntries.{Form, TypeEntry, array, declared, dynamic, list, mapping, option, pointer, scalar, set, slice, tuple}
-use Rattle.facet_solver_types.specs.TypesViews.{Types, only}
+use Rattle.facet_solver_types.specs.TypesViews.{Types}
 use Rattle.facet_solver_types.specs.Understood.{Declaration, Declared, DeclaredField, Tagging, enum, proxied, struct}
 use Rattle.facet_solver_types.specs.Walks.{in_order, reach, reached, with_type}
 
@@ -35,16 +35,6 @@ pub reach_rows :
     × (reached ((1 ∷ []) ∷ [] ∷ []) 5 ≡ false ∷ false ∷ [])
 unfolding reach
 reach_rows = (refl, refl, refl)
-
--- of three types, 0 mentions 1, and 1 itself; of two that mention each other, none is a root
-pub root_rows :
-    (roots ((1 ∷ []) ∷ (1 ∷ []) ∷ [] ∷ []) (0 ∷ 1 ∷ 2 ∷ []) ≡ 0 ∷ 2 ∷ [])
-    × (roots ((1 ∷ []) ∷ (0 ∷ []) ∷ []) (0 ∷ 1 ∷ []) ≡ [])
-    × (roots ((0 ∷ []) ∷ []) (0 ∷ []) ≡ 0 ∷ [])
-    × (only (2 ∷ []) ≡ Some 2)
-    × (only (0 ∷ 2 ∷ []) ≡ None)
-unfolding reach
-root_rows = (refl, refl, refl, refl, refl)
 
 -- the kinds of types that no declaration declares
 pub kind_rows :
@@ -83,7 +73,9 @@ field name flattened = record {
 abbrev declaration : ℕ → Name → Declared → Declaration
 declaration offset name what = record {
   name = record { offset = offset; kind = tokens.Name; text = name };
+  parameters = [];
   denies_unknown = false;
+  faults = [];
   declared = what;
 }
 
@@ -100,26 +92,27 @@ abbrev said : Shape → Name × Kind
 said s = (s.name, s.kind)
 
 -- what two declarations give, `A` with a field `b`, and `B`, with these types of their fields
-abbrev two : Option ℕ → Name → Declared → List (List Name) → List TypeEntry → Result Types Fault
+abbrev two : Option ℕ → Name → Declared → List (List Name) → List TypeEntry → Result Types Failure
 two flattened id what types others =
     catalogue_of (declaration 7 (codes "A") (with_field (codes "b") flattened) ∷ declaration 90 (codes "B") what ∷ [])
     (entry (codes "A") (declared 0 ((id ∷ []) ∷ [])) ∷ entry (codes "B") (declared 1 types) ∷ others)
+    (codes "A")
 
 -- the names and the kinds of the shapes that are given
-abbrev shapes_of : Result Types Fault → List (Name × Kind)
+abbrev shapes_of : Result Types Failure → List (Name × Kind)
 shapes_of (Ok types) = map said types.shapes
-shapes_of (Err fault) = []
+shapes_of (Err failure) = []
 
 -- their names
-abbrev names_of : Result Types Fault → List Name
+abbrev names_of : Result Types Failure → List Name
 names_of result = map (λ (s : Name × Kind). s.0) (shapes_of result)
 
 -- a declaration that holds itself, itself or by another, and one that holds itself in a list
 pub itself_rows :
     (two None (codes "B") (with_field (codes "a") None) ((codes "A" ∷ []) ∷ []) []
-    ≡ Err (At 7 (problem.Shape why.HoldsItself)))
+    ≡ Err (needed (At 7 (problem.Shape why.HoldsItself) ∷ At 90 (problem.Shape why.HoldsItself) ∷ [])))
     × (two None (codes "B") (with_field (codes "b") None) ((codes "B" ∷ []) ∷ []) []
-    ≡ Err (At 90 (problem.Shape why.HoldsItself)))
+    ≡ Err (needed (At 90 (problem.Shape why.HoldsItself) ∷ [])))
     × (names_of (two (Some 20) (codes "B") (with_field (codes "b") None) ((codes "L" ∷ []) ∷ [])
     (entry (codes "L") (list (codes "B")) ∷ [])) ≡ codes "L" ∷ codes "B" ∷ codes "A" ∷ [])
 unfolding reach with_type
@@ -134,8 +127,8 @@ abbrev empty : Declared
 empty = enum [] untagged
 
 -- the fault of a flattened field whose type has no members
-abbrev refused : Result Types Fault
-refused = Err (At 20 (problem.Shape why.NoMembers))
+abbrev refused : Result Types Failure
+refused = Err (needed (At 20 (problem.Shape why.NoMembers) ∷ []))
 
 -- the type `u8`
 abbrev byte : TypeEntry

@@ -1,5 +1,5 @@
 -- All attributes of serde and facet that stand before something.
-use Rattle.std.specs.Prelude.{ℕ, Bool, true, false, not, if◌then◌else◌, List, [], ◌∷◌, ◌++◌, map, Option, Some, None, Result, Ok, Err}
+use Rattle.std.specs.Prelude.{ℕ, Bool, true, false, not, if◌then◌else◌, List, [], ◌∷◌, map, Option, Some, None, option_map, Result, Ok, Err}
 use Rattle.std.specs.List.{list_any}
 use Rattle.facet_solver_shape.specs.Names.{Name, name_eq}
 use Rattle.facet_solver_types.specs.declared.attribute.Attribute as declared
@@ -15,6 +15,7 @@ use Rattle.facet_solver_types.specs.AttributeTexts.{said_text, text_of}
 use Rattle.facet_solver_types.specs.Attributes.{Attribute, attribute_of, attribute_view}
 use Rattle.facet_solver_types.specs.Clashes.{clash}
 use Rattle.facet_solver_types.specs.Entries.{Entry}
+use Rattle.facet_solver_types.specs.Gatherings.{Gathering, all_gathered, faulty, told, with_fault}
 use Rattle.facet_solver_types.specs.Pieces.{and_then}
 use Rattle.facet_solver_types.specs.Tokens.{Token}
 use Rattle.facet_solver_types.specs.Values.{Value, text}
@@ -61,12 +62,13 @@ next_attribute subject found entry =
     and_then (attribute_of subject entry)
     (λ attribute. and_then (with_text attribute attribute.value) (admitted found))
 
--- the attributes that entries are behind others, with these
-abbrev pub attributes_after : Subject → List Attribute → List Entry → Result (List Attribute) Fault
-attributes_after subject found [] = Ok found
-attributes_after subject found (entry ∷ entries) =
-    and_then (next_attribute subject found entry)
-    (λ attribute. attributes_after subject (found ++ attribute ∷ []) entries)
+-- the attribute that an entry is behind others, or its fault
+abbrev pub entered : Subject → List Attribute → Entry → Gathering Attribute
+entered subject found entry = told (next_attribute subject found entry)
+
+-- the attributes that entries are, but those with a fault
+abbrev pub attributes_of : Subject → List Entry → Gathering Attribute
+attributes_of subject entries = all_gathered (entered subject) entries
 
 -- whether a meaning is that of `tag`
 abbrev pub is_tag : Meaning → Bool
@@ -92,14 +94,20 @@ content_offset (attribute ∷ others) =
 abbrev pub lone_content : List Attribute → Option ℕ
 lone_content found = if has_tag found then None else content_offset found
 
--- attributes, unless `content` stands without `tag`
-abbrev pub tagged_by : List Attribute → Option ℕ → Result (List Attribute) Fault
-tagged_by found None = Ok found
-tagged_by found (Some offset) = Err (At offset (problem.Attribute refusal.NoTag))
+-- the fault of `content` that stands without `tag`
+abbrev pub content_fault : List Attribute → Option Fault
+content_fault found =
+    option_map (λ offset. At offset (problem.Attribute refusal.NoTag)) (lone_content found)
+
+-- the same beside attributes, where nothing else is wrong with these
+abbrev pub tagged : Gathering Attribute → Gathering Attribute
+tagged found = with_fault found (content_fault found.values)
+
+-- the attributes that entries are, or the fault of these
+abbrev pub attributes_by : Subject → Result (List Entry) Fault → Gathering Attribute
+attributes_by subject (Ok entries) = tagged (attributes_of subject entries)
+attributes_by subject (Err fault) = faulty (fault ∷ [])
 
 -- the attributes of serde and facet on a subject
-abbrev pub attributes : Subject → List Token → Result (List Attribute) Fault
-attributes subject written =
-    and_then (attribute_entries written)
-    (λ entries. and_then (attributes_after subject [] entries)
-    (λ found. tagged_by found (lone_content found)))
+abbrev pub attributes : Subject → List Token → Gathering Attribute
+attributes subject written = attributes_by subject (attribute_entries written)

@@ -1,5 +1,5 @@
 -- What stands in the brackets of structs, enums and variants.
-use Rattle.std.specs.Prelude.{Bool, true, false, ◌||◌, if◌then◌else◌, ◌==◌, List, length, codes, Result, Ok, Err}
+use Rattle.std.specs.Prelude.{Bool, true, false, ◌||◌, if◌then◌else◌, ◌==◌, List, length, Result, Ok, Err}
 use Rattle.facet_solver_types.specs.Ascii as ascii
 use Rattle.facet_solver_types.specs.declared.fault.Fault.{Fault}
 use Rattle.facet_solver_types.specs.declared.grammar.run.Run.TheVariants.{Value}
@@ -8,9 +8,9 @@ use Rattle.facet_solver_types.specs.declared.problem.Expected.TheVariants as exp
 use Rattle.facet_solver_types.specs.declared.token.Bracket.TheVariants.{Round, Curly}
 use Rattle.facet_solver_types.specs.Declarations.{Body, Variant, unit, tuple, named}
 use Rattle.facet_solver_types.specs.Fields.{attributes, fields}
-use Rattle.facet_solver_types.specs.FirstTokens.{sees_mark, sees_open, sees_word}
+use Rattle.facet_solver_types.specs.FirstTokens.{sees_mark, sees_open}
 use Rattle.facet_solver_types.specs.Inside.{inside, name_at}
-use Rattle.facet_solver_types.specs.Passages.{Passage, after, generic, unexpected}
+use Rattle.facet_solver_types.specs.Passages.{Passage, after, unexpected}
 use Rattle.facet_solver_types.specs.Pieces.{and_then, each, pieces}
 use Rattle.facet_solver_types.specs.Prefixes.{attributes_len}
 use Rattle.facet_solver_types.specs.Runs.{group_len}
@@ -49,12 +49,6 @@ variant passage =
 abbrev pub variants : Passage → Result (List Variant) Fault
 variants passage = each variant (pieces Value passage)
 
--- the fault where neither this nor `where` may stand
-abbrev pub refused : problem.Expected → Passage → Fault
-refused expected passage =
-    if sees_word (codes "where") passage.tokens then generic passage
-    else unexpected expected passage
-
 -- what is expected after the fields of a struct
 abbrev pub expected_after : Body → problem.Expected
 expected_after unit = expected.Body
@@ -66,10 +60,10 @@ abbrev pub struct_end : Body → Passage → Result (Unit {0}) Fault
 struct_end (named fields) passage = Ok tt
 struct_end body passage =
     if sees_mark ascii.semicolon passage.tokens then Ok tt
-    else Err (refused (expected_after body) passage)
+    else Err (unexpected (expected_after body) passage)
 
 -- what stands in the braces that stand first
 abbrev pub braces : Passage → Result Passage Fault
 braces passage =
     if sees_open Curly passage.tokens then Ok (inside passage)
-    else Err (refused expected.Braces passage)
+    else Err (unexpected expected.Braces passage)

@@ -1,26 +1,35 @@
 -- From declarations and types to types with their shapes.
-use Rattle.std.specs.Prelude.{ℕ, ◌+◌, ◌&&◌, not, ◌==◌, nat_lt, Bool, List, [], ◌∷◌, ◌++◌, Option, Result, Ok, filter, flat_map, length, map, option_map, option_to_list, slice_get}
-use Rattle.std.specs.List.{list_any, range_with_len}
+use Rattle.std.specs.Prelude.{ℕ, ◌+◌, ◌==◌, Bool, true, false, if◌then◌else◌, List, [], ◌∷◌, ◌++◌, Result, Ok, Err, filter, flat_map, length, map, option_to_list, slice_get}
+use Rattle.std.specs.List.{range_with_len}
+use Rattle.std.specs.Option.{option_map_or}
 use Rattle.facet_solver_shape.specs.Names.{Name}
 use Rattle.facet_solver_types.specs.declared.catalogue.parts.Parts as parts
-use Rattle.facet_solver_types.specs.declared.catalogue.roots.Mentioner as mentioner
-use Rattle.facet_solver_types.specs.declared.fault.Fault.{Fault}
-use Rattle.facet_solver_types.specs.TypeTables.{TypeTable, declared_place}
-use Rattle.facet_solver_types.specs.Links.{ids, mentions, needs, place_in}
+use Rattle.facet_solver_types.specs.Failures.{Failure, needed}
+use Rattle.facet_solver_types.specs.Faults.{told}
+use Rattle.facet_solver_types.specs.TypeTables.{TypeTable}
+use Rattle.facet_solver_types.specs.Links.{ids, needs, place_in}
 use Rattle.facet_solver_types.specs.MadeShapes.{shape_of}
-use Rattle.facet_solver_types.specs.Pieces.{and_then}
-use Rattle.facet_solver_types.specs.ShapeFaults.{declarations_fault}
+use Rattle.facet_solver_types.specs.ShapeFaults.{shape_faults}
 use Rattle.facet_solver_types.specs.ShapeViews.{shapes_view}
-use Rattle.facet_solver_types.specs.TypeEntries.{TypeEntry}
+use Rattle.facet_solver_types.specs.TypeEntries.{Form, TypeEntry, declared}
 use Rattle.facet_solver_types.specs.TypesViews.{DeclaredType, Types, declared_type_view}
 use Rattle.facet_solver_types.specs.Understood.{Declaration}
-use Rattle.facet_solver_types.specs.Walks.{in_order, is_marked, is_placed, reached}
+use Rattle.facet_solver_types.specs.Walks.{in_order, is_placed}
 
--- the places of what declarations declare, in their order; an alias declares no type
+-- whether a type is declared
+abbrev pub is_declared : Form → Bool
+is_declared (declared index types) = true
+is_declared form = false
+
+-- the places of those of some types that are declared, the first of which stands at one
+abbrev pub declared_from : ℕ → List TypeEntry → List ℕ
+declared_from place [] = []
+declared_from place (entry ∷ others) =
+    (if is_declared entry.form then place ∷ [] else []) ++ declared_from (place + 1) others
+
+-- the places of the types of a table that are declared
 abbrev pub declared_places : TypeTable → List ℕ
-declared_places table =
-    filter (λ place. nat_lt place (length table.entries))
-    (map (declared_place table) (range_with_len 0 (length table.declarations)))
+declared_places table = declared_from 0 table.entries
 
 -- the type at a place, if there is one
 abbrev pub entry_at : List TypeEntry → ℕ → List TypeEntry
@@ -37,82 +46,50 @@ ordered table needs =
     flat_map (entry_at table.entries)
     (in_order needs (declared_in_order table needs ++ range_with_len 0 (length table.entries)))
 
--- the place in an order of ids of the type at a place, if there is one
-abbrev pub shape_place : TypeTable → List Name → ℕ → Option ℕ
-shape_place table order place =
-    option_map (λ (e : TypeEntry). place_in order e.id) (slice_get table.entries place)
+-- whether the declaration at an index denies unknown members
+abbrev pub denies_at : List Declaration → ℕ → Bool
+denies_at declarations index =
+    option_map_or (λ (d : Declaration). d.denies_unknown) (slice_get declarations index) false
 
--- the type that the declaration at an index declares, if it does
-abbrev pub declared_type : TypeTable → List Name → ℕ → Declaration → Option DeclaredType
-declared_type table order index declaration =
-    option_map (λ shape. record {
-      name = declaration.name.text;
-      shape = shape;
-      denies_unknown = declaration.denies_unknown;
-    }) (shape_place table order (declared_place table index))
+-- a type of this id and form, if it is declared, where ids have an order
+abbrev pub declared_by : List Declaration → List Name → Name → Form → List DeclaredType
+declared_by declarations order id (declared index types) = record {
+  name = id;
+  shape = place_in order id;
+  denies_unknown = denies_at declarations index;
+} ∷ []
+declared_by declarations order id form = []
 
--- the types that declarations declare, the first of which has an index
-abbrev pub declared_types : TypeTable → List Name → ℕ → List Declaration → List DeclaredType
-declared_types table order index [] = []
-declared_types table order index (declaration ∷ declarations) =
-    option_to_list (declared_type table order index declaration)
-    ++ declared_types table order (index + 1) declarations
+-- a type, if it is declared, where ids have an order
+abbrev pub declared_type : List Declaration → List Name → TypeEntry → List DeclaredType
+declared_type declarations order entry = declared_by declarations order entry.id entry.form
 
--- a type, with the marks of those that it mentions, itself or over others
-pub record Mentioner : Type 0 where
-  pub place : ℕ
-  pub marks : List Bool
+-- those of some types that are declared, where ids have an order
+abbrev pub declared_types : List Declaration → List Name → List TypeEntry → List DeclaredType
+declared_types declarations order entries = flat_map (declared_type declarations order) entries
 
--- what is seen of one
-abbrev pub mentioner_view : mentioner.Mentioner → Mentioner
-mentioner_view m = record { place = m.place; marks = m.marks.items }
-
--- the types at places, with what they mention
-abbrev pub mentioners : List (List ℕ) → List ℕ → List Mentioner
-mentioners mentions places =
-    map (λ place. record { place = place; marks = reached mentions place }) places
-
--- whether another type mentions the one at a place
-abbrev pub mentions_other : ℕ → Mentioner → Bool
-mentions_other place m = not (m.place == place) && is_marked m.marks place
-
--- whether one of some others mentions the type at a place
-abbrev pub is_mentioned : List Mentioner → ℕ → Bool
-is_mentioned others place = list_any (mentions_other place) others
-
--- the places of those types that no other of them mentions
-abbrev pub roots : List (List ℕ) → List ℕ → List ℕ
-roots mentions places =
-    filter (λ place. not (is_mentioned (mentioners mentions places) place)) places
-
--- the places in an order of ids of the structs and enums that no other mentions
-abbrev pub root_shapes : TypeTable → List Name → List ℕ
-root_shapes table order =
-    flat_map (λ place. option_to_list (shape_place table order place))
-    (roots (mentions table.ids table.entries) (declared_places table))
-
--- types in order, whose ids are these
-abbrev pub types_by : TypeTable → List Name → List TypeEntry → Types
-types_by table order entries = record {
+-- types in order, whose ids are these, with a root
+abbrev pub types_by : TypeTable → List Name → List TypeEntry → Name → Types
+types_by table order entries root = record {
   shapes = map (shape_of table.declarations order) entries;
-  declared = declared_types table order 0 table.declarations;
-  roots = root_shapes table order;
+  declared = declared_types table.declarations order table.entries;
+  root = place_in order root;
 }
 
--- types in order
-abbrev pub types_in : TypeTable → List TypeEntry → Types
-types_in table entries = types_by table (ids entries) entries
+-- types in order, with a root
+abbrev pub types_in : TypeTable → List TypeEntry → Name → Types
+types_in table entries root = types_by table (ids entries) entries root
 
--- the types of a table, which need others so
-abbrev pub types_of : TypeTable → List (List ℕ) → Types
-types_of table needs = types_in table (ordered table needs)
+-- the types of a table, which need others so, with a root
+abbrev pub types_of : TypeTable → List (List ℕ) → Name → Types
+types_of table needs root = types_in table (ordered table needs) root
 
 -- what is seen of types whose shapes are not checked
 abbrev pub parts_view : parts.Parts → Types
 parts_view p = record {
   shapes = shapes_view p.shapes.items;
   declared = map declared_type_view p.declared.items;
-  roots = p.roots.items;
+  root = p.root;
 }
 
 -- the table of declarations and types
@@ -121,15 +98,15 @@ table_of declarations entries =
     record { declarations = declarations; entries = entries; ids = ids entries }
 
 -- the types of a table, which need others so, where they have shapes
-abbrev pub shaped : TypeTable → List (List ℕ) → Result Types Fault
-shaped table needs =
-    and_then (declarations_fault table needs 0 table.declarations)
-    (λ end. Ok (types_of table needs))
+abbrev pub shaped : TypeTable → List (List ℕ) → Name → Result Types Failure
+shaped table needs root =
+    let faults = told (shape_faults table needs) in
+    if length faults == 0 then Ok (types_of table needs root) else Err (needed faults)
 
 -- the types of a table, by what they need
-abbrev pub table_types : TypeTable → Result Types Fault
-table_types table = shaped table (needs table.ids table.entries)
+abbrev pub table_types : TypeTable → Name → Result Types Failure
+table_types table root = shaped table (needs table.ids table.entries) root
 
--- the types of declarations, with their shapes, or the first reason in the text why there are none
-abbrev pub catalogue_of : List Declaration → List TypeEntry → Result Types Fault
-catalogue_of declarations entries = table_types (table_of declarations entries)
+-- the types of declarations, with their shapes and a root, or the reasons why there are none
+abbrev pub catalogue_of : List Declaration → List TypeEntry → Name → Result Types Failure
+catalogue_of declarations entries root = table_types (table_of declarations entries) root

@@ -1,13 +1,12 @@
 -- Attributes that exclude each other.
 use Rattle.std.specs.Prelude.{Bool, true, false, ◌&&◌, ◌||◌}
 use Rattle.facet_solver_types.specs.declared.attribute.meaning.Meaning.{Meaning}
-use Rattle.facet_solver_types.specs.declared.attribute.meaning.Meaning.TheVariants.{Flatten, Default, Rename, RenameAll, RenameAllFields, Tag, Content, Untagged, Transparent, Proxy, Dom}
+use Rattle.facet_solver_types.specs.declared.attribute.meaning.Meaning.TheVariants.{Default, Rename, RenameAll, RenameAllFields, Tag, Content, Untagged, Transparent, Proxy, Dom}
 
 -- whether the first of two meanings excludes the second
 abbrev pub excludes : Meaning → Meaning → Bool
 excludes Untagged Tag = true
 excludes Untagged Content = true
-excludes Flatten Rename = true
 excludes Transparent Proxy = true
 excludes Transparent Default = true
 excludes (Dom one) (Dom other) = true

@@ -1,12 +1,15 @@
 -- Declarations, as their tokens.
-use Rattle.std.specs.Prelude.{List, Option, option_map, map}
+use Rattle.std.specs.Prelude.{Bool, List, Option, option_map, map}
+use Rattle.facet_solver_types.specs.declared.fault.Fault.{Fault}
 use Rattle.facet_solver_types.specs.declared.item.AliasDeclaration.{AliasDeclaration}
 use Rattle.facet_solver_types.specs.declared.item.Body as body
 use Rattle.facet_solver_types.specs.declared.item.Body.TheVariants.{Unit, Tuple, Named}
 use Rattle.facet_solver_types.specs.declared.item.FieldDeclaration.{FieldDeclaration}
 use Rattle.facet_solver_types.specs.declared.item.EnumDeclaration.{EnumDeclaration}
+use Rattle.facet_solver_types.specs.declared.item.FaultyDeclaration.{FaultyDeclaration}
 use Rattle.facet_solver_types.specs.declared.item.Item as declared
 use Rattle.facet_solver_types.specs.declared.item.Item.TheVariants as item
+use Rattle.facet_solver_types.specs.declared.item.Parameter as parameter
 use Rattle.facet_solver_types.specs.declared.item.StructDeclaration.{StructDeclaration}
 use Rattle.facet_solver_types.specs.declared.item.VariantDeclaration.{VariantDeclaration}
 use Rattle.facet_solver_types.specs.Passages.{Passage, passage_view}
@@ -60,31 +63,58 @@ variant_view variant = record {
 abbrev pub variants_view : List VariantDeclaration → List Variant
 variants_view variants = map variant_view variants
 
--- an item: a struct, an enum, an alias with what follows its name to `;`, or another
+-- a parameter: its name, and whether it stands for a value
+pub record Parameter : Type 0 where
+  pub name : Token
+  pub is_const : Bool
+
+-- what is seen of a parameter
+abbrev pub parameter_view : parameter.Parameter → Parameter
+parameter_view parameter =
+    record { name = token_view parameter.name; is_const = parameter.is_const }
+
+-- what is seen of parameters
+abbrev pub parameters_view : List parameter.Parameter → List Parameter
+parameters_view parameters = map parameter_view parameters
+
+-- an item: a struct, an enum, an alias, one of these that cannot be read, the impl of a trait that
+-- reads documents for a type, or another
 pub data Item : Type 0 where
-  struct : List Token → Token → Body → Item
-  enum : List Token → Token → List Variant → Item
-  alias : Token → Passage → Item
+  struct : List Token → Token → List Parameter → Body → Item
+  enum : List Token → Token → List Parameter → List Variant → Item
+  alias : Token → List Parameter → Passage → Item
+  faulty : List Token → Token → Fault → Item
+  implements : Token → Item
   other : Item
 
 -- what is seen of a struct
 abbrev pub struct_view : StructDeclaration → Item
-struct_view s = struct (tokens_view s.attributes.now) (token_view s.name) (body_view s.body)
+struct_view s =
+    struct (tokens_view s.attributes.now) (token_view s.name) (parameters_view s.parameters.items)
+    (body_view s.body)
 
 -- what is seen of an enum
 abbrev pub enum_view : EnumDeclaration → Item
 enum_view e =
-    enum (tokens_view e.attributes.now) (token_view e.name) (variants_view e.variants.items)
+    enum (tokens_view e.attributes.now) (token_view e.name) (parameters_view e.parameters.items)
+    (variants_view e.variants.items)
 
 -- what is seen of an alias
 abbrev pub alias_view : AliasDeclaration → Item
-alias_view a = alias (token_view a.name) (passage_view a.written)
+alias_view a =
+    alias (token_view a.name) (parameters_view a.parameters.items) (passage_view a.written)
+
+-- what is seen of a declaration that cannot be read
+abbrev pub faulty_view : FaultyDeclaration → Item
+faulty_view f = faulty (tokens_view f.attributes.now) (token_view f.name) f.fault
 
 -- what is seen of an item
 abbrev pub item_view : declared.Item → Item
 item_view (item.Struct s) = struct_view s
 item_view (item.Enum e) = enum_view e
 item_view (item.Alias a) = alias_view a
+item_view (item.Faulty f) = faulty_view f
+item_view (item.Impl name) = implements (token_view name)
 item_view item.Other = other
 
 -- what is seen of items

@@ -1,76 +1,34 @@
--- All types of declarations, by their ids.
-use Rattle.std.specs.Prelude.{ℕ, Vec, ◌+◌, Bool, if◌then◌else◌, List, [], ◌∷◌, ◌++◌, map, Result, Ok}
+-- All types that a root needs, by their ids.
+use Rattle.std.specs.Prelude.{Vec, ◌==◌, Bool, if◌then◌else◌, List, [], ◌∷◌, ◌++◌, flat_map, length, map, Result, Ok, Err}
 use Rattle.std.specs.List.{fold, list_any}
 use Rattle.std.specs.String.{string_bytes}
 use Rattle.std.specs.declared.alloc.Global.{Global}
 use Rattle.std.specs.declared.string.String.{String}
 use Rattle.facet_solver_shape.specs.Names.{Name, name_eq}
-use Rattle.facet_solver_types.specs.declared.fault.Fault.{Fault}
-use Rattle.facet_solver_types.specs.FieldTypes.{Groups, declared_types}
-use Rattle.facet_solver_types.specs.FirstFaults.{first_fault}
-use Rattle.facet_solver_types.specs.Named.{declarations_once, parts_once}
-use Rattle.facet_solver_types.specs.Pieces.{and_then}
-use Rattle.facet_solver_types.specs.Scopes.{Scope}
+use Rattle.facet_solver_types.specs.Failures.{Failure, needed, unless_fault}
+use Rattle.facet_solver_types.specs.Faults.{told}
 use Rattle.facet_solver_types.specs.TypeEntries.{TypeEntry, declared}
-use Rattle.facet_solver_types.specs.TypeIds.{declared_id}
-use Rattle.facet_solver_types.specs.Understood.{Declaration, Declared, alias}
+use Rattle.facet_solver_types.specs.Understood.{Declaration}
+use Rattle.facet_solver_types.specs.UsedTypes.{all_uses, text_order, use_types}
+use Rattle.facet_solver_types.specs.UseFaults.{all_faults}
+use Rattle.facet_solver_types.specs.Uses.{Use}
 
 -- what is seen of lists of ids
 abbrev pub types_view : List (Vec (String Global) Global) → List (List Name)
 types_view types = map (λ ids. map string_bytes ids.items) types
 
--- the entry of a declared type
-abbrev pub declared_entry : ℕ → Name → List (List Name) → TypeEntry
-declared_entry index name types =
-    record { id = declared_id name; form = declared index types }
+-- the entry of a use, with the types that it mentions
+abbrev pub use_entry : Use → List (List Name) → TypeEntry
+use_entry used types = record { id = used.id; form = declared used.index types }
 
--- the types that a declaration mentions, in which no two names are the same
-abbrev pub checked_types : Scope → Declared → Result Groups Fault
-checked_types scope what = first_fault (parts_once what) (declared_types scope what)
+-- the entries of a use: its own, and those of the types that it mentions
+abbrev pub use_entries : List Declaration → Use → List TypeEntry
+use_entries declarations used =
+    let groups = use_types declarations used in use_entry used groups.types ∷ groups.entries
 
--- the entries of what is declared at an index: its own, and those of the types that it mentions
-abbrev pub declared_entries : Scope → ℕ → Declared → Result (List TypeEntry) Fault
-declared_entries scope index what =
-    and_then (checked_types scope what) (λ groups.
-    Ok (declared_entry index scope.this.text groups.types ∷ groups.entries))
-
--- where a declaration's types stand
-abbrev pub scope_of : List Declaration → Declaration → Scope
-scope_of declarations declaration =
-    record { declarations = declarations; this = declaration.name; begin = 0 }
-
--- the entries of what is declared, unless it is an alias
-abbrev pub entries_unless_alias : Scope → ℕ → Declared → Result (List TypeEntry) Fault
-entries_unless_alias scope index (alias passage) = Ok []
-entries_unless_alias scope index what = declared_entries scope index what
-
--- the entries of a declaration at an index; an alias has none
-abbrev pub entries_of : List Declaration → ℕ → Declaration → Result (List TypeEntry) Fault
-entries_of declarations index declaration =
-    entries_unless_alias (scope_of declarations declaration) index declaration.declared
-
--- entries, and then others
-abbrev pub then_entries
-    : Result (List TypeEntry) Fault → Result (List TypeEntry) Fault → Result (List TypeEntry) Fault
-then_entries first others =
-    and_then first (λ entries. and_then others (λ later. Ok (entries ++ later)))
-
--- the entries of the declarations from an index on, among all declarations
-abbrev pub entries_from
-    : List Declaration → ℕ → List Declaration → Result (List TypeEntry) Fault
-entries_from declarations index [] = Ok []
-entries_from declarations index (declaration ∷ others) =
-    then_entries (entries_of declarations index declaration)
-    (entries_from declarations (index + 1) others)
-
--- the entries of all declarations; a type has one each time that it is mentioned
-abbrev pub all_entries : List Declaration → Result (List TypeEntry) Fault
-all_entries declarations = entries_from declarations 0 declarations
-
--- the entries of all declarations, of which no two have the same name
-abbrev pub checked_entries : List Declaration → Result (List TypeEntry) Fault
-checked_entries declarations =
-    first_fault (declarations_once declarations) (all_entries declarations)
+-- the entries of uses, in their order; a type has one each time that it is mentioned
+abbrev pub all_entries : List Declaration → List Use → List TypeEntry
+all_entries declarations uses = flat_map (use_entries declarations) uses
 
 -- whether one of some types has this id
 abbrev pub has_id : Name → List TypeEntry → Bool
@@ -84,7 +42,19 @@ with_new found entry = if has_id entry.id found then found else found ++ entry �
 abbrev pub distinct : List TypeEntry → List TypeEntry
 distinct entries = fold with_new [] entries
 
--- all types of declarations, each once
-abbrev pub type_entries : List Declaration → Result (List TypeEntry) Fault
-type_entries declarations =
-    and_then (checked_entries declarations) (λ entries. Ok (distinct entries))
+-- the types of uses, and others behind them, each once
+abbrev pub types_of : List Declaration → List Use → List TypeEntry → List TypeEntry
+types_of declarations uses others = distinct (all_entries declarations uses ++ others)
+
+-- the types of uses that have no fault, and others behind them, each once
+abbrev pub checked : List Declaration → List Use → List TypeEntry → Result (List TypeEntry) Failure
+checked declarations uses others =
+    let faults = told (all_faults declarations uses) in
+    if length faults == 0 then Ok (types_of declarations uses others) else Err (needed faults)
+
+-- all types that a root needs, which has these uses and other types in it, each once
+abbrev pub type_entries
+    : List Declaration → List Use → List TypeEntry → Result (List TypeEntry) Failure
+type_entries declarations uses others =
+    unless_fault (all_uses declarations uses) (λ found.
+    checked declarations (text_order (length declarations) found) others)

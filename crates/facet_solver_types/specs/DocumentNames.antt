@@ -32,14 +32,11 @@ abbrev pub said_or : Option Name → Result Name Fault → Result Name Fault
 said_or None other = other
 said_or (Some name) other = Ok name
 
--- the case of a field: that of all fields, unless it is flattened
-abbrev pub case_of : Option Case → List Attribute → Option Case
-case_of case found = if is_said Flatten found then None else case
-
--- the name that a field goes by
+-- the name that a field goes by: its own where it is flattened
 abbrev pub field_name : Option Case → List Attribute → Token → Result Name Fault
 field_name case found name =
-    said_or (text_said Rename found) (field_in (case_of case found) name)
+    if is_said Flatten found then Ok name.text
+    else said_or (text_said Rename found) (field_in case name)
 
 -- a name where it is another than the first
 abbrev pub if_other : Name → Name → Option Name

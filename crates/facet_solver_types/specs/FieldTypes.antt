@@ -1,6 +1,6 @@
 -- The types that declarations mention: those of fields, and those as which something is read.
-use Rattle.std.specs.Prelude.{ℕ, if◌then◌else◌, List, [], ◌∷◌, map, Result, Ok, Err}
-use Rattle.std.specs.List.{flat_map}
+use Rattle.std.specs.Prelude.{ℕ, if◌then◌else◌, List, [], ◌∷◌, ◌++◌, map, Result, Ok, Err}
+use Rattle.std.specs.List.{fold}
 use Rattle.std.specs.String.{string_bytes}
 use Rattle.facet_solver_shape.specs.Names.{Name, name_eq}
 use Rattle.facet_solver_types.specs.declared.fault.Fault.{Fault}
@@ -9,50 +9,72 @@ use Rattle.facet_solver_types.specs.declared.problem.Problem.TheVariants.{OfType
 use Rattle.facet_solver_types.specs.declared.type_problem.TypeProblem.TheVariants.{OtherType}
 use Rattle.facet_solver_types.specs.declared.typing.field_types.Group as code_group
 use Rattle.facet_solver_types.specs.declared.typing.field_types.Groups as code_groups
-use Rattle.facet_solver_types.specs.Every.{every}
 use Rattle.facet_solver_types.specs.Mentions.{Mention, whole_type}
 use Rattle.facet_solver_types.specs.Passages.{Passage}
 use Rattle.facet_solver_types.specs.Pieces.{and_then}
 use Rattle.facet_solver_types.specs.Scopes.{Scope}
 use Rattle.facet_solver_types.specs.TypeEntries.{TypeEntry, entries_view}
-use Rattle.facet_solver_types.specs.Understood.{Declared, DeclaredField, DeclaredVariant, Proxy, struct, enum, proxied, alias}
+use Rattle.facet_solver_types.specs.Understood.{Declared, DeclaredField, DeclaredVariant, Proxy, struct, enum, proxied, alias, unread}
+use Rattle.facet_solver_types.specs.Uses.{Use, uses_view}
 
--- the types of some fields by their ids, and the entries of all types that they mention
+-- the types of some fields by their ids, as far as they have no fault; the entries of all types
+-- that they mention, and what is declared of these; and the faults of the other types
 pub record Group : Type 0 where
   pub ids : List Name
   pub entries : List TypeEntry
+  pub uses : List Use
+  pub faults : List Fault
 
 -- what is seen of the types of some fields
 abbrev pub group_view : code_group.Group → Group
 group_view group = record {
   ids = map string_bytes group.ids.items;
   entries = entries_view group.entries.items;
+  uses = uses_view group.uses.items;
+  faults = group.faults.items;
 }
 
--- the types of the fields of each variant, and the entries of all types that they mention
+-- likewise the types of the fields of each variant
 pub record Groups : Type 0 where
   pub types : List (List Name)
   pub entries : List TypeEntry
+  pub uses : List Use
+  pub faults : List Fault
 
 -- what is seen of the types of the fields of each variant
 abbrev pub groups_view : code_groups.Groups → Groups
 groups_view groups = record {
   types = map (λ ids. map string_bytes ids.items) groups.types.items;
   entries = entries_view groups.entries.items;
+  uses = uses_view groups.uses.items;
+  faults = groups.faults.items;
 }
 
--- types together
-abbrev pub grouped : List Mention → Group
-grouped mentions = record {
-  ids = map (λ mention. mention.id) mentions;
-  entries = flat_map (λ mention. mention.entries) mentions;
-}
+-- no types
+abbrev pub no_group : Group
+no_group = record { ids = []; entries = []; uses = []; faults = [] }
 
--- the types of all variants together
-abbrev pub all_grouped : List Group → Groups
-all_grouped groups = record {
-  types = map (λ group. group.ids) groups;
-  entries = flat_map (λ group. group.entries) groups;
+-- no lists of types
+abbrev pub no_groups : Groups
+no_groups = record { types = []; entries = []; uses = []; faults = [] }
+
+-- types, and one more, or its fault
+abbrev pub with_type : Group → Result Mention Fault → Group
+with_type group (Ok mention) = record {
+  ids = group.ids ++ mention.id ∷ [];
+  entries = group.entries ++ mention.entries;
+  uses = group.uses ++ mention.uses;
+  faults = group.faults;
+}
+with_type group (Err fault) = record group { faults = group.faults ++ fault ∷ [] }
+
+-- lists of types, and one more
+abbrev pub with_group : Groups → Group → Groups
+with_group groups group = record {
+  types = groups.types ++ group.ids ∷ [];
+  entries = groups.entries ++ group.entries;
+  uses = groups.uses ++ group.uses;
+  faults = groups.faults ++ group.faults;
 }
 
 -- the fault where an attribute says another type
@@ -87,31 +109,31 @@ abbrev pub field_type : Scope → DeclaredField → Result Mention Fault
 field_type scope field = said_or_written scope field.written field.proxies
 
 -- the types of some fields
-abbrev pub field_types : Scope → List DeclaredField → Result Group Fault
+abbrev pub field_types : Scope → List DeclaredField → Group
 field_types scope fields =
-    and_then (every (field_type scope) fields) (λ mentions. Ok (grouped mentions))
+    fold (λ group (f : DeclaredField). with_type group (field_type scope f)) no_group fields
 
 -- the types of the fields of each variant
-abbrev pub variant_types : Scope → List DeclaredVariant → Result Groups Fault
+abbrev pub variant_types : Scope → List DeclaredVariant → Groups
 variant_types scope variants =
-    and_then (every (λ variant. field_types scope variant.fields) variants)
-    (λ groups. Ok (all_grouped groups))
+    fold (λ groups (v : DeclaredVariant). with_group groups (field_types scope v.fields))
+    no_groups variants
 
 -- one list of types
 abbrev pub one_group : Group → Groups
-one_group group = record { types = group.ids ∷ []; entries = group.entries }
+one_group group = with_group no_groups group
 
 -- the type as which something is read
-abbrev pub proxy_types : Scope → List Proxy → Result Groups Fault
-proxy_types scope [] = Ok (record { types = []; entries = [] })
+abbrev pub proxy_types : Scope → List Proxy → Groups
+proxy_types scope [] = no_groups
 proxy_types scope (first ∷ others) =
-    and_then (proxied_type scope first others) (λ mention.
-    Ok (record { types = (mention.id ∷ []) ∷ []; entries = mention.entries }))
+    one_group (with_type no_group (proxied_type scope first others))
 
 -- the types that a declaration mentions; an alias is looked at where it is named
-abbrev pub declared_types : Scope → Declared → Result Groups Fault
+abbrev pub declared_types : Scope → Declared → Groups
 declared_types scope (struct kind fields is_transparent is_container) =
-    and_then (field_types scope fields) (λ group. Ok (one_group group))
+    one_group (field_types scope fields)
 declared_types scope (enum variants tagging) = variant_types scope variants
 declared_types scope (proxied proxies) = proxy_types scope proxies
-declared_types scope (alias passage) = Ok (record { types = []; entries = [] })
+declared_types scope (alias passage) = no_groups
+declared_types scope unread = no_groups

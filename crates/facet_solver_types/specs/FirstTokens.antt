@@ -1,7 +1,8 @@
 -- What the first of some tokens is.
-use Rattle.std.specs.Prelude.{ℕ, Bool, true, false, List, [], ◌∷◌}
+use Rattle.std.specs.Prelude.{ℕ, Bool, true, false, ◌||◌, List, [], ◌∷◌}
 use Rattle.std.specs.Str.{bytes_eq}
 use Rattle.facet_solver_types.specs.declared.token.Bracket.{Bracket}
+use Rattle.facet_solver_types.specs.declared.token.Bracket.TheVariants.{Round, Square, Curly}
 use Rattle.facet_solver_types.specs.declared.token.TokenKind.{TokenKind}
 use Rattle.facet_solver_types.specs.declared.token.TokenKind.TheVariants.{Name, RawName, Keyword, Lifetime, PathMark, Open}
 use Rattle.facet_solver_types.specs.Runs.{is_close, is_mark}
@@ -22,6 +23,10 @@ sees_mark byte (token ∷ tokens) = is_mark byte token.kind
 abbrev pub sees_open : Bracket → List Token → Bool
 sees_open bracket [] = false
 sees_open bracket (token ∷ tokens) = is_open bracket token.kind
+
+-- whether the first token opens a bracket
+abbrev pub sees_bracket : List Token → Bool
+sees_bracket tokens = sees_open Curly tokens || sees_open Round tokens || sees_open Square tokens
 
 -- whether the first token closes a bracket
 abbrev pub sees_close : List Token → Bool

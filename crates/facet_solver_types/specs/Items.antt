@@ -1,102 +1,139 @@
 -- The items of a text.
-use Rattle.std.specs.Prelude.{true, ◌||◌, if◌then◌else◌, List, Result, Ok, Err, unwrap_or}
+use Rattle.std.specs.Prelude.{ℕ, zero, suc, ◌-◌, Bool, true, ◌||◌, if◌then◌else◌, List, [], ◌∷◌, ◌++◌, Option, Some, None, Result, Ok, Err}
 use Rattle.facet_solver_types.specs.Ascii as ascii
 use Rattle.facet_solver_types.specs.declared.fault.Fault.{Fault}
 use Rattle.facet_solver_types.specs.declared.grammar.run.Run.TheVariants as run
-use Rattle.facet_solver_types.specs.declared.grammar.starts.Start.{Start}
-use Rattle.facet_solver_types.specs.declared.grammar.starts.Start.TheVariants.{Struct, Enum, Alias, Statement, Head, Call, Unknown}
+use Rattle.facet_solver_types.specs.declared.grammar.starts.Start as code
+use Rattle.facet_solver_types.specs.declared.grammar.starts.Start.TheVariants.{Struct, Enum, Alias, Module, Function, Impl, Statement, Head, Call, Unknown}
 use Rattle.facet_solver_types.specs.declared.problem.Expected.TheVariants as expected
-use Rattle.facet_solver_types.specs.declared.token.Bracket.TheVariants.{Round, Square, Curly}
-use Rattle.facet_solver_types.specs.Bodies.{after_body, body_at, braces, struct_end, variants}
-use Rattle.facet_solver_types.specs.Declarations.{Item, struct, enum, alias, other}
+use Rattle.facet_solver_types.specs.declared.token.Bracket.TheVariants.{Curly}
+use Rattle.facet_solver_types.specs.Declarations.{Item, implements, other}
+use Rattle.facet_solver_types.specs.Enclosings.{Enclosing, Piece, around_after, block, closes, in_block, is, is_left, items_of, module_of, opens, passed}
 use Rattle.facet_solver_types.specs.Fields.{after_prefix, attributes}
-use Rattle.facet_solver_types.specs.FirstTokens.{sees_mark, sees_name, sees_open}
-use Rattle.facet_solver_types.specs.Lifetimes.{lifetimes_len}
+use Rattle.facet_solver_types.specs.FirstTokens.{sees_bracket, sees_mark, sees_open}
+use Rattle.facet_solver_types.specs.Implements.{implemented}
 use Rattle.facet_solver_types.specs.Inside.{name_at}
+use Rattle.facet_solver_types.specs.NamedItems.{declaration, semicolon}
 use Rattle.facet_solver_types.specs.Passages.{Passage, after, unexpected, up_to}
-use Rattle.facet_solver_types.specs.Pieces.{and_then, each}
+use Rattle.facet_solver_types.specs.Pieces.{and_then}
 use Rattle.facet_solver_types.specs.Prefixes.{attributes_len}
 use Rattle.facet_solver_types.specs.Runs.{group_len, run_len}
-use Rattle.facet_solver_types.specs.Starts.{call_len, item_pieces, start_of}
+use Rattle.facet_solver_types.specs.Starts.{named_call_len, piece_len, qualifiers_len, start_of}
 use Rattle.facet_solver_types.specs.Tokens.{Token}
 
--- what stands after the lifetimes that stand first, if any
-abbrev pub after_lifetimes : Passage → Result Passage Fault
-after_lifetimes passage = and_then (lifetimes_len passage) (λ len. Ok (after len passage))
-
--- a struct, after `struct`: a name, lifetimes if any, and fields
-unfoldable pub struct_of : List Token → Passage → Result Item Fault
-struct_of attributes passage =
-    and_then (name_at passage) (λ name.
-    and_then (after_lifetimes (after 1 passage)) (λ rest.
-    and_then (body_at true rest) (λ body.
-    and_then (struct_end body (after_body rest)) (λ end. Ok (struct attributes name body)))))
-
--- an enum, after `enum`: a name, lifetimes if any, and variants
-unfoldable pub enum_of : List Token → Passage → Result Item Fault
-enum_of attributes passage =
-    and_then (name_at passage) (λ name.
-    and_then (after_lifetimes (after 1 passage)) (λ rest.
-    and_then (braces rest) (λ inside.
-    and_then (variants inside) (λ variants. Ok (enum attributes name variants)))))
-
--- a `;` stands first
-abbrev pub semicolon : Passage → Result (Unit {0}) Fault
-semicolon passage =
-    if sees_mark ascii.semicolon passage.tokens then Ok tt
-    else Err (unexpected expected.Semicolon passage)
-
--- an alias, after `type`: a name, and what follows to `;`
-unfoldable pub alias_of : Passage → Result Item Fault
-alias_of passage =
-    let rest = after 1 passage in
-    let len = run_len run.Statement rest.tokens in
-    and_then (name_at passage) (λ name.
-    and_then (semicolon (after len rest)) (λ end. Ok (alias name (up_to len rest))))
-
 -- an item that is passed over, to `;`
-abbrev pub statement : Passage → Result Item Fault
+abbrev pub statement : Passage → Result Piece Fault
 statement passage =
-    and_then (semicolon (after (run_len run.Statement passage.tokens) passage)) (λ end. Ok other)
+    and_then (semicolon (after (run_len run.Statement passage.tokens) passage))
+    (λ end. Ok (is other))
+
+-- what stands after the head of an item
+abbrev pub after_head : Passage → Passage
+after_head passage = after (run_len run.Head passage.tokens) passage
+
+-- what an item is after its head: this with braces, and one that is passed over with `;`
+abbrev pub opening : Piece → Passage → Result Piece Fault
+opening piece passage =
+    if sees_open Curly passage.tokens then Ok piece
+    else (if sees_mark ascii.semicolon passage.tokens then Ok (is other)
+    else Err (unexpected expected.HeadEnd passage))
 
 -- an item that is passed over, to `;` or braces
-abbrev pub head : Passage → Result Item Fault
-head passage =
-    let rest = after (run_len run.Head passage.tokens) passage in
-    if sees_mark ascii.semicolon rest.tokens || sees_open Curly rest.tokens then Ok other
-    else Err (unexpected expected.HeadEnd rest)
+abbrev pub head : Passage → Result Piece Fault
+head passage = opening (is other) (after_head passage)
+
+-- a function, whose block is opened
+abbrev pub function : Passage → Result Piece Fault
+function passage = opening (opens block) (after_head passage)
+
+-- a module, after `mod`, which is opened
+abbrev pub module_piece : Passage → Result Piece Fault
+module_piece passage =
+    and_then (name_at passage) (λ name. opening (opens (module_of name)) (after 1 passage))
+
+-- the item that is passed over in an impl for this type, if documents are read by its trait
+abbrev pub implementation_of : Option Token → Item
+implementation_of (Some name) = implements name
+implementation_of None = other
+
+-- an impl, which is passed over, with the type that it is for, if documents are read by its trait
+abbrev pub implementation : Passage → Result Piece Fault
+implementation passage =
+    let name = implemented (after (qualifiers_len passage.tokens) passage) in
+    opening (is (implementation_of name)) (after_head passage)
 
 -- what stands after the `!` of a call, and after a name, if one stands there
 abbrev pub after_call : Passage → Passage
-after_call passage =
-    let rest = after (unwrap_or (call_len passage.tokens) 0) passage in
-    if sees_name rest.tokens then after 1 rest else rest
+after_call passage = after (named_call_len passage.tokens) passage
 
--- the call of a macro, which is passed over: brackets, and `;` unless they are braces
-abbrev pub call : Passage → Result Item Fault
-call passage =
+-- the call of a macro, which is passed over: brackets, and `;` unless they are braces; in a block
+-- anything may stand after its `!`
+abbrev pub call : Bool → Passage → Result Piece Fault
+call is_in_block passage =
     let rest = after_call passage in
-    if sees_open Curly rest.tokens then Ok other
-    else (if sees_open Round rest.tokens || sees_open Square rest.tokens
-    then and_then (semicolon (after (group_len rest.tokens) rest)) (λ end. Ok other)
+    if is_in_block || sees_open Curly rest.tokens then Ok passed
+    else (if sees_bracket rest.tokens
+    then and_then (semicolon (after (group_len rest.tokens) rest)) (λ end. Ok passed)
     else Err (unexpected expected.Bracket rest))
 
--- the item that begins so, after attributes and `pub`
-abbrev pub item_by : Start → List Token → Passage → Result Item Fault
-item_by Struct attributes passage = struct_of attributes (after 1 passage)
-item_by Enum attributes passage = enum_of attributes (after 1 passage)
-item_by Alias attributes passage = alias_of (after 1 passage)
-item_by Statement attributes passage = statement passage
-item_by Head attributes passage = head passage
-item_by Call attributes passage = call passage
-item_by Unknown attributes passage = Err (unexpected expected.Item passage)
+-- what begins no item: in a block a brace opens another, and something else is passed over
+abbrev pub nothing : Bool → Passage → Result Piece Fault
+nothing is_in_block passage =
+    if is_in_block then (if sees_open Curly passage.tokens then Ok (opens block) else Ok passed)
+    else Err (unexpected expected.Item passage)
 
--- an item: attributes, `pub` if any, and a declaration or what is passed over
-unfoldable pub item : Passage → Result Item Fault
-item passage =
-    let rest = after_prefix true passage in
-    item_by (start_of rest.tokens) (attributes passage) rest
+-- the item that declares a type that begins so, after attributes and `pub`
+abbrev pub declared : code.Start → List Token → Passage → Result Piece Fault
+declared start attributes passage =
+    and_then (declaration start attributes (after 1 passage)) (λ item. Ok (is item))
 
--- the items of a text, after its inner attributes
+-- what begins so, in a block or not, after attributes and `pub`
+abbrev pub piece_of : code.Start → Bool → List Token → Passage → Result Piece Fault
+piece_of Struct is_in_block attributes passage = declared Struct attributes passage
+piece_of Enum is_in_block attributes passage = declared Enum attributes passage
+piece_of Alias is_in_block attributes passage = declared Alias attributes passage
+piece_of Module is_in_block attributes passage = module_piece (after 1 passage)
+piece_of Function is_in_block attributes passage = function passage
+piece_of Impl is_in_block attributes passage = implementation passage
+piece_of Statement is_in_block attributes passage = statement passage
+piece_of Head is_in_block attributes passage = head passage
+piece_of Call is_in_block attributes passage = call is_in_block passage
+piece_of Unknown is_in_block attributes passage = nothing is_in_block passage
+
+-- what stands first, in a block or not, after attributes and `pub`
+abbrev pub piece_by : Bool → List Token → Passage → Result Piece Fault
+piece_by is_in_block attributes passage =
+    piece_of (start_of passage.tokens) is_in_block attributes passage
+
+-- the piece that a passage is, in what encloses it: an item with attributes and `pub` if any, or
+-- what closes the innermost that encloses it
+unfoldable pub piece : List Enclosing → Passage → Result Piece Fault
+piece around passage =
+    if is_left around passage.tokens then Ok closes
+    else piece_by (in_block around) (attributes passage) (after_prefix true passage)
+
+-- a piece, and the items after it in what encloses them then
+abbrev pub then_items
+    : List Enclosing → Result Piece Fault → (List Enclosing → Result (List Item) Fault)
+    → Result (List Item) Fault
+then_items around piece later =
+    and_then piece (λ piece.
+    and_then (later (around_after piece around)) (λ items. Ok (items_of piece ++ items)))
+
+-- the items that tokens have, in what encloses them, after the first tokens that are `left` out
+unfoldable pub items_from : List Enclosing → ℕ → ℕ → List Token → Result (List Item) Fault
+items_from around end left [] = Ok []
+items_from around end (suc left) (token ∷ tokens) = items_from around end left tokens
+items_from around end zero (token ∷ tokens) =
+    let len = piece_len (in_block around) (token ∷ tokens) in
+    let passage : Passage = record { tokens = token ∷ tokens; end = end } in
+    then_items around (piece around (up_to len passage))
+    (λ around. items_from around end (len - 1) tokens)
+
+-- the items that a passage has, in what encloses it
+abbrev pub items_in : List Enclosing → Passage → Result (List Item) Fault
+items_in around passage = items_from around passage.end 0 passage.tokens
+
+-- the items of a text, after its inner attributes, with those in its modules and functions
 abbrev pub items : Passage → Result (List Item) Fault
-items passage = each item (item_pieces (after (attributes_len true passage.tokens) passage))
+items passage = items_in [] (after (attributes_len true passage.tokens) passage)

@@ -5,8 +5,6 @@ use Rattle.facet_solver_shape.specs.Names.{Name}
 use Rattle.facet_solver_shape.specs.declared.shape.ScalarType.{ScalarType}
 use Rattle.facet_solver_shape.specs.declared.shape.ScalarType.TheVariants as scalars
 use Rattle.facet_solver_types.specs.Cases.{said_by}
-use Rattle.facet_solver_types.specs.declared.type_problem.Arity.{Arity}
-use Rattle.facet_solver_types.specs.declared.type_problem.Arity.TheVariants as arity
 use Rattle.facet_solver_types.specs.declared.typing.known.Applied.{Applied}
 use Rattle.facet_solver_types.specs.declared.typing.known.Applied.TheVariants as made
 use Rattle.facet_solver_types.specs.declared.typing.known.Known.{Known}
@@ -99,13 +97,7 @@ other_type name =
 abbrev pub known_type : Name → Option Known
 known_type name = option_or (option_map Scalar (scalar name)) (other_type name)
 
--- a map takes two types, others one
-abbrev pub arity_of : Applied → Arity
-arity_of made.Map = arity.Two
-arity_of kind = arity.One
-
--- how many types that is
-abbrev pub count_of : Arity → ℕ
-count_of arity.None = 0
-count_of arity.One = 1
-count_of arity.Two = 2
+-- how many types it takes: a map two, others one
+abbrev pub arity_of : Applied → ℕ
+arity_of made.Map = 2
+arity_of kind = 1

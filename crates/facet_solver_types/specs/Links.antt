@@ -1,4 +1,4 @@
--- The types that types need and mention, by their places.
+-- The types that types need, by their places.
 use Rattle.std.specs.Prelude.{ℕ, List, [], ◌∷◌, map}
 use Rattle.std.specs.List.{flat_map, position_or_len}
 use Rattle.std.specs.String.{string_bytes}
@@ -6,7 +6,7 @@ use Rattle.std.specs.declared.string.String.{String}
 use Rattle.std.specs.declared.vec.Vec.{Vec}
 use Rattle.std.specs.declared.alloc.Global.{Global}
 use Rattle.facet_solver_shape.specs.Names.{Name, name_eq}
-use Rattle.facet_solver_types.specs.TypeEntries.{Form, TypeEntry, option, list, array, slice, set, mapping, pointer, tuple, declared}
+use Rattle.facet_solver_types.specs.TypeEntries.{Form, TypeEntry, option, array, tuple, declared}
 
 -- the ids of types
 abbrev pub ids : List TypeEntry → List Name
@@ -28,22 +28,9 @@ needed (tuple types) = types
 needed (declared index types) = flat_map (λ names. names) types
 needed form = []
 
--- the types that a type mentions: those that it needs, and those behind which it may hold itself
-abbrev pub mentioned : Form → List Name
-mentioned (list inside) = inside ∷ []
-mentioned (slice inside) = inside ∷ []
-mentioned (set inside) = inside ∷ []
-mentioned (pointer inside) = inside ∷ []
-mentioned (mapping key value) = key ∷ value ∷ []
-mentioned form = needed form
-
 -- the places of the types that each of some types needs
 abbrev pub needs : List Name → List TypeEntry → List (List ℕ)
 needs names entries = map (λ (e : TypeEntry). places_in names (needed e.form)) entries
-
--- the places of the types that each of some types mentions
-abbrev pub mentions : List Name → List TypeEntry → List (List ℕ)
-mentions names entries = map (λ (e : TypeEntry). places_in names (mentioned e.form)) entries
 
 -- what is seen of links from types to types
 abbrev pub links_view : List (Vec ℕ Global) → List (List ℕ)

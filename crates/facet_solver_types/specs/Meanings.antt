@@ -10,7 +10,7 @@ use Rattle.facet_solver_types.specs.declared.attribute.meaning.Meaning.TheVarian
 use Rattle.facet_solver_types.specs.declared.attribute.meaning.Misuse.{Misuse}
 use Rattle.facet_solver_types.specs.declared.attribute.meaning.Misuse.TheVariants.{Unknown, Misplaced, Unsupported}
 use Rattle.facet_solver_types.specs.declared.attribute.meaning.Subject.{Subject}
-use Rattle.facet_solver_types.specs.declared.attribute.meaning.Subject.TheVariants.{NamedStruct, OtherStruct, Enum, Variant, NamedField, TupleField}
+use Rattle.facet_solver_types.specs.declared.attribute.meaning.Subject.TheVariants.{NamedStruct, OtherStruct, Enum, Variant, NamedField, NewtypeField, TupleField}
 use Rattle.facet_solver_types.specs.Cases.{said_by}
 
 -- whether a name is one of some
@@ -46,11 +46,11 @@ on_struct =
     ∷ (codes "transparent", Transparent) ∷ (codes "from", Proxy) ∷ (codes "try_from", Proxy)
     ∷ (codes "proxy", Proxy) ∷ (codes "deny_unknown_fields", DenyUnknownFields) ∷ [])
 
--- on one with named fields, more is
+-- on one with named fields, more is; its `tag` is written and never read
 abbrev pub on_named_struct : Name → Option Meaning
 on_named_struct name =
     option_or
-    (said_by ((codes "default", Default)
+    (said_by ((codes "default", Default) ∷ (codes "tag", Nothing)
     ∷ (codes "metadata_container", MetadataContainer) ∷ []) name)
     (on_struct name)
 
@@ -80,7 +80,15 @@ on_named_field name =
 
 -- on a field of a tuple
 abbrev pub on_tuple_field : Name → Option Meaning
-on_tuple_field = said_by ((codes "proxy", Proxy) ∷ [])
+on_tuple_field =
+    said_by ((codes "default", Default) ∷ (codes "skip", Skip)
+    ∷ (codes "skip_deserializing", Skip) ∷ (codes "proxy", Proxy) ∷ [])
+
+-- on the one field of a tuple struct: what stands for the struct is always there
+abbrev pub on_newtype_field : Name → Option Meaning
+on_newtype_field =
+    said_by ((codes "default", Nothing) ∷ (codes "skip", Nothing)
+    ∷ (codes "skip_deserializing", Nothing) ∷ (codes "proxy", Proxy) ∷ [])
 
 -- on a subject, but `opaque`, which is said on each
 abbrev pub on : Subject → Name → Option Meaning
@@ -90,6 +98,7 @@ on Enum = on_enum
 on Variant = on_variant
 on NamedField = on_named_field
 on TupleField = on_tuple_field
+on NewtypeField = on_newtype_field
 
 -- what an attribute means that stands on the right subject
 abbrev pub meaning_on : Subject → Name → Option Meaning

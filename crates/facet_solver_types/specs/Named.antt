@@ -1,6 +1,6 @@
 -- Names that are declared, of which no two may be the same.
-use Rattle.std.specs.Prelude.{ℕ, Bool, if◌then◌else◌, List, [], ◌∷◌, ◌++◌, map, Result, Ok, Err}
-use Rattle.std.specs.List.{list_any}
+use Rattle.std.specs.Prelude.{ℕ, Bool, if◌then◌else◌, List, [], ◌∷◌, ◌++◌, map}
+use Rattle.std.specs.List.{flat_map, list_any}
 use Rattle.facet_solver_shape.specs.Names.{Name, name_eq}
 use Rattle.facet_solver_types.specs.declared.fault.Fault.{Fault}
 use Rattle.facet_solver_types.specs.declared.fault.Fault.TheVariants.{At}
@@ -8,9 +8,7 @@ use Rattle.facet_solver_types.specs.declared.problem.Problem.TheVariants.{OfType
 use Rattle.facet_solver_types.specs.declared.type_problem.TypeProblem.{TypeProblem}
 use Rattle.facet_solver_types.specs.declared.type_problem.TypeProblem.TheVariants.{Twice, ReadTwice}
 use Rattle.facet_solver_types.specs.declared.typing.named.Named as declared
-use Rattle.facet_solver_types.specs.FirstFaults.{first_fault}
-use Rattle.facet_solver_types.specs.Pieces.{and_then}
-use Rattle.facet_solver_types.specs.Understood.{Declaration, Declared, DeclaredField, DeclaredVariant, struct, enum}
+use Rattle.facet_solver_types.specs.Understood.{Declared, DeclaredField, DeclaredVariant, struct, enum}
 
 -- a name, and where it stands
 pub record Named : Type 0 where
@@ -29,21 +27,23 @@ names_view names = map named_view names
 abbrev pub is_among : Name → List Named → Bool
 is_among name names = list_any (λ one. name_eq one.name name) names
 
--- no name is that of one before it
-abbrev pub once_behind : TypeProblem → List Named → List Named → Result (Unit {0}) Fault
-once_behind problem before [] = Ok tt
-once_behind problem before (one ∷ others) =
-    if is_among one.name before then Err (At one.offset (OfType problem))
-    else once_behind problem (before ++ one ∷ []) others
+-- the fault of a name
+abbrev pub name_fault : TypeProblem → Named → Fault
+name_fault problem one = At one.offset (OfType problem)
 
--- no two names are the same
-abbrev pub once : TypeProblem → List Named → Result (Unit {0}) Fault
-once problem names = once_behind problem [] names
+-- the fault of a name that is among others, if it is
+abbrev pub repeat : TypeProblem → List Named → Named → List Fault
+repeat problem before one = if is_among one.name before then name_fault problem one ∷ [] else []
 
--- the names of declarations
-abbrev pub declaration_names : List Declaration → List Named
-declaration_names declarations =
-    map (λ d. record { name = d.name.text; offset = d.name.offset }) declarations
+-- the faults of names that are those of others before them
+abbrev pub repeats_behind : TypeProblem → List Named → List Named → List Fault
+repeats_behind problem before [] = []
+repeats_behind problem before (one ∷ others) =
+    repeat problem before one ++ repeats_behind problem (before ++ one ∷ []) others
+
+-- the same, where none stands before all
+abbrev pub repeats : TypeProblem → List Named → List Fault
+repeats problem names = repeats_behind problem [] names
 
 -- the names of fields
 abbrev pub field_names : List DeclaredField → List Named
@@ -57,24 +57,26 @@ variant_names variants = map (λ v. record { name = v.written_name; offset = v.o
 abbrev pub read_names : List DeclaredVariant → List Named
 read_names variants = map (λ v. record { name = v.name; offset = v.offset }) variants
 
--- no two fields of one variant have the same name
-abbrev pub variant_fields_once : List DeclaredVariant → Result (Unit {0}) Fault
-variant_fields_once [] = Ok tt
-variant_fields_once (variant ∷ others) =
-    and_then (once Twice (field_names variant.fields)) (λ end. variant_fields_once others)
+-- the faults of fields that have the name of another before them
+abbrev pub field_repeats : List DeclaredField → List Fault
+field_repeats fields = repeats Twice (field_names fields)
 
--- no two variants have the same name, as it is written or in a document, nor have two fields of one
-abbrev pub variants_once : List DeclaredVariant → Result (Unit {0}) Fault
-variants_once variants =
-    first_fault (once Twice (variant_names variants))
-    (first_fault (once ReadTwice (read_names variants)) (variant_fields_once variants))
+-- the faults of variants that have the name of another before them, as it is written
+abbrev pub written_repeats : List DeclaredVariant → List Fault
+written_repeats variants = repeats Twice (variant_names variants)
 
--- no two names in a declaration are the same
-abbrev pub parts_once : Declared → Result (Unit {0}) Fault
-parts_once (struct kind fields is_transparent is_container) = once Twice (field_names fields)
-parts_once (enum variants tagging) = variants_once variants
-parts_once other = Ok tt
+-- the faults of variants that go by the name of another before them in a document
+abbrev pub read_repeats : List DeclaredVariant → List Fault
+read_repeats variants = repeats ReadTwice (read_names variants)
 
--- no two declarations have the same name
-abbrev pub declarations_once : List Declaration → Result (Unit {0}) Fault
-declarations_once declarations = once Twice (declaration_names declarations)
+-- the faults of variants, and of the fields of each, that have the name of another
+abbrev pub variant_repeats : List DeclaredVariant → List Fault
+variant_repeats variants =
+    written_repeats variants ++ (read_repeats variants
+    ++ flat_map (λ (v : DeclaredVariant). field_repeats v.fields) variants)
+
+-- the faults of names in a declaration that are those of others before them
+abbrev pub name_faults : Declared → List Fault
+name_faults (struct kind fields is_transparent is_container) = field_repeats fields
+name_faults (enum variants tagging) = variant_repeats variants
+name_faults other = []

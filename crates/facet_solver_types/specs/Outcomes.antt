@@ -7,3 +7,8 @@ use Rattle.facet_solver_types.specs.declared.fault.Fault.TheVariants.{OutOfMemor
 abbrev pub Gives : {A B : Type 0} → (A → B) → Result B Fault → Result A Fault → Type 0
 Gives view outcome (Ok value) = outcome ≡ Ok (view value)
 Gives view outcome (Err fault) = fault ≢ OutOfMemory → outcome ≡ Err fault
+
+-- what is seen of a result, or its fault
+abbrev pub outcome_view : {A B : Type 0} → (A → B) → Result A Fault → Result B Fault
+outcome_view view (Ok value) = Ok (view value)
+outcome_view view (Err fault) = Err fault

@@ -4,7 +4,7 @@ use Rattle.facet_solver_types.specs.declared.fault.Fault.{Fault}
 use Rattle.facet_solver_types.specs.declared.fault.Fault.TheVariants.{At}
 use Rattle.facet_solver_types.specs.declared.passage.Passage as declared
 use Rattle.facet_solver_types.specs.declared.problem.Expected as problem
-use Rattle.facet_solver_types.specs.declared.problem.Problem.TheVariants.{Expected, Generic}
+use Rattle.facet_solver_types.specs.declared.problem.Problem.TheVariants.{Expected}
 use Rattle.facet_solver_types.specs.Tokens.{Token, tokens_view}
 
 -- some tokens of a text, and where the token after them stands, or the end
@@ -36,7 +36,3 @@ up_to len passage = record { tokens = take len passage.tokens; end = place (afte
 -- the fault where something else stands first
 abbrev pub unexpected : problem.Expected → Passage → Fault
 unexpected expected passage = At (place passage) (Expected expected)
-
--- the fault where a generic parameter or `where` stands first
-abbrev pub generic : Passage → Fault
-generic passage = At (place passage) Generic

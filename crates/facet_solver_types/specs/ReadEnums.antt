@@ -1,14 +1,14 @@
 -- Enums, with what their attributes say.
-use Rattle.std.specs.Prelude.{List, Result, Ok}
+use Rattle.std.specs.Prelude.{List}
 use Rattle.facet_solver_types.specs.declared.attribute.meaning.Meaning.TheVariants.{Content, RenameAll, RenameAllFields, Tag, Untagged}
 use Rattle.facet_solver_types.specs.declared.declare.variants.AllVariants.{AllVariants}
-use Rattle.facet_solver_types.specs.declared.fault.Fault.{Fault}
 use Rattle.facet_solver_types.specs.Attributes.{Attribute}
 use Rattle.facet_solver_types.specs.Declarations.{Variant}
-use Rattle.facet_solver_types.specs.Pieces.{and_then}
+use Rattle.facet_solver_types.specs.Gatherings.{Gathering}
 use Rattle.facet_solver_types.specs.ReadVariants.{variants}
 use Rattle.facet_solver_types.specs.Sought.{case_said, is_said, text_said}
-use Rattle.facet_solver_types.specs.Understood.{Declared, Tagging, enum}
+use Rattle.facet_solver_types.specs.Stated.{Stated}
+use Rattle.facet_solver_types.specs.Understood.{DeclaredVariant, Tagging, enum}
 
 -- what an enum says of all its variants
 abbrev pub variants_of_enum : List Attribute → AllVariants
@@ -25,8 +25,13 @@ tagging_of found = record {
   untagged = is_said Untagged found;
 }
 
+-- an enum with these variants, beside what is wrong with them
+abbrev pub enum_of : List Attribute → Gathering DeclaredVariant → Stated
+enum_of found variants = record {
+  declared = enum variants.values (tagging_of found);
+  faults = variants.faults;
+}
+
 -- an enum
-abbrev pub read_enum : List Attribute → List Variant → Result Declared Fault
-read_enum found written =
-    and_then (variants (variants_of_enum found) written)
-    (λ variants. Ok (enum variants (tagging_of found)))
+abbrev pub read_enum : List Attribute → List Variant → Stated
+read_enum found written = enum_of found (variants (variants_of_enum found) written)

@@ -1,73 +1,119 @@
 -- The declarations of items, with what their attributes say.
-use Rattle.std.specs.Prelude.{List, [], ◌∷◌, Option, Some, None, Result, Ok}
+use Rattle.std.specs.Prelude.{Bool, false, List, [], ◌∷◌, ◌++◌, Option, Some, None, Result, Ok, Err, unwrap_or}
+use Rattle.std.specs.List.{filter_map}
 use Rattle.facet_solver_types.specs.declared.attribute.meaning.Meaning.TheVariants.{DenyUnknownFields}
 use Rattle.facet_solver_types.specs.declared.attribute.meaning.Subject.TheVariants as subject
 use Rattle.facet_solver_types.specs.declared.fault.Fault.{Fault}
+use Rattle.facet_solver_types.specs.declared.fault.Fault.TheVariants.{At}
+use Rattle.facet_solver_types.specs.declared.problem.Problem.TheVariants.{OfType}
+use Rattle.facet_solver_types.specs.declared.type_problem.TypeProblem.{TypeProblem}
 use Rattle.facet_solver_types.specs.Attributes.{Attribute}
 use Rattle.facet_solver_types.specs.Declarations as items
-use Rattle.facet_solver_types.specs.Declarations.{Body, Item, Variant}
-use Rattle.facet_solver_types.specs.Gathered.{gathered}
+use Rattle.facet_solver_types.specs.Declarations.{Body, Item, Parameter, Variant}
+use Rattle.facet_solver_types.specs.Derives.{has_derives, own_reading}
+use Rattle.facet_solver_types.specs.Gatherings.{Gathering}
 use Rattle.facet_solver_types.specs.Passages.{Passage}
-use Rattle.facet_solver_types.specs.Pieces.{and_then}
 use Rattle.facet_solver_types.specs.Proxies.{proxies}
 use Rattle.facet_solver_types.specs.ReadEnums.{read_enum}
 use Rattle.facet_solver_types.specs.ReadStructs.{read_struct, subject_of}
 use Rattle.facet_solver_types.specs.SaidOn.{said_on}
 use Rattle.facet_solver_types.specs.Sought.{is_said}
+use Rattle.facet_solver_types.specs.Stated.{Stated}
 use Rattle.facet_solver_types.specs.Tokens.{Token}
-use Rattle.facet_solver_types.specs.Understood.{Declaration, Declared, Proxy, alias, proxied}
+use Rattle.facet_solver_types.specs.Understood.{Declaration, Declared, Proxy, alias, proxied, unread}
 
--- what is read as another type, where there are proxies, or else what is read so
-abbrev pub by_proxies : List Proxy → Result Declared Fault → Result Declared Fault
-by_proxies [] other = other
-by_proxies (proxy ∷ proxies) other = Ok (proxied (proxy ∷ proxies))
+-- what is declared, with nothing wrong
+abbrev pub stated : Declared → Stated
+stated known = record { declared = known; faults = [] }
+
+-- what is declared by proxies, if there are some, or their fault
+abbrev pub proxied_by : Result (List Proxy) Fault → Option Stated
+proxied_by (Ok []) = None
+proxied_by (Ok (proxy ∷ others)) = Some (stated (proxied (proxy ∷ others)))
+proxied_by (Err fault) = Some (record { declared = unread; faults = fault ∷ [] })
 
 -- what a struct declares: where it is read as another type, its body isn't looked at
-abbrev pub struct_by : List Attribute → Body → Result Declared Fault
-struct_by found body =
-    and_then (proxies found) (λ proxies. by_proxies proxies (read_struct found body))
+abbrev pub struct_by : List Attribute → Body → Stated
+struct_by found body = unwrap_or (proxied_by (proxies found)) (read_struct found body)
 
 -- what an enum declares, likewise
-abbrev pub enum_by : List Attribute → List Variant → Result Declared Fault
-enum_by found variants =
-    and_then (proxies found) (λ proxies. by_proxies proxies (read_enum found variants))
+abbrev pub enum_by : List Attribute → List Variant → Stated
+enum_by found variants = unwrap_or (proxied_by (proxies found)) (read_enum found variants)
 
--- the declaration of a name, with attributes
-abbrev pub declaration_of : Token → List Attribute → Declared → Declaration
-declaration_of name found known = record {
+-- the declaration of a name and parameters, with attributes and their faults
+abbrev pub declaration_of : Token → List Parameter → Gathering Attribute → Stated → Declaration
+declaration_of name parameters found known = record {
   name = name;
-  denies_unknown = is_said DenyUnknownFields found;
-  declared = known;
+  parameters = parameters;
+  denies_unknown = is_said DenyUnknownFields found.values;
+  faults = found.faults ++ known.faults;
+  declared = known.declared;
 }
 
--- the declaration of a struct
-abbrev pub struct_declaration : List Token → Token → Body → Result Declaration Fault
-struct_declaration attributes name body =
-    and_then (said_on (subject_of body) attributes) (λ found.
-    and_then (struct_by found body) (λ known. Ok (declaration_of name found known)))
+-- the declaration of a name that isn't read, since something is wrong with it
+abbrev pub unread_declaration : Token → Fault → Declaration
+unread_declaration name fault = record {
+  name = name;
+  parameters = [];
+  denies_unknown = false;
+  faults = fault ∷ [];
+  declared = unread;
+}
 
--- the declaration of an enum
-abbrev pub enum_declaration : List Token → Token → List Variant → Result Declaration Fault
-enum_declaration attributes name variants =
-    and_then (said_on subject.Enum attributes) (λ found.
-    and_then (enum_by found variants) (λ known. Ok (declaration_of name found known)))
+-- the same, since it isn't read as it is declared
+abbrev pub read_otherwise : Token → TypeProblem → Declaration
+read_otherwise name problem = unread_declaration name (At name.offset (OfType problem))
+
+-- the declaration of a struct with attributes and their faults
+abbrev pub struct_with : Token → List Parameter → Body → Gathering Attribute → Declaration
+struct_with name parameters body found =
+    declaration_of name parameters found (struct_by found.values body)
+
+-- the declaration of a struct, unless it isn't read as it is declared
+abbrev pub struct_declaration
+    : Option TypeProblem → List Token → Token → List Parameter → Body → Declaration
+struct_declaration (Some problem) attributes name parameters body = read_otherwise name problem
+struct_declaration None attributes name parameters body =
+    struct_with name parameters body (said_on (subject_of body) attributes)
+
+-- the declaration of an enum with attributes and their faults
+abbrev pub enum_with : Token → List Parameter → List Variant → Gathering Attribute → Declaration
+enum_with name parameters variants found =
+    declaration_of name parameters found (enum_by found.values variants)
+
+-- the declaration of an enum, unless it isn't read as it is declared
+abbrev pub enum_declaration
+    : Option TypeProblem → List Token → Token → List Parameter → List Variant → Declaration
+enum_declaration (Some problem) attributes name parameters variants = read_otherwise name problem
+enum_declaration None attributes name parameters variants =
+    enum_with name parameters variants (said_on subject.Enum attributes)
 
 -- the declaration of an alias, which has no attributes that say anything
-abbrev pub alias_declaration : Token → Passage → Declaration
-alias_declaration name written = declaration_of name [] (alias written)
+abbrev pub alias_declaration : Token → List Parameter → Passage → Declaration
+alias_declaration name parameters written = record {
+  name = name;
+  parameters = parameters;
+  denies_unknown = false;
+  faults = [];
+  declared = alias written;
+}
 
--- what is there
-abbrev pub there : {A : Type 0} → Result A Fault → Result (Option A) Fault
-there result = and_then result (λ value. Ok (Some value))
-
--- the declaration of an item, if it declares something
-abbrev pub declaration : Item → Result (Option Declaration) Fault
-declaration (items.struct attributes name body) = there (struct_declaration attributes name body)
-declaration (items.enum attributes name variants) =
-    there (enum_declaration attributes name variants)
-declaration (items.alias name written) = Ok (Some (alias_declaration name written))
-declaration items.other = Ok None
+-- the declaration of an item, if it declares something, among items of which some derive how they
+-- are read, or none
+abbrev pub declaration : List Item → Bool → Item → Option Declaration
+declaration all has_derives (items.struct attributes name parameters body) =
+    Some (struct_declaration (own_reading all has_derives attributes name.text) attributes name
+    parameters body)
+declaration all has_derives (items.enum attributes name parameters variants) =
+    Some (enum_declaration (own_reading all has_derives attributes name.text) attributes name
+    parameters variants)
+declaration all has_derives (items.alias name parameters written) =
+    Some (alias_declaration name parameters written)
+declaration all has_derives (items.faulty attributes name fault) =
+    Some (unread_declaration name fault)
+declaration all has_derives (items.implements name) = None
+declaration all has_derives items.other = None
 
 -- the declarations of items, in order
-abbrev pub declarations : List Item → Result (List Declaration) Fault
-declarations written = gathered (λ number. declaration) 0 written
+abbrev pub declarations : List Item → List Declaration
+declarations all = filter_map (declaration all (has_derives all)) all

@@ -3,7 +3,7 @@ use Rattle.std.specs.Prelude.{ℕ, suc, ◌+◌, ◌-◌, min, Bool, true, false
 use Rattle.facet_solver_types.specs.Ascii as ascii
 use Rattle.facet_solver_types.specs.declared.grammar.run.Nest.{Nest}
 use Rattle.facet_solver_types.specs.declared.grammar.run.Run.{Run}
-use Rattle.facet_solver_types.specs.declared.grammar.run.Run.TheVariants.{FieldType, Head, Value, Statement, Group}
+use Rattle.facet_solver_types.specs.declared.grammar.run.Run.TheVariants.{FieldType, Head, Where, Angles, Value, Statement, Group}
 use Rattle.facet_solver_types.specs.declared.token.Bracket.TheVariants.{Curly}
 use Rattle.facet_solver_types.specs.declared.token.TokenKind.{TokenKind}
 use Rattle.facet_solver_types.specs.declared.token.TokenKind.TheVariants.{PathMark, Mark, Open, Close}
@@ -24,18 +24,24 @@ abbrev pub opens_braces : TokenKind → Bool
 opens_braces (Open Curly) = true
 opens_braces kind = false
 
--- what ends a run: a comma ends a type and a value, `;` a head and a statement, braces a head
+-- what ends a run: a comma ends a type and a value, `;` a head, a `where` and a statement, braces a
+-- head and a `where`, `=` a `where`, and `>` what stands in `<` and `>`
 abbrev pub stops : Run → TokenKind → Bool
 stops FieldType kind = is_mark ascii.comma kind
 stops Value kind = is_mark ascii.comma kind
 stops Statement kind = is_mark ascii.semicolon kind
 stops Head kind = is_mark ascii.semicolon kind || opens_braces kind
+stops Where kind =
+    is_mark ascii.equals kind || is_mark ascii.semicolon kind || opens_braces kind
+stops Angles kind = is_mark ascii.greater kind
 stops Group kind = false
 
 -- whether each `<` of a run is a bracket
 abbrev pub has_angles : Run → Bool
 has_angles FieldType = true
 has_angles Head = true
+has_angles Where = true
+has_angles Angles = true
 has_angles run = false
 
 -- outside all brackets

@@ -1,40 +1,62 @@
--- Where a type stands: the declarations that it can name.
-use Rattle.std.specs.Prelude.{ℕ, if◌then◌else◌, List, [], ◌∷◌, Option, Some, None}
+-- Where a type stands: the declarations that it can name, and what parameters stand for.
+use Rattle.std.specs.Prelude.{ℕ, Bool, ◌&&◌, not, List, Option, option_map, map, slice_get}
+use Rattle.std.specs.List.{position_or_len}
+use Rattle.std.specs.String.{string_bytes}
 use denote.Bor.{Bor}
 use Rattle.facet_solver_shape.specs.Names.{Name, name_eq}
+use Rattle.facet_solver_types.specs.Declarations.{Parameter, parameters_view}
 use Rattle.facet_solver_types.specs.declared.declaration.Declaration as code
 use Rattle.facet_solver_types.specs.declared.fault.Fault.{Fault}
 use Rattle.facet_solver_types.specs.declared.fault.Fault.TheVariants.{At}
 use Rattle.facet_solver_types.specs.declared.problem.Problem.TheVariants.{OfType}
 use Rattle.facet_solver_types.specs.declared.type_problem.TypeProblem.TheVariants.{TooDeep}
 use Rattle.facet_solver_types.specs.declared.typing.scope.Scope as declared
-use Rattle.facet_solver_types.specs.Tokens.{Token, token_view}
 use Rattle.facet_solver_types.specs.Understood.{Declaration, declaration_view, declarations_view}
 
--- where a type stands: all declarations, the name for which `Self` stands, and where the whole type
--- begins of which it is a part
+-- where a type stands: all declarations, the id for which `Self` stands, if it does, the parameters
+-- that the type can name, the ids for which these stand, and where the whole type begins of which
+-- it is a part
 pub record Scope : Type 0 where
   pub declarations : List Declaration
-  pub this : Token
+  pub this : Option Name
+  pub parameters : List Parameter
+  pub arguments : List Name
   pub begin : ℕ
 
--- what is seen of where a type stands
-abbrev pub scope_view : declared.Scope → Scope
-scope_view scope = record {
-  declarations = declarations_view scope.declarations.now;
-  this = token_view scope.this;
-  begin = scope.begin;
-}
+-- what is seen of a text behind a reference
+abbrev pub str_view : Bor (List ℕ) → Name
+str_view text = text.now
 
 -- what is seen of a declaration behind a reference
 abbrev pub declared_view : Bor code.Declaration → Declaration
 declared_view declaration = declaration_view declaration.now
 
--- the first declaration of a name
-abbrev pub find : Name → List Declaration → Option Declaration
-find name [] = None
-find name (declaration ∷ others) =
-    if name_eq declaration.name.text name then Some declaration else find name others
+-- what is seen of where a type stands
+abbrev pub scope_view : declared.Scope → Scope
+scope_view scope = record {
+  declarations = declarations_view scope.declarations.now;
+  this = option_map str_view scope.this;
+  parameters = parameters_view scope.parameters.now;
+  arguments = map string_bytes scope.arguments.now;
+  begin = scope.begin;
+}
+
+-- the place of the first declaration of a name, or the number of declarations
+abbrev pub place_of : Name → List Declaration → ℕ
+place_of name declarations =
+    position_or_len (λ (d : Declaration). name_eq d.name.text name) declarations
+
+-- whether a parameter is a type of this name
+abbrev pub binds : Name → Parameter → Bool
+binds name parameter = not parameter.is_const && name_eq parameter.name.text name
+
+-- the place of the first parameter that is a type of this name, or the number of parameters
+abbrev pub parameter_place : List Parameter → Name → ℕ
+parameter_place parameters name = position_or_len (binds name) parameters
+
+-- the id for which a name stands as a parameter, if it does
+abbrev pub bound_id : Scope → Name → Option Name
+bound_id scope name = slice_get scope.arguments (parameter_place scope.parameters name)
 
 -- the fault where the whole type is nested too deeply
 abbrev pub too_deep : Scope → Fault

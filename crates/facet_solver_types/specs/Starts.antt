@@ -1,6 +1,5 @@
 -- How an item begins, and how many tokens it has.
-use Rattle.std.specs.Prelude.{ℕ, zero, suc, ◌+◌, ◌-◌, min, Bool, true, false, ◌&&◌, ◌||◌, if◌then◌else◌, List, [], ◌∷◌, codes, drop, length, Option, Some, None, is_some}
-use Rattle.std.specs.List.{list_any}
+use Rattle.std.specs.Prelude.{ℕ, suc, ◌+◌, min, max, Bool, true, false, ◌&&◌, ◌||◌, if◌then◌else◌, List, [], ◌∷◌, codes, drop, length, Option, Some, None, is_some, unwrap_or}
 use Rattle.std.specs.Str.{bytes_eq}
 use Rattle.facet_solver_types.specs.Ascii as ascii
 use Rattle.facet_solver_types.specs.declared.grammar.run.Run.{Run}
@@ -8,12 +7,11 @@ use Rattle.facet_solver_types.specs.declared.grammar.run.Run.TheVariants as run
 use Rattle.facet_solver_types.specs.declared.grammar.starts.Path.{Path}
 use Rattle.facet_solver_types.specs.declared.grammar.starts.Path.TheVariants.{Begun, Named, Called, Broken}
 use Rattle.facet_solver_types.specs.declared.grammar.starts.Start.{Start}
-use Rattle.facet_solver_types.specs.declared.grammar.starts.Start.TheVariants.{Struct, Enum, Alias, Statement, Head, Call, Unknown}
+use Rattle.facet_solver_types.specs.declared.grammar.starts.Start.TheVariants.{Struct, Enum, Alias, Module, Function, Impl, Statement, Head, Call, Unknown}
 use Rattle.facet_solver_types.specs.declared.token.Bracket.TheVariants.{Curly}
 use Rattle.facet_solver_types.specs.declared.token.TokenKind.{TokenKind}
-use Rattle.facet_solver_types.specs.declared.token.TokenKind.TheVariants.{Name, PathMark}
-use Rattle.facet_solver_types.specs.FirstTokens.{is_name, is_word, sees_mark, sees_name, sees_open, sees_word}
-use Rattle.facet_solver_types.specs.Passages.{Passage, up_to}
+use Rattle.facet_solver_types.specs.declared.token.TokenKind.TheVariants.{Name, Text, RawText, PathMark}
+use Rattle.facet_solver_types.specs.FirstTokens.{is_name, is_word, sees_bracket, sees_close, sees_mark, sees_name, sees_open, sees_word}
 use Rattle.facet_solver_types.specs.Prefixes.{attributes_len, visibility_len}
 use Rattle.facet_solver_types.specs.Runs.{group_len, is_mark, run_len}
 use Rattle.facet_solver_types.specs.Tokens.{Token}
@@ -39,20 +37,34 @@ begins_statement tokens =
     sees_word (codes "use") tokens || sees_word (codes "static") tokens
     || (sees_word (codes "const") tokens && begins_constant (drop 1 tokens))
 
--- the keywords that begin an item that declares no type, and ends with `;` or `{ }`
-abbrev pub heads : List (List ℕ)
-heads =
-    codes "fn" ∷ codes "impl" ∷ codes "mod" ∷ codes "trait" ∷ codes "unsafe" ∷ codes "extern"
-    ∷ codes "async" ∷ codes "const" ∷ []
+-- whether a token may stand before `fn`, `impl` or `trait`: a keyword, or the text after `extern`
+abbrev pub is_qualifier : TokenKind → List ℕ → Bool
+is_qualifier Text text = true
+is_qualifier RawText text = true
+is_qualifier kind text =
+    is_word (codes "const") kind text || is_word (codes "async") kind text
+    || is_word (codes "unsafe") kind text || is_word (codes "extern") kind text
 
--- whether one of some keywords stands first
-abbrev pub sees_any : List (List ℕ) → List Token → Bool
-sees_any words tokens = list_any (λ word. sees_word word tokens) words
+-- how many tokens stand first that may stand before `fn`, `impl` or `trait`
+unfoldable pub qualifiers_len : List Token → ℕ
+qualifiers_len [] = 0
+qualifiers_len (token ∷ tokens) =
+    if is_qualifier token.kind token.text then suc (qualifiers_len tokens) else 0
 
--- whether an item stands first that declares no type, and ends with `;` or `{ }`
-unfoldable pub begins_head : List Token → Bool
-begins_head tokens =
-    sees_any heads tokens
+-- whether `fn` and a name stand first
+abbrev pub begins_function : List Token → Bool
+begins_function tokens = sees_word (codes "fn") tokens && sees_name (drop 1 tokens)
+
+-- whether the items of another language stand first, or a crate
+abbrev pub begins_extern : List Token → Bool
+begins_extern tokens =
+    sees_word (codes "extern") tokens
+    || (sees_word (codes "unsafe") tokens && sees_word (codes "extern") (drop 1 tokens))
+
+-- whether a trait or a union stands first
+abbrev pub begins_trait : List Token → Bool
+begins_trait tokens =
+    sees_word (codes "trait") tokens
     || (sees_plain (codes "auto") tokens && sees_word (codes "trait") (drop 1 tokens))
     || (sees_plain (codes "union") tokens && sees_name (drop 1 tokens))
 
@@ -110,23 +122,37 @@ abbrev pub call_len : List Token → Option ℕ
 call_len tokens =
     if sees_path_mark tokens then path_len 1 (drop 1 tokens) else path_len 0 tokens
 
+-- how an item begins that words may stand before, or the call of a macro, with what stands after
+-- the words
+abbrev pub start_with : List Token → List Token → Start
+start_with tokens rest =
+    if begins_function rest then Function
+    else (if sees_word (codes "impl") rest then Impl
+    else (if begins_trait rest || begins_extern tokens then Head
+    else (if is_some (call_len tokens) then Call
+    else Unknown)))
+
+-- how an item begins that words may stand before, or the call of a macro
+unfoldable pub qualified_start : List Token → Start
+qualified_start tokens = start_with tokens (drop (qualifiers_len tokens) tokens)
+
 -- how an item begins, after attributes and `pub`
 unfoldable pub start_of : List Token → Start
 start_of tokens =
     if sees_word (codes "struct") tokens then Struct
     else (if sees_word (codes "enum") tokens then Enum
     else (if sees_word (codes "type") tokens then Alias
+    else (if sees_word (codes "mod") tokens then Module
     else (if begins_statement tokens then Statement
-    else (if begins_head tokens then Head
-    else (if is_some (call_len tokens) then Call
-    else Unknown)))))
+    else qualified_start tokens))))
 
--- whether an item declares a type that begins so
-abbrev pub is_declaration : Start → Bool
-is_declaration Struct = true
-is_declaration Enum = true
-is_declaration Alias = true
-is_declaration start = false
+-- whether an item begins with a keyword and a name that begins so
+abbrev pub has_keyword : Start → Bool
+has_keyword Struct = true
+has_keyword Enum = true
+has_keyword Alias = true
+has_keyword Module = true
+has_keyword start = false
 
 -- up to what an item goes that begins so: `;`, or `;` or braces
 abbrev pub run_of : Start → Run
@@ -134,31 +160,86 @@ run_of Alias = run.Statement
 run_of Statement = run.Statement
 run_of start = run.Head
 
+-- how many tokens the first token is: one, or none where there is none, or where it closes a bracket
+abbrev pub first_len : List Token → ℕ
+first_len tokens = if sees_close tokens then 0 else min 1 (length tokens)
+
 -- how many tokens the end of an item has: its braces, or one
 abbrev pub end_len : List Token → ℕ
-end_len tokens = if sees_open Curly tokens then group_len tokens else min 1 (length tokens)
+end_len tokens = if sees_open Curly tokens then group_len tokens else first_len tokens
+
+-- how many tokens the brace has that opens a module, with the inner attributes behind it, or else
+-- the first token
+abbrev pub opening_len : List Token → ℕ
+opening_len tokens =
+    if sees_open Curly tokens then 1 + attributes_len true (drop 1 tokens) else first_len tokens
+
+-- how many tokens the end of an item has that begins so; a function and a module end where their
+-- braces open
+abbrev pub end_len_of : Start → List Token → ℕ
+end_len_of Function tokens = first_len tokens
+end_len_of Module tokens = opening_len tokens
+end_len_of start tokens = end_len tokens
+
+-- how many tokens the path of a macro has with its `!`, and with a name, if one stands there
+unfoldable pub named_call_len : List Token → ℕ
+named_call_len tokens =
+    let len = unwrap_or (call_len tokens) 0 in
+    if sees_name (drop len tokens) then len + 1 else len
+
+-- how many tokens the brackets have that stand first, with what stands in them, or 0
+abbrev pub brackets_len : List Token → ℕ
+brackets_len tokens = if sees_bracket tokens then group_len tokens else 0
+
+-- how many tokens a `;` has that may stand first
+abbrev pub semicolon_len : List Token → ℕ
+semicolon_len tokens = if sees_mark ascii.semicolon tokens then 1 else 0
+
+-- how many tokens the call of a macro has, with its brackets, and with `;` if it stands there
+unfoldable pub whole_call_len : List Token → ℕ
+whole_call_len tokens =
+    let name = named_call_len tokens in
+    let rest = drop name tokens in
+    let brackets = brackets_len rest in
+    name + (brackets + semicolon_len (drop brackets rest))
+
+-- how many tokens an item has that begins so and is no call, after attributes and `pub`
+unfoldable pub run_and_end_len : Start → List Token → ℕ
+run_and_end_len start tokens =
+    let len = run_len (run_of start) tokens in len + end_len_of start (drop len tokens)
+
+-- how many tokens an item has that begins so, after attributes and `pub`
+abbrev pub len_of : Start → List Token → ℕ
+len_of Call tokens = whole_call_len tokens
+len_of start tokens = run_and_end_len start tokens
 
 -- how many tokens an item has, after attributes and `pub`
 abbrev pub bare_len : List Token → ℕ
-bare_len tokens =
-    let len = run_len (run_of (start_of tokens)) tokens in len + end_len (drop len tokens)
+bare_len tokens = len_of (start_of tokens) tokens
 
--- how many tokens the item has that stands first, with attributes and `pub`
-unfoldable pub item_len : List Token → ℕ
-item_len tokens =
+-- whether no item begins so
+abbrev pub is_unknown : Start → Bool
+is_unknown Unknown = true
+is_unknown start = false
+
+-- whether what stands first in a block is no item
+abbrev pub is_nothing : Bool → List Token → Bool
+is_nothing is_in_block tokens = is_in_block && is_unknown (start_of tokens)
+
+-- how many tokens an item has, after attributes, with `pub`; in a block none where it is no item
+unfoldable pub visible_len : Bool → List Token → ℕ
+visible_len is_in_block tokens =
+    let visibility = visibility_len tokens in
+    let bare = drop visibility tokens in
+    if is_nothing is_in_block bare then 0 else visibility + bare_len bare
+
+-- how many tokens the item has that stands first, with attributes and `pub`; in a block, where no
+-- item stands first, the attributes alone
+unfoldable pub item_len : Bool → List Token → ℕ
+item_len is_in_block tokens =
     let attributes = attributes_len false tokens in
-    let rest = drop attributes tokens in
-    let visibility = visibility_len rest in
-    attributes + (visibility + bare_len (drop visibility rest))
+    attributes + visible_len is_in_block (drop attributes tokens)
 
--- the items that tokens have, after the first tokens that were `passed`
-unfoldable pub items_from : ℕ → ℕ → List Token → List Passage
-items_from end passed [] = []
-items_from end (suc passed) (token ∷ tokens) = items_from end passed tokens
-items_from end zero (token ∷ tokens) =
-    let len = item_len (token ∷ tokens) in
-    up_to len (record { tokens = token ∷ tokens; end = end }) ∷ items_from end (len - 1) tokens
-
--- the parts of a passage that are its items
-abbrev pub item_pieces : Passage → List Passage
-item_pieces passage = items_from passage.end 0 passage.tokens
+-- how many tokens the piece has that stands first: an item's, or one
+abbrev pub piece_len : Bool → List Token → ℕ
+piece_len is_in_block tokens = max 1 (item_len is_in_block tokens)

@@ -1,9 +1,9 @@
--- The ids of types: as they are written, where aliases are followed, and lifetimes and paths
--- dropped.
+-- The ids of types: as they are written, where aliases and parameters are followed, and lifetimes
+-- and paths dropped.
 use Rattle.std.specs.Prelude.{◌==◌, if◌then◌else◌, List, [], ◌∷◌, ◌++◌, length, codes}
 use Rattle.std.specs.List.{flat_map}
 use Rattle.facet_solver_shape.specs.Names.{Name}
-use Rattle.facet_solver_types.specs.Layers.{Head, same, declared, scalar, dynamic, applied, array, slice, tuple}
+use Rattle.facet_solver_types.specs.Layers.{Head, same, bound, declared, alias, scalar, dynamic, applied, array, slice, tuple}
 use Rattle.facet_solver_types.specs.PrintedTexts as printed
 use Rattle.facet_solver_types.specs.Tokens.{Token}
 
@@ -39,17 +39,28 @@ spaced (token ∷ others) = token.text ++ flat_map behind_blank others
 abbrev pub tuple_end : List Name → Name
 tuple_end ids = if length ids == 1 then codes ",)" else codes ")"
 
--- the id of a declared type: its name, raw where it is a keyword
+-- the id of what a name makes of the types that it takes
+abbrev pub applied_id : Name → List Name → Name
+applied_id name ids = name ++ (codes "<" ++ (joined ids ++ codes ">"))
+
+-- the id of a declared type without parameters: its name, raw where it is a keyword
 abbrev pub declared_id : Name → Name
 declared_id = printed.declared
+
+-- the id of a declared type, with the ids of the types that it takes
+abbrev pub used_id : Name → List Name → Name
+used_id name ids =
+    if length ids == 0 then declared_id name else applied_id (declared_id name) ids
 
 -- the id of a type, by those of the types in it
 abbrev pub id_of : Head → List Name → Name
 id_of same ids = first ids
-id_of (declared name) ids = declared_id name
+id_of (bound id) ids = id
+id_of (declared index name) ids = used_id name ids
+id_of (alias parameters written) ids = first ids
 id_of (scalar name kind) ids = name
 id_of (dynamic name) ids = name
-id_of (applied name kind) ids = name ++ (codes "<" ++ (joined ids ++ codes ">"))
+id_of (applied name kind) ids = applied_id name ids
 id_of (array len) ids = codes "[" ++ (first ids ++ (codes "; " ++ (spaced len ++ codes "]")))
 id_of slice ids = codes "[" ++ (first ids ++ codes "]")
 id_of tuple ids = codes "(" ++ (joined ids ++ tuple_end ids)

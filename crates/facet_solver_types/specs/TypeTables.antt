@@ -1,6 +1,5 @@
 -- Types with their declarations, of which shapes are made.
-use Rattle.std.specs.Prelude.{ℕ, Bool, true, false, ◌&&◌, not, ◌==◌, List, [], Option, slice_get, option_map}
-use Rattle.std.specs.List.{position_or_len}
+use Rattle.std.specs.Prelude.{ℕ, Bool, true, false, ◌&&◌, not, List, Option, slice_get, option_map}
 use Rattle.std.specs.Option.{option_map_or}
 use Rattle.facet_solver_shape.specs.Names.{Name, names_of}
 use Rattle.facet_solver_shape.specs.declared.shape.StructKind.{StructKind}
@@ -27,26 +26,6 @@ table_view k = record {
 -- what the type of an id is made of, if there is one
 abbrev pub form_of : TypeTable → Name → Option Form
 form_of table id = option_map (λ (e : TypeEntry). e.form) (slice_get table.entries (place_in table.ids id))
-
--- whether a type is what the declaration at an index declares
-abbrev pub is_declared_by : ℕ → Form → Bool
-is_declared_by index (declared other types) = other == index
-is_declared_by index form = false
-
--- the place of the type that the declaration at an index declares, or the number of types
-abbrev pub declared_place : TypeTable → ℕ → ℕ
-declared_place table index =
-    position_or_len (λ (e : TypeEntry). is_declared_by index e.form) table.entries
-
--- the types of what a declaration declares: none for other types
-abbrev pub declared_types : Form → List (List Name)
-declared_types (declared index types) = types
-declared_types form = []
-
--- the types of what is declared at a place
-abbrev pub types_at : TypeTable → ℕ → List (List Name)
-types_at table place =
-    option_map_or (λ (e : TypeEntry). declared_types e.form) (slice_get table.entries place) []
 
 -- whether fields have names
 abbrev pub has_names : StructKind → Bool

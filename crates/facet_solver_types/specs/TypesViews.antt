@@ -1,5 +1,5 @@
 -- Types with their shapes.
-use Rattle.std.specs.Prelude.{ℕ, ◌==◌, ◌&&◌, Bool, List, [], ◌∷◌, Option, Some, None, option_map, find}
+use Rattle.std.specs.Prelude.{ℕ, ◌==◌, ◌&&◌, Bool, List, Option, option_map, find}
 use Rattle.std.specs.List.{list_any}
 use Rattle.std.specs.String.{string_bytes}
 use Rattle.facet_solver_shape.specs.Names.{Name, name_eq}
@@ -17,23 +17,18 @@ abbrev pub declared_type_view : declared.DeclaredType → DeclaredType
 declared_type_view d =
     record { name = string_bytes d.name; shape = d.shape; denies_unknown = d.denies_unknown }
 
--- types: their shapes in order, the structs and enums, and the places of those that no other
--- mentions
+-- types: their shapes in order, the structs and enums, and the place of the one as which documents
+-- are read
 pub record Types : Type 0 where
   pub shapes : List Shape
   pub declared : List DeclaredType
-  pub roots : List ℕ
+  pub root : ℕ
 
 -- the place of the struct or enum of a name
 abbrev pub shape_named : List DeclaredType → Name → Option ℕ
 shape_named types name =
     option_map (λ (d : DeclaredType). d.shape)
     (find (λ (d : DeclaredType). name_eq d.name name) types)
-
--- the only one of some places
-abbrev pub only : List ℕ → Option ℕ
-only (place ∷ []) = Some place
-only places = None
 
 -- whether a type stands at a place and denies unknown members
 abbrev pub denies_at : ℕ → DeclaredType → Bool

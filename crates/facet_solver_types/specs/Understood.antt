@@ -6,12 +6,14 @@ use Rattle.facet_solver_shape.specs.declared.shape.DomMark.{DomMark}
 use Rattle.facet_solver_shape.specs.declared.shape.StructKind.{StructKind}
 use Rattle.facet_solver_types.specs.declared.declaration.Declaration as declaration
 use Rattle.facet_solver_types.specs.declared.declaration.Declared as declared
-use Rattle.facet_solver_types.specs.declared.declaration.Declared.TheVariants.{Struct, Enum, Proxied, Alias}
+use Rattle.facet_solver_types.specs.declared.declaration.Declared.TheVariants.{Struct, Enum, Proxied, Alias, Unread}
 use Rattle.facet_solver_types.specs.declared.declaration.DeclaredField as field
 use Rattle.facet_solver_types.specs.declared.declaration.DeclaredVariant as variant
 use Rattle.facet_solver_types.specs.declared.declaration.Proxy as declared_proxy
 use Rattle.facet_solver_types.specs.declared.declaration.SaidType as said
 use Rattle.facet_solver_types.specs.declared.declaration.SaidType.TheVariants.{Plain, Quoted}
+use Rattle.facet_solver_types.specs.declared.fault.Fault.{Fault}
+use Rattle.facet_solver_types.specs.Declarations.{Parameter, parameters_view}
 use Rattle.facet_solver_types.specs.Passages.{Passage, passage_view}
 use Rattle.facet_solver_types.specs.Tokens.{Token, token_view, tokens_view}
 
@@ -82,12 +84,13 @@ pub record Tagging : Type 0 where
   pub untagged : Bool
 
 -- what a declaration declares: a struct, maybe one that stands for its one field or that holds
--- metadata; an enum; what is read as another type; an alias
+-- metadata; an enum; what is read as another type; an alias; or nothing that could be read
 pub data Declared : Type 0 where
   struct : StructKind → List DeclaredField → Bool → Bool → Declared
   enum : List DeclaredVariant → Tagging → Declared
   proxied : List Proxy → Declared
   alias : Passage → Declared
+  unread : Declared
 
 -- what is seen of what a declaration declares
 abbrev pub declared_view : declared.Declared → Declared
@@ -101,18 +104,24 @@ declared_view (Enum variants tag content untagged) =
     })
 declared_view (Proxied proxies) = proxied (map proxy_view proxies.items)
 declared_view (Alias passage) = alias (passage_view passage)
+declared_view Unread = unread
 
--- a declaration of a type: its name, whether it denies unknown members, and what it declares
+-- a declaration of a type: its name, its parameters, whether it denies unknown members, what is
+-- wrong with its attributes, fields and variants, and what it declares
 pub record Declaration : Type 0 where
   pub name : Token
+  pub parameters : List Parameter
   pub denies_unknown : Bool
+  pub faults : List Fault
   pub declared : Declared
 
 -- what is seen of a declaration
 abbrev pub declaration_view : declaration.Declaration → Declaration
 declaration_view d = record {
   name = token_view d.name;
+  parameters = parameters_view d.parameters.items;
   denies_unknown = d.denies_unknown;
+  faults = d.faults.items;
   declared = declared_view d.declared;
 }
 

@@ -78,12 +78,17 @@ name_after found (entry ∷ entries) =
 abbrev pub read_name : List Entry → Option (Option Token)
 read_name entries = name_after None entries
 
+-- a value after `=`, which says nothing, if something stands there
+abbrev pub some_value : List Token → Option Value
+some_value [] = None
+some_value (token ∷ tokens) = Some none
+
 -- the value of what takes neither a text nor everything
 abbrev pub simple_value : Form → EntryValue → Option Value
 simple_value form.Nothing nothing = Some none
 simple_value form.Default nothing = Some none
-simple_value form.Default (is passage) = Some none
-simple_value form.Value (is passage) = Some none
+simple_value form.Default (is passage) = some_value passage.tokens
+simple_value form.Value (is passage) = some_value passage.tokens
 simple_value form.Type (is passage) = Some (of_type passage)
 simple_value other value = None
 

@@ -1,5 +1,5 @@
 -- Types as they are written: what a type is outside, and the types in it.
-use Rattle.std.specs.Prelude.{ℕ, Bool, false, ◌||◌, ◌&&◌, ◌+◌, ◌-◌, ◌==◌, nat_lt, suc, if◌then◌else◌, List, [], ◌∷◌, codes, drop, length, map, Result, Ok, Err}
+use Rattle.std.specs.Prelude.{ℕ, Bool, false, not, ◌||◌, ◌&&◌, ◌+◌, ◌-◌, ◌==◌, nat_lt, suc, if◌then◌else◌, List, [], ◌∷◌, codes, drop, length, map, Result, Ok, Err}
 use Rattle.std.specs.Str.{bytes_eq}
 use Rattle.facet_solver_types.specs.Ascii as ascii
 use Rattle.facet_solver_types.specs.declared.fault.Fault.{Fault}
@@ -19,7 +19,8 @@ use Rattle.facet_solver_types.specs.Pieces.{and_then, pieces}
 use Rattle.facet_solver_types.specs.Runs.{group_len, run_len}
 use Rattle.facet_solver_types.specs.Tokens.{Token, token_view, tokens_view}
 
--- a type by a name: the last part of its path, whether others stand before it, and the types in it
+-- a type by a name: the last part of its path, whether others stand before it that do not begin in
+-- the crate of the text, and the types in it
 pub record NamedType : Type 0 where
   pub name : Token
   pub is_path : Bool
@@ -167,13 +168,23 @@ type_name_of (token ∷ tokens) end =
 abbrev pub type_name : Passage → Result Token Fault
 type_name passage = type_name_of passage.tokens passage.end
 
+-- whether a path begins in the crate of the text
+abbrev pub is_own : List Token → Bool
+is_own tokens =
+    sees_word (codes "crate") tokens || sees_word (codes "self") tokens
+    || sees_word (codes "super") tokens
+
 -- a type by a name, whose path's front is so long
 abbrev pub named_after : ℕ → Passage → Result Written Fault
 named_after front passage =
     let rest = after front passage in
     and_then (type_name rest) (λ name.
     and_then (types_after (after 1 rest)) (λ types.
-    Ok (named (record { name = name; is_path = nat_lt 0 front; types = types }))))
+    Ok (named (record {
+      name = name;
+      is_path = nat_lt 0 front && not (is_own passage.tokens);
+      types = types;
+    }))))
 
 -- a type by a path
 abbrev pub path_type : Passage → Result Written Fault

@@ -12,48 +12,58 @@ mod links;
 mod members;
 mod ordered;
 mod parts;
-mod roots;
 mod shapes;
 mod table;
 mod walks;
 
 use crate::declaration::Declaration;
-use crate::fault::Fault;
+use crate::failure::Failure;
+use crate::faults::told;
 use crate::parsed::Types;
 use crate::type_entry::TypeEntry;
-use faults::declarations_fault;
+use faults::shape_faults;
 use links::{ids, needs};
 use parts::{checked, types_of};
 use std::alloc::Global;
 use table::TypeTable;
 
 /// The types of a table, which need others so, where they have shapes.
-fn shaped(alloc: Global, table: TypeTable<'_, '_, '_>, needs: &[Vec<usize>]) -> Result<Types, Fault>
-    ensures { GivesTypes (shaped (table_view table.entry) (links_view needs.now)) result }
+fn shaped(
+    alloc: Global,
+    table: TypeTable<'_, '_, '_>,
+    needs: &[Vec<usize>],
+    root: &str,
+) -> Result<Types, Failure>
+    ensures { GivesTypes (shaped (table_view table.entry) (links_view needs.now) root.now) result }
 {
-    declarations_fault(alloc, table, needs)?;
-    checked(types_of(alloc, table, needs)?)
+    let found = shape_faults(alloc, table, needs)?;
+    let faults = told(alloc, found)?;
+    if !faults.is_empty() {
+        return Err(Failure::Needed(faults));
+    }
+    checked(types_of(alloc, table, needs, root)?)
 }
 
 /// The types of a table.
-fn table_types(alloc: Global, table: TypeTable<'_, '_, '_>) -> Result<Types, Fault>
-    ensures { GivesTypes (table_types (table_view table.entry)) result }
+fn table_types(alloc: Global, table: TypeTable<'_, '_, '_>, root: &str) -> Result<Types, Failure>
+    ensures { GivesTypes (table_types (table_view table.entry) root.now) result }
 {
     let needs = needs(alloc, table.ids, table.entries)?;
-    shaped(alloc, table, &needs)
+    shaped(alloc, table, &needs, root)
 }
 
-/// The types of declarations, with their shapes.
+/// The types of declarations, with their shapes, and the one of an id as their root.
 ///
-/// Errors: a declaration that holds itself, or a flattened field whose type has no members,
-/// whichever comes first in the text; why the shapes are no catalogue; out of memory.
+/// Errors: all declarations that hold themselves, and flattened fields whose types have no members;
+/// why the shapes are no catalogue; out of memory.
 pub(crate) fn catalogue_of(
     alloc: Global,
     declarations: &[Declaration<'_, '_>],
     entries: &[TypeEntry],
-) -> Result<Types, Fault>
+    root: &str,
+) -> Result<Types, Failure>
     ensures { GivesTypes
-        (catalogue_of (declarations_view declarations.now) (entries_view entries.now)) result }
+        (catalogue_of (declarations_view declarations.now) (entries_view entries.now) root.now) result }
 {
     let ids = ids(alloc, entries)?;
     let table = TypeTable {
@@ -61,5 +71,5 @@ pub(crate) fn catalogue_of(
         entries,
         ids: &ids,
     };
-    table_types(alloc, table)
+    table_types(alloc, table, root)
 }

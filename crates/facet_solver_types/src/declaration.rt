@@ -1,6 +1,8 @@
 //! Declarations, with what their attributes say. Types are still tokens.
 ghost use Rattle.std.specs.Prelude.{◌≡◌};
 
+use crate::fault::Fault;
+use crate::item::Parameter;
 use crate::passage::Passage;
 use crate::token::Token;
 use facet_solver_shape::{DomMark, StructKind};
@@ -99,6 +101,8 @@ pub(crate) enum Declared<'s, 't> {
     Proxied(Vec<Proxy<'s, 't>>),
     /// An alias of a type.
     Alias(Passage<'s, 't>),
+    /// What could not be read. The declaration has a fault.
+    Unread,
 }
 
 /// A declaration of a type.
@@ -106,7 +110,12 @@ pub(crate) enum Declared<'s, 't> {
 pub(crate) struct Declaration<'s, 't> {
     /// Its name.
     pub(crate) name: Token<'t>,
+    /// Its type and const parameters.
+    pub(crate) parameters: Vec<Parameter<'t>>,
     /// Whether members of other names than its fields' are refused.
     pub(crate) denies_unknown: bool,
+    /// What is wrong with its attributes, its fields and its variants. A field or variant that has
+    /// a fault is not declared.
+    pub(crate) faults: Vec<Fault>,
     pub(crate) declared: Declared<'s, 't>,
 }

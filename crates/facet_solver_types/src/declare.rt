@@ -1,12 +1,17 @@
 //! From items to declarations, with what their attributes say.
-ghost use Rattle.std.specs.Prelude.{◌≡◌, option_map};
+ghost use Rattle.std.specs.Prelude.{◌≡◌, [], ◌∷◌, IfOk, option_map};
 ghost use Rattle.facet_solver_types.specs.AttributeLists.{attributes_view};
+ghost use Rattle.facet_solver_types.specs.Attributes.{attribute_view};
 ghost use Rattle.facet_solver_types.specs.Declarations as written;
-ghost use Rattle.facet_solver_types.specs.Outcomes.{Gives};
+ghost use Rattle.facet_solver_types.specs.Gatherings.{gathering_view};
+ghost use Rattle.facet_solver_types.specs.Passages.{passage_view};
+ghost use Rattle.facet_solver_types.specs.Proxies.{proxies as proxies_of};
 ghost use Rattle.facet_solver_types.specs.ReadItems as read;
+ghost use Rattle.facet_solver_types.specs.Stated.{stated_view};
 ghost use Rattle.facet_solver_types.specs.Tokens.{token_view, tokens_view};
-ghost use Rattle.facet_solver_types.specs.Understood.{declaration_view, declarations_view, declared_view};
+ghost use Rattle.facet_solver_types.specs.Understood.{declaration_view, declarations_view};
 
+mod derived;
 mod enums;
 mod fields;
 mod gather;
@@ -14,36 +19,78 @@ mod names;
 mod proxy;
 mod said;
 mod sought;
+mod stated;
 mod structs;
 mod variants;
 
 use crate::attribute::{Attribute, Meaning, Subject};
 use crate::declaration::{Declaration, Declared};
 use crate::fault::Fault;
-use crate::item::{Body, EnumDeclaration, Item, StructDeclaration, VariantDeclaration};
+use crate::gathering::Gathering;
+use crate::item::{
+    AliasDeclaration, Body, EnumDeclaration, Item, Parameter, StructDeclaration, VariantDeclaration,
+};
+use crate::problem::Problem;
 use crate::token::Token;
+use crate::type_problem::TypeProblem;
+use derived::{has_derives, own_reading};
 use enums::read_enum;
 use gather::add;
 use proxy::proxies;
 use said::said_on;
 use sought::is_said;
-use std::alloc::Global;
+use stated::Stated;
+use std::alloc::{AllocError, Global};
 use structs::{read_struct, subject_of};
+
+/// A fault, alone.
+///
+/// The only error is out of memory.
+fn alone(alloc: Global, fault: Fault) -> Result<Vec<Fault>, AllocError>
+    ensures { IfOk result (λ faults. faults.items ≡ fault ∷ []) }
+{
+    let mut faults = Vec::new(alloc);
+    faults.push(fault)?;
+    Ok(faults)
+}
+
+/// What is declared by proxies, if there are some, or their fault.
+///
+/// The only error is out of memory.
+fn proxied_by<'s, 't>(
+    alloc: Global,
+    found: &[Attribute<'s, 't>],
+) -> Result<Option<Stated<'s, 't>>, AllocError>
+    ensures { IfOk result (λ known. option_map stated_view known
+        ≡ read.proxied_by (proxies_of (attributes_view found.now))) }
+{
+    match proxies(alloc, found) {
+        Ok(proxies) if proxies.is_empty() => Ok(None),
+        Ok(proxies) => Ok(Some(Stated {
+            declared: Declared::Proxied(proxies),
+            faults: Vec::new(alloc),
+        })),
+        Err(Fault::OutOfMemory) => Err(AllocError),
+        Err(fault) => Ok(Some(Stated {
+            declared: Declared::Unread,
+            faults: alone(alloc, fault)?,
+        })),
+    }
+}
 
 /// What a struct declares. Where it is read as another type, its body isn't looked at.
 fn struct_by<'s, 't>(
     alloc: Global,
     found: &[Attribute<'s, 't>],
     body: &Body<'s, 't>,
-) -> Result<Declared<'s, 't>, Fault>
-    ensures { Gives declared_view
-        (read.struct_by (attributes_view found.now) (written.body_view body.now)) result }
+) -> Result<Stated<'s, 't>, AllocError>
+    ensures { IfOk result (λ stated. stated_view stated
+        ≡ read.struct_by (attributes_view found.now) (written.body_view body.now)) }
 {
-    let proxies = proxies(alloc, found)?;
-    if !proxies.is_empty() {
-        return Ok(Declared::Proxied(proxies));
+    match proxied_by(alloc, found)? {
+        Some(stated) => Ok(stated),
+        None => read_struct(alloc, found, body),
     }
-    read_struct(alloc, found, body)
 }
 
 /// What an enum declares. Where it is read as another type, its variants aren't looked at.
@@ -51,95 +98,186 @@ fn enum_by<'s, 't>(
     alloc: Global,
     found: &[Attribute<'s, 't>],
     variants: &[VariantDeclaration<'s, 't>],
-) -> Result<Declared<'s, 't>, Fault>
-    ensures { Gives declared_view
-        (read.enum_by (attributes_view found.now) (written.variants_view variants.now)) result }
+) -> Result<Stated<'s, 't>, AllocError>
+    ensures { IfOk result (λ stated. stated_view stated
+        ≡ read.enum_by (attributes_view found.now) (written.variants_view variants.now)) }
 {
-    let proxies = proxies(alloc, found)?;
-    if !proxies.is_empty() {
-        return Ok(Declared::Proxied(proxies));
+    match proxied_by(alloc, found)? {
+        Some(stated) => Ok(stated),
+        None => read_enum(alloc, found, variants),
     }
-    read_enum(alloc, found, variants)
 }
 
-/// The declaration of a name, with attributes.
+/// Copies of parameters.
+fn copied<'t>(alloc: Global, parameters: &[Parameter<'t>]) -> Result<Vec<Parameter<'t>>, AllocError>
+    ensures { IfOk result (λ copies. copies.items ≡ parameters.now) }
+{
+    let mut copies = Vec::new(alloc);
+    copies.extend_from_slice(parameters)?;
+    Ok(copies)
+}
+
+/// The declaration of a name and parameters, with attributes and their faults.
 fn declaration_of<'s, 't>(
+    alloc: Global,
     name: Token<'t>,
-    found: &[Attribute<'_, '_>],
-    declared: Declared<'s, 't>,
-) -> Declaration<'s, 't>
-    ensures { declaration_view result
-        ≡ read.declaration_of (token_view name.entry) (attributes_view found.now)
-        (declared_view declared.entry) }
+    parameters: &[Parameter<'t>],
+    found: Gathering<Attribute<'s, 't>>,
+    stated: Stated<'s, 't>,
+) -> Result<Declaration<'s, 't>, AllocError>
+    ensures { IfOk result (λ made. declaration_view made
+        ≡ read.declaration_of (token_view name.entry) (written.parameters_view parameters.now)
+        (gathering_view attribute_view found.entry) (stated_view stated.entry)) }
 {
-    Declaration {
-        name,
-        denies_unknown: is_said(Meaning::DenyUnknownFields, found),
+    let Stated {
         declared,
-    }
+        faults: mut others,
+    } = stated;
+    let mut faults = found.faults;
+    faults.append(&mut others)?;
+    Ok(Declaration {
+        name,
+        parameters: copied(alloc, parameters)?,
+        denies_unknown: is_said(Meaning::DenyUnknownFields, &found.values),
+        faults,
+        declared,
+    })
 }
 
-/// The declaration of a struct.
+/// The declaration of a name that isn't read, since something is wrong with it.
+fn unread<'s, 't>(
+    alloc: Global,
+    name: Token<'t>,
+    fault: Fault,
+) -> Result<Declaration<'s, 't>, AllocError>
+    ensures { IfOk result (λ made. declaration_view made
+        ≡ read.unread_declaration (token_view name.entry) fault) }
+{
+    Ok(Declaration {
+        name,
+        parameters: Vec::new(alloc),
+        denies_unknown: false,
+        faults: alone(alloc, fault)?,
+        declared: Declared::Unread,
+    })
+}
+
+/// The declaration of a name that isn't read as it is declared.
+fn read_otherwise<'s, 't>(
+    alloc: Global,
+    name: Token<'t>,
+    problem: TypeProblem,
+) -> Result<Declaration<'s, 't>, AllocError>
+    ensures { IfOk result (λ made. declaration_view made
+        ≡ read.read_otherwise (token_view name.entry) problem) }
+{
+    let fault = Fault::At {
+        offset: name.offset,
+        problem: Problem::OfType(problem),
+    };
+    unread(alloc, name, fault)
+}
+
+/// The declaration of a struct, unless it isn't read as it is declared.
 fn struct_declaration<'s, 't>(
     alloc: Global,
+    problem: Option<TypeProblem>,
     item: &StructDeclaration<'s, 't>,
-) -> Result<Declaration<'s, 't>, Fault>
-    ensures { Gives declaration_view
-        (read.struct_declaration (tokens_view item.now.attributes.now) (token_view item.now.name)
-        (written.body_view item.now.body)) result }
+) -> Result<Declaration<'s, 't>, AllocError>
+    ensures { IfOk result (λ made. declaration_view made
+        ≡ read.struct_declaration problem (tokens_view item.now.attributes.now)
+        (token_view item.now.name) (written.parameters_view item.now.parameters.items)
+        (written.body_view item.now.body)) }
 {
+    if let Some(problem) = problem {
+        return read_otherwise(alloc, item.name, problem);
+    }
     let found = said_on(alloc, subject_of(&item.body), item.attributes)?;
-    let declared = struct_by(alloc, &found, &item.body)?;
-    Ok(declaration_of(item.name, &found, declared))
+    let stated = struct_by(alloc, &found.values, &item.body)?;
+    declaration_of(alloc, item.name, &item.parameters, found, stated)
 }
 
-/// The declaration of an enum.
+/// The declaration of an enum, unless it isn't read as it is declared.
 fn enum_declaration<'s, 't>(
     alloc: Global,
+    problem: Option<TypeProblem>,
     item: &EnumDeclaration<'s, 't>,
-) -> Result<Declaration<'s, 't>, Fault>
-    ensures { Gives declaration_view
-        (read.enum_declaration (tokens_view item.now.attributes.now) (token_view item.now.name)
-        (written.variants_view item.now.variants.items)) result }
+) -> Result<Declaration<'s, 't>, AllocError>
+    ensures { IfOk result (λ made. declaration_view made
+        ≡ read.enum_declaration problem (tokens_view item.now.attributes.now)
+        (token_view item.now.name) (written.parameters_view item.now.parameters.items)
+        (written.variants_view item.now.variants.items)) }
 {
+    if let Some(problem) = problem {
+        return read_otherwise(alloc, item.name, problem);
+    }
     let found = said_on(alloc, Subject::Enum, item.attributes)?;
-    let declared = enum_by(alloc, &found, &item.variants)?;
-    Ok(declaration_of(item.name, &found, declared))
+    let stated = enum_by(alloc, &found.values, &item.variants)?;
+    declaration_of(alloc, item.name, &item.parameters, found, stated)
 }
 
-/// The declaration of an item, if it declares something.
+/// The declaration of an alias, which has no attributes that say anything.
+fn alias_declaration<'s, 't>(
+    alloc: Global,
+    item: &AliasDeclaration<'s, 't>,
+) -> Result<Declaration<'s, 't>, AllocError>
+    ensures { IfOk result (λ made. declaration_view made
+        ≡ read.alias_declaration (token_view item.now.name)
+        (written.parameters_view item.now.parameters.items)
+        (passage_view item.now.written)) }
+{
+    Ok(Declaration {
+        name: item.name,
+        parameters: copied(alloc, &item.parameters)?,
+        denies_unknown: false,
+        faults: Vec::new(alloc),
+        declared: Declared::Alias(item.written),
+    })
+}
+
+/// The declaration of an item, if it declares something, among items of which some derive how they
+/// are read, or none.
 fn declaration<'s, 't>(
     alloc: Global,
+    items: &[Item<'s, 't>],
+    has_derives: bool,
     item: &Item<'s, 't>,
-) -> Result<Option<Declaration<'s, 't>>, Fault>
-    ensures { Gives (option_map declaration_view)
-        (read.declaration (written.item_view item.now)) result }
+) -> Result<Option<Declaration<'s, 't>>, AllocError>
+    ensures { IfOk result (λ made. option_map declaration_view made
+        ≡ read.declaration (written.items_view items.now) has_derives
+        (written.item_view item.now)) }
 {
     match item {
-        Item::Struct(item) => Ok(Some(struct_declaration(alloc, item)?)),
-        Item::Enum(item) => Ok(Some(enum_declaration(alloc, item)?)),
-        Item::Alias(alias) => {
-            let declared = Declared::Alias(alias.written);
-            Ok(Some(declaration_of(alias.name, &[], declared)))
+        Item::Struct(item) => {
+            let problem = own_reading(items, has_derives, item.attributes, item.name.text);
+            Ok(Some(struct_declaration(alloc, problem, item)?))
         }
-        Item::Other => Ok(None),
+        Item::Enum(item) => {
+            let problem = own_reading(items, has_derives, item.attributes, item.name.text);
+            Ok(Some(enum_declaration(alloc, problem, item)?))
+        }
+        Item::Alias(item) => Ok(Some(alias_declaration(alloc, item)?)),
+        Item::Faulty(item) => Ok(Some(unread(alloc, item.name, item.fault)?)),
+        Item::Impl(_) | Item::Other => Ok(None),
     }
 }
 
-/// The declarations of items, in order, with what their attributes say.
+/// The declarations of items, in order, with what their attributes say. Each holds the faults of
+/// its attributes, of its fields and of its variants, which are left out. One that cannot be read,
+/// or is not read as it is declared, holds that fault alone.
 ///
-/// Errors: the first in the text of something's attributes, of its proxies, or of its name under a
-/// case; but `transparent` that means nothing comes behind those of the fields; out of memory.
+/// The only error is out of memory.
 pub(crate) fn declarations<'s, 't>(
     alloc: Global,
     items: &[Item<'s, 't>],
-) -> Result<Vec<Declaration<'s, 't>>, Fault>
-    ensures { Gives (λ found. declarations_view found.items)
-        (read.declarations (written.items_view items.now)) result }
+) -> Result<Vec<Declaration<'s, 't>>, AllocError>
+    ensures { IfOk result (λ found. declarations_view found.items
+        ≡ read.declarations (written.items_view items.now)) }
 {
+    let has_derives = has_derives(items);
     let mut found = Vec::new(alloc);
     for item in items {
-        add(&mut found, declaration(alloc, item)?)?;
+        add(&mut found, declaration(alloc, items, has_derives, item)?)?;
     }
     Ok(found)
 }

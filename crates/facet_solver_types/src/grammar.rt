@@ -2,19 +2,23 @@
 
 mod attributes;
 mod bodies;
+mod enclosing;
 mod entry;
 mod fields;
 mod first;
+mod implements;
 mod inside;
 mod items;
-mod lifetimes;
+mod named;
+mod parameters;
 mod prefixes;
 mod run;
 mod starts;
 mod written;
 
-pub(crate) use attributes::attribute_entries;
+pub(crate) use attributes::{attribute_entries, is_named};
 pub(crate) use entry::{Entry, EntryValue, entries};
-pub(crate) use first::sees_mark;
+pub(crate) use first::{is_name, sees_mark, sees_path};
 pub(crate) use items::items;
+pub(crate) use run::{is_close, is_mark};
 pub(crate) use written::{NamedType, Written, is_str, written_type};

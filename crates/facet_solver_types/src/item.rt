@@ -1,7 +1,16 @@
 //! Declarations, as their tokens. What types and attributes mean is not looked at.
 
+use crate::fault::Fault;
 use crate::passage::Passage;
 use crate::token::Token;
+
+/// A parameter of a declaration. A lifetime is none.
+#[derive(Clone, Copy, Debug, PartialEq, Eq)]
+pub(crate) struct Parameter<'t> {
+    pub(crate) name: Token<'t>,
+    /// Whether it stands for a value, as after `const`, and for no type.
+    pub(crate) is_const: bool,
+}
 
 /// A field of a struct or a variant.
 #[derive(Clone, Copy, Debug)]
@@ -40,6 +49,7 @@ pub(crate) struct StructDeclaration<'s, 't> {
     /// The tokens of its attributes.
     pub(crate) attributes: &'s [Token<'t>],
     pub(crate) name: Token<'t>,
+    pub(crate) parameters: Vec<Parameter<'t>>,
     pub(crate) body: Body<'s, 't>,
 }
 
@@ -49,15 +59,27 @@ pub(crate) struct EnumDeclaration<'s, 't> {
     /// The tokens of its attributes.
     pub(crate) attributes: &'s [Token<'t>],
     pub(crate) name: Token<'t>,
+    pub(crate) parameters: Vec<Parameter<'t>>,
     pub(crate) variants: Vec<VariantDeclaration<'s, 't>>,
 }
 
 /// An alias of a type.
-#[derive(Clone, Copy, Debug)]
+#[derive(Drop)]
 pub(crate) struct AliasDeclaration<'s, 't> {
     pub(crate) name: Token<'t>,
-    /// What stands between its name and `;`.
+    pub(crate) parameters: Vec<Parameter<'t>>,
+    /// What stands between its `=` and `;`.
     pub(crate) written: Passage<'s, 't>,
+}
+
+/// A struct, an enum or an alias with a name that cannot be read.
+#[derive(Clone, Copy, Debug)]
+pub(crate) struct FaultyDeclaration<'s, 't> {
+    /// The tokens of its attributes.
+    pub(crate) attributes: &'s [Token<'t>],
+    pub(crate) name: Token<'t>,
+    /// Why it cannot be read.
+    pub(crate) fault: Fault,
 }
 
 /// An item of a text.
@@ -66,6 +88,9 @@ pub(crate) enum Item<'s, 't> {
     Struct(StructDeclaration<'s, 't>),
     Enum(EnumDeclaration<'s, 't>),
     Alias(AliasDeclaration<'s, 't>),
+    Faulty(FaultyDeclaration<'s, 't>),
+    /// The impl of `Deserialize` or `Facet` by hand for the type of this name.
+    Impl(Token<'t>),
     /// One that declares no type: it is passed over.
     Other,
 }

@@ -4,7 +4,7 @@ ghost use Rattle.facet_solver_types.specs.TypesViews.{declared_type_view, denies
 
 mod stages;
 
-use crate::error::{TypesError, error_at};
+use crate::error::{TypesError, error_of};
 use crate::place::without_mark;
 use facet_solver_shape::{ShapeId, Shapes};
 use stages::types;
@@ -14,7 +14,7 @@ use std::marker::Model;
 /// A struct or an enum.
 #[derive(Debug, Drop)]
 pub(crate) struct DeclaredType {
-    /// Its name.
+    /// Its name, with the types that it takes.
     pub(crate) name: String,
     /// Its shape.
     pub(crate) shape: ShapeId,
@@ -22,12 +22,12 @@ pub(crate) struct DeclaredType {
     pub(crate) denies_unknown: bool,
 }
 
-/// The types that a text declares, with a catalogue of their shapes.
+/// The types that a root needs of those that a text declares, with a catalogue of their shapes.
 #[derive(Debug, Drop)]
 pub struct Types {
     pub(crate) shapes: Shapes,
     pub(crate) declared: Vec<DeclaredType>,
-    pub(crate) roots: Vec<ShapeId>,
+    pub(crate) root: ShapeId,
 }
 
 impl Model for Types {
@@ -40,27 +40,37 @@ impl Model for Types {
     ghost view = { λ t. record {
       shapes = shapes_view t.shapes;
       declared = map declared_type_view t.declared.items;
-      roots = t.roots.items;
+      root = t.root;
     } };
 }
 
 impl Types {
-    ghost use Rattle.facet_solver_types.specs.ParsedTexts.{Parses, types};
+    ghost use Rattle.std.specs.Prelude.{option_map};
+    ghost use Rattle.facet_solver_types.specs.ParsedTexts.{Parses};
     ghost use Rattle.facet_solver_types.specs.Places.{without_mark};
     ghost use Rattle.facet_solver_types.specs.ShapeViews.{shapes_view};
-    ghost use Rattle.facet_solver_types.specs.TypesViews.{denies_unknown, only, shape_named};
+    ghost use Rattle.facet_solver_types.specs.Scopes.{str_view};
+    ghost use Rattle.facet_solver_types.specs.TypesViews.{denies_unknown, shape_named};
 
-    /// The types that a text declares.
+    /// The types that a root needs of those that a text declares.
     ///
-    /// Errors: why the text declares none, with its place; out of memory.
-    pub fn parse<'t>(alloc: Global, text: &'t str) -> Result<Types, TypesError<'t>>
-        ensures { let written = without_mark text.now in
-            Parses written (types written) result }
+    /// The root is any type, as `Config` or `Vec<Item>`. Where none is named it is the only struct
+    /// or enum without parameters that no other mentions.
+    ///
+    /// Errors: why the text cannot be read, with its place; why the root is no type, or that not
+    /// just one stands by itself; all that is wrong with the declarations that the root needs, with
+    /// their places; out of memory.
+    pub fn parse<'t>(
+        alloc: Global,
+        text: &'t str,
+        root: Option<&'t str>,
+    ) -> Result<Types, TypesError<'t>>
+        ensures { Parses (without_mark text.now) (option_map str_view root.entry) result }
     {
         let text = without_mark(text);
-        match types(alloc, text) {
+        match types(alloc, text, root) {
             Ok(types) => Ok(types),
-            Err(fault) => Err(error_at(text, fault)),
+            Err(failure) => Err(error_of(alloc, text, root, &failure)),
         }
     }
 
@@ -71,28 +81,18 @@ impl Types {
         &self.shapes
     }
 
-    /// The shape of the struct or enum of a name, if there is one.
+    /// The shape of the root.
+    pub fn root(&self) -> ShapeId
+        ensures { result ≡ self.now.root }
+    {
+        self.root
+    }
+
+    /// The shape of the struct or enum of a name, with the types that it takes, if there is one.
     pub fn find(&self, name: &str) -> Option<ShapeId>
         ensures { result ≡ shape_named self.now.declared name.now }
     {
         shape_named(&self.declared, name)
-    }
-
-    /// The structs and enums that no other mentions, in the order of their declarations.
-    pub fn roots(&self) -> &[ShapeId]
-        ensures { result.now ≡ self.now.roots }
-    {
-        self.roots.as_slice()
-    }
-
-    /// The struct or enum that no other mentions, if there is one alone.
-    pub fn root(&self) -> Option<ShapeId>
-        ensures { result ≡ only self.now.roots }
-    {
-        match self.roots.as_slice() {
-            [root] => Some(*root),
-            _ => None,
-        }
     }
 
     /// Whether a shape is that of a struct or enum with `deny_unknown_fields`.

@@ -14,7 +14,7 @@ pub(crate) struct Passage<'s, 't> {
 }
 
 impl<'s, 't> Passage<'s, 't> {
-    ghost use Rattle.facet_solver_types.specs.Passages.{after, generic, passage_view, place, unexpected, up_to};
+    ghost use Rattle.facet_solver_types.specs.Passages.{after, passage_view, place, unexpected, up_to};
 
     /// Where the passage begins, or the token after it.
     pub(crate) fn place(self) -> usize
@@ -70,16 +70,6 @@ impl<'s, 't> Passage<'s, 't> {
         Fault::At {
             offset: self.place(),
             problem: Problem::Expected(expected),
-        }
-    }
-
-    /// The fault where a generic parameter or `where` stands first.
-    pub(crate) fn generic(self) -> Fault
-        ensures { result ≡ generic (passage_view self.entry) }
-    {
-        Fault::At {
-            offset: self.place(),
-            problem: Problem::Generic,
         }
     }
 }

@@ -24,8 +24,6 @@ pub enum Problem {
     ClosesNothing,
     /// Something else stands where this is expected.
     Expected(Expected),
-    /// A type or const parameter, or `where`.
-    Generic,
     /// An attribute is refused.
     Attribute(Refusal),
     /// A type is none, or a name is declared twice.
@@ -43,10 +41,10 @@ pub enum Expected {
     FieldType,
     /// An item.
     Item,
-    /// A lifetime.
-    Lifetime,
-    /// `,` or `>` after a lifetime.
-    LifetimeEnd,
+    /// `,` or `>` after a parameter.
+    ParameterEnd,
+    /// `=` after the name of an alias.
+    Equals,
     /// `{`, `(` or `;` of a struct.
     Body,
     /// `{` of an enum.
@@ -78,8 +76,8 @@ impl fmt::Display for Expected {
             Expected::Name => write!(f, "a name"),
             Expected::FieldType => write!(f, "a type"),
             Expected::Item => write!(f, "an item"),
-            Expected::Lifetime => write!(f, "a lifetime"),
-            Expected::LifetimeEnd => write!(f, "',' or '>'"),
+            Expected::ParameterEnd => write!(f, "',' or '>'"),
+            Expected::Equals => write!(f, "'='"),
             Expected::Body => write!(f, "'{{', '(' or ';'"),
             Expected::Braces => write!(f, "'{{'"),
             Expected::Colon => write!(f, "':'"),

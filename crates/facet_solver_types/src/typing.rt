@@ -2,12 +2,18 @@
 
 mod entries;
 mod field_types;
-mod first_fault;
 mod id;
 mod known;
 mod layer;
 mod mention;
 mod named;
+mod root;
+mod roots;
 mod scope;
+mod type_use;
+mod use_faults;
+mod uses;
 
 pub(crate) use entries::type_entries;
+pub(crate) use mention::Mention;
+pub(crate) use root::root_type;

@@ -24,7 +24,6 @@ fn excludes(one: Meaning, other: Meaning) -> bool
 {
     match (one, other) {
         (Meaning::Untagged, Meaning::Tag | Meaning::Content) => true,
-        (Meaning::Flatten, Meaning::Rename) => true,
         (Meaning::Transparent, Meaning::Proxy | Meaning::Default) => true,
         (Meaning::Dom(_), Meaning::Dom(_)) => true,
         _ => false,

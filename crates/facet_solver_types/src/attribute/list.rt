@@ -1,9 +1,10 @@
 //! All attributes of serde and facet that stand before something.
-ghost use Rattle.std.specs.Prelude.{◌≡◌, [], IfOk, option_map};
+ghost use Rattle.std.specs.Prelude.{◌≡◌, IfOk, option_map};
 ghost use Rattle.std.specs.String.{string_bytes};
-ghost use Rattle.facet_solver_types.specs.AttributeLists.{attributes, attributes_after, attributes_view, clashes, content_offset, differ, has_clash, has_tag, is_content, is_tag, lone_content, next_attribute, said_by_value};
+ghost use Rattle.facet_solver_types.specs.AttributeLists.{attributes, attributes_of, attributes_view, clashes, content_fault, content_offset, differ, entered, has_clash, has_tag, is_content, is_tag, lone_content, next_attribute, said_by_value};
 ghost use Rattle.facet_solver_types.specs.Attributes.{attribute_view};
 ghost use Rattle.facet_solver_types.specs.Entries.{entries_view, entry_view};
+ghost use Rattle.facet_solver_types.specs.Gatherings.{gathering_view};
 ghost use Rattle.facet_solver_types.specs.Outcomes.{Gives};
 ghost use Rattle.facet_solver_types.specs.Tokens.{tokens_view};
 ghost use Rattle.facet_solver_types.specs.Values.{value_view};
@@ -15,6 +16,7 @@ use super::text::{said_text, text_of};
 use super::value::Value;
 use super::{Attribute, attribute_of};
 use crate::fault::Fault;
+use crate::gathering::Gathering;
 use crate::grammar::{Entry, attribute_entries};
 use crate::problem::Problem;
 use crate::token::Token;
@@ -96,19 +98,36 @@ fn next_attribute<'s, 't>(
     Ok(attribute)
 }
 
-/// The attributes that entries are.
+/// The attribute that an entry is behind others, or its fault.
+///
+/// The only error is out of memory.
+fn entered<'s, 't>(
+    alloc: Global,
+    subject: Subject,
+    found: &[Attribute<'s, 't>],
+    entry: &Entry<'s, 't>,
+) -> Result<Gathering<Attribute<'s, 't>>, AllocError>
+    ensures { IfOk result (λ made. gathering_view attribute_view made
+        ≡ entered subject (attributes_view found.now) (entry_view entry.now)) }
+{
+    Gathering::told(alloc, next_attribute(alloc, subject, found, entry))
+}
+
+/// The attributes that entries are, but those with a fault.
+///
+/// The only error is out of memory.
 fn attributes_of<'s, 't>(
     alloc: Global,
     subject: Subject,
     entries: &[Entry<'s, 't>],
-) -> Result<Vec<Attribute<'s, 't>>, Fault>
-    ensures { Gives (λ found. attributes_view found.items)
-        (attributes_after subject [] (entries_view entries.now)) result }
+) -> Result<Gathering<Attribute<'s, 't>>, AllocError>
+    ensures { IfOk result (λ found. gathering_view attribute_view found
+        ≡ attributes_of subject (entries_view entries.now)) }
 {
-    let mut found = Vec::new(alloc);
+    let mut found = Gathering::new(alloc);
     for entry in entries {
-        let attribute = next_attribute(alloc, subject, &found, entry)?;
-        found.push(attribute)?;
+        let more = entered(alloc, subject, &found.values, entry)?;
+        found.append(more)?;
     }
     Ok(found)
 }
@@ -168,26 +187,39 @@ fn lone_content(found: &[Attribute<'_, '_>]) -> Option<usize>
     }
 }
 
-/// The attributes of serde and facet on a subject.
-///
-/// Errors: the first entry that means nothing there, has another value than it takes, or excludes
-/// one before it; else `content` without `tag`; what else stands where an entry should; out of
-/// memory.
-pub(crate) fn attributes<'s, 't>(
-    alloc: Global,
-    subject: Subject,
-    written: &'s [Token<'t>],
-) -> Result<Vec<Attribute<'s, 't>>, Fault>
-    ensures { Gives (λ found. attributes_view found.items)
-        (attributes subject (tokens_view written.now)) result }
+/// The fault of `content` that stands without `tag`.
+fn content_fault(found: &[Attribute<'_, '_>]) -> Option<Fault>
+    ensures { result ≡ content_fault (attributes_view found.now) }
 {
-    let entries = attribute_entries(alloc, written)?;
-    let found = attributes_of(alloc, subject, &entries)?;
-    match lone_content(&found) {
-        None => Ok(found),
-        Some(offset) => Err(Fault::At {
+    match lone_content(found) {
+        None => None,
+        Some(offset) => Some(Fault::At {
             offset,
             problem: Problem::Attribute(Refusal::NoTag),
         }),
     }
+}
+
+/// The attributes of serde and facet on a subject, but those with a fault: an entry that means
+/// nothing there, has another value than it takes, or excludes one before it. Where there is none,
+/// `content` without `tag` is one. Where something else stands in the place of an entry, that is
+/// the fault of all.
+///
+/// The only error is out of memory.
+pub(crate) fn attributes<'s, 't>(
+    alloc: Global,
+    subject: Subject,
+    written: &'s [Token<'t>],
+) -> Result<Gathering<Attribute<'s, 't>>, AllocError>
+    ensures { IfOk result (λ found. gathering_view attribute_view found
+        ≡ attributes subject (tokens_view written.now)) }
+{
+    let entries = match attribute_entries(alloc, written) {
+        Ok(entries) => entries,
+        Err(fault) => return Gathering::told(alloc, Err(fault)),
+    };
+    let mut found = attributes_of(alloc, subject, &entries)?;
+    let fault = content_fault(&found.values);
+    found.or_fault(fault)?;
+    Ok(found)
 }

@@ -19,6 +19,8 @@ pub(crate) enum Subject {
     NamedField,
     /// A field of a tuple.
     TupleField,
+    /// The one field of a tuple struct, which stands for it.
+    NewtypeField,
 }
 
 /// What an attribute means.
@@ -102,6 +104,7 @@ fn meaning_on(subject: Subject, name: &str) -> Option<Meaning>
         Subject::Variant => on_variant(name),
         Subject::NamedField => on_named_field(name),
         Subject::TupleField => on_tuple_field(name),
+        Subject::NewtypeField => on_newtype_field(name),
     }
 }
 
@@ -121,6 +124,7 @@ fn on_named_struct(name: &str) -> Option<Meaning>
 {
     match name {
         "default" => Some(Meaning::Default),
+        "tag" => Some(Meaning::Nothing),
         "metadata_container" => Some(Meaning::MetadataContainer),
         _ => on_struct(name),
     }
@@ -189,6 +193,19 @@ fn on_tuple_field(name: &str) -> Option<Meaning>
     ensures { result ≡ meanings.on_tuple_field name.now }
 {
     match name {
+        "default" => Some(Meaning::Default),
+        "skip" | "skip_deserializing" => Some(Meaning::Skip),
+        "proxy" => Some(Meaning::Proxy),
+        _ => None,
+    }
+}
+
+/// On the one field of a tuple struct: what stands for the struct is always there.
+fn on_newtype_field(name: &str) -> Option<Meaning>
+    ensures { result ≡ meanings.on_newtype_field name.now }
+{
+    match name {
+        "default" | "skip" | "skip_deserializing" => Some(Meaning::Nothing),
         "proxy" => Some(Meaning::Proxy),
         _ => None,
     }

@@ -133,6 +133,18 @@ fn plain_value<'s, 't>(form: Form, value: EntryValue<'s, 't>) -> Option<Value<'s
     }
 }
 
+/// A value after `=`, which says nothing; `None` where nothing stands there.
+fn some_value<'s, 't>(passage: Passage<'s, 't>) -> Option<Value<'s, 't>>
+    ensures { option_map values.value_view result
+        ≡ values.some_value (passage_view passage.entry).tokens }
+{
+    if passage.tokens.is_empty() {
+        None
+    } else {
+        Some(Value::None)
+    }
+}
+
 /// The same of what takes neither a text nor everything.
 fn simple_value<'s, 't>(form: Form, value: EntryValue<'s, 't>) -> Option<Value<'s, 't>>
     ensures { option_map values.value_view result
@@ -140,7 +152,7 @@ fn simple_value<'s, 't>(form: Form, value: EntryValue<'s, 't>) -> Option<Value<'
 {
     match (form, value) {
         (Form::Nothing | Form::Default, EntryValue::None) => Some(Value::None),
-        (Form::Default | Form::Value, EntryValue::Is(_)) => Some(Value::None),
+        (Form::Default | Form::Value, EntryValue::Is(passage)) => some_value(passage),
         (Form::Type, EntryValue::Is(passage)) => Some(Value::Type(passage)),
         _ => None,
     }

@@ -1,141 +1,197 @@
-//! Why types have no shapes: the first reason in the text.
-ghost use Rattle.std.specs.Prelude.{◌≡◌, map};
+//! Why types have no shapes.
+ghost use Rattle.std.specs.Prelude.{◌≡◌, ◌++◌, IfOk, OnOk, map, option_map};
 ghost use Rattle.std.specs.String.{string_bytes};
 ghost use Rattle.facet_solver_types.specs.TypeTables.{table_view};
 ghost use Rattle.facet_solver_types.specs.Links.{links_view};
-ghost use Rattle.facet_solver_types.specs.Outcomes.{Gives};
-ghost use Rattle.facet_solver_types.specs.ShapeFaults.{declaration_fault, declarations_fault, field_fault, fields_fault, itself_fault, members_fault, variants_fault};
-ghost use Rattle.facet_solver_types.specs.Understood.{declaration_view, declarations_view, declared_view, field_view, variant_view};
+ghost use Rattle.facet_solver_types.specs.ShapeFaults as of;
+ghost use Rattle.facet_solver_types.specs.TypeEntries.{form_view};
+ghost use Rattle.facet_solver_types.specs.Understood.{declaration_view, declared_view, field_view, variant_view};
 
+use super::shapes::declaration_at;
 use super::table::TypeTable;
 use super::walks::{is_marked, reached};
 use crate::declaration::{Declaration, Declared, DeclaredField, DeclaredVariant};
 use crate::fault::Fault;
 use crate::problem::Problem;
 use crate::shape_problem::ShapeProblem;
-use std::alloc::Global;
+use crate::type_entry::Form;
+use std::alloc::{AllocError, Global};
 
-/// A field of this type may be flattened, if it is.
-fn field_fault(
+/// Adds the fault of a field of this type that is flattened, if it may not be.
+fn add_field_fault(
+    faults: &mut Vec<Fault>,
     table: TypeTable<'_, '_, '_>,
     field: &DeclaredField<'_, '_>,
     id: &str,
-) -> Result<(), Fault>
-    ensures { Gives (λ end. end)
-        (field_fault (table_view table.entry) (field_view field.now) id.now) result }
+) -> Result<(), AllocError>
+    ensures { OnOk result (faults.new.items ≡ faults.old.items
+        ++ of.field_faults (table_view table.entry) (field_view field.now) id.now) }
 {
     match field.flattened {
-        Some(offset) if !table.flattens(id) => Err(Fault::At {
-            offset,
-            problem: Problem::Shape(ShapeProblem::NoMembers),
-        }),
+        Some(offset) if !table.flattens(id) => {
+            faults.push(Fault::At {
+                offset,
+                problem: Problem::Shape(ShapeProblem::NoMembers),
+            })?;
+            Ok(())
+        }
         _ => Ok(()),
     }
 }
 
-/// Fields of these types may be flattened, those that are.
-fn fields_fault(
+/// Adds the faults of fields of these types that are flattened, and may not be.
+fn add_fields_faults(
+    faults: &mut Vec<Fault>,
     table: TypeTable<'_, '_, '_>,
     fields: &[DeclaredField<'_, '_>],
     types: &[String],
-) -> Result<(), Fault>
-    ensures { Gives (λ end. end)
-        (fields_fault (table_view table.entry) (map field_view fields.now)
-        (map string_bytes types.now)) result }
+) -> Result<(), AllocError>
+    ensures { OnOk result (faults.new.items ≡ faults.old.items
+        ++ of.fields_faults (table_view table.entry) (map field_view fields.now)
+        (map string_bytes types.now)) }
 {
     for (field, id) in fields.iter().zip(types) {
-        field_fault(table, field, id.as_str())?;
+        add_field_fault(faults, table, field, id.as_str())?;
     }
     Ok(())
 }
 
-/// The fields of variants, which have these types, may be flattened, those that are.
-fn variants_fault(
+/// Adds the faults of the fields of variants, which have these types.
+fn add_variants_faults(
+    faults: &mut Vec<Fault>,
     table: TypeTable<'_, '_, '_>,
     variants: &[DeclaredVariant<'_, '_>],
     types: &[Vec<String>],
-) -> Result<(), Fault>
-    ensures { Gives (λ end. end)
-        (variants_fault (table_view table.entry) (map variant_view variants.now)
-        (map (λ ids. map string_bytes ids.items) types.now)) result }
+) -> Result<(), AllocError>
+    ensures { OnOk result (faults.new.items ≡ faults.old.items
+        ++ of.variants_faults (table_view table.entry) (map variant_view variants.now)
+        (map (λ ids. map string_bytes ids.items) types.now)) }
 {
     for (variant, types) in variants.iter().zip(types) {
-        fields_fault(table, &variant.fields, types)?;
+        add_fields_faults(faults, table, &variant.fields, types)?;
     }
     Ok(())
 }
 
-/// The fields of what is declared, which have these types, may be flattened, those that are.
-fn members_fault(
+/// Adds the faults of the fields of what is declared, which have these types.
+fn add_members_faults(
+    faults: &mut Vec<Fault>,
     table: TypeTable<'_, '_, '_>,
     declared: &Declared<'_, '_>,
     types: &[Vec<String>],
-) -> Result<(), Fault>
-    ensures { Gives (λ end. end)
-        (members_fault (table_view table.entry) (declared_view declared.now)
-        (map (λ ids. map string_bytes ids.items) types.now)) result }
+) -> Result<(), AllocError>
+    ensures { OnOk result (faults.new.items ≡ faults.old.items
+        ++ of.members_faults (table_view table.entry) (declared_view declared.now)
+        (map (λ ids. map string_bytes ids.items) types.now)) }
 {
     match declared {
         Declared::Struct { fields, .. } => match types.first() {
-            Some(types) => fields_fault(table, fields, types),
+            Some(types) => add_fields_faults(faults, table, fields, types),
             None => Ok(()),
         },
-        Declared::Enum { variants, .. } => variants_fault(table, variants, types),
+        Declared::Enum { variants, .. } => add_variants_faults(faults, table, variants, types),
         _ => Ok(()),
     }
 }
 
-/// The type at a place, whose name stands at an offset, does not lead to itself.
-fn itself_fault(
+/// Adds the fault of the type at a place, whose name stands at an offset, if it leads to itself.
+fn add_itself_fault(
     alloc: Global,
+    faults: &mut Vec<Fault>,
     needs: &[Vec<usize>],
     place: usize,
     offset: usize,
-) -> Result<(), Fault>
-    ensures { Gives (λ end. end) (itself_fault (links_view needs.now) place offset) result }
+) -> Result<(), AllocError>
+    ensures { OnOk result (faults.new.items
+        ≡ faults.old.items ++ of.itself_faults (links_view needs.now) place offset) }
 {
     let marks = reached(alloc, needs, place)?;
     if is_marked(&marks, place) {
-        return Err(Fault::At {
+        faults.push(Fault::At {
             offset,
             problem: Problem::Shape(ShapeProblem::HoldsItself),
-        });
+        })?;
     }
     Ok(())
 }
 
-/// What the declaration at an index declares has a shape.
-fn declaration_fault(
+/// Adds the faults of a declaration, whose type stands at a place and has these types in it.
+fn add_declaration_faults(
     alloc: Global,
+    faults: &mut Vec<Fault>,
     table: TypeTable<'_, '_, '_>,
     needs: &[Vec<usize>],
-    index: usize,
+    place: usize,
     declaration: &Declaration<'_, '_>,
-) -> Result<(), Fault>
-    ensures { Gives (λ end. end)
-        (declaration_fault (table_view table.entry) (links_view needs.now) index
-        (declaration_view declaration.now)) result }
+    types: &[Vec<String>],
+) -> Result<(), AllocError>
+    ensures { OnOk result (faults.new.items ≡ faults.old.items
+        ++ of.declaration_faults (table_view table.entry) (links_view needs.now) place
+        (map (λ ids. map string_bytes ids.items) types.now) (declaration_view declaration.now)) }
 {
-    let place = table.declared_place(index);
-    itself_fault(alloc, needs, place, declaration.name.offset)?;
-    members_fault(table, &declaration.declared, table.types_at(place))
+    add_itself_fault(alloc, faults, needs, place, declaration.name.offset)?;
+    add_members_faults(faults, table, &declaration.declared, types)
 }
 
-/// What is declared has shapes.
-///
-/// Errors: a declaration that holds itself, or a flattened field whose type has no members,
-/// whichever comes first in the text; out of memory.
-pub(super) fn declarations_fault(
+/// Adds the faults of a declaration, if there is one, whose type stands at a place and has these
+/// types in it.
+fn add_found_faults(
+    alloc: Global,
+    faults: &mut Vec<Fault>,
+    table: TypeTable<'_, '_, '_>,
+    needs: &[Vec<usize>],
+    place: usize,
+    found: Option<&Declaration<'_, '_>>,
+    types: &[Vec<String>],
+) -> Result<(), AllocError>
+    ensures { OnOk result (faults.new.items ≡ faults.old.items
+        ++ of.found_faults (table_view table.entry) (links_view needs.now) place
+        (map (λ ids. map string_bytes ids.items) types.now)
+        (option_map (λ d. declaration_view d.now) found.entry)) }
+{
+    match found {
+        Some(declaration) => {
+            add_declaration_faults(alloc, faults, table, needs, place, declaration, types)
+        }
+        None => Ok(()),
+    }
+}
+
+/// Adds the faults of the type at a place, if it is declared.
+fn add_type_faults(
+    alloc: Global,
+    faults: &mut Vec<Fault>,
+    table: TypeTable<'_, '_, '_>,
+    needs: &[Vec<usize>],
+    place: usize,
+    form: &Form,
+) -> Result<(), AllocError>
+    ensures { OnOk result (faults.new.items ≡ faults.old.items
+        ++ of.type_faults (table_view table.entry) (links_view needs.now) place
+        (form_view form.now)) }
+{
+    match form {
+        Form::Declared { index, types } => {
+            let found = declaration_at(table.declarations, *index);
+            add_found_faults(alloc, faults, table, needs, place, found, types)
+        }
+        _ => Ok(()),
+    }
+}
+
+/// Why what is declared has no shapes: each type that holds itself, and each flattened field whose
+/// type has no members.
+pub(super) fn shape_faults(
     alloc: Global,
     table: TypeTable<'_, '_, '_>,
     needs: &[Vec<usize>],
-) -> Result<(), Fault>
-    ensures { Gives (λ end. end)
-        (declarations_fault (table_view table.entry) (links_view needs.now) 0
-        (declarations_view table.entry.declarations.now)) result }
+) -> Result<Vec<Fault>, AllocError>
+    ensures { IfOk result (λ faults. faults.items
+        ≡ of.shape_faults (table_view table.entry) (links_view needs.now)) }
 {
-    for (index, declaration) in table.declarations.iter().enumerate() {
-        declaration_fault(alloc, table, needs, index, declaration)?;
+    let mut faults = Vec::new(alloc);
+    for (place, entry) in table.entries.iter().enumerate() {
+        add_type_faults(alloc, &mut faults, table, needs, place, &entry.form)?;
     }
-    Ok(())
+    Ok(faults)
 }

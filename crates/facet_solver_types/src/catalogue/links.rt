@@ -1,9 +1,9 @@
-//! The types that types need and mention, by their places.
+//! The types that types need, by their places.
 ghost use Rattle.std.specs.Prelude.{◌≡◌, ◌++◌, ◌∷◌, [], map, IfOk, OnOk};
 ghost use Rattle.std.specs.List.{flat_map};
 ghost use Rattle.std.specs.String.{string_bytes};
 ghost use Rattle.facet_solver_shape.specs.Names.{names_of};
-ghost use Rattle.facet_solver_types.specs.Links.{ids, links_view, mentioned, mentions, needed, needs, place_in, places_in};
+ghost use Rattle.facet_solver_types.specs.Links.{ids, links_view, needed, needs, place_in, places_in};
 ghost use Rattle.facet_solver_types.specs.TypeEntries.{entries_view, form_view};
 
 use crate::type_entry::{Form, TypeEntry};
@@ -85,24 +85,6 @@ fn needed(alloc: Global, names: &[&str], form: &Form) -> Result<Vec<usize>, Allo
     }
 }
 
-/// The places of the types that a type mentions.
-fn mentioned(alloc: Global, names: &[&str], form: &Form) -> Result<Vec<usize>, AllocError>
-    ensures { IfOk result (λ found. found.items
-        ≡ places_in (names_of names.now) (mentioned (form_view form.now))) }
-{
-    match form {
-        Form::List(inside) | Form::Slice(inside) | Form::Set(inside) | Form::Pointer(inside) => {
-            one_place(alloc, names, inside.as_str())
-        }
-        Form::Map(key, value) => {
-            let mut found = one_place(alloc, names, key.as_str())?;
-            found.push(place_in(names, value.as_str()))?;
-            Ok(found)
-        }
-        _ => needed(alloc, names, form),
-    }
-}
-
 /// The places of the types that each of some types needs.
 pub(super) fn needs(
     alloc: Global,
@@ -115,22 +97,6 @@ pub(super) fn needs(
     let mut links = Vec::new(alloc);
     for entry in entries {
         links.push(needed(alloc, names, &entry.form)?)?;
-    }
-    Ok(links)
-}
-
-/// The places of the types that each of some types mentions.
-pub(super) fn mentions(
-    alloc: Global,
-    names: &[&str],
-    entries: &[TypeEntry],
-) -> Result<Vec<Vec<usize>>, AllocError>
-    ensures { IfOk result (λ links. links_view links.items
-        ≡ mentions (names_of names.now) (entries_view entries.now)) }
-{
-    let mut links = Vec::new(alloc);
-    for entry in entries {
-        links.push(mentioned(alloc, names, &entry.form)?)?;
     }
     Ok(links)
 }

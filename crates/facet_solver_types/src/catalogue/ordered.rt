@@ -2,27 +2,33 @@
 ghost use Rattle.std.specs.Prelude.{◌≡◌, ◌++◌, IfOk, OnOk, flat_map, length, map, option_map, slice_get};
 ghost use Rattle.std.specs.List.{range_with_len};
 ghost use Rattle.facet_solver_shape.specs.Names.{names_of};
-ghost use Rattle.facet_solver_types.specs.CataloguedTypes.{declared_in_order, declared_places, entry_at, ordered};
+ghost use Rattle.facet_solver_types.specs.CataloguedTypes.{declared_in_order, declared_places, entry_at, is_declared, ordered};
 ghost use Rattle.facet_solver_types.specs.TypeTables.{table_view};
 ghost use Rattle.facet_solver_types.specs.Links.{ids, links_view};
-ghost use Rattle.facet_solver_types.specs.TypeEntries.{entries_view, entry_view};
+ghost use Rattle.facet_solver_types.specs.TypeEntries.{entries_view, entry_view, form_view};
 
 use super::table::TypeTable;
 use super::walks::{in_order, is_placed};
-use crate::type_entry::TypeEntry;
+use crate::type_entry::{Form, TypeEntry};
 use std::alloc::{AllocError, Global};
 
-/// The places of what declarations declare, in their order.
-pub(super) fn declared_places(
-    alloc: Global,
-    table: TypeTable<'_, '_, '_>,
-) -> Result<Vec<usize>, AllocError>
+/// Whether a type is declared.
+fn is_declared(form: &Form) -> bool
+    ensures { result ≡ is_declared (form_view form.now) }
+{
+    match form {
+        Form::Declared { .. } => true,
+        _ => false,
+    }
+}
+
+/// The places of the types of a table that are declared.
+fn declared_places(alloc: Global, table: TypeTable<'_, '_, '_>) -> Result<Vec<usize>, AllocError>
     ensures { IfOk result (λ places. places.items ≡ declared_places (table_view table.entry)) }
 {
     let mut places = Vec::new(alloc);
-    for index in 0..table.declarations.len() {
-        let place = table.declared_place(index);
-        if place < table.entries.len() {
+    for (place, entry) in table.entries.iter().enumerate() {
+        if is_declared(&entry.form) {
             places.push(place)?;
         }
     }

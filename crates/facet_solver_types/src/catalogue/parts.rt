@@ -1,7 +1,7 @@
 //! Types with their shapes, before these are checked.
 ghost use Rattle.std.specs.Prelude.{◌≡◌, IfOk, Ok, map};
 ghost use Rattle.facet_solver_shape.specs.Names.{names_of};
-ghost use Rattle.facet_solver_types.specs.CataloguedTypes.{parts_view, root_shapes, types_by, types_in, types_of};
+ghost use Rattle.facet_solver_types.specs.CataloguedTypes.{parts_view, types_by, types_in, types_of};
 ghost use Rattle.facet_solver_types.specs.GivenTypes.{GivesTypes};
 ghost use Rattle.facet_solver_types.specs.TypeTables.{table_view};
 ghost use Rattle.facet_solver_types.specs.Links.{links_view};
@@ -10,13 +10,13 @@ ghost use Rattle.facet_solver_types.specs.ShapeViews.{shapes_view};
 ghost use Rattle.facet_solver_types.specs.TypeEntries.{entry_view};
 ghost use Rattle.facet_solver_types.specs.Understood.{declarations_view};
 
-use super::declared::{declared_types, shape_places};
-use super::links::mentions;
-use super::ordered::{declared_places, ordered, ordered_ids};
-use super::roots::roots;
+use super::declared::declared_types;
+use super::links::place_in;
+use super::ordered::{ordered, ordered_ids};
 use super::shapes::shape_of;
 use super::table::TypeTable;
 use crate::declaration::Declaration;
+use crate::failure::Failure;
 use crate::fault::Fault;
 use crate::parsed::{DeclaredType, Types};
 use crate::type_entry::TypeEntry;
@@ -28,7 +28,7 @@ use std::alloc::{AllocError, Global};
 pub(super) struct Parts {
     shapes: Vec<Shape>,
     declared: Vec<DeclaredType>,
-    roots: Vec<ShapeId>,
+    root: ShapeId,
 }
 
 /// The shapes of types.
@@ -49,39 +49,24 @@ fn shapes_of(
     Ok(made)
 }
 
-/// The structs and enums that no other mentions, by their shapes in the order of ids.
-fn root_shapes(
-    alloc: Global,
-    table: TypeTable<'_, '_, '_>,
-    order: &[&str],
-) -> Result<Vec<ShapeId>, AllocError>
-    ensures { IfOk result (λ ids. ids.items
-        ≡ root_shapes (table_view table.entry) (names_of order.now)) }
-{
-    let places = declared_places(alloc, table)?;
-    let links = mentions(alloc, table.ids, table.entries)?;
-    let found = roots(alloc, &links, &places)?;
-    shape_places(alloc, table, order, &found)
-}
-
 /// Types in order, whose ids are these.
 fn types_by(
     alloc: Global,
     table: TypeTable<'_, '_, '_>,
     order: &[&str],
     entries: &[&TypeEntry],
+    root: &str,
 ) -> Result<Parts, AllocError>
     ensures { IfOk result (λ parts. parts_view parts
         ≡ types_by (table_view table.entry) (names_of order.now)
-        (map (λ e. entry_view e.now) entries.now)) }
+        (map (λ e. entry_view e.now) entries.now) root.now) }
 {
     let shapes = shapes_of(alloc, table.declarations, order, entries)?;
-    let declared = declared_types(alloc, table, order)?;
-    let roots = root_shapes(alloc, table, order)?;
+    let declared = declared_types(alloc, table.declarations, order, table.entries)?;
     Ok(Parts {
         shapes,
         declared,
-        roots,
+        root: ShapeId::new(place_in(order, root)),
     })
 }
 
@@ -90,12 +75,13 @@ fn types_in(
     alloc: Global,
     table: TypeTable<'_, '_, '_>,
     entries: &[&TypeEntry],
+    root: &str,
 ) -> Result<Parts, AllocError>
     ensures { IfOk result (λ parts. parts_view parts
-        ≡ types_in (table_view table.entry) (map (λ e. entry_view e.now) entries.now)) }
+        ≡ types_in (table_view table.entry) (map (λ e. entry_view e.now) entries.now) root.now) }
 {
     let order = ordered_ids(alloc, entries)?;
-    types_by(alloc, table, &order, entries)
+    types_by(alloc, table, &order, entries, root)
 }
 
 /// The types of a table, which need others so.
@@ -103,31 +89,32 @@ pub(super) fn types_of(
     alloc: Global,
     table: TypeTable<'_, '_, '_>,
     needs: &[Vec<usize>],
+    root: &str,
 ) -> Result<Parts, AllocError>
     ensures { IfOk result (λ parts. parts_view parts
-        ≡ types_of (table_view table.entry) (links_view needs.now)) }
+        ≡ types_of (table_view table.entry) (links_view needs.now) root.now) }
 {
     let entries = ordered(alloc, table, needs)?;
-    types_in(alloc, table, &entries)
+    types_in(alloc, table, &entries, root)
 }
 
 /// Types whose shapes are a catalogue.
 ///
 /// Errors: why they are none.
-pub(super) fn checked(parts: Parts) -> Result<Types, Fault>
+pub(super) fn checked(parts: Parts) -> Result<Types, Failure>
     ensures { GivesTypes (Ok (parts_view parts)) result }
 {
     let Parts {
         shapes,
         declared,
-        roots,
+        root,
     } = parts;
     match Shapes::new(shapes) {
         Ok(shapes) => Ok(Types {
             shapes,
             declared,
-            roots,
+            root,
         }),
-        Err(error) => Err(Fault::Catalogue(error)),
+        Err(error) => Err(Failure::Text(Fault::Catalogue(error))),
     }
 }

@@ -95,7 +95,7 @@ fn declared_shape(
             shape.proxy = first_place(ids, first_types(types));
             Ok(shape)
         }
-        Declared::Alias(_) => Ok(Shape::new(name, ShapeKind::Other)),
+        Declared::Alias(_) | Declared::Unread => Ok(Shape::new(name, ShapeKind::Other)),
     }
 }
 
@@ -123,7 +123,7 @@ fn kind_of(alloc: Global, ids: &[&str], form: &Form) -> Result<ShapeKind, AllocE
 }
 
 /// The declaration at an index, if there is one.
-fn declaration_at<'d, 's, 't>(
+pub(super) fn declaration_at<'d, 's, 't>(
     declarations: &'d [Declaration<'s, 't>],
     index: usize,
 ) -> Option<&'d Declaration<'s, 't>>

@@ -1,7 +1,6 @@
 //! Types with their declarations, of which shapes are made.
-ghost use Rattle.std.specs.Prelude.{◌≡◌, map, option_map};
-ghost use Rattle.std.specs.String.{string_bytes};
-ghost use Rattle.facet_solver_types.specs.TypeTables.{declared_types, has_members, has_names, is_declared_by};
+ghost use Rattle.std.specs.Prelude.{◌≡◌, option_map};
+ghost use Rattle.facet_solver_types.specs.TypeTables.{has_members, has_names};
 ghost use Rattle.facet_solver_types.specs.TypeEntries.{form_view};
 ghost use Rattle.facet_solver_types.specs.Understood.{declared_view};
 
@@ -19,7 +18,7 @@ pub(super) struct TypeTable<'k, 's, 't> {
 }
 
 impl<'k, 's, 't> TypeTable<'k, 's, 't> {
-    ghost use Rattle.facet_solver_types.specs.TypeTables.{declared_place, declares_members, flattens, form_of, is_spread, table_view, may_flatten, types_at};
+    ghost use Rattle.facet_solver_types.specs.TypeTables.{declares_members, flattens, form_of, is_spread, may_flatten, table_view};
 
     /// What the type of an id is made of, if there is one.
     pub(super) fn form_of(self, id: &str) -> Option<&'k Form>
@@ -29,29 +28,6 @@ impl<'k, 's, 't> TypeTable<'k, 's, 't> {
         match self.entries.get(place_in(self.ids, id)) {
             Some(entry) => Some(&entry.form),
             None => None,
-        }
-    }
-
-    /// The place of the type that the declaration at an index declares, or the number of types.
-    pub(super) fn declared_place(self, index: usize) -> usize
-        ensures { result ≡ declared_place (table_view self.entry) index }
-    {
-        for (place, entry) in self.entries.iter().enumerate() {
-            if is_declared_by(index, &entry.form) {
-                return place;
-            }
-        }
-        self.entries.len()
-    }
-
-    /// The types of what is declared at a place.
-    pub(super) fn types_at(self, place: usize) -> &'k [Vec<String>]
-        ensures { map (λ ids. map string_bytes ids.items) result.now
-            ≡ types_at (table_view self.entry) place }
-    {
-        match self.entries.get(place) {
-            Some(entry) => declared_types(&entry.form),
-            None => &[],
         }
     }
 
@@ -97,27 +73,6 @@ impl<'k, 's, 't> TypeTable<'k, 's, 't> {
             Some(form) => self.may_flatten(form),
             None => false,
         }
-    }
-}
-
-/// Whether a type is what the declaration at an index declares.
-fn is_declared_by(index: usize, form: &Form) -> bool
-    ensures { result ≡ is_declared_by index (form_view form.now) }
-{
-    match form {
-        Form::Declared { index: other, .. } => *other == index,
-        _ => false,
-    }
-}
-
-/// The types of what a declaration declares: none for other types.
-fn declared_types(form: &Form) -> &[Vec<String>]
-    ensures { map (λ ids. map string_bytes ids.items) result.now
-        ≡ declared_types (form_view form.now) }
-{
-    match form {
-        Form::Declared { types, .. } => types.as_slice(),
-        _ => &[],
     }
 }
 

@@ -45,18 +45,7 @@ fn variant_in(alloc: Global, case: Option<Case>, name: &Token<'_>) -> Result<Str
     }
 }
 
-/// The case of a field: that of all fields, unless it is flattened.
-fn case_of(case: Option<Case>, found: &[Attribute<'_, '_>]) -> Option<Case>
-    ensures { result ≡ names.case_of case (attributes_view found.now) }
-{
-    if is_said(Meaning::Flatten, found) {
-        None
-    } else {
-        case
-    }
-}
-
-/// The name that a field goes by.
+/// The name that a field goes by: its own where it is flattened.
 fn field_name(
     alloc: Global,
     case: Option<Case>,
@@ -66,9 +55,12 @@ fn field_name(
     ensures { Gives string_bytes
         (names.field_name case (attributes_view found.now) (token_view name.now)) result }
 {
+    if is_said(Meaning::Flatten, found) {
+        return Ok(String::from_str(alloc, name.text)?);
+    }
     match text_said(alloc, Meaning::Rename, found)? {
         Some(said) => Ok(said),
-        None => field_in(alloc, case_of(case, found), name),
+        None => field_in(alloc, case, name),
     }
 }
 

@@ -1,16 +1,18 @@
 //! The attributes on a subject, as far as declarations take them.
-ghost use Rattle.std.specs.Prelude.{◌≡◌};
+ghost use Rattle.std.specs.Prelude.{◌≡◌, IfOk};
 ghost use Rattle.facet_solver_types.specs.AttributeLists.{attributes_view};
-ghost use Rattle.facet_solver_types.specs.Outcomes.{Gives};
-ghost use Rattle.facet_solver_types.specs.SaidOn.{has_type, lone_opaque, refused, said_on};
+ghost use Rattle.facet_solver_types.specs.Attributes.{attribute_view};
+ghost use Rattle.facet_solver_types.specs.Gatherings.{gathering_view};
+ghost use Rattle.facet_solver_types.specs.SaidOn.{has_type, lone_opaque, opaque_fault, refused, said_on};
 ghost use Rattle.facet_solver_types.specs.Tokens.{tokens_view};
 
 use super::sought::offset_of;
 use crate::attribute::{Attribute, Meaning, Misuse, Refusal, Subject, Value, attributes};
 use crate::fault::Fault;
+use crate::gathering::Gathering;
 use crate::problem::Problem;
 use crate::token::Token;
-use std::alloc::Global;
+use std::alloc::{AllocError, Global};
 
 /// The fault of an attribute that stands at an offset and is refused.
 pub(super) fn refused(offset: usize, refusal: Refusal) -> Fault
@@ -45,20 +47,30 @@ fn lone_opaque(found: &[Attribute<'_, '_>]) -> Option<usize>
     }
 }
 
-/// The attributes on a subject, where `opaque` stands beside a proxy.
+/// The fault of `opaque` that stands without a proxy.
+fn opaque_fault(found: &[Attribute<'_, '_>]) -> Option<Fault>
+    ensures { result ≡ opaque_fault (attributes_view found.now) }
+{
+    match lone_opaque(found) {
+        None => None,
+        Some(offset) => Some(refused(offset, Refusal::Misused(Misuse::Unsupported))),
+    }
+}
+
+/// The attributes on a subject, with the faults of attributes. Where there is none, `opaque`
+/// without a proxy is one.
 ///
-/// Errors: those of attributes; `opaque` without a proxy; out of memory.
+/// The only error is out of memory.
 pub(super) fn said_on<'s, 't>(
     alloc: Global,
     subject: Subject,
     written: &'s [Token<'t>],
-) -> Result<Vec<Attribute<'s, 't>>, Fault>
-    ensures { Gives (λ found. attributes_view found.items)
-        (said_on subject (tokens_view written.now)) result }
+) -> Result<Gathering<Attribute<'s, 't>>, AllocError>
+    ensures { IfOk result (λ found. gathering_view attribute_view found
+        ≡ said_on subject (tokens_view written.now)) }
 {
-    let found = attributes(alloc, subject, written)?;
-    match lone_opaque(&found) {
-        None => Ok(found),
-        Some(offset) => Err(refused(offset, Refusal::Misused(Misuse::Unsupported))),
-    }
+    let mut found = attributes(alloc, subject, written)?;
+    let fault = opaque_fault(&found.values);
+    found.or_fault(fault)?;
+    Ok(found)
 }

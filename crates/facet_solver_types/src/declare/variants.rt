@@ -1,20 +1,20 @@
 //! The variants of enums, with what their attributes say.
-ghost use Rattle.std.specs.Prelude.{◌≡◌, IfOk, map, option_map};
+ghost use Rattle.std.specs.Prelude.{◌≡◌, IfOk, map};
+ghost use Rattle.std.specs.String.{string_bytes};
 ghost use Rattle.facet_solver_types.specs.AttributeLists.{attributes_view};
 ghost use Rattle.facet_solver_types.specs.Declarations as items;
-ghost use Rattle.facet_solver_types.specs.Outcomes.{Gives};
+ghost use Rattle.facet_solver_types.specs.Gatherings.{gathering_view};
 ghost use Rattle.facet_solver_types.specs.ReadVariants as read;
-ghost use Rattle.facet_solver_types.specs.Understood.{variant_view};
+ghost use Rattle.facet_solver_types.specs.Understood.{field_view, variant_view};
 
 use super::fields::{AllFields, body_fields};
-use super::gather::add;
 use super::names::variant_name;
 use super::said::said_on;
 use super::sought::{case_said, is_said};
 use crate::attribute::{Attribute, Meaning, Subject};
 use crate::case::Case;
-use crate::declaration::DeclaredVariant;
-use crate::fault::Fault;
+use crate::declaration::{DeclaredField, DeclaredVariant};
+use crate::gathering::Gathering;
 use crate::item::{Body, VariantDeclaration};
 use facet_solver_shape::StructKind;
 use std::alloc::{AllocError, Global};
@@ -55,22 +55,21 @@ fn fields_of_variant(
         case: own.or(all.field_case),
         has_default: false,
         only_needed: false,
+        is_newtype: false,
     })
 }
 
-/// A variant, with its attributes.
-fn read_variant<'s, 't>(
+/// A variant of a name in a document, with fields.
+fn named_variant<'s, 't>(
     alloc: Global,
-    all: AllVariants,
-    found: &[Attribute<'s, 't>],
     variant: &VariantDeclaration<'s, 't>,
-) -> Result<DeclaredVariant<'s, 't>, Fault>
-    ensures { Gives variant_view
-        (read.read_variant all (attributes_view found.now) (items.variant_view variant.now))
-        result }
+    name: String,
+    fields: Vec<DeclaredField<'s, 't>>,
+) -> Result<DeclaredVariant<'s, 't>, AllocError>
+    ensures { IfOk result (λ named. variant_view named
+        ≡ read.named_variant (items.variant_view variant.now) (string_bytes name)
+        (map field_view fields.entry.items)) }
 {
-    let name = variant_name(alloc, all.case, found, &variant.name)?;
-    let fields = body_fields(alloc, fields_of_variant(alloc, all, found)?, &variant.body)?;
     Ok(DeclaredVariant {
         offset: variant.name.offset,
         written_name: String::from_str(alloc, variant.name.text)?,
@@ -80,36 +79,69 @@ fn read_variant<'s, 't>(
     })
 }
 
-/// A variant, if it is not skipped.
+/// A variant with attributes, and the faults of its fields, or else the one of its name.
+///
+/// The only error is out of memory.
+fn read_variant<'s, 't>(
+    alloc: Global,
+    all: AllVariants,
+    found: &[Attribute<'s, 't>],
+    variant: &VariantDeclaration<'s, 't>,
+) -> Result<Gathering<DeclaredVariant<'s, 't>>, AllocError>
+    ensures { IfOk result (λ made. gathering_view variant_view made
+        ≡ read.read_variant all (attributes_view found.now) (items.variant_view variant.now)) }
+{
+    let name = match variant_name(alloc, all.case, found, &variant.name) {
+        Ok(name) => name,
+        Err(fault) => return Gathering::told(alloc, Err(fault)),
+    };
+    let fields = body_fields(alloc, fields_of_variant(alloc, all, found)?, &variant.body)?;
+    let mut values = Vec::new(alloc);
+    values.push(named_variant(alloc, variant, name, fields.values)?)?;
+    Ok(Gathering {
+        values,
+        faults: fields.faults,
+    })
+}
+
+/// A variant, if it is not skipped. Where one of its attributes has a fault, nothing else of it is
+/// looked at; where it is skipped, no fault counts.
+///
+/// The only error is out of memory.
 fn variant<'s, 't>(
     alloc: Global,
     all: AllVariants,
     variant: &VariantDeclaration<'s, 't>,
-) -> Result<Option<DeclaredVariant<'s, 't>>, Fault>
-    ensures { Gives (option_map variant_view)
-        (read.variant all (items.variant_view variant.now)) result }
+) -> Result<Gathering<DeclaredVariant<'s, 't>>, AllocError>
+    ensures { IfOk result (λ found. gathering_view variant_view found
+        ≡ read.variant all (items.variant_view variant.now)) }
 {
     let found = said_on(alloc, Subject::Variant, variant.attributes)?;
-    if is_said(Meaning::Skip, &found) {
-        return Ok(None);
+    if is_said(Meaning::Skip, &found.values) {
+        return Ok(Gathering::new(alloc));
     }
-    Ok(Some(read_variant(alloc, all, &found, variant)?))
+    if !found.faults.is_empty() {
+        return Ok(Gathering::faulty(alloc, found.faults));
+    }
+    read_variant(alloc, all, &found.values, variant)
 }
 
-/// Variants, but those that are skipped.
+/// Variants, but those that are skipped or have a fault in their attributes or in their name, with
+/// the faults of their fields.
 ///
-/// Errors: the first of a variant's attributes, of its name, or of its fields; out of memory.
+/// The only error is out of memory.
 pub(super) fn variants<'s, 't>(
     alloc: Global,
     all: AllVariants,
     written: &[VariantDeclaration<'s, 't>],
-) -> Result<Vec<DeclaredVariant<'s, 't>>, Fault>
-    ensures { Gives (λ variants. map variant_view variants.items)
-        (read.variants all (items.variants_view written.now)) result }
+) -> Result<Gathering<DeclaredVariant<'s, 't>>, AllocError>
+    ensures { IfOk result (λ found. gathering_view variant_view found
+        ≡ read.variants all (items.variants_view written.now)) }
 {
-    let mut found = Vec::new(alloc);
+    let mut found = Gathering::new(alloc);
     for one in written {
-        add(&mut found, variant(alloc, all, one)?)?;
+        let more = variant(alloc, all, one)?;
+        found.append(more)?;
     }
     Ok(found)
 }

@@ -18,7 +18,7 @@ use crate::token::{Bracket, Token};
 use std::alloc::Global;
 
 /// Whether a token is a name of this text.
-fn is_named(text: &str, token: &Token<'_>) -> bool
+pub(crate) fn is_named(text: &str, token: &Token<'_>) -> bool
     ensures { result ≡ is_named text.now (token_view token.now) }
 {
     is_name(token.kind) && token.text == text

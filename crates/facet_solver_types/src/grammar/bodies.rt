@@ -1,12 +1,12 @@
 //! What stands in the brackets of structs, enums and variants.
 ghost use Rattle.std.specs.Prelude.{◌≡◌};
-ghost use Rattle.facet_solver_types.specs.Bodies.{after_body, body_at, braces, refused, struct_end, variant, variant_end, variants};
+ghost use Rattle.facet_solver_types.specs.Bodies.{after_body, body_at, braces, struct_end, variant, variant_end, variants};
 ghost use Rattle.facet_solver_types.specs.Declarations.{body_view, variant_view, variants_view};
 ghost use Rattle.facet_solver_types.specs.Outcomes.{Gives};
 ghost use Rattle.facet_solver_types.specs.Passages.{passage_view};
 
 use super::fields::{attributes, fields};
-use super::first::{sees_mark, sees_open, sees_word};
+use super::first::{sees_mark, sees_open};
 use super::inside::{inside, name_at};
 use super::prefixes::attributes_len;
 use super::run::{Run, group_len, run_len};
@@ -96,17 +96,6 @@ pub(super) fn variants<'s, 't>(
     Ok(found)
 }
 
-/// The fault where neither this nor `where` may stand.
-fn refused(expected: Expected, passage: Passage<'_, '_>) -> Fault
-    ensures { result ≡ refused expected (passage_view passage.entry) }
-{
-    if sees_word("where", passage.tokens) {
-        passage.generic()
-    } else {
-        passage.unexpected(expected)
-    }
-}
-
 /// A struct may end here: with `}`, or before `;`.
 pub(super) fn struct_end(body: &Body<'_, '_>, passage: Passage<'_, '_>) -> Result<(), Fault>
     ensures { Gives (λ end. end) (struct_end (body_view body.now) (passage_view passage.entry))
@@ -120,7 +109,7 @@ pub(super) fn struct_end(body: &Body<'_, '_>, passage: Passage<'_, '_>) -> Resul
     if sees_mark(b';', passage.tokens) {
         Ok(())
     } else {
-        Err(refused(expected, passage))
+        Err(passage.unexpected(expected))
     }
 }
 
@@ -131,6 +120,6 @@ pub(super) fn braces<'s, 't>(passage: Passage<'s, 't>) -> Result<Passage<'s, 't>
     if sees_open(Bracket::Curly, passage.tokens) {
         Ok(inside(passage))
     } else {
-        Err(refused(Expected::Braces, passage))
+        Err(passage.unexpected(Expected::Braces))
     }
 }

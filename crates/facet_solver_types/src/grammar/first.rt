@@ -1,6 +1,6 @@
 //! What the first of some tokens is.
 ghost use Rattle.std.specs.Prelude.{◌≡◌, ◌<◌, IsTrue, length};
-ghost use Rattle.facet_solver_types.specs.FirstTokens.{is_lifetime, is_name, is_open, is_path, is_word, sees_close, sees_mark, sees_name, sees_open, sees_path, sees_word};
+ghost use Rattle.facet_solver_types.specs.FirstTokens.{is_lifetime, is_name, is_open, is_path, is_word, sees_bracket, sees_close, sees_mark, sees_name, sees_open, sees_path, sees_word};
 ghost use Rattle.facet_solver_types.specs.Tokens.{tokens_view};
 
 use super::run::{is_close, is_mark};
@@ -38,6 +38,16 @@ pub(super) fn sees_open(bracket: Bracket, tokens: &[Token<'_>]) -> bool
     }
 }
 
+/// Whether the first token opens a bracket.
+pub(super) fn sees_bracket(tokens: &[Token<'_>]) -> bool
+    ensures value { result ≡ sees_bracket (tokens_view tokens.now) }
+    ensures some { IsTrue result → 0 < length tokens.now }
+{
+    sees_open(Bracket::Curly, tokens)
+        || sees_open(Bracket::Round, tokens)
+        || sees_open(Bracket::Square, tokens)
+}
+
 /// Whether the first token closes a bracket.
 pub(super) fn sees_close(tokens: &[Token<'_>]) -> bool
     ensures { result ≡ sees_close (tokens_view tokens.now) }
@@ -70,7 +80,7 @@ pub(super) fn sees_word(word: &str, tokens: &[Token<'_>]) -> bool
 }
 
 /// Whether a token is a name.
-pub(super) fn is_name(kind: TokenKind) -> bool
+pub(crate) fn is_name(kind: TokenKind) -> bool
     ensures { result ≡ is_name kind }
 {
     match kind {
@@ -101,7 +111,7 @@ pub(super) fn is_lifetime(kind: TokenKind) -> bool
 }
 
 /// Whether the first token is `::`.
-pub(super) fn sees_path(tokens: &[Token<'_>]) -> bool
+pub(crate) fn sees_path(tokens: &[Token<'_>]) -> bool
     ensures value { result ≡ sees_path (tokens_view tokens.now) }
     ensures some { IsTrue result → 0 < length tokens.now }
 {

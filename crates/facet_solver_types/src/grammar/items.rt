@@ -1,177 +1,174 @@
 //! The items of a text.
 ghost use Rattle.std.specs.Prelude.{◌≡◌};
-ghost use Rattle.facet_solver_types.specs.Declarations.{alias_view, enum_view, item_view, items_view, other, struct_view};
-ghost use Rattle.facet_solver_types.specs.Items.{after_call, after_lifetimes, alias_of, call, enum_of, head, item, items, semicolon, statement, struct_of};
+ghost use Rattle.facet_solver_types.specs.Declarations.{items_view};
+ghost use Rattle.facet_solver_types.specs.Enclosings.{around_view, piece_view};
+ghost use Rattle.facet_solver_types.specs.Items.{after_call, after_head, call, function, head, implementation, items, module_piece, nothing, opening, piece, piece_by, statement};
 ghost use Rattle.facet_solver_types.specs.Outcomes.{Gives};
 ghost use Rattle.facet_solver_types.specs.Passages.{passage_view};
 ghost use Rattle.facet_solver_types.specs.Tokens.{tokens_view};
 
-use super::bodies::{after_body, body_at, braces, struct_end, variants};
+use super::enclosing::{Enclosing, Piece, follow, in_block, is_left};
 use super::fields::{after_prefix, attributes};
-use super::first::{sees_mark, sees_name, sees_open};
+use super::first::{sees_bracket, sees_mark, sees_open};
+use super::implements::implemented;
 use super::inside::name_at;
-use super::lifetimes::lifetimes_len;
+use super::named::{declaration, semicolon};
 use super::prefixes::attributes_len;
 use super::run::{Run, group_len, run_len};
-use super::starts::{Start, call_len, item_len, start_of};
+use super::starts::{Start, named_call_len, piece_len, qualifiers_len, start_of};
 use crate::fault::Fault;
-use crate::item::{AliasDeclaration, EnumDeclaration, Item, StructDeclaration};
+use crate::item::Item;
 use crate::passage::Passage;
 use crate::problem::Expected;
 use crate::token::{Bracket, Token};
 use std::alloc::Global;
 
-/// What stands after the lifetimes that stand first, if any.
-fn after_lifetimes<'s, 't>(passage: Passage<'s, 't>) -> Result<Passage<'s, 't>, Fault>
-    ensures { Gives passage_view (after_lifetimes (passage_view passage.entry)) result }
-{
-    let len = lifetimes_len(passage)?;
-    Ok(passage.after(len))
-}
-
-/// A struct, after `struct`: a name, lifetimes if any, and fields.
-#[tactic(auto, unfolding(crate::specs::Items::struct_of))]
-fn struct_of<'s, 't>(
-    alloc: Global,
-    attributes: &'s [Token<'t>],
-    passage: Passage<'s, 't>,
-) -> Result<StructDeclaration<'s, 't>, Fault>
-    ensures { Gives struct_view
-        (struct_of (tokens_view attributes.now) (passage_view passage.entry)) result }
-{
-    let name = name_at(passage)?;
-    let rest = after_lifetimes(passage.after(1))?;
-    let body = body_at(alloc, true, rest)?;
-    struct_end(&body, after_body(rest))?;
-    Ok(StructDeclaration {
-        attributes,
-        name,
-        body,
-    })
-}
-
-/// An enum, after `enum`: a name, lifetimes if any, and variants.
-#[tactic(auto, unfolding(crate::specs::Items::enum_of))]
-fn enum_of<'s, 't>(
-    alloc: Global,
-    attributes: &'s [Token<'t>],
-    passage: Passage<'s, 't>,
-) -> Result<EnumDeclaration<'s, 't>, Fault>
-    ensures { Gives enum_view
-        (enum_of (tokens_view attributes.now) (passage_view passage.entry)) result }
-{
-    let name = name_at(passage)?;
-    let rest = after_lifetimes(passage.after(1))?;
-    let variants = variants(alloc, braces(rest)?)?;
-    Ok(EnumDeclaration {
-        attributes,
-        name,
-        variants,
-    })
-}
-
-/// A `;` stands first.
-fn semicolon(passage: Passage<'_, '_>) -> Result<(), Fault>
-    ensures { Gives (λ end. end) (semicolon (passage_view passage.entry)) result }
-{
-    if sees_mark(b';', passage.tokens) {
-        Ok(())
-    } else {
-        Err(passage.unexpected(Expected::Semicolon))
-    }
-}
-
-/// An alias, after `type`: a name, and what follows to `;`.
-#[tactic(auto, unfolding(crate::specs::Items::alias_of))]
-fn alias_of<'s, 't>(passage: Passage<'s, 't>) -> Result<AliasDeclaration<'s, 't>, Fault>
-    ensures { Gives alias_view (alias_of (passage_view passage.entry)) result }
-{
-    let name = name_at(passage)?;
-    let rest = passage.after(1);
-    let len = run_len(Run::Statement, rest.tokens);
-    semicolon(rest.after(len))?;
-    Ok(AliasDeclaration {
-        name,
-        written: rest.up_to(len),
-    })
-}
-
 /// An item that is passed over, to `;`.
-fn statement(passage: Passage<'_, '_>) -> Result<(), Fault>
-    ensures { Gives (λ end. other) (statement (passage_view passage.entry)) result }
+fn statement<'s, 't>(passage: Passage<'s, 't>) -> Result<Piece<'s, 't>, Fault>
+    ensures { Gives piece_view (statement (passage_view passage.entry)) result }
 {
-    semicolon(passage.after(run_len(Run::Statement, passage.tokens)))
+    semicolon(passage.after(run_len(Run::Statement, passage.tokens)))?;
+    Ok(Piece::Item(Item::Other))
+}
+
+/// What stands after the head of an item.
+fn after_head<'s, 't>(passage: Passage<'s, 't>) -> Passage<'s, 't>
+    ensures { passage_view result ≡ after_head (passage_view passage.entry) }
+{
+    passage.after(run_len(Run::Head, passage.tokens))
+}
+
+/// What an item is after its head: this with braces, and one that is passed over with `;`.
+fn opening<'s, 't>(piece: Piece<'s, 't>, passage: Passage<'s, 't>) -> Result<Piece<'s, 't>, Fault>
+    ensures { Gives piece_view
+        (opening (piece_view piece.entry) (passage_view passage.entry)) result }
+{
+    if sees_open(Bracket::Curly, passage.tokens) {
+        Ok(piece)
+    } else if sees_mark(b';', passage.tokens) {
+        Ok(Piece::Item(Item::Other))
+    } else {
+        Err(passage.unexpected(Expected::HeadEnd))
+    }
 }
 
 /// An item that is passed over, to `;` or braces.
-fn head(passage: Passage<'_, '_>) -> Result<(), Fault>
-    ensures { Gives (λ end. other) (head (passage_view passage.entry)) result }
+fn head<'s, 't>(passage: Passage<'s, 't>) -> Result<Piece<'s, 't>, Fault>
+    ensures { Gives piece_view (head (passage_view passage.entry)) result }
 {
-    let rest = passage.after(run_len(Run::Head, passage.tokens));
-    if sees_mark(b';', rest.tokens) || sees_open(Bracket::Curly, rest.tokens) {
-        Ok(())
-    } else {
-        Err(rest.unexpected(Expected::HeadEnd))
-    }
+    opening(Piece::Item(Item::Other), after_head(passage))
+}
+
+/// A function, whose block is opened.
+fn function<'s, 't>(passage: Passage<'s, 't>) -> Result<Piece<'s, 't>, Fault>
+    ensures { Gives piece_view (function (passage_view passage.entry)) result }
+{
+    opening(Piece::Opens(Enclosing::Block), after_head(passage))
+}
+
+/// A module, after `mod`, which is opened.
+fn module_piece<'s, 't>(passage: Passage<'s, 't>) -> Result<Piece<'s, 't>, Fault>
+    ensures { Gives piece_view (module_piece (passage_view passage.entry)) result }
+{
+    let name = name_at(passage)?;
+    opening(Piece::Opens(Enclosing::Module(name)), passage.after(1))
+}
+
+/// An impl, which is passed over, with the type that it is for, if documents are read by its trait.
+fn implementation<'s, 't>(passage: Passage<'s, 't>) -> Result<Piece<'s, 't>, Fault>
+    ensures { Gives piece_view (implementation (passage_view passage.entry)) result }
+{
+    let item = match implemented(passage.after(qualifiers_len(passage.tokens))) {
+        Some(name) => Item::Impl(name),
+        None => Item::Other,
+    };
+    opening(Piece::Item(item), after_head(passage))
 }
 
 /// What stands after the `!` of a call, and after a name, if one stands there.
 fn after_call<'s, 't>(passage: Passage<'s, 't>) -> Passage<'s, 't>
     ensures { passage_view result ≡ after_call (passage_view passage.entry) }
 {
-    let rest = passage.after(call_len(passage.tokens).unwrap_or(0));
-    if sees_name(rest.tokens) {
-        rest.after(1)
-    } else {
-        rest
-    }
+    passage.after(named_call_len(passage.tokens))
 }
 
-/// The call of a macro, which is passed over: brackets, and `;` unless they are braces.
-fn call(passage: Passage<'_, '_>) -> Result<(), Fault>
-    ensures { Gives (λ end. other) (call (passage_view passage.entry)) result }
+/// The call of a macro, which is passed over: brackets, and `;` unless they are braces. In a block
+/// anything may stand after its `!`.
+fn call<'s, 't>(is_in_block: bool, passage: Passage<'s, 't>) -> Result<Piece<'s, 't>, Fault>
+    ensures { Gives piece_view (call is_in_block (passage_view passage.entry)) result }
 {
     let rest = after_call(passage);
-    if sees_open(Bracket::Curly, rest.tokens) {
-        Ok(())
-    } else if sees_open(Bracket::Round, rest.tokens) || sees_open(Bracket::Square, rest.tokens) {
-        semicolon(rest.after(group_len(rest.tokens)))
+    if is_in_block || sees_open(Bracket::Curly, rest.tokens) {
+        Ok(Piece::Passed)
+    } else if sees_bracket(rest.tokens) {
+        semicolon(rest.after(group_len(rest.tokens)))?;
+        Ok(Piece::Passed)
     } else {
         Err(rest.unexpected(Expected::Bracket))
     }
 }
 
-/// An item: attributes, `pub` if any, and a declaration or what is passed over.
-#[tactic(auto, unfolding(crate::specs::Items::item))]
-fn item<'s, 't>(alloc: Global, passage: Passage<'s, 't>) -> Result<Item<'s, 't>, Fault>
-    ensures { Gives item_view (item (passage_view passage.entry)) result }
+/// What begins no item: in a block a brace opens another, and something else is passed over.
+fn nothing<'s, 't>(is_in_block: bool, passage: Passage<'s, 't>) -> Result<Piece<'s, 't>, Fault>
+    ensures { Gives piece_view (nothing is_in_block (passage_view passage.entry)) result }
 {
-    let attributes = attributes(passage);
-    let rest = after_prefix(true, passage);
-    match start_of(rest.tokens) {
-        Start::Struct => Ok(Item::Struct(struct_of(alloc, attributes, rest.after(1))?)),
-        Start::Enum => Ok(Item::Enum(enum_of(alloc, attributes, rest.after(1))?)),
-        Start::Alias => Ok(Item::Alias(alias_of(rest.after(1))?)),
-        Start::Statement => {
-            statement(rest)?;
-            Ok(Item::Other)
-        }
-        Start::Head => {
-            head(rest)?;
-            Ok(Item::Other)
-        }
-        Start::Call => {
-            call(rest)?;
-            Ok(Item::Other)
-        }
-        Start::Unknown => Err(rest.unexpected(Expected::Item)),
+    if !is_in_block {
+        Err(passage.unexpected(Expected::Item))
+    } else if sees_open(Bracket::Curly, passage.tokens) {
+        Ok(Piece::Opens(Enclosing::Block))
+    } else {
+        Ok(Piece::Passed)
     }
 }
 
-/// The items of a text, after its inner attributes.
+/// What stands first, after attributes and `pub`, by how it begins. Its attributes are these.
+fn piece_by<'s, 't>(
+    alloc: Global,
+    is_in_block: bool,
+    attributes: &'s [Token<'t>],
+    passage: Passage<'s, 't>,
+) -> Result<Piece<'s, 't>, Fault>
+    ensures { Gives piece_view (piece_by is_in_block (tokens_view attributes.now)
+        (passage_view passage.entry)) result }
+{
+    let start = start_of(passage.tokens);
+    match start {
+        Start::Struct | Start::Enum | Start::Alias => {
+            let item = declaration(alloc, start, attributes, passage.after(1))?;
+            Ok(Piece::Item(item))
+        }
+        Start::Module => module_piece(passage.after(1)),
+        Start::Function => function(passage),
+        Start::Impl => implementation(passage),
+        Start::Statement => statement(passage),
+        Start::Head => head(passage),
+        Start::Call => call(is_in_block, passage),
+        Start::Unknown => nothing(is_in_block, passage),
+    }
+}
+
+/// The piece that a passage is, in what encloses it: an item with attributes and `pub` if any, or
+/// what closes the innermost that encloses it.
+#[tactic(auto, unfolding(crate::specs::Items::piece))]
+fn piece<'s, 't>(
+    alloc: Global,
+    around: &[Enclosing<'t>],
+    passage: Passage<'s, 't>,
+) -> Result<Piece<'s, 't>, Fault>
+    ensures { Gives piece_view
+        (piece (around_view around.now) (passage_view passage.entry)) result }
+{
+    if is_left(around, passage.tokens) {
+        return Ok(Piece::Closes);
+    }
+    let rest = after_prefix(true, passage);
+    piece_by(alloc, in_block(around), attributes(passage), rest)
+}
+
+/// The items of a text, after its inner attributes, with those in its modules and functions.
 ///
-/// Errors: where something else stands than the grammar expects, or a generic parameter, whichever
-/// comes first; out of memory.
+/// Errors: where something else stands than the grammar expects, unless it stands after the name of
+/// a struct, an enum or an alias; out of memory.
 pub(crate) fn items<'s, 't>(
     alloc: Global,
     passage: Passage<'s, 't>,
@@ -179,10 +176,12 @@ pub(crate) fn items<'s, 't>(
     ensures { Gives (λ found. items_view found.items) (items (passage_view passage.entry)) result }
 {
     let mut found = Vec::new(alloc);
+    let mut around = Vec::new(alloc);
     let mut left = passage.after(attributes_len(true, passage.tokens));
     while !left.tokens.is_empty() {
-        let len = item_len(left.tokens);
-        found.push(item(alloc, left.up_to(len))?)?;
+        let len = piece_len(in_block(&around), left.tokens);
+        let piece = piece(alloc, &around, left.up_to(len))?;
+        follow(&mut found, &mut around, piece)?;
         left = left.after(len);
     }
     Ok(found)

@@ -12,6 +12,10 @@ pub(crate) enum Run {
     FieldType,
     /// The head of an item, up to `;` or braces. Each `<` is a bracket.
     Head,
+    /// A `where`, up to `=`, `;` or braces. Each `<` is a bracket.
+    Where,
+    /// What stands in `<` and `>`. Each `<` in it is a bracket.
+    Angles,
     /// A value, up to a comma.
     Value,
     /// An item up to `;`.
@@ -39,7 +43,7 @@ const OUTSIDE: Nest = Nest {
 };
 
 /// Whether a token is this mark.
-pub(super) fn is_mark(byte: u8, kind: TokenKind) -> bool
+pub(crate) fn is_mark(byte: u8, kind: TokenKind) -> bool
     ensures { result ≡ is_mark byte kind }
 {
     match kind {
@@ -49,7 +53,7 @@ pub(super) fn is_mark(byte: u8, kind: TokenKind) -> bool
 }
 
 /// Whether a token closes a bracket.
-pub(super) fn is_close(kind: TokenKind) -> bool
+pub(crate) fn is_close(kind: TokenKind) -> bool
     ensures { result ≡ is_close kind }
 {
     match kind {
@@ -77,6 +81,8 @@ fn stops(run: Run, kind: TokenKind) -> bool
         Run::Value => is_mark(b',', kind),
         Run::Statement => is_mark(b';', kind),
         Run::Head => is_mark(b';', kind) || opens_braces(kind),
+        Run::Where => is_mark(b'=', kind) || is_mark(b';', kind) || opens_braces(kind),
+        Run::Angles => is_mark(b'>', kind),
         Run::Group => false,
     }
 }
@@ -86,8 +92,7 @@ fn has_angles(run: Run) -> bool
     ensures { result ≡ has_angles run }
 {
     match run {
-        Run::FieldType => true,
-        Run::Head => true,
+        Run::FieldType | Run::Head | Run::Where | Run::Angles => true,
         _ => false,
     }
 }

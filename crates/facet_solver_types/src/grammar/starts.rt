@@ -1,11 +1,11 @@
 //! How an item begins, and how many tokens it has.
-ghost use Rattle.std.specs.Prelude.{◌≡◌, ◌+◌, ◌<◌, ◌≤◌, IfSome, IsTrue, length, true};
-ghost use Rattle.std.specs.List.{list_any};
-ghost use Rattle.facet_solver_types.specs.FirstTokens.{sees_word};
-ghost use Rattle.facet_solver_types.specs.Starts.{bare_len, begins_constant, begins_head, begins_statement, call_len, end_len, is_broken, is_called, is_declaration, is_path_mark, is_plain, is_segment, item_len, path_len, path_step, run_of, sees_path_mark, sees_plain, start_of};
+ghost use Rattle.std.specs.Prelude.{◌≡◌, ◌+◌, ◌<◌, ◌≤◌, IfSome, IsTrue, false, length, true};
+ghost use Rattle.facet_solver_types.specs.Starts.{bare_len, begins_constant, begins_extern, begins_function, begins_statement, begins_trait, brackets_len, call_len, end_len, end_len_of, first_len, has_keyword, is_broken, is_called, is_nothing, is_path_mark, is_plain, is_qualifier, is_segment, is_unknown, item_len, len_of, named_call_len, opening_len, path_len, path_step, piece_len, qualified_start, qualifiers_len, run_and_end_len, run_of, sees_path_mark, sees_plain, semicolon_len, start_of, start_with, visible_len, whole_call_len};
 ghost use Rattle.facet_solver_types.specs.Tokens.{tokens_view};
 
-use super::first::{is_name, is_word, sees_mark, sees_name, sees_open, sees_word};
+use super::first::{
+    is_name, is_word, sees_bracket, sees_close, sees_mark, sees_name, sees_open, sees_word,
+};
 use super::prefixes::{attributes_len, visibility_len};
 use super::run::{Run, group_len, is_mark, run_len};
 use crate::token::{Bracket, Token, TokenKind};
@@ -16,9 +16,12 @@ pub(super) enum Start {
     Struct,
     Enum,
     Alias,
+    Module,
+    Function,
+    Impl,
     /// One that ends with `;` alone and declares no type.
     Statement,
-    /// One that ends with `;` or `{ }` and declares no type.
+    /// Another that ends with `;` or `{ }` and declares no type.
     Head,
     /// The call of a macro.
     Call,
@@ -64,24 +67,54 @@ fn begins_statement(tokens: &[Token<'_>]) -> bool
         || (sees_word("const", tokens) && begins_constant(&tokens[1..]))
 }
 
-/// The keywords that begin an item that declares no type, and ends with `;` or `{ }`.
-const HEADS: [&str; 8] = [
-    "fn", "impl", "mod", "trait", "unsafe", "extern", "async", "const",
-];
-
-/// Whether one of some keywords stands first.
-fn sees_any(words: &[&str], tokens: &[Token<'_>]) -> bool
-    ensures { result ≡ list_any (λ word. sees_word word.now (tokens_view tokens.now)) words.now }
+/// Whether a token may stand before `fn`, `impl` or `trait`: a keyword, or the text after `extern`.
+fn is_qualifier(kind: TokenKind, text: &str) -> bool
+    ensures { result ≡ is_qualifier kind text.now }
 {
-    words.iter().any(|word| sees_word(word, tokens))
+    match kind {
+        TokenKind::Text | TokenKind::RawText => true,
+        _ => {
+            is_word("const", kind, text)
+                || is_word("async", kind, text)
+                || is_word("unsafe", kind, text)
+                || is_word("extern", kind, text)
+        }
+    }
 }
 
-/// Whether an item stands first that declares no type, and ends with `;` or `{ }`.
-#[tactic(auto, unfolding(crate::specs::Starts::begins_head))]
-fn begins_head(tokens: &[Token<'_>]) -> bool
-    ensures { result ≡ begins_head (tokens_view tokens.now) }
+/// How many tokens stand first that may stand before `fn`, `impl` or `trait`.
+pub(super) fn qualifiers_len(tokens: &[Token<'_>]) -> usize
+    ensures value { result ≡ qualifiers_len (tokens_view tokens.now) }
+    ensures within { result ≤ length tokens.now }
 {
-    sees_any(&HEADS, tokens)
+    for (at, token) in tokens.iter().enumerate() {
+        if !is_qualifier(token.kind, token.text) {
+            return at;
+        }
+    }
+    tokens.len()
+}
+
+/// Whether `fn` and a name stand first.
+fn begins_function(tokens: &[Token<'_>]) -> bool
+    ensures { result ≡ begins_function (tokens_view tokens.now) }
+{
+    sees_word("fn", tokens) && sees_name(&tokens[1..])
+}
+
+/// Whether the items of another language stand first, or a crate.
+fn begins_extern(tokens: &[Token<'_>]) -> bool
+    ensures { result ≡ begins_extern (tokens_view tokens.now) }
+{
+    sees_word("extern", tokens)
+        || (sees_word("unsafe", tokens) && sees_word("extern", &tokens[1..]))
+}
+
+/// Whether a trait or a union stands first.
+fn begins_trait(tokens: &[Token<'_>]) -> bool
+    ensures { result ≡ begins_trait (tokens_view tokens.now) }
+{
+    sees_word("trait", tokens)
         || (sees_plain("auto", tokens) && sees_word("trait", &tokens[1..]))
         || (sees_plain("union", tokens) && sees_name(&tokens[1..]))
 }
@@ -208,11 +241,38 @@ pub(super) fn call_len(tokens: &[Token<'_>]) -> Option<usize>
     }
 }
 
+/// How an item begins that words may stand before, or the call of a macro, with what stands after
+/// the words.
+fn start_with(tokens: &[Token<'_>], rest: &[Token<'_>]) -> Start
+    ensures value { result ≡ start_with (tokens_view tokens.now) (tokens_view rest.now) }
+    ensures bare { has_keyword result ≡ false }
+{
+    if begins_function(rest) {
+        Start::Function
+    } else if sees_word("impl", rest) {
+        Start::Impl
+    } else if begins_trait(rest) || begins_extern(tokens) {
+        Start::Head
+    } else if call_len(tokens).is_some() {
+        Start::Call
+    } else {
+        Start::Unknown
+    }
+}
+
+/// How an item begins that words may stand before, or the call of a macro.
+fn qualified_start(tokens: &[Token<'_>]) -> Start
+    ensures value { result ≡ qualified_start (tokens_view tokens.now) }
+    ensures bare { has_keyword result ≡ false }
+{
+    start_with(tokens, &tokens[qualifiers_len(tokens)..])
+}
+
 /// How an item begins, after attributes and `pub`.
 #[tactic(auto, unfolding(crate::specs::Starts::start_of))]
 pub(super) fn start_of(tokens: &[Token<'_>]) -> Start
     ensures value { result ≡ start_of (tokens_view tokens.now) }
-    ensures some { is_declaration result ≡ true → 0 < length tokens.now }
+    ensures some { has_keyword result ≡ true → 0 < length tokens.now }
 {
     if sees_word("struct", tokens) {
         Start::Struct
@@ -220,14 +280,12 @@ pub(super) fn start_of(tokens: &[Token<'_>]) -> Start
         Start::Enum
     } else if sees_word("type", tokens) {
         Start::Alias
+    } else if sees_word("mod", tokens) {
+        Start::Module
     } else if begins_statement(tokens) {
         Start::Statement
-    } else if begins_head(tokens) {
-        Start::Head
-    } else if call_len(tokens).is_some() {
-        Start::Call
     } else {
-        Start::Unknown
+        qualified_start(tokens)
     }
 }
 
@@ -245,38 +303,174 @@ fn run_of(start: Start) -> Run
 /// How many tokens the end of an item has: its braces, or one.
 fn end_len(tokens: &[Token<'_>]) -> usize
     ensures value { result ≡ end_len (tokens_view tokens.now) }
-    ensures some { 0 < length tokens.now → 0 < result }
     ensures within { result ≤ length tokens.now }
 {
     if sees_open(Bracket::Curly, tokens) {
         group_len(tokens)
-    } else if tokens.is_empty() {
+    } else {
+        first_len(tokens)
+    }
+}
+
+/// How many tokens the first token is: one, or none where there is none, or where it closes a
+/// bracket.
+fn first_len(tokens: &[Token<'_>]) -> usize
+    ensures value { result ≡ first_len (tokens_view tokens.now) }
+    ensures within { result ≤ length tokens.now }
+{
+    if tokens.is_empty() || sees_close(tokens) {
         0
     } else {
         1
     }
 }
 
+/// How many tokens the brace has that opens a module, with the inner attributes behind it, or else
+/// the first token.
+fn opening_len(tokens: &[Token<'_>]) -> usize
+    ensures value { result ≡ opening_len (tokens_view tokens.now) }
+    ensures within { result ≤ length tokens.now }
+{
+    if sees_open(Bracket::Curly, tokens) {
+        1 + attributes_len(true, &tokens[1..])
+    } else {
+        first_len(tokens)
+    }
+}
+
+/// How many tokens the end of an item has that begins so. A function and a module end where their
+/// braces open.
+fn end_len_of(start: Start, tokens: &[Token<'_>]) -> usize
+    ensures value { result ≡ end_len_of start (tokens_view tokens.now) }
+    ensures within { result ≤ length tokens.now }
+{
+    match start {
+        Start::Function => first_len(tokens),
+        Start::Module => opening_len(tokens),
+        _ => end_len(tokens),
+    }
+}
+
+/// How many tokens the path of a macro has with its `!`, and with a name, if one stands there.
+pub(super) fn named_call_len(tokens: &[Token<'_>]) -> usize
+    ensures value { result ≡ named_call_len (tokens_view tokens.now) }
+    ensures within { result ≤ length tokens.now }
+{
+    let len = call_len(tokens).unwrap_or(0);
+    if sees_name(&tokens[len..]) {
+        len + 1
+    } else {
+        len
+    }
+}
+
+/// How many tokens the brackets have that stand first, with what stands in them, or 0.
+fn brackets_len(tokens: &[Token<'_>]) -> usize
+    ensures value { result ≡ brackets_len (tokens_view tokens.now) }
+    ensures within { result ≤ length tokens.now }
+{
+    if sees_bracket(tokens) {
+        group_len(tokens)
+    } else {
+        0
+    }
+}
+
+/// How many tokens a `;` has that may stand first.
+fn semicolon_len(tokens: &[Token<'_>]) -> usize
+    ensures value { result ≡ semicolon_len (tokens_view tokens.now) }
+    ensures within { result ≤ length tokens.now }
+{
+    if sees_mark(b';', tokens) { 1 } else { 0 }
+}
+
+/// How many tokens the call of a macro has, with its brackets, and with `;` if it stands there.
+fn whole_call_len(tokens: &[Token<'_>]) -> usize
+    ensures value { result ≡ whole_call_len (tokens_view tokens.now) }
+    ensures within { result ≤ length tokens.now }
+{
+    let name = named_call_len(tokens);
+    let rest = &tokens[name..];
+    let brackets = brackets_len(rest);
+    name + (brackets + semicolon_len(&rest[brackets..]))
+}
+
+/// How many tokens an item has that begins so and is no call, after attributes and `pub`.
+fn run_and_end_len(start: Start, tokens: &[Token<'_>]) -> usize
+    ensures value { result ≡ run_and_end_len start (tokens_view tokens.now) }
+    ensures within { result ≤ length tokens.now }
+{
+    let len = run_len(run_of(start), tokens);
+    len + end_len_of(start, &tokens[len..])
+}
+
+/// How many tokens an item has that begins so, after attributes and `pub`.
+fn len_of(start: Start, tokens: &[Token<'_>]) -> usize
+    ensures value { result ≡ len_of start (tokens_view tokens.now) }
+    ensures within { result ≤ length tokens.now }
+{
+    match start {
+        Start::Call => whole_call_len(tokens),
+        _ => run_and_end_len(start, tokens),
+    }
+}
+
 /// How many tokens an item has, after attributes and `pub`.
 fn bare_len(tokens: &[Token<'_>]) -> usize
     ensures value { result ≡ bare_len (tokens_view tokens.now) }
-    ensures some { 0 < length tokens.now → 0 < result }
     ensures within { result ≤ length tokens.now }
 {
-    let len = run_len(run_of(start_of(tokens)), tokens);
-    len + end_len(&tokens[len..])
+    len_of(start_of(tokens), tokens)
 }
 
-/// How many tokens the item has that stands first, with attributes and `pub`.
-#[tactic(auto, unfolding(crate::specs::Starts::item_len))]
-pub(super) fn item_len(tokens: &[Token<'_>]) -> usize
-    requires { 0 < length tokens.now }
-    ensures value { result ≡ item_len (tokens_view tokens.now) }
-    ensures some { 0 < result }
+/// Whether no item begins so.
+fn is_unknown(start: Start) -> bool
+    ensures { result ≡ is_unknown start }
+{
+    match start {
+        Start::Unknown => true,
+        _ => false,
+    }
+}
+
+/// Whether what stands first in a block is no item.
+fn is_nothing(is_in_block: bool, tokens: &[Token<'_>]) -> bool
+    ensures { result ≡ is_nothing is_in_block (tokens_view tokens.now) }
+{
+    is_in_block && is_unknown(start_of(tokens))
+}
+
+/// How many tokens an item has, after attributes, with `pub`; in a block none where it is no item.
+fn visible_len(is_in_block: bool, tokens: &[Token<'_>]) -> usize
+    ensures value { result ≡ visible_len is_in_block (tokens_view tokens.now) }
+    ensures within { result ≤ length tokens.now }
+{
+    let visibility = visibility_len(tokens);
+    let bare = &tokens[visibility..];
+    if is_nothing(is_in_block, bare) {
+        0
+    } else {
+        visibility + bare_len(bare)
+    }
+}
+
+/// How many tokens the item has that stands first, with attributes and `pub`; in a block, where no
+/// item stands first, the attributes alone.
+fn item_len(is_in_block: bool, tokens: &[Token<'_>]) -> usize
+    ensures value { result ≡ item_len is_in_block (tokens_view tokens.now) }
     ensures within { result ≤ length tokens.now }
 {
     let attributes = attributes_len(false, tokens);
-    let rest = &tokens[attributes..];
-    let visibility = visibility_len(rest);
-    attributes + (visibility + bare_len(&rest[visibility..]))
+    attributes + visible_len(is_in_block, &tokens[attributes..])
+}
+
+/// How many tokens the piece has that stands first: an item's, or one.
+pub(super) fn piece_len(is_in_block: bool, tokens: &[Token<'_>]) -> usize
+    requires { 0 < length tokens.now }
+    ensures value { result ≡ piece_len is_in_block (tokens_view tokens.now) }
+    ensures some { 0 < result }
+    ensures within { result ≤ length tokens.now }
+{
+    let len = item_len(is_in_block, tokens);
+    if len == 0 { 1 } else { len }
 }

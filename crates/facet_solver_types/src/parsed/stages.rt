@@ -1,57 +1,92 @@
 //! From a text to types with their shapes.
-ghost use Rattle.std.specs.Prelude.{◌≡◌};
+ghost use Rattle.std.specs.Prelude.{◌≡◌, option_map};
 ghost use Rattle.facet_solver_types.specs.Declarations.{items_view};
 ghost use Rattle.facet_solver_types.specs.GivenTypes.{GivesTypes};
+ghost use Rattle.facet_solver_types.specs.Mentions.{mention_view};
 ghost use Rattle.facet_solver_types.specs.ParsedTexts as parsed;
 ghost use Rattle.facet_solver_types.specs.Passages.{passage_view};
+ghost use Rattle.facet_solver_types.specs.Scopes.{str_view};
 ghost use Rattle.facet_solver_types.specs.Understood.{declarations_view};
 
 use super::Types;
 use crate::catalogue::catalogue_of;
 use crate::declaration::Declaration;
 use crate::declare::declarations;
-use crate::fault::Fault;
+use crate::failure::Failure;
 use crate::grammar::items;
 use crate::item::Item;
 use crate::passage::Passage;
 use crate::tokens::tokens;
-use crate::typing::type_entries;
+use crate::typing::{Mention, root_type, type_entries};
 use std::alloc::Global;
 
-/// The types of declarations.
-fn declared_types(alloc: Global, declarations: &[Declaration<'_, '_>]) -> Result<Types, Fault>
-    ensures { GivesTypes (parsed.declared_types (declarations_view declarations.now)) result }
+/// The types that a root needs among declarations.
+fn rooted_types(
+    alloc: Global,
+    declarations: &[Declaration<'_, '_>],
+    root: Mention,
+) -> Result<Types, Failure>
+    ensures { GivesTypes (parsed.rooted_types (declarations_view declarations.now)
+        (mention_view root)) result }
 {
-    let entries = type_entries(alloc, declarations)?;
-    catalogue_of(alloc, declarations, &entries)
+    let Mention { id, entries, uses } = root;
+    let entries = type_entries(alloc, declarations, uses, entries)?;
+    catalogue_of(alloc, declarations, &entries, id.as_str())
 }
 
-/// The types that items declare.
-fn item_types(alloc: Global, items: &[Item<'_, '_>]) -> Result<Types, Fault>
-    ensures { GivesTypes (parsed.item_types (items_view items.now)) result }
+/// The types that a root needs, which is one of declarations or is named behind so many bytes.
+fn declared_types(
+    alloc: Global,
+    declarations: &[Declaration<'_, '_>],
+    base: usize,
+    root: Option<&str>,
+) -> Result<Types, Failure>
+    ensures { GivesTypes (parsed.declared_types base (option_map str_view root.entry)
+        (declarations_view declarations.now)) result }
+{
+    let root = root_type(alloc, declarations, base, root)?;
+    rooted_types(alloc, declarations, root)
+}
+
+/// The types that a root needs of those that items declare.
+fn item_types(
+    alloc: Global,
+    items: &[Item<'_, '_>],
+    base: usize,
+    root: Option<&str>,
+) -> Result<Types, Failure>
+    ensures { GivesTypes (parsed.item_types base (option_map str_view root.entry)
+        (items_view items.now)) result }
 {
     let declarations = declarations(alloc, items)?;
-    declared_types(alloc, &declarations)
+    declared_types(alloc, &declarations, base, root)
 }
 
-/// The types that tokens declare.
-fn token_types(alloc: Global, passage: Passage<'_, '_>) -> Result<Types, Fault>
-    ensures { GivesTypes (parsed.token_types (passage_view passage.entry)) result }
+/// The types that a root needs of those that tokens declare.
+fn token_types(
+    alloc: Global,
+    passage: Passage<'_, '_>,
+    base: usize,
+    root: Option<&str>,
+) -> Result<Types, Failure>
+    ensures { GivesTypes (parsed.token_types base (option_map str_view root.entry)
+        (passage_view passage.entry)) result }
 {
     let items = items(alloc, passage)?;
-    item_types(alloc, &items)
+    item_types(alloc, &items, base, root)
 }
 
-/// The types that a text declares.
+/// The types that a root needs of those that a text declares.
 ///
-/// Errors: of the first stage that has errors, the first in the text; out of memory.
-pub(super) fn types(alloc: Global, text: &str) -> Result<Types, Fault>
-    ensures { GivesTypes (parsed.types text.now) result }
+/// Errors: the first fault of the text, where it cannot be read; why the root is none; all faults
+/// of what the root needs; out of memory.
+pub(super) fn types(alloc: Global, text: &str, root: Option<&str>) -> Result<Types, Failure>
+    ensures { GivesTypes (parsed.types text.now (option_map str_view root.entry)) result }
 {
     let tokens = tokens(alloc, text)?;
     let passage = Passage {
         tokens: &tokens,
         end: text.len(),
     };
-    token_types(alloc, passage)
+    token_types(alloc, passage, text.len(), root)
 }

@@ -1,122 +1,73 @@
-//! All types of declarations, by their ids.
-ghost use Rattle.std.specs.Prelude.{◌≡◌, IfOk};
+//! All types that a root needs, by their ids.
+ghost use Rattle.std.specs.Prelude.{◌≡◌, ◌++◌, IfOk, OnOk, map};
 ghost use Rattle.facet_solver_types.specs.DeclaredEntries as of;
 ghost use Rattle.facet_solver_types.specs.DeclaredEntries.{types_view};
-ghost use Rattle.facet_solver_types.specs.FieldTypes.{groups_view};
-ghost use Rattle.facet_solver_types.specs.Outcomes.{Gives};
-ghost use Rattle.facet_solver_types.specs.Scopes.{scope_view};
+ghost use Rattle.facet_solver_types.specs.Failures.{Leads};
 ghost use Rattle.facet_solver_types.specs.TypeEntries.{entries_view, entry_view};
-ghost use Rattle.facet_solver_types.specs.Understood.{declaration_view, declarations_view, declared_view};
+ghost use Rattle.facet_solver_types.specs.Understood.{declarations_view};
+ghost use Rattle.facet_solver_types.specs.Uses.{use_view, uses_view};
 
-use super::field_types::{Groups, declared_types};
-use super::first_fault::first_fault;
-use super::id::declared_id;
-use super::named::{declarations_once, parts_once};
-use super::scope::Scope;
-use crate::declaration::{Declaration, Declared};
-use crate::fault::Fault;
+use super::field_types::Groups;
+use super::type_use::Use;
+use super::use_faults::all_faults;
+use super::uses::{all_uses, text_order, use_types};
+use crate::declaration::Declaration;
+use crate::failure::Failure;
+use crate::faults::told;
 use crate::type_entry::{Form, TypeEntry};
 use std::alloc::{AllocError, Global};
 
-/// The entry of a declared type.
-fn declared_entry(
-    alloc: Global,
-    index: usize,
-    name: &str,
-    types: Vec<Vec<String>>,
-) -> Result<TypeEntry, AllocError>
+/// The entry of a use, with the types that it mentions.
+fn use_entry(alloc: Global, used: &Use, types: Vec<Vec<String>>) -> Result<TypeEntry, AllocError>
     ensures { IfOk result (λ entry. entry_view entry
-        ≡ of.declared_entry index name.now (types_view types.items)) }
+        ≡ of.use_entry (use_view used.now) (types_view types.items)) }
 {
     Ok(TypeEntry {
-        id: declared_id(alloc, name)?,
-        form: Form::Declared { index, types },
+        id: used.id.clone()?,
+        form: Form::Declared {
+            index: used.index,
+            types,
+        },
     })
 }
 
-/// The types that a declaration mentions, in which no two names are the same.
-fn checked_types<'d, 't>(
+/// Adds the entries of a use: its own, and those of the types that it mentions.
+fn add_entries(
     alloc: Global,
-    scope: Scope<'d, 't>,
-    declared: &'d Declared<'d, 't>,
-) -> Result<Groups, Fault>
-    ensures { Gives groups_view
-        (of.checked_types (scope_view scope.entry) (declared_view declared.now)) result }
+    entries: &mut Vec<TypeEntry>,
+    declarations: &[Declaration<'_, '_>],
+    used: &Use,
+) -> Result<(), AllocError>
+    ensures { OnOk result (entries_view entries.new.items ≡ entries_view entries.old.items
+        ++ of.use_entries (declarations_view declarations.now) (use_view used.now)) }
 {
-    let once = parts_once(alloc, declared);
-    let types = declared_types(alloc, scope, declared);
-    first_fault(once, types)
-}
-
-/// The entries of what is declared at an index: its own, and those of the types that it mentions.
-fn declared_entries<'d, 't>(
-    alloc: Global,
-    scope: Scope<'d, 't>,
-    index: usize,
-    declared: &'d Declared<'d, 't>,
-) -> Result<Vec<TypeEntry>, Fault>
-    ensures { Gives (λ entries. entries_view entries.items)
-        (of.declared_entries (scope_view scope.entry) index (declared_view declared.now)) result }
-{
+    let groups = use_types(alloc, declarations, used)?;
     let Groups {
         types,
         entries: mut inside,
-    } = checked_types(alloc, scope, declared)?;
-    let mut entries = Vec::new(alloc);
-    entries.push(declared_entry(alloc, index, scope.this.text, types)?)?;
+        uses: _,
+        faults: _,
+    } = groups;
+    entries.push(use_entry(alloc, used, types)?)?;
     entries.append(&mut inside)?;
-    Ok(entries)
+    Ok(())
 }
 
-/// The entries of a declaration at an index; an alias has none.
-fn entries_of<'d, 't>(
+/// The entries of uses, in their order. A type has one each time that it is mentioned.
+fn all_entries(
     alloc: Global,
-    declarations: &'d [Declaration<'d, 't>],
-    index: usize,
-    declaration: &'d Declaration<'d, 't>,
-) -> Result<Vec<TypeEntry>, Fault>
-    ensures { Gives (λ entries. entries_view entries.items)
-        (of.entries_of (declarations_view declarations.now) index
-        (declaration_view declaration.now)) result }
-{
-    let scope = Scope {
-        declarations,
-        this: declaration.name,
-        begin: 0,
-    };
-    match &declaration.declared {
-        Declared::Alias(_) => Ok(Vec::new(alloc)),
-        _ => declared_entries(alloc, scope, index, &declaration.declared),
-    }
-}
-
-/// The entries of all declarations. A type has one each time that it is mentioned.
-fn all_entries<'d, 't>(
-    alloc: Global,
-    declarations: &'d [Declaration<'d, 't>],
-) -> Result<Vec<TypeEntry>, Fault>
-    ensures { Gives (λ entries. entries_view entries.items)
-        (of.all_entries (declarations_view declarations.now)) result }
+    declarations: &[Declaration<'_, '_>],
+    uses: &[&Use],
+) -> Result<Vec<TypeEntry>, AllocError>
+    ensures { IfOk result (λ found. entries_view found.items
+        ≡ of.all_entries (declarations_view declarations.now)
+        (map (λ u. use_view u.now) uses.now)) }
 {
     let mut found = Vec::new(alloc);
-    for (index, declaration) in declarations.iter().enumerate() {
-        let mut more = entries_of(alloc, declarations, index, declaration)?;
-        found.append(&mut more)?;
+    for used in uses {
+        add_entries(alloc, &mut found, declarations, used)?;
     }
     Ok(found)
-}
-
-/// The entries of all declarations, of which no two have the same name.
-fn checked_entries<'d, 't>(
-    alloc: Global,
-    declarations: &'d [Declaration<'d, 't>],
-) -> Result<Vec<TypeEntry>, Fault>
-    ensures { Gives (λ entries. entries_view entries.items)
-        (of.checked_entries (declarations_view declarations.now)) result }
-{
-    let once = declarations_once(alloc, declarations);
-    let entries = all_entries(alloc, declarations);
-    first_fault(once, entries)
 }
 
 /// Whether one of some types has this id.
@@ -145,18 +96,57 @@ fn distinct(alloc: Global, entries: Vec<TypeEntry>) -> Result<Vec<TypeEntry>, Al
     Ok(found)
 }
 
-/// All types of declarations, each once: for each declaration that is no alias its own, and then
-/// the types that it mentions, each outer before inner.
-///
-/// Errors, the first in the text: two declarations, fields or variants of one name; a type that is
-/// none, where it is mentioned, or in the alias that it names; out of memory.
-pub(crate) fn type_entries<'s, 't>(
+/// The types of uses, and others behind them, each once.
+fn types_of(
     alloc: Global,
-    declarations: &[Declaration<'s, 't>],
-) -> Result<Vec<TypeEntry>, Fault>
-    ensures { Gives (λ found. entries_view found.items)
-        (of.type_entries (declarations_view declarations.now)) result }
+    declarations: &[Declaration<'_, '_>],
+    uses: &[&Use],
+    mut others: Vec<TypeEntry>,
+) -> Result<Vec<TypeEntry>, AllocError>
+    ensures { IfOk result (λ found. entries_view found.items
+        ≡ of.types_of (declarations_view declarations.now) (map (λ u. use_view u.now) uses.now)
+        (entries_view others.items)) }
 {
-    let entries = checked_entries(alloc, declarations)?;
-    Ok(distinct(alloc, entries)?)
+    let mut entries = all_entries(alloc, declarations, uses)?;
+    entries.append(&mut others)?;
+    distinct(alloc, entries)
+}
+
+/// The types of uses that have no fault, and others behind them, each once.
+fn checked(
+    alloc: Global,
+    declarations: &[Declaration<'_, '_>],
+    uses: &[&Use],
+    others: Vec<TypeEntry>,
+) -> Result<Vec<TypeEntry>, Failure>
+    ensures { Leads (λ found. entries_view found.items)
+        (of.checked (declarations_view declarations.now) (map (λ u. use_view u.now) uses.now)
+        (entries_view others.items)) result }
+{
+    let found = all_faults(alloc, declarations, uses)?;
+    let faults = told(alloc, found)?;
+    if !faults.is_empty() {
+        return Err(Failure::Needed(faults));
+    }
+    Ok(types_of(alloc, declarations, uses, others)?)
+}
+
+/// All types that a root needs, of which these are mentioned in it, each once: in the order of the
+/// text each use of a declaration, and behind it the types that it mentions, each outer before
+/// inner.
+///
+/// Errors: the faults of all declarations that it needs; that these have no end; out of memory.
+pub(crate) fn type_entries(
+    alloc: Global,
+    declarations: &[Declaration<'_, '_>],
+    uses: Vec<Use>,
+    others: Vec<TypeEntry>,
+) -> Result<Vec<TypeEntry>, Failure>
+    ensures { Leads (λ found. entries_view found.items)
+        (of.type_entries (declarations_view declarations.now) (uses_view uses.items)
+        (entries_view others.items)) result }
+{
+    let found = all_uses(alloc, declarations, uses)?;
+    let ordered = text_order(alloc, declarations.len(), &found)?;
+    checked(alloc, declarations, &ordered, others)
 }

@@ -1,33 +1,111 @@
 //! The types that declarations mention: those of fields, and those as which something is read.
-ghost use Rattle.std.specs.Prelude.{◌≡◌, [], Ok, map};
+ghost use Rattle.std.specs.Prelude.{◌≡◌, IfOk, OnOk, Result, map};
+ghost use Rattle.facet_solver_types.specs.declared.fault.Fault as faults;
 ghost use Rattle.facet_solver_types.specs.FieldTypes as of;
 ghost use Rattle.facet_solver_types.specs.FieldTypes.{group_view, groups_view};
+ghost use Rattle.facet_solver_types.specs.Mentions as mentions;
 ghost use Rattle.facet_solver_types.specs.Mentions.{mention_view};
-ghost use Rattle.facet_solver_types.specs.Outcomes.{Gives};
+ghost use Rattle.facet_solver_types.specs.Outcomes.{Gives, outcome_view};
 ghost use Rattle.facet_solver_types.specs.Scopes.{scope_view};
 ghost use Rattle.facet_solver_types.specs.Understood.{declared_view, field_view, proxy_view, variant_view};
 
 use super::mention::{Mention, whole_type};
 use super::scope::Scope;
+use super::type_use::Use;
 use crate::declaration::{Declared, DeclaredField, DeclaredVariant, Proxy};
 use crate::fault::Fault;
 use crate::problem::Problem;
 use crate::type_entry::TypeEntry;
 use crate::type_problem::TypeProblem;
-use std::alloc::Global;
+use std::alloc::{AllocError, Global};
 
-/// The types of some fields by their ids, and the entries of all types that they mention.
+/// The types of some fields, as far as they have no fault.
 #[derive(Drop)]
-pub(super) struct Group {
+struct Group {
+    /// The types by their ids.
     ids: Vec<String>,
+    /// The entries of all types that they mention.
     entries: Vec<TypeEntry>,
+    /// What is declared of these.
+    uses: Vec<Use>,
+    /// The faults of the other types.
+    faults: Vec<Fault>,
 }
 
-/// The types of the fields of each variant, and the entries of all types that they mention.
+/// The types of the fields of each variant, as far as they have no fault.
 #[derive(Drop)]
 pub(super) struct Groups {
+    /// The types by their ids.
     pub(super) types: Vec<Vec<String>>,
+    /// The entries of all types that they mention.
     pub(super) entries: Vec<TypeEntry>,
+    /// What is declared of these.
+    pub(super) uses: Vec<Use>,
+    /// The faults of the other types.
+    pub(super) faults: Vec<Fault>,
+}
+
+/// No types.
+fn no_group(alloc: Global) -> Group
+    ensures { group_view result ≡ of.no_group }
+{
+    Group {
+        ids: Vec::new(alloc),
+        entries: Vec::new(alloc),
+        uses: Vec::new(alloc),
+        faults: Vec::new(alloc),
+    }
+}
+
+/// No lists of types.
+pub(super) fn no_groups(alloc: Global) -> Groups
+    ensures { groups_view result ≡ of.no_groups }
+{
+    Groups {
+        types: Vec::new(alloc),
+        entries: Vec::new(alloc),
+        uses: Vec::new(alloc),
+        faults: Vec::new(alloc),
+    }
+}
+
+/// Adds a type, or its fault.
+fn add_type(group: &mut Group, outcome: Result<Mention, Fault>) -> Result<(), AllocError>
+    ensures { OnOk result (group_view group.new
+        ≡ of.with_type (group_view group.old) (outcome_view mention_view outcome)) }
+{
+    match outcome {
+        Ok(mention) => {
+            let Mention {
+                id,
+                mut entries,
+                mut uses,
+            } = mention;
+            group.ids.push(id)?;
+            group.entries.append(&mut entries)?;
+            group.uses.append(&mut uses)?;
+        }
+        Err(fault) => group.faults.push(fault)?,
+    }
+    Ok(())
+}
+
+/// Adds a list of types.
+fn add_group(groups: &mut Groups, group: Group) -> Result<(), AllocError>
+    ensures { OnOk result (groups_view groups.new
+        ≡ of.with_group (groups_view groups.old) (group_view group)) }
+{
+    let Group {
+        ids,
+        mut entries,
+        mut uses,
+        mut faults,
+    } = group;
+    groups.types.push(ids)?;
+    groups.entries.append(&mut entries)?;
+    groups.uses.append(&mut uses)?;
+    groups.faults.append(&mut faults)?;
+    Ok(())
 }
 
 /// What an attribute says is the type of this id.
@@ -97,26 +175,44 @@ fn field_type<'d, 't>(
     }
 }
 
+/// The outcome for a type, unless memory was refused.
+fn settled(outcome: Result<Mention, Fault>) -> Result<Result<Mention, Fault>, AllocError>
+    ensures { IfOk result (λ settled. (real : Result mentions.Mention faults.Fault)
+        → Gives mention_view real outcome → real ≡ outcome_view mention_view settled) }
+{
+    match outcome {
+        Ok(mention) => Ok(Ok(mention)),
+        Err(Fault::OutOfMemory) => Err(AllocError),
+        Err(fault) => Ok(Err(fault)),
+    }
+}
+
+/// The type of a field, or its fault.
+fn field_outcome<'d, 't>(
+    alloc: Global,
+    scope: Scope<'d, 't>,
+    field: &'d DeclaredField<'d, 't>,
+) -> Result<Result<Mention, Fault>, AllocError>
+    ensures { IfOk result (λ outcome. outcome_view mention_view outcome
+        ≡ of.field_type (scope_view scope.entry) (field_view field.now)) }
+{
+    settled(field_type(alloc, scope, field))
+}
+
 /// The types of some fields.
 fn field_types<'d, 't>(
     alloc: Global,
     scope: Scope<'d, 't>,
     fields: &'d [DeclaredField<'d, 't>],
-) -> Result<Group, Fault>
-    ensures { Gives group_view
-        (of.field_types (scope_view scope.entry) (map field_view fields.now)) result }
+) -> Result<Group, AllocError>
+    ensures { IfOk result (λ group. group_view group
+        ≡ of.field_types (scope_view scope.entry) (map field_view fields.now)) }
 {
-    let mut ids = Vec::new(alloc);
-    let mut inside = Vec::new(alloc);
+    let mut group = no_group(alloc);
     for field in fields {
-        let Mention { id, mut entries } = field_type(alloc, scope, field)?;
-        ids.push(id)?;
-        inside.append(&mut entries)?;
+        add_type(&mut group, field_outcome(alloc, scope, field)?)?;
     }
-    Ok(Group {
-        ids,
-        entries: inside,
-    })
+    Ok(group)
 }
 
 /// The types of the fields of each variant.
@@ -124,41 +220,38 @@ fn variant_types<'d, 't>(
     alloc: Global,
     scope: Scope<'d, 't>,
     variants: &'d [DeclaredVariant<'d, 't>],
-) -> Result<Groups, Fault>
-    ensures { Gives groups_view
-        (of.variant_types (scope_view scope.entry) (map variant_view variants.now)) result }
+) -> Result<Groups, AllocError>
+    ensures { IfOk result (λ groups. groups_view groups
+        ≡ of.variant_types (scope_view scope.entry) (map variant_view variants.now)) }
 {
-    let mut types = Vec::new(alloc);
-    let mut inside = Vec::new(alloc);
+    let mut groups = no_groups(alloc);
     for variant in variants {
-        let Group { ids, mut entries } = field_types(alloc, scope, &variant.fields)?;
-        types.push(ids)?;
-        inside.append(&mut entries)?;
+        add_group(&mut groups, field_types(alloc, scope, &variant.fields)?)?;
     }
-    Ok(Groups {
-        types,
-        entries: inside,
-    })
+    Ok(groups)
 }
 
 /// One list of types.
-fn one_group(alloc: Global, group: Group) -> Result<Groups, Fault>
-    ensures { Gives groups_view (Ok (of.one_group (group_view group))) result }
+fn one_group(alloc: Global, group: Group) -> Result<Groups, AllocError>
+    ensures { IfOk result (λ groups. groups_view groups ≡ of.one_group (group_view group)) }
 {
-    let mut types = Vec::new(alloc);
-    let Group { ids, entries } = group;
-    types.push(ids)?;
-    Ok(Groups { types, entries })
+    let mut groups = no_groups(alloc);
+    add_group(&mut groups, group)?;
+    Ok(groups)
 }
 
-/// No types.
-fn no_groups(alloc: Global) -> Groups
-    ensures { groups_view result ≡ record { types = []; entries = [] } }
+/// The type as which something is read, or its fault.
+fn proxied_outcome<'d, 't>(
+    alloc: Global,
+    scope: Scope<'d, 't>,
+    first: &'d Proxy<'d, 't>,
+    others: &'d [Proxy<'d, 't>],
+) -> Result<Result<Mention, Fault>, AllocError>
+    ensures { IfOk result (λ outcome. outcome_view mention_view outcome
+        ≡ of.proxied_type (scope_view scope.entry) (proxy_view first.now)
+        (map proxy_view others.now)) }
 {
-    Groups {
-        types: Vec::new(alloc),
-        entries: Vec::new(alloc),
-    }
+    settled(proxied_type(alloc, scope, first, others))
 }
 
 /// The type as which something is read.
@@ -166,30 +259,28 @@ fn proxy_types<'d, 't>(
     alloc: Global,
     scope: Scope<'d, 't>,
     proxies: &'d [Proxy<'d, 't>],
-) -> Result<Groups, Fault>
-    ensures { Gives groups_view
-        (of.proxy_types (scope_view scope.entry) (map proxy_view proxies.now)) result }
+) -> Result<Groups, AllocError>
+    ensures { IfOk result (λ groups. groups_view groups
+        ≡ of.proxy_types (scope_view scope.entry) (map proxy_view proxies.now)) }
 {
     let Some((first, others)) = proxies.split_first() else {
         return Ok(no_groups(alloc));
     };
-    let Mention { id, entries } = proxied_type(alloc, scope, first, others)?;
-    let mut ids = Vec::new(alloc);
-    ids.push(id)?;
-    one_group(alloc, Group { ids, entries })
+    let mut group = no_group(alloc);
+    add_type(&mut group, proxied_outcome(alloc, scope, first, others)?)?;
+    one_group(alloc, group)
 }
 
-/// The types that a declaration mentions; an alias is looked at where it is named.
-///
-/// Errors: the first that is none, or that two attributes of one subject say differently; out of
-/// memory.
+/// The types that a declaration mentions, as far as they have no fault, and the faults of the
+/// others: a type that is none, or that two attributes of one subject say differently. An alias is
+/// looked at where it is named.
 pub(super) fn declared_types<'d, 't>(
     alloc: Global,
     scope: Scope<'d, 't>,
     declared: &'d Declared<'d, 't>,
-) -> Result<Groups, Fault>
-    ensures { Gives groups_view
-        (of.declared_types (scope_view scope.entry) (declared_view declared.now)) result }
+) -> Result<Groups, AllocError>
+    ensures { IfOk result (λ groups. groups_view groups
+        ≡ of.declared_types (scope_view scope.entry) (declared_view declared.now)) }
 {
     match declared {
         Declared::Struct { fields, .. } => {
@@ -198,6 +289,6 @@ pub(super) fn declared_types<'d, 't>(
         }
         Declared::Enum { variants, .. } => variant_types(alloc, scope, variants),
         Declared::Proxied(proxies) => proxy_types(alloc, scope, proxies),
-        Declared::Alias(_) => Ok(no_groups(alloc)),
+        Declared::Alias(_) | Declared::Unread => Ok(no_groups(alloc)),
     }
 }

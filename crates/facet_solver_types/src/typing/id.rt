@@ -1,5 +1,5 @@
-//! The ids of types: as they are written, where aliases are followed, and lifetimes and paths
-//! dropped.
+//! The ids of types: as they are written, where aliases and parameters are followed, and lifetimes
+//! and paths dropped.
 ghost use Rattle.std.specs.Prelude.{◌≡◌, IfOk, map};
 ghost use Rattle.std.specs.String.{string_bytes};
 ghost use Rattle.facet_solver_types.specs.Layers.{head_view};
@@ -48,7 +48,7 @@ fn joined(alloc: Global, ids: &[String]) -> Result<String, AllocError>
 }
 
 /// Tokens with blanks between.
-fn spaced(alloc: Global, tokens: &[Token<'_>]) -> Result<String, AllocError>
+pub(super) fn spaced(alloc: Global, tokens: &[Token<'_>]) -> Result<String, AllocError>
     ensures { IfOk result (λ text. string_bytes text
         ≡ type_ids.spaced (tokens_view tokens.now)) }
 {
@@ -76,14 +76,12 @@ pub(super) fn id_of(alloc: Global, head: Head<'_, '_>, ids: &[String]) -> Result
         ≡ type_ids.id_of (head_view head.entry) (map string_bytes ids.now)) }
 {
     match head {
-        Head::Same => String::from_str(alloc, first(ids)),
-        Head::Declared(name) => declared_id(alloc, name),
+        Head::Same | Head::Alias(..) => String::from_str(alloc, first(ids)),
+        Head::Bound(id) => String::from_str(alloc, id),
+        Head::Declared(_, name) => used_id(alloc, name, ids),
         Head::Scalar(name, _) => String::from_str(alloc, name),
         Head::Dynamic(name) => String::from_str(alloc, name),
-        Head::Applied(name, _) => {
-            let inside = joined(alloc, ids)?;
-            format!(in alloc; "{name}<{inside}>")
-        }
+        Head::Applied(name, _) => applied_id(alloc, name, ids),
         Head::Array(len) => {
             let item = first(ids);
             let len = spaced(alloc, len)?;
@@ -101,9 +99,30 @@ pub(super) fn id_of(alloc: Global, head: Head<'_, '_>, ids: &[String]) -> Result
     }
 }
 
-/// The id of a declared type.
-pub(super) fn declared_id(alloc: Global, name: &str) -> Result<String, AllocError>
+/// The id of what a name makes of the types that it takes.
+fn applied_id(alloc: Global, name: &str, ids: &[String]) -> Result<String, AllocError>
+    ensures { IfOk result (λ id. string_bytes id
+        ≡ type_ids.applied_id name.now (map string_bytes ids.now)) }
+{
+    let inside = joined(alloc, ids)?;
+    format!(in alloc; "{name}<{inside}>")
+}
+
+/// The id of a declared type without parameters.
+fn declared_id(alloc: Global, name: &str) -> Result<String, AllocError>
     ensures { IfOk result (λ id. string_bytes id ≡ type_ids.declared_id name.now) }
 {
     DeclaredName(name).to_string(alloc)
+}
+
+/// The id of a declared type, with the ids of the types that it takes.
+pub(super) fn used_id(alloc: Global, name: &str, ids: &[String]) -> Result<String, AllocError>
+    ensures { IfOk result (λ id. string_bytes id
+        ≡ type_ids.used_id name.now (map string_bytes ids.now)) }
+{
+    let id = declared_id(alloc, name)?;
+    if ids.is_empty() {
+        return Ok(id);
+    }
+    applied_id(alloc, &id, ids)
 }

@@ -1,8 +1,7 @@
 //! The types that need no declaration, by their names.
-ghost use Rattle.std.specs.Prelude.{◌≡◌};
+ghost use Rattle.std.specs.Prelude.{◌≡◌, ◌<◌};
 ghost use Rattle.facet_solver_types.specs.KnownTypes as known_types;
 
-use crate::type_problem::Arity;
 use facet_solver_shape::ScalarType;
 
 /// What a type makes of the types that it takes.
@@ -166,22 +165,12 @@ fn text(name: &str) -> Option<ScalarType>
 }
 
 /// How many types it takes.
-pub(crate) fn arity_of(kind: Applied) -> Arity
-    ensures { result ≡ known_types.arity_of kind }
+pub(crate) fn arity_of(kind: Applied) -> usize
+    ensures value { result ≡ known_types.arity_of kind }
+    ensures few { result < 3 }
 {
     match kind {
-        Applied::Map => Arity::Two,
-        _ => Arity::One,
-    }
-}
-
-/// How many types that is.
-pub(crate) fn count_of(arity: Arity) -> usize
-    ensures { result ≡ known_types.count_of arity }
-{
-    match arity {
-        Arity::None => 0,
-        Arity::One => 1,
-        Arity::Two => 2,
+        Applied::Map => 2,
+        _ => 1,
     }
 }

@@ -1,33 +1,39 @@
 //! What a type is outside, with its name looked up, and the types in it.
-ghost use Rattle.std.specs.Prelude.{◌≡◌, IfOk, option_map};
+ghost use Rattle.std.specs.Prelude.{◌≡◌, ◌<◌, IfOk, map, length, option_map};
+ghost use Rattle.facet_solver_types.specs.Declarations.{parameter_view, parameters_view};
 ghost use Rattle.facet_solver_types.specs.Layers as layers;
-ghost use Rattle.facet_solver_types.specs.Layers.{layer_view};
+ghost use Rattle.facet_solver_types.specs.Layers.{layer_view, part_view};
 ghost use Rattle.facet_solver_types.specs.Outcomes.{Gives};
 ghost use Rattle.facet_solver_types.specs.Passages.{passage_view};
-ghost use Rattle.facet_solver_types.specs.Scopes.{declared_view, scope_view};
+ghost use Rattle.facet_solver_types.specs.Scopes.{scope_view, str_view};
 ghost use Rattle.facet_solver_types.specs.Tokens.{token_view};
-ghost use Rattle.facet_solver_types.specs.Understood.{declared_view as what_view};
+ghost use Rattle.facet_solver_types.specs.Understood.{declaration_view, declarations_view, declared_view};
 ghost use Rattle.facet_solver_types.specs.WrittenTypes.{named_view, passages_view, written_view};
 
-use super::known::{Applied, Known, arity_of, count_of, known_type};
-use super::scope::Scope;
-use crate::declaration::Declared;
+use super::known::{Applied, Known, arity_of, known_type};
+use super::scope::{Scope, place_of};
+use crate::declaration::{Declaration, Declared};
 use crate::fault::Fault;
-use crate::grammar::{NamedType, Written, is_str, sees_mark, written_type};
+use crate::grammar::{NamedType, Written, is_str, written_type};
+use crate::item::Parameter;
 use crate::passage::Passage;
 use crate::problem::Problem;
 use crate::token::Token;
-use crate::type_problem::{Arity, TypeProblem};
+use crate::type_problem::TypeProblem;
 use facet_solver_shape::ScalarType;
 use std::alloc::{AllocError, Global};
 
 /// What a type is outside.
 #[derive(Clone, Copy)]
 pub(super) enum Head<'d, 't> {
-    /// The type that stands in it, as in `( )`, or that an alias names.
+    /// The type that stands in it, as in `( )`.
     Same,
-    /// A declared type of this name.
-    Declared(&'t str),
+    /// The type of this id, for which a parameter or `Self` stands.
+    Bound(&'d str),
+    /// What the declaration at an index declares, by its name.
+    Declared(usize, &'t str),
+    /// What an alias of these parameters names.
+    Alias(&'d [Parameter<'t>], Passage<'d, 't>),
     /// A scalar, by its name.
     Scalar(&'t str, ScalarType),
     /// A value of any shape, by its name.
@@ -40,11 +46,20 @@ pub(super) enum Head<'d, 't> {
     Tuple,
 }
 
-/// What a type is outside, and the types in it.
+/// What stands in a type.
+#[derive(Clone, Copy)]
+pub(super) enum Part<'d, 't> {
+    /// A type.
+    Type(Passage<'d, 't>),
+    /// The tokens of a value.
+    Value(&'d [Token<'t>]),
+}
+
+/// What a type is outside, and what stands in it.
 #[derive(Drop)]
 pub(super) struct Layer<'d, 't> {
     pub(super) head: Head<'d, 't>,
-    pub(super) parts: Vec<Passage<'d, 't>>,
+    pub(super) parts: Vec<Part<'d, 't>>,
 }
 
 /// A type that has none in it.
@@ -67,7 +82,23 @@ fn around<'d, 't>(
         ≡ layers.around (layers.head_view head.entry) (passage_view part.entry)) }
 {
     let mut parts = Vec::new(alloc);
-    parts.push(part)?;
+    parts.push(Part::Type(part))?;
+    Ok(Layer { head, parts })
+}
+
+/// A type that has these types in it.
+fn around_all<'d, 't>(
+    alloc: Global,
+    head: Head<'d, 't>,
+    types: &[Passage<'d, 't>],
+) -> Result<Layer<'d, 't>, AllocError>
+    ensures { IfOk result (λ layer. layer_view layer
+        ≡ layers.around_all (layers.head_view head.entry) (passages_view types.now)) }
+{
+    let mut parts = Vec::new(alloc);
+    for part in types {
+        parts.push(Part::Type(*part))?;
+    }
     Ok(Layer { head, parts })
 }
 
@@ -82,60 +113,117 @@ fn wrong(name: Token<'_>, problem: TypeProblem) -> Fault
 }
 
 /// The types that a name takes, which are so many.
-fn taken<'d, 't>(arity: Arity, named: NamedType<'d, 't>) -> Result<Vec<Passage<'d, 't>>, Fault>
+fn taken<'d, 't>(count: usize, named: NamedType<'d, 't>) -> Result<Vec<Passage<'d, 't>>, Fault>
     ensures { Gives (λ types. passages_view types.items)
-        (layers.taken arity (named_view named.entry)) result }
+        (layers.taken count (named_view named.entry)) result }
 {
-    if named.types.len() == count_of(arity) {
+    if named.types.len() == count {
         Ok(named.types)
     } else {
-        Err(wrong(named.name, TypeProblem::Takes(arity)))
+        Err(wrong(named.name, TypeProblem::Takes(count)))
     }
 }
 
-/// The type that an alias names.
-fn alias_type<'d, 't>(passage: Passage<'d, 't>) -> Result<Passage<'d, 't>, Fault>
-    ensures { Gives passage_view (layers.alias_type (passage_view passage.entry)) result }
+/// What stands for a parameter.
+fn part_of<'d, 't>(parameter: Parameter<'t>, passage: Passage<'d, 't>) -> Part<'d, 't>
+    ensures { part_view result
+        ≡ layers.part_of (parameter_view parameter.entry) (passage_view passage.entry) }
 {
-    if sees_mark(b'=', passage.tokens) {
-        Ok(passage.after(1))
+    if parameter.is_const {
+        Part::Value(passage.tokens)
     } else {
-        Err(passage.generic())
+        Part::Type(passage)
     }
 }
 
-/// A type by the name of what is declared.
-fn declared_as<'d, 't>(
+/// What stands for parameters.
+fn parts_of<'d, 't>(
     alloc: Global,
-    name: &'t str,
-    declared: &'d Declared<'d, 't>,
-) -> Result<Layer<'d, 't>, Fault>
-    ensures { Gives layer_view (layers.declared_as name.now (what_view declared.now)) result }
+    parameters: &[Parameter<'t>],
+    passages: &[Passage<'d, 't>],
+) -> Result<Vec<Part<'d, 't>>, AllocError>
+    ensures { IfOk result (λ parts. map part_view parts.items
+        ≡ layers.parts_of (parameters_view parameters.now) (passages_view passages.now)) }
 {
-    match declared {
-        Declared::Alias(passage) => {
-            let part = alias_type(*passage)?;
-            Ok(around(alloc, Head::Same, part)?)
-        }
-        _ => Ok(leaf(alloc, Head::Declared(name))),
+    let mut parts = Vec::new(alloc);
+    for (parameter, passage) in parameters.iter().zip(passages) {
+        parts.push(part_of(*parameter, *passage))?;
+    }
+    Ok(parts)
+}
+
+/// What a type is outside by the name of the declaration at an index.
+fn declared_head<'d, 't>(index: usize, declaration: &'d Declaration<'d, 't>) -> Head<'d, 't>
+    ensures { layers.head_view result
+        ≡ layers.declared_head index (declaration_view declaration.now) }
+{
+    match &declaration.declared {
+        Declared::Alias(written) => Head::Alias(&declaration.parameters, *written),
+        _ => Head::Declared(index, declaration.name.text),
     }
 }
 
-/// A type by the name of a declaration.
+/// No declaration of some has a name.
+fn once(name: &str, others: &[Declaration<'_, '_>]) -> Result<(), Fault>
+    ensures { Gives (λ end. end)
+        (layers.once name.now (declarations_view others.now)) result }
+{
+    match others.get(place_of(name, others)) {
+        Some(other) => Err(wrong(other.name, TypeProblem::Twice)),
+        None => Ok(()),
+    }
+}
+
+/// No declaration behind the one at an index has a name.
+fn once_behind(name: &str, scope: Scope<'_, '_>, index: usize) -> Result<(), Fault>
+    requires { index < length scope.declarations.now }
+    ensures { Gives (λ end. end)
+        (layers.once_behind name.now (scope_view scope.entry) index) result }
+{
+    once(name, &scope.declarations[index + 1..])
+}
+
+/// How many parameters there are.
+fn parameter_count(parameters: &[Parameter<'_>]) -> usize
+    ensures { result ≡ length (parameters_view parameters.now) }
+{
+    parameters.len()
+}
+
+/// What a name takes for these parameters.
+fn taken_parts<'d, 't>(
+    alloc: Global,
+    parameters: &[Parameter<'t>],
+    named: NamedType<'d, 't>,
+) -> Result<Vec<Part<'d, 't>>, Fault>
+    ensures { Gives (λ parts. map part_view parts.items)
+        (layers.taken_parts (parameters_view parameters.now) (named_view named.entry)) result }
+{
+    let types = taken(parameter_count(parameters), named)?;
+    Ok(parts_of(alloc, parameters, &types)?)
+}
+
+/// A type by the name of the declaration at an index, which no other has.
 fn declared_layer<'d, 't>(
     alloc: Global,
+    scope: Scope<'d, 't>,
     named: NamedType<'d, 't>,
-    declared: &'d Declared<'d, 't>,
+    index: usize,
+    declaration: &'d Declaration<'d, 't>,
 ) -> Result<Layer<'d, 't>, Fault>
+    requires { index < length scope.declarations.now }
     ensures { Gives layer_view
-        (layers.declared_layer (named_view named.entry) (what_view declared.now)) result }
+        (layers.declared_layer (scope_view scope.entry) (named_view named.entry) index
+        (declaration_view declaration.now)) result }
 {
     if named.is_path {
         return Err(wrong(named.name, TypeProblem::Unknown));
     }
-    let name = named.name.text;
-    let _none = taken(Arity::None, named)?;
-    declared_as(alloc, name, declared)
+    once_behind(named.name.text, scope, index)?;
+    Ok(Layer {
+        head: declared_head(index, declaration),
+        parts: taken_parts(alloc, &declaration.parameters, named)?,
+    })
 }
 
 /// Whether a `Cow` of these is known: of `str` alone.
@@ -149,10 +237,10 @@ fn is_text(types: &[Passage<'_, '_>]) -> bool
 }
 
 /// A type by a name without the hasher that may stand behind so many types.
-fn without_hasher<'d, 't>(arity: Arity, named: NamedType<'d, 't>) -> NamedType<'d, 't>
-    ensures { named_view result ≡ layers.without_hasher arity (named_view named.entry) }
+fn without_hasher<'d, 't>(count: usize, named: NamedType<'d, 't>) -> NamedType<'d, 't>
+    requires { count < 3 }
+    ensures { named_view result ≡ layers.without_hasher count (named_view named.entry) }
 {
-    let count = count_of(arity);
     let NamedType {
         name,
         is_path,
@@ -169,15 +257,16 @@ fn without_hasher<'d, 't>(arity: Arity, named: NamedType<'d, 't>) -> NamedType<'
 }
 
 /// What a name makes of the types that it takes.
-fn made_of<'d, 't>(kind: Applied, named: NamedType<'d, 't>) -> Result<Layer<'d, 't>, Fault>
+fn made_of<'d, 't>(
+    alloc: Global,
+    kind: Applied,
+    named: NamedType<'d, 't>,
+) -> Result<Layer<'d, 't>, Fault>
     ensures { Gives layer_view (layers.made_of kind (named_view named.entry)) result }
 {
     let name = named.name.text;
-    let parts = taken(arity_of(kind), named)?;
-    Ok(Layer {
-        head: Head::Applied(name, kind),
-        parts,
-    })
+    let types = taken(arity_of(kind), named)?;
+    Ok(around_all(alloc, Head::Applied(name, kind), &types)?)
 }
 
 /// An array of the first of two types, where the second stands for its length.
@@ -191,7 +280,7 @@ fn array_of_two<'d, 't>(
 {
     match types {
         [item, len] => Ok(around(alloc, Head::Array(len.tokens), *item)?),
-        _ => Err(wrong(name, TypeProblem::Takes(Arity::Two))),
+        _ => Err(wrong(name, TypeProblem::Takes(2))),
     }
 }
 
@@ -206,11 +295,11 @@ fn known_as<'d, 't>(
     let name = named.name;
     match known {
         Known::Scalar(kind) => {
-            let _none = taken(Arity::None, named)?;
+            let _none = taken(0, named)?;
             Ok(leaf(alloc, Head::Scalar(name.text, kind)))
         }
         Known::Dynamic => {
-            let _none = taken(Arity::None, named)?;
+            let _none = taken(0, named)?;
             Ok(leaf(alloc, Head::Dynamic(name.text)))
         }
         Known::Cow => {
@@ -221,20 +310,58 @@ fn known_as<'d, 't>(
             }
         }
         Known::Phantom => {
-            let _passed_over = taken(Arity::One, named)?;
+            let _passed_over = taken(1, named)?;
             Ok(leaf(alloc, Head::Scalar("()", ScalarType::Unit)))
         }
         Known::ArrayVec => array_of_two(alloc, name, &named.types),
-        Known::Wrapper => Ok(Layer {
-            head: Head::Same,
-            parts: taken(Arity::One, named)?,
-        }),
-        Known::Hashed(kind) => made_of(kind, without_hasher(arity_of(kind), named)),
-        Known::Applied(kind) => made_of(kind, named),
+        Known::Wrapper => {
+            let types = taken(1, named)?;
+            Ok(around_all(alloc, Head::Same, &types)?)
+        }
+        Known::Hashed(kind) => made_of(alloc, kind, without_hasher(arity_of(kind), named)),
+        Known::Applied(kind) => made_of(alloc, kind, named),
+    }
+}
+
+/// A type by a name that is declared nowhere.
+fn undeclared<'d, 't>(alloc: Global, named: NamedType<'d, 't>) -> Result<Layer<'d, 't>, Fault>
+    ensures { Gives layer_view (layers.undeclared (named_view named.entry)) result }
+{
+    let name = named.name;
+    match known_type(name.text) {
+        Some(known) => known_as(alloc, named, known),
+        None => Err(wrong(name, TypeProblem::Unknown)),
     }
 }
 
 /// A type by a name: of a declaration, or else of one that needs none.
+fn free_layer<'d, 't>(
+    alloc: Global,
+    scope: Scope<'d, 't>,
+    named: NamedType<'d, 't>,
+) -> Result<Layer<'d, 't>, Fault>
+    ensures { Gives layer_view
+        (layers.free_layer (scope_view scope.entry) (named_view named.entry)) result }
+{
+    let index = place_of(named.name.text, scope.declarations);
+    match scope.at(index) {
+        Some(declaration) => declared_layer(alloc, scope, named, index, declaration),
+        None => undeclared(alloc, named),
+    }
+}
+
+/// The id for which a name alone stands as a parameter, if it does.
+fn alone_id<'d, 't>(scope: Scope<'d, 't>, named: &NamedType<'_, 't>) -> Option<&'d str>
+    ensures { option_map str_view result
+        ≡ layers.alone_id (scope_view scope.entry) (named_view named.now) }
+{
+    if named.is_path || !named.types.is_empty() {
+        return None;
+    }
+    scope.bound_id(named.name.text)
+}
+
+/// A type by a name: of a parameter, or else of one that has nothing to do with these.
 fn named_layer<'d, 't>(
     alloc: Global,
     scope: Scope<'d, 't>,
@@ -243,45 +370,57 @@ fn named_layer<'d, 't>(
     ensures { Gives layer_view
         (layers.named_layer (scope_view scope.entry) (named_view named.entry)) result }
 {
-    let name = named.name;
-    if let Some(declaration) = scope.find(name.text) {
-        return declared_layer(alloc, named, &declaration.declared);
-    }
-    match known_type(name.text) {
-        Some(known) => known_as(alloc, named, known),
-        None => Err(wrong(name, TypeProblem::Unknown)),
+    match alone_id(scope, &named) {
+        Some(id) => Ok(leaf(alloc, Head::Bound(id))),
+        None => free_layer(alloc, scope, named),
     }
 }
 
-/// What a written type is outside.
+/// `Self`, which stands at an offset.
+fn this_layer<'d, 't>(
+    alloc: Global,
+    this: Option<&'d str>,
+    offset: usize,
+) -> Result<Layer<'d, 't>, Fault>
+    ensures { Gives layer_view
+        (layers.this_layer (option_map str_view this.entry) offset) result }
+{
+    match this {
+        Some(id) => Ok(leaf(alloc, Head::Bound(id))),
+        None => Err(Fault::At {
+            offset,
+            problem: Problem::OfType(TypeProblem::Unknown),
+        }),
+    }
+}
+
+/// What a written type is outside, which begins at an offset.
 fn layer_of<'d, 't>(
     alloc: Global,
     scope: Scope<'d, 't>,
+    offset: usize,
     written: Written<'d, 't>,
 ) -> Result<Layer<'d, 't>, Fault>
     ensures { Gives layer_view
-        (layers.layer_of (scope_view scope.entry) (written_view written.entry)) result }
+        (layers.layer_of (scope_view scope.entry) offset (written_view written.entry)) result }
 {
     match written {
         Written::Unit => Ok(leaf(alloc, Head::Scalar("()", ScalarType::Unit))),
         Written::Enclosed(held) => Ok(around(alloc, Head::Same, held)?),
-        Written::Tuple(parts) => Ok(Layer {
-            head: Head::Tuple,
-            parts,
-        }),
+        Written::Tuple(parts) => Ok(around_all(alloc, Head::Tuple, &parts)?),
         Written::Slice(item) => Ok(around(alloc, Head::Slice, item)?),
         Written::Array(item, len) => Ok(around(alloc, Head::Array(len), item)?),
         Written::Text => Ok(leaf(alloc, Head::Scalar("&str", ScalarType::Str))),
         Written::Bytes => Ok(leaf(alloc, Head::Scalar("&[u8]", ScalarType::Str))),
-        Written::This => Ok(leaf(alloc, Head::Declared(scope.this.text))),
+        Written::This => this_layer(alloc, scope.this, offset),
         Written::Named(named) => named_layer(alloc, scope, named),
     }
 }
 
-/// What a type is outside, and the types in it.
+/// What a type is outside, and what stands in it.
 ///
-/// Errors: the first token that no type has there; a name that no type has; another number of types
-/// than it takes; an alias of something else; out of memory.
+/// Errors: the first token that no type has there; a name that no type has, or two declarations;
+/// another number of types than it takes; out of memory.
 pub(super) fn layer_at<'d, 't>(
     alloc: Global,
     scope: Scope<'d, 't>,
@@ -291,5 +430,5 @@ pub(super) fn layer_at<'d, 't>(
         (layers.layer_at (scope_view scope.entry) (passage_view passage.entry)) result }
 {
     let written = written_type(alloc, passage)?;
-    layer_of(alloc, scope, written)
+    layer_of(alloc, scope, passage.place(), written)
 }

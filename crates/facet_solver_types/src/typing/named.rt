@@ -1,12 +1,10 @@
 //! Names that are declared, of which no two may be the same.
-ghost use Rattle.std.specs.Prelude.{◌≡◌, IfOk, map};
+ghost use Rattle.std.specs.Prelude.{◌≡◌, ◌++◌, IfOk, OnOk, map};
 ghost use Rattle.facet_solver_types.specs.Named as of;
 ghost use Rattle.facet_solver_types.specs.Named.{named_view, names_view};
-ghost use Rattle.facet_solver_types.specs.Outcomes.{Gives};
-ghost use Rattle.facet_solver_types.specs.Understood.{declarations_view, declared_view, field_view, variant_view};
+ghost use Rattle.facet_solver_types.specs.Understood.{declared_view, field_view, variant_view};
 
-use super::first_fault::first_fault;
-use crate::declaration::{Declaration, Declared, DeclaredField, DeclaredVariant};
+use crate::declaration::{Declared, DeclaredField, DeclaredVariant};
 use crate::fault::Fault;
 use crate::problem::Problem;
 use crate::type_problem::TypeProblem;
@@ -31,37 +29,31 @@ fn is_among(name: &str, names: &[Named<'_>]) -> bool
     false
 }
 
-/// No two names are the same.
-fn once(problem: TypeProblem, names: &[Named<'_>]) -> Result<(), Fault>
-    ensures { Gives (λ end. end) (of.once problem (names_view names.now)) result }
+/// The fault of a name.
+fn name_fault(problem: TypeProblem, one: Named<'_>) -> Fault
+    ensures { result ≡ of.name_fault problem (named_view one.entry) }
+{
+    Fault::At {
+        offset: one.offset,
+        problem: Problem::OfType(problem),
+    }
+}
+
+/// Adds the faults of names that are those of others before them.
+fn add_repeats(
+    faults: &mut Vec<Fault>,
+    problem: TypeProblem,
+    names: &[Named<'_>],
+) -> Result<(), AllocError>
+    ensures { OnOk result
+        (faults.new.items ≡ faults.old.items ++ of.repeats problem (names_view names.now)) }
 {
     for (at, one) in names.iter().enumerate() {
         if is_among(one.name, &names[..at]) {
-            return Err(Fault::At {
-                offset: one.offset,
-                problem: Problem::OfType(problem),
-            });
+            faults.push(name_fault(problem, *one))?;
         }
     }
     Ok(())
-}
-
-/// The names of declarations.
-fn declaration_names<'d>(
-    alloc: Global,
-    declarations: &'d [Declaration<'_, '_>],
-) -> Result<Vec<Named<'d>>, AllocError>
-    ensures { IfOk result (λ names. names_view names.items
-        ≡ of.declaration_names (declarations_view declarations.now)) }
-{
-    let mut names = Vec::new(alloc);
-    for declaration in declarations {
-        names.push(Named {
-            name: declaration.name.text,
-            offset: declaration.name.offset,
-        })?;
-    }
-    Ok(names)
 }
 
 /// The names of fields.
@@ -118,74 +110,74 @@ fn read_names<'d>(
     Ok(names)
 }
 
-/// No two fields have the same name.
-fn fields_once(alloc: Global, fields: &[DeclaredField<'_, '_>]) -> Result<(), Fault>
-    ensures { Gives (λ end. end)
-        (of.once TypeProblem.Twice (of.field_names (map field_view fields.now))) result }
+/// Adds the faults of fields that have the name of another before them.
+fn add_field_repeats(
+    alloc: Global,
+    faults: &mut Vec<Fault>,
+    fields: &[DeclaredField<'_, '_>],
+) -> Result<(), AllocError>
+    ensures { OnOk result (faults.new.items
+        ≡ faults.old.items ++ of.field_repeats (map field_view fields.now)) }
 {
     let names = field_names(alloc, fields)?;
-    once(TypeProblem::Twice, &names)
+    add_repeats(faults, TypeProblem::Twice, &names)
 }
 
-/// No two fields of one variant have the same name.
-fn variant_fields_once(alloc: Global, variants: &[DeclaredVariant<'_, '_>]) -> Result<(), Fault>
-    ensures { Gives (λ end. end)
-        (of.variant_fields_once (map variant_view variants.now)) result }
+/// Adds the faults of variants that have the name of another before them, as it is written.
+fn add_written_repeats(
+    alloc: Global,
+    faults: &mut Vec<Fault>,
+    variants: &[DeclaredVariant<'_, '_>],
+) -> Result<(), AllocError>
+    ensures { OnOk result (faults.new.items
+        ≡ faults.old.items ++ of.written_repeats (map variant_view variants.now)) }
 {
+    let names = variant_names(alloc, variants)?;
+    add_repeats(faults, TypeProblem::Twice, &names)
+}
+
+/// Adds the faults of variants that go by the name of another before them in a document.
+fn add_read_repeats(
+    alloc: Global,
+    faults: &mut Vec<Fault>,
+    variants: &[DeclaredVariant<'_, '_>],
+) -> Result<(), AllocError>
+    ensures { OnOk result (faults.new.items
+        ≡ faults.old.items ++ of.read_repeats (map variant_view variants.now)) }
+{
+    let names = read_names(alloc, variants)?;
+    add_repeats(faults, TypeProblem::ReadTwice, &names)
+}
+
+/// Adds the faults of variants, and of the fields of each, that have the name of another.
+fn add_variant_repeats(
+    alloc: Global,
+    faults: &mut Vec<Fault>,
+    variants: &[DeclaredVariant<'_, '_>],
+) -> Result<(), AllocError>
+    ensures { OnOk result (faults.new.items
+        ≡ faults.old.items ++ of.variant_repeats (map variant_view variants.now)) }
+{
+    add_written_repeats(alloc, faults, variants)?;
+    add_read_repeats(alloc, faults, variants)?;
     for variant in variants {
-        fields_once(alloc, &variant.fields)?;
+        add_field_repeats(alloc, faults, &variant.fields)?;
     }
     Ok(())
 }
 
-/// No two variants have the same name, as it is written.
-fn written_once(alloc: Global, variants: &[DeclaredVariant<'_, '_>]) -> Result<(), Fault>
-    ensures { Gives (λ end. end)
-        (of.once TypeProblem.Twice (of.variant_names (map variant_view variants.now))) result }
-{
-    let names = variant_names(alloc, variants)?;
-    once(TypeProblem::Twice, &names)
-}
-
-/// No two variants have the same name in a document.
-fn read_once(alloc: Global, variants: &[DeclaredVariant<'_, '_>]) -> Result<(), Fault>
-    ensures { Gives (λ end. end)
-        (of.once TypeProblem.ReadTwice (of.read_names (map variant_view variants.now))) result }
-{
-    let names = read_names(alloc, variants)?;
-    once(TypeProblem::ReadTwice, &names)
-}
-
-/// No two variants have the same name, as it is written or in a document, nor have two fields of
-/// one.
-fn variants_once(alloc: Global, variants: &[DeclaredVariant<'_, '_>]) -> Result<(), Fault>
-    ensures { Gives (λ end. end) (of.variants_once (map variant_view variants.now)) result }
-{
-    let written = written_once(alloc, variants);
-    let read = read_once(alloc, variants);
-    let fields = variant_fields_once(alloc, variants);
-    first_fault(written, first_fault(read, fields))
-}
-
-/// No two names in a declaration are the same.
-pub(super) fn parts_once(alloc: Global, declared: &Declared<'_, '_>) -> Result<(), Fault>
-    ensures { Gives (λ end. end) (of.parts_once (declared_view declared.now)) result }
+/// Adds the faults of names in a declaration that are those of others before them.
+pub(super) fn add_name_faults(
+    alloc: Global,
+    faults: &mut Vec<Fault>,
+    declared: &Declared<'_, '_>,
+) -> Result<(), AllocError>
+    ensures { OnOk result (faults.new.items
+        ≡ faults.old.items ++ of.name_faults (declared_view declared.now)) }
 {
     match declared {
-        Declared::Struct { fields, .. } => fields_once(alloc, fields),
-        Declared::Enum { variants, .. } => variants_once(alloc, variants),
+        Declared::Struct { fields, .. } => add_field_repeats(alloc, faults, fields),
+        Declared::Enum { variants, .. } => add_variant_repeats(alloc, faults, variants),
         _ => Ok(()),
     }
-}
-
-/// No two declarations have the same name.
-pub(super) fn declarations_once(
-    alloc: Global,
-    declarations: &[Declaration<'_, '_>],
-) -> Result<(), Fault>
-    ensures { Gives (λ end. end)
-        (of.declarations_once (declarations_view declarations.now)) result }
-{
-    let names = declaration_names(alloc, declarations)?;
-    once(TypeProblem::Twice, &names)
 }

@@ -26,7 +26,7 @@ returns-in-Err g c =
           (told_is (λ a. (document : List ℕ) → AnswersText q text document a) c.no_types.result
           (IfOk-weaker c.no_types.result _ _
           (λ a said document.
-          no_types c.in-Err.error (explained (without_mark text) c.in-Err.error said.0 c.in-Err.ensures) said.1)
+          no_types c.in-Err.error (explained (without_mark text) q.root c.in-Err.error said.0 c.in-Err.ensures) said.1)
           c.no_types.ensures))
           (c.tell.ensures written),
     )

@@ -1,11 +1,13 @@
-use Rattle.std.proofs.Common.{sym}
+use Rattle.std.proofs.Common.{subst}
 use Rattle.std.proofs.lemmas.Result.{IfOk-weaker}
-use Rattle.facet_solver_tool.specs.Answers.{has_root, no_root}
+use Rattle.facet_solver_tool.specs.Answer.{answer_view}
+use Rattle.facet_solver_tool.specs.RootAnswers.{AnswersRoot, root_at}
 use Rattle.facet_solver_tool.proofs.types.answer_types.Goals as goal
 
-pub returns-in-Some : goal.returns-in-Some
-returns-in-Some c =
-    IfOk-weaker c.answer.result _ _ (λ a said. has_root c.in-Some.id (sym c.in-Some.ensures) said) c.answer.ensures
-
-pub returns-in-None : goal.returns-in-None
-returns-in-None c = IfOk-weaker c.no_root.result _ _ (λ a said. no_root (sym c.in-None.ensures) said) c.no_root.ensures
+pub returns : goal.returns
+returns c =
+    let question = c.args.question.now in
+    IfOk-weaker c.answer.result _ _
+    (λ a said.
+    subst (λ id. AnswersRoot (root_at question.types.now c.args.types.now id) question.task c.args.document.now (answer_view a)) c.root-id.ensures said)
+    c.answer.ensures

@@ -1,7 +1,7 @@
 use Rattle.std.proofs.Common.{◌∙◌, List, Result, ap, subst}
 use Rattle.facet_solver_shape.specs.Names.{Name, names_of}
-use Rattle.facet_solver_types.specs.declared.fault.Fault.{Fault}
 use Rattle.facet_solver_types.specs.CataloguedTypes.{table_types}
+use Rattle.facet_solver_types.specs.Failures.{Failure}
 use Rattle.facet_solver_types.specs.GivenTypes.{GivesTypes}
 use Rattle.facet_solver_types.specs.TypeEntries.{entries_view}
 use Rattle.facet_solver_types.specs.TypesViews.{Types}
@@ -16,5 +16,5 @@ returns c =
       declarations = declarations;
       entries = entries;
       ids = names;
-    })) (ap names_of c.deref.ensures.value ∙ c.in_ok-ids.ensures) in
-    subst (λ (o : Result Types Fault). GivesTypes o c.table_types.result) same c.table_types.ensures
+    }) c.args.root.now) (ap names_of c.deref.ensures.value ∙ c.in_ok-ids.ensures) in
+    subst (λ (o : Result Types Failure). GivesTypes o c.table_types.result) same c.table_types.ensures

@@ -1,15 +1,13 @@
-use Rattle.std.proofs.Common.{◌≡◌, drop, map}
+use Rattle.std.proofs.Common.{◌≡◌, drop}
 use Rattle.facet_solver_types.specs.Declarations as items
-use Rattle.facet_solver_types.specs.Gathered.{gathered}
+use Rattle.facet_solver_types.specs.Gatherings.{gathered_after, gathering_view}
 use Rattle.facet_solver_types.specs.ReadVariants.{variant, variants}
 use Rattle.facet_solver_types.specs.Understood.{variant_view}
-use Rattle.facet_solver_types.proofs.Listed.{before}
 use Rattle.facet_solver_types.proofs.declare.variants.variants.Given as goal
 
--- those that were read, and then the others
+-- those of all are those of the rest behind those so far
 abbrev pub invariant-loop-one : goal.invariant-loop-one
 invariant-loop-one l =
     variants l.all (items.variants_view l.written)
-    ≡ before (map variant_view l.found.items)
-    (gathered (λ number. variant l.all) l.one-index
-    (items.variants_view (drop l.one-index l.written)))
+    ≡ gathered_after (λ found. variant l.all) (gathering_view variant_view l.found)
+    (items.variants_view (drop l.one-index l.written))

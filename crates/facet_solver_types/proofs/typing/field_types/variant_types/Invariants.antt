@@ -1,18 +1,14 @@
-use Rattle.std.proofs.Common.{◌≡◌, drop, map, List}
-use Rattle.std.specs.String.{string_bytes}
-use Rattle.facet_solver_types.specs.Every.{every}
-use Rattle.facet_solver_types.specs.FieldTypes.{Group, field_types}
+use Rattle.std.proofs.Common.{◌≡◌, map, take}
+use Rattle.std.specs.List.{fold}
+use Rattle.facet_solver_types.specs.FieldTypes.{field_types, groups_view, no_groups, with_group}
 use Rattle.facet_solver_types.specs.Scopes.{scope_view}
-use Rattle.facet_solver_types.specs.TypeEntries.{entries_view}
 use Rattle.facet_solver_types.specs.Understood.{DeclaredVariant, variant_view}
-use Rattle.facet_solver_types.proofs.Every.{Gathered}
-use Rattle.facet_solver_types.proofs.Listed.{before}
 use Rattle.facet_solver_types.proofs.typing.field_types.variant_types.Given as goal
 
--- the types so far, and then those of the rest
+-- the types so far
 abbrev pub invariant-loop-variant : goal.invariant-loop-variant
 invariant-loop-variant l =
-    (found : List Group)
-    × (Gathered (λ (g : Group). g.ids) (λ (g : Group). g.entries) found (map (λ ids. map string_bytes ids.items) l.types.items) (entries_view l.inside.items)
-    × (every (λ (v : DeclaredVariant). field_types (scope_view l.scope) v.fields) (map variant_view l.variants)
-    ≡ before found (every (λ (v : DeclaredVariant). field_types (scope_view l.scope) v.fields) (map variant_view (drop l.variant-index l.variants)))))
+    groups_view l.groups
+    ≡ fold (λ groups (v : DeclaredVariant).
+    with_group groups (field_types (scope_view l.scope) v.fields)) no_groups
+    (map variant_view (take l.variant-index l.variants))

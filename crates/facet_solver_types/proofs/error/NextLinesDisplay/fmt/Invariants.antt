@@ -1,0 +1,11 @@
+use Rattle.std.proofs.Common.{take}
+use Rattle.std.specs.Fmt.{HasWritten, IsPlainFormatter}
+use Rattle.std.specs.List.{flat_map}
+use Rattle.facet_solver_types.specs.Errors.{next_line}
+use Rattle.facet_solver_types.proofs.error.NextLinesDisplay.fmt.Given as goal
+
+-- those so far are written
+abbrev pub invariant-loop-invalid : goal.invariant-loop-invalid
+invariant-loop-invalid g l =
+    IsPlainFormatter l.initial.f
+    → HasWritten g.W.Write.write_str_gives l.initial.f (flat_map next_line (take l.invalid-index l.invalid-items)) l.f

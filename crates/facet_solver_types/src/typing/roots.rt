@@ -1,0 +1,232 @@
+//! The type as which documents are read.
+ghost use Rattle.std.specs.Prelude.{◌≡◌, ◌++◌, IfOk, OnOk, map, option_map};
+ghost use Rattle.std.specs.String.{string_bytes};
+ghost use Rattle.facet_solver_types.specs.Declarations.{parameters_view};
+ghost use Rattle.facet_solver_types.specs.Failures.{Leads};
+ghost use Rattle.facet_solver_types.specs.Links.{links_view};
+ghost use Rattle.facet_solver_types.specs.Mentions.{mention_view};
+ghost use Rattle.facet_solver_types.specs.Roots as of;
+ghost use Rattle.facet_solver_types.specs.Understood.{declaration_view, declarations_view, declared_view};
+ghost use Rattle.facet_solver_types.specs.Uses.{use_view, uses_view};
+
+use super::field_types::Groups;
+use super::id::used_id;
+use super::mention::Mention;
+use super::type_use::Use;
+use super::uses::use_types;
+use crate::declaration::{Declaration, Declared};
+use crate::failure::Failure;
+use crate::fault::Fault;
+use crate::item::Parameter;
+use crate::problem::Problem;
+use crate::type_problem::TypeProblem;
+use std::alloc::{AllocError, Global};
+
+/// The names of parameters.
+fn parameter_names(alloc: Global, parameters: &[Parameter<'_>]) -> Result<Vec<String>, AllocError>
+    ensures { IfOk result (λ names. map string_bytes names.items
+        ≡ of.parameter_names (parameters_view parameters.now)) }
+{
+    let mut names = Vec::new(alloc);
+    for parameter in parameters {
+        names.push(String::from_str(alloc, parameter.name.text)?)?;
+    }
+    Ok(names)
+}
+
+/// The use of the declaration at an index in which each parameter stands for itself.
+fn own_use(
+    alloc: Global,
+    index: usize,
+    declaration: &Declaration<'_, '_>,
+) -> Result<Use, AllocError>
+    ensures { IfOk result (λ u. use_view u
+        ≡ of.own_use index (declaration_view declaration.now)) }
+{
+    let arguments = parameter_names(alloc, &declaration.parameters)?;
+    Ok(Use {
+        index,
+        id: used_id(alloc, declaration.name.text, &arguments)?,
+        arguments,
+    })
+}
+
+/// The uses of declarations in which each parameter stands for itself.
+fn own_uses(alloc: Global, declarations: &[Declaration<'_, '_>]) -> Result<Vec<Use>, AllocError>
+    ensures { IfOk result (λ uses. uses_view uses.items
+        ≡ of.own_uses (declarations_view declarations.now)) }
+{
+    let mut uses = Vec::new(alloc);
+    for (index, declaration) in declarations.iter().enumerate() {
+        uses.push(own_use(alloc, index, declaration)?)?;
+    }
+    Ok(uses)
+}
+
+/// The indices of the declarations of uses.
+fn indices(alloc: Global, uses: &[Use]) -> Result<Vec<usize>, AllocError>
+    ensures { IfOk result (λ found. found.items ≡ of.indices (uses_view uses.now)) }
+{
+    let mut found = Vec::new(alloc);
+    for used in uses {
+        found.push(used.index)?;
+    }
+    Ok(found)
+}
+
+/// The indices of the declarations that a use mentions, where its types have no fault.
+fn mentioned(
+    alloc: Global,
+    declarations: &[Declaration<'_, '_>],
+    used: &Use,
+) -> Result<Vec<usize>, AllocError>
+    ensures { IfOk result (λ found. found.items
+        ≡ of.mentioned (declarations_view declarations.now) (use_view used.now)) }
+{
+    let groups = use_types(alloc, declarations, used)?;
+    let Groups {
+        types: _,
+        entries: _,
+        uses,
+        faults: _,
+    } = groups;
+    indices(alloc, &uses)
+}
+
+/// The indices of the declarations that each of some uses mentions.
+fn links(
+    alloc: Global,
+    declarations: &[Declaration<'_, '_>],
+    uses: &[Use],
+) -> Result<Vec<Vec<usize>>, AllocError>
+    ensures { IfOk result (λ links. links_view links.items
+        ≡ of.links (declarations_view declarations.now) (uses_view uses.now)) }
+{
+    let mut links = Vec::new(alloc);
+    for used in uses {
+        links.push(mentioned(alloc, declarations, used)?)?;
+    }
+    Ok(links)
+}
+
+/// Whether an index is among some.
+fn is_among(indices: &[usize], index: usize) -> bool
+    ensures { result ≡ of.is_among indices.now index }
+{
+    indices.iter().any(|other| *other == index)
+}
+
+/// Whether the declaration at an index is mentioned by another.
+fn is_mentioned(links: &[Vec<usize>], index: usize) -> bool
+    ensures { result ≡ of.is_mentioned (links_view links.now) index }
+{
+    for (other, found) in links.iter().enumerate() {
+        if other != index && is_among(found, index) {
+            return true;
+        }
+    }
+    false
+}
+
+/// Whether a declaration is passed over where no root is named: it is of a type that is not read.
+fn is_passed_over(faults: &[Fault]) -> bool
+    ensures { result ≡ of.is_passed_over faults.now }
+{
+    match faults.split_first() {
+        Some((Fault::At { problem, .. }, _)) => match problem {
+            Problem::OfType(TypeProblem::Underived) => true,
+            Problem::OfType(TypeProblem::OwnImpl) => true,
+            _ => false,
+        },
+        _ => false,
+    }
+}
+
+/// Whether a struct or an enum is declared.
+fn declares_type(declared: &Declared<'_, '_>) -> bool
+    ensures { result ≡ of.declares_type (declared_view declared.now) }
+{
+    match declared {
+        Declared::Alias(_) => false,
+        _ => true,
+    }
+}
+
+/// Whether a declaration may be a root.
+fn may_be_root(declaration: &Declaration<'_, '_>) -> bool
+    ensures { result ≡ of.may_be_root (declaration_view declaration.now) }
+{
+    declares_type(&declaration.declared)
+        && declaration.parameters.is_empty()
+        && !is_passed_over(&declaration.faults)
+}
+
+/// Whether a use stands by itself: its declaration may be a root, and no other mentions it.
+fn stands_alone(declarations: &[Declaration<'_, '_>], links: &[Vec<usize>], used: &Use) -> bool
+    ensures { result ≡ of.stands_alone (declarations_view declarations.now)
+        (links_view links.now) (use_view used.now) }
+{
+    match declarations.get(used.index) {
+        Some(declaration) => may_be_root(declaration) && !is_mentioned(links, used.index),
+        None => false,
+    }
+}
+
+/// Those of some uses that stand by themselves.
+fn roots(
+    alloc: Global,
+    declarations: &[Declaration<'_, '_>],
+    links: &[Vec<usize>],
+    uses: Vec<Use>,
+) -> Result<Vec<Use>, AllocError>
+    ensures { IfOk result (λ found. uses_view found.items
+        ≡ of.roots (declarations_view declarations.now) (links_view links.now)
+        (uses_view uses.items)) }
+{
+    let mut found = Vec::new(alloc);
+    for used in uses {
+        if stands_alone(declarations, links, &used) {
+            found.push(used)?;
+        }
+    }
+    Ok(found)
+}
+
+/// The ids of uses.
+fn ids(alloc: Global, uses: &[Use]) -> Result<Vec<String>, AllocError>
+    ensures { IfOk result (λ ids. map string_bytes ids.items ≡ of.ids (uses_view uses.now)) }
+{
+    let mut ids = Vec::new(alloc);
+    for used in uses {
+        ids.push(used.id.clone()?)?;
+    }
+    Ok(ids)
+}
+
+/// The only one of some uses, as the type that it is.
+fn only(alloc: Global, uses: Vec<Use>) -> Result<Mention, Failure>
+    ensures { Leads mention_view (of.only (uses_view uses.items)) result }
+{
+    match uses.as_slice() {
+        [used] => Ok(Mention {
+            id: used.id.clone()?,
+            entries: Vec::new(alloc),
+            uses,
+        }),
+        _ => Err(Failure::Roots(ids(alloc, &uses)?)),
+    }
+}
+
+/// The only struct or enum without parameters that no other mentions.
+///
+/// Errors: the ids of those that there are, if there is not just one; out of memory.
+pub(super) fn only_root(
+    alloc: Global,
+    declarations: &[Declaration<'_, '_>],
+) -> Result<Mention, Failure>
+    ensures { Leads mention_view (of.only_root (declarations_view declarations.now)) result }
+{
+    let uses = own_uses(alloc, declarations)?;
+    let links = links(alloc, declarations, &uses)?;
+    only(alloc, roots(alloc, declarations, &links, uses)?)
+}

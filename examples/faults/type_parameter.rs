@@ -1,5 +1,0 @@
-//! A page of anything.
-struct Page<T> {
-    items: Vec<T>,
-    next: Option<String>,
-}
