@@ -1,0 +1,1 @@
+"""Tests of the lists, on crates that are made up."""
