@@ -48,19 +48,29 @@ def small_runs():
     names = [run.name for run in found]
     if names != sorted({*names}):
         raise WrongFile(f"{COSTS.name} is not sorted by name, or has a name twice")
-    for line in WORKLOADS.read_text().splitlines():
-        if line.split() and line.split()[0] not in names:
-            raise WrongFile(f"{COSTS.name} has no line for {line.split()[0]}")
+    for name, *_ in workloads():
+        if name not in names:
+            raise WrongFile(f"{COSTS.name} has no line for {name}")
+    return found
+
+
+def workloads():
+    """The workloads, of which there is at least one: the name, the crate, and the words of each."""
+    lines = WORKLOADS.read_text().splitlines()
+    found = [tuple(line.split()) for line in lines if line.split()]
+    names = [name for name, *_ in found]
+    if not names or len(names) > len({*names}) or min(map(len, found)) < 3:
+        raise WrongFile(f"{WORKLOADS.name} has no line, a wrong one, or a name twice")
     return found
 
 
 def stored_outputs():
-    """What each run has to write, by its name."""
-    _, *parts = HEAD.split(OUTPUTS.read_bytes())
-    found = {name.decode(): wrote for name, wrote in zip(parts[::2], parts[1::2])}
-    if missing := {run.name for run in small_runs()} - found.keys():
-        raise WrongFile(f"{OUTPUTS.name} has nothing of {', '.join(sorted(missing))}")
-    return found
+    """What each run has to write, by its name. It has nothing else."""
+    before, *parts = HEAD.split(OUTPUTS.read_bytes())
+    names = [name.decode() for name in parts[::2]]
+    if before or sorted(names) != [run.name for run in small_runs()]:
+        raise WrongFile(f"{OUTPUTS.name} has not the runs of {COSTS.name}, each once")
+    return dict(zip(names, parts[1::2]))
 
 
 def store_outputs(outputs):
