@@ -205,22 +205,49 @@ class Program:
             with self.started("try", *options, "--", *words, stdin=file, **how) as process:
                 return process.communicate()
 
-    def run_unproved(self, given, words=(), data=()):
-        """Runs the program without proofs on these bytes, and gives its status.
+    def ended(self, words, given=None):
+        """Runs the proved program with these arguments, and gives how it ended: its status, nothing,
+        and what it said. What it answers goes to standard output at once.
+
+        It has these bytes on standard input, if there are any given.
+        """
+        with contextlib.ExitStack() as ends:
+            stdin = None
+            if given is not None:
+                stdin = ends.enter_context(tempfile.TemporaryFile())
+                write(stdin.fileno(), given)
+                os.lseek(stdin.fileno(), 0, os.SEEK_SET)
+            # A write that fails is told by the program, as where it takes the place of the script.
+            how = {"stdin": stdin, "stderr": subprocess.PIPE, "restore_signals": False}
+            with held_signals():
+                process = subprocess.Popen([self.path, *words], **how)
+                ends.callback(end, process)
+            said = process.stderr.read()
+            status = process.wait()
+        return (status if status >= 0 else 128 - status), b"", said
+
+    def ended_unproved(self, given, words=(), data=()):
+        """Runs the program without proofs on these bytes, and gives how it ended, if it did: its
+        status, what it answered, and what it said.
 
         It has these arguments, and in its folder a copy of each file of `data`, which has pairs of
         a name there and a file.
         """
         if len(given) >= MOST:
             self.say(f"an input of this size is for the proved program; {self.remedy}")
-            return FAILED
+            return None
         output, said = self.tried(given, words, data)
         ended = ENDED.search(said)
         if not ended:
             tell(said.decode(errors="replace"))
             self.say("rt try did not run the program to its end")
-            return FAILED
-        return self.answer(int(ended[1]), output, said[: ended.start()])
+            return None
+        return int(ended[1]), output, said[: ended.start()]
+
+    def run_unproved(self, given, words=(), data=()):
+        """Runs the program without proofs, as `ended_unproved`, and gives its status."""
+        ended = self.ended_unproved(given, words, data)
+        return FAILED if ended is None else self.answer(*ended)
 
     def warn(self, why):
         """Says that an answer is without proofs."""

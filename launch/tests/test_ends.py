@@ -151,7 +151,9 @@ class Places(Repository):
         self.assertTrue(said.endswith(TYPES))
 
     def test_types_that_cannot_be_read(self):
-        for name, why in (("none.rs", "No such file or directory"), ("/", "Is a directory")):
+        (self.top / "empty").mkdir()
+        missing, none = "No such file or directory", "no file below it ends with .rs"
+        for name, why in (("none.rs", missing), ("empty", none)):
             self.assertEqual(self.read(name), (64, "", f"facet-read: {name}: {why}\n"))
 
     def test_the_script_by_a_link_and_from_another_folder(self):
