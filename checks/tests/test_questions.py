@@ -1,0 +1,122 @@
+"""Tests of the part `questions` of test, without proofs and with the proved program."""
+
+from .scratch import Repository
+
+CRATE = "crates/facet_solver_tool"
+# It reads `{"a": 1}` as a text or as JSON, refuses types of faults and says what else is wrong.
+PROGRAM = r"""#!/bin/sh
+case "$1 $2" in
+check*faults*) echo "$2: at fault" >&2; exit 3 ;;
+check*) echo "root: S"; exit 0 ;;
+esac
+[ -f "$2" ] || exit 64
+case " $* " in
+*--lines*)
+    cat >/dev/null
+    echo '{"reading": {"a": 1}}'
+    echo "1 of 1 documents read" >&2
+    exit 0 ;;
+esac
+read -r document
+case "$document" in
+'{"a": 1}' | '{"a": 1, "b": 2}') ;;
+*) echo "a: no" >&2; exit 1 ;;
+esac
+case " $* " in
+*--json*) echo '{"variants": {"": "S::A"}, "value": {"a": 1}}' ;;
+*) echo "a: 1"; case "$document" in *b*) echo 'ignored "b"' ;; esac ;;
+esac
+"""
+A = "examples/a/documents"
+ENDS = {"some": "0\na: 1\n", "none": "1\na: no\n", "more": '0\na: 1\nignored "b"\n'}
+CALL = ("./test", "questions")
+GATE = ("./test", "--all", "questions")
+JSON_END = f"{A}/some.json_end"
+
+
+class Questions(Repository):
+    FILES = {
+        f"{CRATE}/program": PROGRAM,
+        f"{CRATE}/src/main.rt": "fn main() {}\n",
+        "crates.txt": "facet_solver_tool:\n",
+        "examples/a/types.rs": "struct S;\n",
+        "examples/a/check.end": "0\nroot: S\n",
+        "examples/faults/f.rs": "struct\n",
+        "examples/faults/f.end": "3\nexamples/faults/f.rs: at fault\n",
+        f"{A}/some.json": '{"a": 1}\n',
+        JSON_END: '0\n{"variants": {"": "S::A"}, "value": {"a": 1}}\n',
+        f"{A}/none.json": "[]\n",
+        f"{A}/more.json": '{"a": 1, "b": 2}\n',
+        f"{A}/table.toml": "a = 1\n",
+        f"{A}/bad.toml": "a = \n",
+        f"{A}/bad.end": "4\ndocument:1:5: invalid TOML: invalid value\n",
+        f"{A}/lines.jsonl": '{"a": 1}\n',
+        f"{A}/lines.end": '0\n{"reading": {"a": 1}}\n1 of 1 documents read\n',
+        f"{A}/table.end": "0\na: 1\n",
+        **{f"{A}/{name}.end": end for name, end in ENDS.items()},
+        "checks/totals.txt": "questions of the examples: 13\nends of questions: 9\n",
+    }
+
+    def test_nothing_wrong(self):
+        self.prove("facet_solver_tool", self.top / CRATE / "program")
+        for call in (CALL, GATE):
+            self.assertIn("16 passed, 0 failed", self.expect_passes(*call))
+
+    def test_another_end(self):
+        for name in ("a/check", "faults/f", *(f"a/documents/{it}" for it in (*ENDS, "bad"))):
+            file = self.top / "examples" / f"{name}.end"
+            file.write_text(file.read_text() + "more\n")
+        status, said = self.call(*CALL)
+        # Of documents that are not read the end is also that with `--json`.
+        self.assertEqual((status, said.count("failed: ./facet-read")), (1, 6 + 2), said)
+
+    def test_another_status(self):
+        self.edit(f"{A}/none.end", "1\n", "2\n")
+        self.edit("examples/faults/f.end", "3\n", "4\n")
+        told = f"read examples/a/types.rs < {A}/none.json", "check examples/faults/f.rs"
+        self.expect_told(CALL, *told)
+
+    def test_a_missing_end(self):
+        files = ("a/check.end", "faults/f.end", *(f"a/documents/{it}.end" for it in ENDS))
+        for file in (*files, "a/documents/bad.end", "a/documents/lines.end"):
+            self.remove(f"examples/{file}")
+        texts = [f"the end in examples/{it}, which is missing" for it in files]
+        self.expect_told(CALL, *texts)
+
+    def test_a_missing_end_of_json(self):
+        self.remove(JSON_END)
+        self.expect_told(CALL, "the number of ends of questions\n  wanted: 9\n  came:   8")
+
+    def test_a_missing_document_whose_end_is_gone_too(self):
+        self.remove(f"{A}/none.json", f"{A}/none.end")
+        told = "the number of questions of the examples\n  wanted: 13\n  came:   11"
+        self.expect_told(CALL, told)
+
+    def test_missing_types(self):
+        self.remove("examples/a/types.rs")
+        self.expect_told(CALL, "the number of questions of the examples\n  wanted: 13\n  came:   1")
+
+    def spoil(self, old, new):
+        """Changes what the program says with `--json`, and what is stored of it."""
+        for file in (JSON_END, f"{CRATE}/program"):
+            self.edit(file, f'"value": {old}', f'"value": {new}')
+
+    def test_an_answer_that_is_no_json(self):
+        self.spoil('{"a": 1}}', '{"a": 1}')
+        self.expect_told(CALL, f"< {A}/some.json: the value", f"< {A}/table.toml: the value")
+
+    def test_an_answer_with_another_value(self):
+        for value in ('{"a": 1.0}', '{"a": 1, "a": 1}'):
+            with self.subTest(value=value):
+                self.spoil('{"a": 1}', value)
+                self.expect_told(CALL, f"< {A}/some.json: the value")
+                self.spoil(value, '{"a": 1}')
+
+    def test_a_program_that_is_not_proved(self):
+        self.prove("facet_solver_tool", self.top / CRATE / "program")
+        self.edit(f"{CRATE}/src/main.rt", "{}", "{ }")
+        self.expect_told(GATE, "a source has changed since the program was proved")
+
+    def test_a_question_that_is_not_answered(self):
+        self.edit("../kit/bin/rt", "case=", "other=")
+        self.expect_told(CALL, "failed: 11 questions\n  wanted: runs")
