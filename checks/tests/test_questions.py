@@ -3,13 +3,16 @@
 from .scratch import Repository
 
 CRATE = "crates/facet_solver_tool"
-# It reads `{"a": 1}` as a text or as JSON, refuses types of faults and says what else is wrong.
+# It reads `{"a": 1}` as a text or as JSON, refuses types with `wrong` and says what else is wrong.
 PROGRAM = r"""#!/bin/sh
-case "$1 $2" in
-check*faults*) echo "$2: at fault" >&2; exit 3 ;;
-check*) echo "root: S"; exit 0 ;;
-esac
 [ -f "$2" ] || exit 64
+case $1 in
+check)
+    line=$(grep -n wrong "$2" | cut -d : -f 1)
+    [ -z "$line" ] || { echo "$2:$line:8: at fault" >&2; exit 3; }
+    echo "root: ${3:-S}"
+    exit 0 ;;
+esac
 case " $* " in
 *--lines*)
     cat >/dev/null
@@ -41,8 +44,17 @@ class Questions(Repository):
         "crates.txt": "facet_solver_tool:\n",
         "examples/a/types.rs": "struct S;\n",
         "examples/a/check.end": "0\nroot: S\n",
-        "examples/faults/f.rs": "struct\n",
-        "examples/faults/f.end": "3\nexamples/faults/f.rs: at fault\n",
+        "examples/c/src/lib.rs": "mod below;\n",
+        "examples/c/src/below.rs": "struct C;\nstruct D;\n",
+        "examples/c/root": "C\n",
+        "examples/c/check.end": "0\nroot: C\n",
+        "examples/c/documents/some.json": '{"a": 1}\n',
+        "examples/c/documents/some.end": "0\na: 1\n",
+        "examples/faults/f.rs": "struct wrong\n",
+        "examples/faults/f.end": "3\nexamples/faults/f.rs:1:8: at fault\n",
+        "examples/faults/g/lib.rs": "mod below;\n",
+        "examples/faults/g/below/it.rs": "struct C;\nstruct wrong;\n",
+        "examples/faults/g.end": "3\nexamples/faults/g/below/it.rs:2:8: at fault\n",
         f"{A}/some.json": '{"a": 1}\n',
         JSON_END: '0\n{"variants": {"": "S::A"}, "value": {"a": 1}}\n',
         f"{A}/none.json": "[]\n",
@@ -54,30 +66,34 @@ class Questions(Repository):
         f"{A}/lines.end": '0\n{"reading": {"a": 1}}\n1 of 1 documents read\n',
         f"{A}/table.end": "0\na: 1\n",
         **{f"{A}/{name}.end": end for name, end in ENDS.items()},
-        "checks/totals.txt": "questions of the examples: 13\nends of questions: 9\n",
+        "checks/totals.txt": "questions of the examples: 17\nends of questions: 12\n",
     }
 
     def test_nothing_wrong(self):
         self.prove("facet_solver_tool", self.top / CRATE / "program")
         for call in (CALL, GATE):
-            self.assertIn("16 passed, 0 failed", self.expect_passes(*call))
+            self.assertIn("20 passed, 0 failed", self.expect_passes(*call))
 
     def test_another_end(self):
-        for name in ("a/check", "faults/f", *(f"a/documents/{it}" for it in (*ENDS, "bad"))):
+        names = "a/check", "c/check", "c/documents/some", "faults/f", "faults/g"
+        for name in (*names, *(f"a/documents/{it}" for it in (*ENDS, "bad"))):
             file = self.top / "examples" / f"{name}.end"
             file.write_text(file.read_text() + "more\n")
         status, said = self.call(*CALL)
         # Of documents that are not read the end is also that with `--json`.
-        self.assertEqual((status, said.count("failed: ./facet-read")), (1, 6 + 2), said)
+        self.assertEqual((status, said.count("failed: ./facet-read")), (1, 9 + 2), said)
 
     def test_another_status(self):
         self.edit(f"{A}/none.end", "1\n", "2\n")
         self.edit("examples/faults/f.end", "3\n", "4\n")
-        told = f"read examples/a/types.rs < {A}/none.json", "check examples/faults/f.rs"
+        self.edit("examples/faults/g.end", "3\n", "4\n")
+        told = [f"read examples/a/types.rs < {A}/none.json", "check examples/faults/f.rs"]
+        told.append("check examples/faults/g\n")
         self.expect_told(CALL, *told)
 
     def test_a_missing_end(self):
-        files = ("a/check.end", "faults/f.end", *(f"a/documents/{it}.end" for it in ENDS))
+        files = ["a/check.end", "faults/f.end", *(f"a/documents/{it}.end" for it in ENDS)]
+        files += ["c/check.end", "c/documents/some.end", "faults/g.end"]
         for file in (*files, "a/documents/bad.end", "a/documents/lines.end"):
             self.remove(f"examples/{file}")
         texts = [f"the end in examples/{it}, which is missing" for it in files]
@@ -85,16 +101,27 @@ class Questions(Repository):
 
     def test_a_missing_end_of_json(self):
         self.remove(JSON_END)
-        self.expect_told(CALL, "the number of ends of questions\n  wanted: 9\n  came:   8")
+        self.expect_told(CALL, "the number of ends of questions\n  wanted: 12\n  came:   11")
 
     def test_a_missing_document_whose_end_is_gone_too(self):
         self.remove(f"{A}/none.json", f"{A}/none.end")
-        told = "the number of questions of the examples\n  wanted: 13\n  came:   11"
+        told = "the number of questions of the examples\n  wanted: 17\n  came:   15"
         self.expect_told(CALL, told)
 
     def test_missing_types(self):
         self.remove("examples/a/types.rs")
-        self.expect_told(CALL, "the number of questions of the examples\n  wanted: 13\n  came:   1")
+        self.expect_told(CALL, "the number of questions of the examples\n  wanted: 17\n  came:   5")
+
+    def test_a_folder_whose_fault_stands_in_another_place(self):
+        for old, new in (("g/below/it.rs:2", "g/below/it.rs:1"), ("g/below/it.rs", "g/lib.rs")):
+            with self.subTest(new=new):
+                self.edit("examples/faults/g.end", old, new)
+                self.expect_told(CALL, "failed: ./facet-read check examples/faults/g\n")
+                self.edit("examples/faults/g.end", new, old)
+
+    def test_a_folder_without_the_file_of_its_root(self):
+        self.remove("examples/c/root")
+        self.expect_told(CALL, "examples/c/root'")
 
     def spoil(self, old, new):
         """Changes what the program says with `--json`, and what is stored of it."""
@@ -119,4 +146,4 @@ class Questions(Repository):
 
     def test_a_question_that_is_not_answered(self):
         self.edit("../kit/bin/rt", "case=", "other=")
-        self.expect_told(CALL, "failed: 11 questions\n  wanted: runs")
+        self.expect_told(CALL, "failed: 15 questions\n  wanted: runs")

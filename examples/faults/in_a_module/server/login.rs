@@ -1,0 +1,4 @@
+#[derive(serde::Deserialize)]
+pub struct Login {
+    user: Strng,
+}
