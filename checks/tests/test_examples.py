@@ -19,6 +19,7 @@ class Examples(Repository):
         "examples/derives.rs": "// derives\n",
         "examples/a/types.rs": "struct A;\n",
         "examples/b/types.rs": "struct B;\n",
+        "examples/c/src/lib.rs": "struct C;\n",
     }
 
     def test_nothing_wrong(self):
@@ -30,6 +31,13 @@ class Examples(Repository):
             self.expect_told(CALL, f"examples/{name}/types.rs")
             self.write(f"examples/{name}/types.rs", "struct A;\n")
 
+    def test_a_crate_that_is_refused_or_has_no_first_file(self):
+        self.write("examples/c/src/lib.rs", "struct wrong;\n")
+        self.expect_told(CALL, "examples/c/src/lib.rs")
+        self.write("examples/c/src/main.rs", "struct C;\n")
+        self.remove("examples/c/src/lib.rs")
+        self.expect_told(CALL, "examples/c/src/lib.rs")
+
     def test_derives_that_are_refused_or_missing(self):
         self.write("examples/derives.rs", "wrong\n")
         self.expect_told(CALL, "examples/derives.rs")
@@ -37,7 +45,8 @@ class Examples(Repository):
         self.expect_told(CALL, "examples/derives.rs")
 
     def test_no_types(self):
-        self.remove("examples/a/types.rs", "examples/b/types.rs")
+        self.remove("examples/a/types.rs", "examples/b/types.rs", "examples/c/src/lib.rs")
+        (self.top / "examples/c/src").rmdir()
         self.expect_told(CALL)
 
     def test_rustc_is_missing(self):

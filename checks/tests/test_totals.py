@@ -37,6 +37,9 @@ class Totals(Repository):
         ),
         "examples/a/types.rs": "struct S;\n",
         "examples/a/check.end": "0\nroot: S\n",
+        "examples/c/src/a/b.rs": "struct C;\n",
+        "examples/c/root": "C\n",
+        "examples/c/check.end": "0\nroot: C\n",
         f"{A}/some.json": "ok\n",
         f"{A}/some.end": "0\na: 1\n",
         f"{A}/some.json_end": "0\n{}\n",
@@ -62,7 +65,7 @@ class Totals(Repository):
     def test_nothing_wrong(self):
         self.assertEqual(self.expect_passes(*CALL), "")
         text = (self.top / TOTALS).read_text()
-        self.assertIn("questions of the examples: 7\n", text)
+        self.assertIn("questions of the examples: 8\n", text)
         self.assertIn("sweeps: 12\nsweeps that refuse requests: 9\n", text)
 
     def test_something_is_gone(self):
@@ -100,6 +103,7 @@ class Totals(Repository):
 
     def test_a_file_that_no_check_looks_at(self):
         files = [f"{A}/other.end", f"{A}/other.json_end", f"{A}/other.yaml", "examples/b/x.rs"]
+        files += ["examples/c/src/a/note.txt", "examples/c/src/target/d.rs"]
         files += ["sweep/inputs/rows/other.end", "must-fail/a/b.edits", "must-fail/a/b/c.edit"]
         for file in files:
             self.write(file, "0\n")
