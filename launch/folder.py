@@ -13,7 +13,7 @@ OF_FOLDER = ("lib", "main", "mod")
 BUILT = "target"
 MARK = "\N{BYTE ORDER MARK}"
 # The first line of a script. `#![..]` is an attribute.
-SCRIPT = re.compile(r"#!(?!\s*\[).*")
+SCRIPT = re.compile(r"\A#!(?!\s*\[).*")
 # Words that can be names of modules in Rust only behind `r#`.
 WORDS = frozenset(
     """as async await become box break const continue do dyn else enum extern false final fn for
@@ -102,7 +102,7 @@ def decoded(path):
     except UnicodeDecodeError as error:
         line = data.count(b"\n", 0, error.start) + 1
         raise NoText(f"{path}:{line}: no UTF-8 at byte {error.start}") from error
-    return SCRIPT.sub("", text.removeprefix(MARK), count=1) if text else text
+    return SCRIPT.sub("", text.removeprefix(MARK))
 
 
 def read(folder):

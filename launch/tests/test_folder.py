@@ -13,7 +13,7 @@ FILES = {
     "a/mod.rs": "struct Of;\n",
     "a/b-c.rs": "#!/bin/run\nstruct In;",
     "a/type.rs": "#![allow(unused)]\n",
-    "main.rs": "\N{BYTE ORDER MARK}fn main() {}\n",
+    "main.rs": '\N{BYTE ORDER MARK}fn main() { run("#!/bin/run"); }\n',
     "note.txt": "no Rust",
     ".git/x.rs": "hidden",
     "target/y.rs": "built",
@@ -37,7 +37,7 @@ struct Root;
 
 
 
-fn main() {}
+fn main() { run("#!/bin/run"); }
 
 """
 
