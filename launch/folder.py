@@ -84,10 +84,15 @@ def modules_of(path):
     return [module(name) for name in names]
 
 
+def unlisted(error):
+    """Ends the walk where a folder cannot be listed, which would be passed over else."""
+    raise error
+
+
 def files_below(folder):
     """The paths of all Rust files below a folder, in order, as they stand below it."""
     found = []
-    for below, folders, names in os.walk(folder):
+    for below, folders, names in os.walk(folder, onerror=unlisted):
         folders[:] = [name for name in folders if name[0] != "." and name != BUILT]
         here = pathlib.Path(below).relative_to(folder)
         found += [here / name for name in names if name.endswith(ENDING)]

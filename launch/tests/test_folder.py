@@ -3,6 +3,7 @@
 import pathlib
 import tempfile
 import unittest
+from unittest import mock
 
 from launch import folder
 
@@ -88,6 +89,10 @@ class Folders(unittest.TestCase):
         with self.assertRaises(folder.NoText) as told:
             folder.read(self.top)
         self.assertEqual(str(told.exception), f"{self.top}/a/b-c.rs:2: no UTF-8 at byte 8")
+
+    def test_a_folder_that_cannot_be_listed_is_not_passed_over(self):
+        with mock.patch("os.scandir", side_effect=PermissionError):
+            self.assertRaises(PermissionError, folder.read, self.top)
 
     def test_a_name_is_that_of_a_module(self):
         for name, wanted in (("a-b.c", "a_b_c"), ("2d", "_2d"), ("fn", "r#fn"), ("ok", "ok")):
