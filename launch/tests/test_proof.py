@@ -1,5 +1,6 @@
 """Tests of when a program counts as proved, and of the ends that a proof may have."""
 
+import functools
 import os
 import pathlib
 import pty
@@ -9,7 +10,7 @@ import unittest
 from unittest import mock
 
 from launch import proof
-from launch.program import Program, progress
+from launch.program import ENDING, Program, progress
 
 from .stand_in import CRATES, KINDS, NAME, TOP, WORD, Repository
 
@@ -141,6 +142,12 @@ class Stale(Repository):
         self.expect_unproved("no stamp")
 
 
+def ignoring(number):
+    """Has a process ignore this one of the signals that end it, whichever are ignored here."""
+    for it in ENDING:
+        signal.signal(it, signal.SIG_IGN if it == number else signal.SIG_DFL)
+
+
 class Proving(Repository):
     """The ends of a proof."""
 
@@ -224,9 +231,9 @@ class Proving(Repository):
 
     def test_a_signal_that_is_ignored_stays_so(self):
         self.environment["BEFORE"] = GO
-        for number in (signal.SIGHUP, signal.SIGINT, signal.SIGTERM):
+        for number in ENDING:
             with self.subTest(signal=number):
-                how = {"preexec_fn": lambda: signal.signal(number, signal.SIG_IGN)}
+                how = {"preexec_fn": functools.partial(ignoring, number)}
                 how["start_new_session"] = True
                 process = self.start("./facet-read", "--prove", **how)
                 rt = self.rt_process()
