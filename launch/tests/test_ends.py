@@ -30,6 +30,8 @@ class Streams(Repository):
 
     def test_output_that_nobody_reads_or_that_is_full_or_closed(self):
         many = "head -c 1000000 /dev/zero |"
+        (self.top / "source").mkdir()
+        (self.top / "source" / "lib.rs").write_text(TYPES)
         ends = {
             f"echo x | {READ} >&-": UNWRITTEN,
             f"echo x | {READ} >/dev/full": UNWRITTEN,
@@ -37,6 +39,7 @@ class Streams(Repository):
             f"{READ} </dev/null 2>/dev/full": UNWRITTEN,
             f"{many} {READ} | head -c 0; exit ${{PIPESTATUS[1]}}": UNWRITTEN,
             f"{many} {READ} | head -c 9; exit ${{PIPESTATUS[1]}}": UNWRITTEN,
+            f"{many} ./facet-read read source | head -c 9; exit ${{PIPESTATUS[1]}}": UNWRITTEN,
             "./facet-read check types.rs 2>&- >&-": UNWRITTEN,
         }
         self.each(ends, self.expect_status)
@@ -92,6 +95,11 @@ class Streams(Repository):
         status, output, said = self.read("types.rs")
         self.assertEqual((status, output), (70, ""))
         self.assertIn("KeyError", said)
+
+    def test_solve_takes_no_arguments(self):
+        status, output, said = self.call("./solve", "x", input=b"{}")
+        self.assertEqual((status, output), (64, ""))
+        self.assertTrue(said.startswith("usage: "), said)
 
     def test_a_document_from_a_terminal(self):
         ours, theirs = pty.openpty()

@@ -1,6 +1,7 @@
 """Tests of folders of Rust files, as one text."""
 
 import pathlib
+import signal
 import tempfile
 import unittest
 from unittest import mock
@@ -70,6 +71,11 @@ class Folders(unittest.TestCase):
             text = (self.top / name).read_text().split("\n")
             self.assertEqual((file, text[number - 1], column), (self.top / name, line, 8))
 
+    def test_the_first_line_of_each_file_is_its_own(self):
+        found = folder.read(self.top)
+        for file, begin in zip(found.files, found.begins):
+            self.assertEqual(found.place(begin + 1, 8), (file, 1, 8))
+
     def test_what_stands_around_a_file_is_told_at_its_ends(self):
         found = folder.read(self.top)
         self.assertEqual(found.place(1, 5), (self.top / "a/b-c.rs", 1, 1))
@@ -117,6 +123,36 @@ class Reading(Repository):
         write_files(self.top / "source", FILES)
         self.prove()
         self.expect(self.read("source", "Root"))
+
+    def test_with_a_document_of_toml(self):
+        write_files(self.top / "source", FILES)
+        for is_proved in (False, True):
+            with self.subTest(is_proved=is_proved):
+                status, output, said = self.read("source", "Root", "--toml", document=b"a = 1.0\n")
+                lines = ["read", "Root", '{"a": 1.0}']
+                self.assertEqual((status, output.splitlines()), (WORD, lines), said)
+                self.expect_nothing_left()
+            self.prove()
+
+    def use_program(self, text):
+        """Proves another program, for a folder with a file."""
+        write_files(self.top / "source", {"x.rs": "struct S;"})
+        (self.kit / "program").write_text(f"#!/bin/sh\n{text}\n")
+        self.prove()
+        (self.kit / "pid").unlink()
+
+    def test_a_signal_that_ends_the_program_gives_the_status(self):
+        self.use_program("kill -KILL $$")
+        self.assertEqual(self.read("source"), (128 + signal.SIGKILL, "", ""))
+
+    def test_a_signal_that_ends_the_script_ends_the_program(self):
+        self.use_program(f'echo $$ >"{self.kit}/pid"; exec sleep 100')
+        process = self.start("./facet-read", "check", "source")
+        program = int(self.text_of(self.kit / "pid"))
+        process.send_signal(signal.SIGTERM)
+        self.assertEqual(process.wait(), 128 + signal.SIGTERM)
+        self.expect_gone(program)
+        self.expect_nothing_left()
 
     def test_a_file_that_cannot_be_read(self):
         write_files(self.top / "source", {"x.rs": "struct S;"})
