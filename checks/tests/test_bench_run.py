@@ -30,6 +30,13 @@ class Run(Repository):
             self.expect_told(CALL, "bench: first: the two give different answers")
             self.edit(file, '"$1 other"', '"$1 $2"')
 
+    def test_the_table(self):
+        self.edit(OLD, "#!/bin/sh\n", "#!/bin/sh\nsleep 0.2\n")
+        said = self.expect_passes("bench/run", "--only", "first", *CALL[1:])
+        old, new, ratio = map(float, said.splitlines()[-1].split("|")[2:5])
+        self.assertGreaterEqual(old, 0.2)
+        self.assertEqual(ratio > 1, old > new, said)
+
     def test_other_words_of_errors(self):
         self.edit(NEW, "text $1 1", "text $1 2")
         self.assertIn("the words of errors differ: first", self.expect_passes(*CALL))

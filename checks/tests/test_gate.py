@@ -43,6 +43,13 @@ OTHERS = (
 # What each step counts, by its name in the stored totals.
 KINDS = {"edits": "edits that must fail", "types": "texts of types", "solve": "calls"}
 KINDS |= {"readings": "digests of readings", "costs": "costs", "sweep": "sweeps"}
+# The parts, by the words before their names.
+PARTS = {
+    (): "totals surfaces quotes statuses examples scripts readme transcripts inputs questions "
+    "workloads start types",
+    ("--all",): "totals surfaces quotes statuses examples scripts solve ci edits proved readme "
+    "questions types readings costs start sweep",
+}
 TOTALS = {"edits_that_must_fail": 83, "texts_of_types": 3, "digests_of_readings": 220}
 TOTALS |= {"costs": 13, "sweeps": 596}
 
@@ -127,6 +134,24 @@ class Gate(Repository):
     def test_a_part_that_there_is_not(self):
         for words in (["other"], ["--al"], ["--all", "other"], ["totals", "--all"]):
             self.expect_told(("./test", *words), "usage: ./test [--all] [PART ..]")
+
+
+class Nothing(Repository):
+    """A repository that has the scripts alone: no part may pass there."""
+
+    FILES = {"../kit/bin/rustc": "#!/bin/sh\nexit 1\n"}
+
+    def test_each_part_fails(self):
+        (self.top / ".git").mkdir()  # Otherwise the start would not be compared.
+        for words, parts in PARTS.items():
+            for part in parts.split():
+                with self.subTest(words=words, part=part):
+                    self.expect_told(("./test", *words, part), "failed: ")
+
+    def test_no_part_is_left_out(self):
+        for words, parts in PARTS.items():
+            told = f"the parts are {', '.join(parts.split())}\n"
+            self.expect_told(("./test", *words, "other"), told)
 
 
 class Merge(Repository):
