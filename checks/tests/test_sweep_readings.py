@@ -95,7 +95,8 @@ class Readings(Repository):
     def test_wrong_answers(self):
         for lines in WRONG:
             self.use_program(behind=f"answers[:3] = {[*lines]}")
-            self.expect_told(FEW, *(f"{FILES}{told}" for told in lines.values()))
+            told = [f"{FILES}{told}" for told in lines.values()]
+            self.expect_told(FEW, *told, "types_odd_0.rs", "; 2 types differ")
 
     def test_answers_that_are_missing_and_other_ends(self):
         for fault, told in ENDS.items():
