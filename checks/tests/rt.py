@@ -4,8 +4,8 @@
 `rt try` runs the script `program` of the crate in which it is called, with `--cases` on each file.
 `rt ci` prints what LAST has, and ends with the status STATUS. `rt check` takes a line of
 `src/lib.rt` as a function, `fn NAME: BODY`: the bodies `right` and `weak` are proved. Of
-`wrong GOAL` it says that this goal is not, of `calls NAME` that it calls one that is not, and of
-any other body nothing.
+`wrong GOAL ..` it says that these goals are not, of `calls NAME` that it calls one that is not, and
+of any other body nothing.
 """
 
 import os
@@ -75,8 +75,8 @@ def check(words):
     proved, asked = 0, words[words.index("--only") + 1 :: 2]
     for function in asked:
         kind, _, rest = bodies[function].partition(" ")
-        if kind == "wrong":
-            print(f"note: src/lib.rt:1:1: it is not proved that it holds (`{rest}`)")
+        for goal in rest.split() if kind == "wrong" else ():
+            print(f"note: src/lib.rt:1:1: it is not proved that it holds (`{goal}`)")
         said = {"right": "proved", "weak": "proved", "wrong": "not proved"}.get(kind)
         if kind == "calls":
             said = f"not proved: it calls {rest}, which is not proved"

@@ -39,6 +39,14 @@ OTHERS = (
         "sweep": "596 sweeps, 99 runs, 9 requests refused, 1 faults",
     },
     {step: "" for step in STEPS},
+    # More than is stored is told too.
+    {
+        "edits": "84 edits refused",
+        "types": "7 texts of 4 sources, 0 wrong answers, by the proved program",
+        "readings": "221 types, documents by status: 0: 9; 0 types differ",
+        "costs": "14 runs compared, 0 differ",
+        "sweep": "597 sweeps, 99 runs, 9 requests refused, 0 faults",
+    },
 )
 # What each step counts, by its name in the stored totals.
 KINDS = {"edits": "edits that must fail", "types": "texts of types", "solve": "calls"}

@@ -31,6 +31,7 @@ class MustFail(Repository):
             "wrong returns-clause-other": "not proved: returns-clause-other",
             "wrong loop-sum-init": "not proved: loop-sum-init",
             "wrong index-in-range": "not proved: index-in-range",
+            f"{WRONG} index-in-range": "not proved: returns-clause-sum, index-in-range",
             "nothing that is read": "not proved: nothing is said of it",
         }
         for body, told in bodies.items():

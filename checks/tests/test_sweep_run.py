@@ -140,3 +140,5 @@ class Sweep(Repository):
     def test_a_guard_that_sees_nothing(self):
         self.edit("sweep/guard.c", 'tell("leaked %lu\\n", blocks);', "")
         self.expect_told(CALL, "the guard saw no end")
+        self.edit("sweep/guard.c", 'tell("held %lu\\n", most - begun);', ";")
+        self.expect_told(CALL, "first: request 0: the guard saw no new solver")
