@@ -7,6 +7,7 @@ from .scratch import Repository
 PERSON = ("-c", "user.name=a", "-c", "user.email=a@b.c")
 CRATE = "facet_solver_workloads"
 SOURCE = f"crates/{CRATE}/src/main.rt"
+GONE = f"crates/{CRATE}/src/gone.rt"
 
 
 class Lay(Repository):
@@ -14,6 +15,7 @@ class Lay(Repository):
         "crates.txt": f"a:\nb: a\n{CRATE}: b json\n",
         "crates/a/src/lib.rt": "an old library\n",
         SOURCE: "an old workload\n",
+        GONE: "a file of the old workload\n",
         "bench/workloads.txt": "an old list\n",
     }
 
@@ -22,6 +24,7 @@ class Lay(Repository):
         self.old = self.commit("init", "--quiet")
         self.write("crates/a/src/lib.rt", "a new library\n")
         self.write(SOURCE, "a new workload\n")
+        self.remove(GONE)
         self.write("bench/workloads.txt", "a new list\n")
         self.new = self.commit("status", "--short")
 
@@ -42,6 +45,7 @@ class Lay(Repository):
         self.expect_passes(*self.lay(self.old))
         self.assertEqual(self.text("crates/a/src/lib.rt"), "an old library\n")
         self.assertEqual(self.text(SOURCE), "a new workload\n")
+        self.assertFalse((self.room / "laid" / GONE).exists())
         self.assertEqual(self.text("bench/workloads.txt"), "a new list\n")
         self.assertEqual(self.text("crates.txt"), f"a:\nb: a\n{CRATE}: b json\n")
         self.assertFalse((self.room / "laid" / "crates" / CRATE / "out").exists())
