@@ -1,5 +1,9 @@
 """Tests of sweep/readings: other answers, answers that are no JSON, and a digest less."""
 
+import unittest
+
+from sweep.lines import count_of
+
 from .scratch import Repository
 
 TOOL = "facet_solver_tool"
@@ -59,6 +63,16 @@ ENDS = {
     ("", "status += 1"): "do not follow from the answers",
     ("", "count = count[1:]"): "do not follow from the answers",
 }
+
+
+class Counts(unittest.TestCase):
+    """The end of `--lines`, as examples/README.md has it."""
+
+    def test_the_first_of_5_4_2_and_1_counts(self):
+        ends = {(0,): 0, (0, 1): 1, (1, 2): 2, (2, 1, 0): 2, (2, 4, 1): 4, (4, 5, 0): 5}
+        for statuses, wanted in ends.items():
+            lines = [f'{{"status": {it}}}' if it else '{"reading": 1}' for it in statuses]
+            self.assertEqual(count_of(lines)[0], wanted, statuses)
 
 
 class Readings(Repository):
