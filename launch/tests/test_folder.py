@@ -145,6 +145,13 @@ class Reading(Repository):
         self.use_program("kill -KILL $$")
         self.assertEqual(self.read("source"), (128 + signal.SIGKILL, "", ""))
 
+    def test_a_write_that_fails_is_told_by_the_program(self):
+        """So it ignores the signal of a pipe that nobody reads, as without a folder."""
+        self.use_program("grep SigIgn: /proc/$$/status")
+        status, output, said = self.read("source")
+        self.assertEqual(status, 0, said)
+        self.assertTrue(int(output.split()[1], 16) >> signal.SIGPIPE - 1 & 1, output)
+
     def test_a_signal_that_ends_the_script_ends_the_program(self):
         self.use_program(f'echo $$ >"{self.kit}/pid"; exec sleep 100')
         process = self.start("./facet-read", "check", "source")
