@@ -8,6 +8,7 @@ STEPS = {
     "edits": ("must-fail/run", "83 edits refused"),
     "types": ("sweep/types", "7 texts of 3 sources, 0 wrong answers, by the proved program"),
     "readings": ("sweep/readings", "220 types, documents by status: 0: 9; 0 types differ"),
+    "sizes": ("sweep/sizes", "60 sizes, 0 faults"),
     "costs": ("bench/costs", "13 runs compared, 0 differ"),
     "sweep": ("sweep/run", "596 sweeps, 99 runs, 9 requests refused, 0 faults"),
 }
@@ -18,6 +19,7 @@ OTHERS = (
         "edits": "82 edits refused",
         "types": "7 texts of 2 sources, 0 wrong answers, by the proved program",
         "readings": "219 types, documents by status: 0: 9; 0 types differ",
+        "sizes": "59 sizes, 0 faults",
         "costs": "12 runs compared, 0 differ",
         "sweep": "595 sweeps, 99 runs, 9 requests refused, 0 faults",
     },
@@ -26,6 +28,7 @@ OTHERS = (
         "edits": "0 edits refused",
         "types": "7 texts of 3 sources, 0 wrong answers, without proofs",
         "readings": "0 types, documents by status: ; 0 types differ",
+        "sizes": "60 sizes, 1 faults",
         "costs": "13 runs compared, 1 differ",
         "sweep": "596 sweeps, 0 runs, 9 requests refused, 0 faults",
     },
@@ -36,6 +39,7 @@ OTHERS = (
     },
     {
         "edits": "some edits refused",
+        "sizes": "0 sizes, 0 faults",
         "sweep": "596 sweeps, 99 runs, 9 requests refused, 1 faults",
     },
     {step: "" for step in STEPS},
@@ -51,15 +55,16 @@ OTHERS = (
 # What each step counts, by its name in the stored totals.
 KINDS = {"edits": "edits that must fail", "types": "texts of types", "solve": "calls"}
 KINDS |= {"readings": "digests of readings", "costs": "costs", "sweep": "sweeps"}
+KINDS |= {"sizes": "sizes"}
 # The parts, by the words before their names.
 PARTS = {
     (): "totals surfaces quotes statuses examples scripts readme transcripts inputs questions "
     "workloads start types",
     ("--all",): "totals surfaces quotes statuses examples scripts solve ci edits proved readme "
-    "questions types readings costs start sweep",
+    "questions types readings costs start sizes sweep",
 }
 TOTALS = {"edits_that_must_fail": 83, "texts_of_types": 3, "digests_of_readings": 220}
-TOTALS |= {"costs": 13, "sweeps": 596}
+TOTALS |= {"costs": 13, "sizes": 60, "sweeps": 596}
 
 
 class Gate(Repository):
@@ -80,7 +85,7 @@ class Gate(Repository):
     def test_nothing_wrong(self):
         self.all_well()
         said = self.expect_passes("./test", "--all", *STEPS)
-        self.assertIn(f"{83 + 1 + 1 + 2 * 4} passed, 0 failed", said)
+        self.assertIn(f"{83 + 1 + 1 + 2 * 5} passed, 0 failed", said)
 
     def test_a_step_that_fails(self):
         for script, line in STEPS.values():
