@@ -14,7 +14,7 @@ from launch import proof
 
 TOP = pathlib.Path(__file__).resolve().parent.parent.parent
 HERE = TOP / "checks" / "tests"
-SECONDS = 60  # How long a call may take.
+SECONDS = 600  # How long a call may take, also where much else runs.
 # What is copied, and which files in that are not: what the scripts read stands in FILES.
 COPIED = ("test", "solve", "facet-read", "checks", "docs", "examples", "must-fail", "surface")
 COPIED += ("sweep", "bench", "launch")
