@@ -3,7 +3,7 @@
 // name of a file or `in_code` facet_solver_tests. The one good document is `ok` and a line feed.
 //
 // A fault is put into it by a name that is defined: LEAKS, HOLDS_MORE, ASKS_MORE, SAYS_SO,
-// IS_SILENT, IS_CUT, WRITES_ONCE, PRINTS_MORE or ENDS_OTHERWISE. It needs no headers.
+// IS_SILENT, IS_CUT, WRITES_ONCE, PRINTS_MORE, ENDS_OTHERWISE or IS_DEEPER. It needs no headers.
 extern void *malloc(unsigned long);
 extern void free(void *);
 extern void exit(int);
@@ -25,6 +25,9 @@ enum { HOLDS = 100 };
 
 // The sizes of the marks, which a test has put into marks.rt too.
 enum { BEGIN = 1000003, NO_REQUEST = 1000005, HELD = 1000007, OUT_OF_MEMORY = 1000009 };
+
+// How many bytes of stack more it takes where it is deeper, which a test knows too.
+enum { DEEPER = 65536 };
 
 // What a write that fails ends the program with.
 static int unwritten;
@@ -78,6 +81,10 @@ static int solve(void) {
 }
 
 static int check(const char *types) {
+#ifdef IS_DEEPER
+  volatile char room[DEEPER];
+  room[0] = 0;
+#endif
   char *text = malloc(MOST);
   if (!text) return say(2, "out of memory\n"), 5;
   free(text);
