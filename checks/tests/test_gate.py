@@ -61,7 +61,7 @@ PARTS = {
     (): "totals surfaces quotes statuses examples scripts readme transcripts inputs questions "
     "workloads start types",
     ("--all",): "totals surfaces quotes statuses examples scripts solve ci edits proved readme "
-    "questions types readings costs start sizes sweep",
+    "questions types readings sizes costs start sweep",
 }
 TOTALS = {"edits_that_must_fail": 83, "texts_of_types": 3, "digests_of_readings": 220}
 TOTALS |= {"costs": 13, "sizes": 60, "sweeps": 596}
