@@ -15,7 +15,6 @@ use Rattle.facet_solver_types.specs.declared.attribute.value.Form.TheVariants as
 use Rattle.facet_solver_types.specs.declared.fault.Fault.{Fault}
 use Rattle.facet_solver_types.specs.declared.fault.Fault.TheVariants.{At}
 use Rattle.facet_solver_types.specs.declared.problem.Problem.TheVariants as problem
-use Rattle.facet_solver_types.specs.declared.type_problem.TypeProblem.TheVariants as type_problem
 use Rattle.facet_solver_types.specs.AttributeEntries.{entries_from}
 use Rattle.facet_solver_types.specs.Bodies.{variant}
 use Rattle.facet_solver_types.specs.Characters.{blank_len, continues_name}
@@ -283,8 +282,12 @@ pub proxy_rows :
     ≡ Ok ((17, (25, codes "T") ∷ [], 25) ∷ []))
     × (proxies (codes "#[serde(from = \"\")] struct S;")
     ≡ Ok ((8, [], 15) ∷ []))
+    × (proxies (codes "struct S { #[serde(with = \"a::m\")] a: u8 }")
+    ≡ Ok ((19, (19, codes "stand_ins") ∷ (19, codes "::") ∷ (19, codes "m") ∷ [], 19) ∷ []))
+    × (proxies (codes "struct S(#[serde(deserialize_with = \"f\", serialize_with = \"g\")] u8);")
+    ≡ Ok ((17, (17, codes "stand_ins") ∷ (17, codes "::") ∷ (17, codes "f") ∷ [], 17) ∷ []))
 unfolding alias_of attributes_from begins_attribute begins_character begins_statement blank_len character chars continues_name encode entries_from enum_of first_part first_token front_len gap_len is_keyword is_same item_len items_from mark named_call_len named_field nest_after opening_of path_from path_step piece pieces_from qualified_start qualifiers_len run_and_end_len run_from same_bracket start_of struct_of text_token tokens_from variant visible_len whole_call_len
-proxy_rows = (refl, refl, refl, refl, refl, refl)
+proxy_rows = (refl, refl, refl, refl, refl, refl, refl, refl)
 
 -- items: those that declare nothing are left out, and what is read as another type is not looked at
 pub item_rows :

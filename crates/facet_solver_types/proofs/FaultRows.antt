@@ -6,7 +6,7 @@ use Rattle.facet_solver_types.specs.declared.fault.Fault.{Fault}
 use Rattle.facet_solver_types.specs.declared.fault.Fault.TheVariants.{At}
 use Rattle.facet_solver_types.specs.declared.problem.Expected.TheVariants as expected
 use Rattle.facet_solver_types.specs.declared.problem.Problem.TheVariants as problem
-use Rattle.facet_solver_types.specs.Declarations.{Item, Parameter, alias, enum, faulty, implements, struct}
+use Rattle.facet_solver_types.specs.Declarations.{Item, ModuleItem, Parameter, alias, enum, faulty, implements, struct}
 use Rattle.facet_solver_types.specs.Bodies.{variant}
 use Rattle.facet_solver_types.specs.Characters.{blank_len, continues_name}
 use Rattle.facet_solver_types.specs.Fields.{named_field}
@@ -25,7 +25,7 @@ use Rattle.facet_solver_types.specs.Tokens.{tokens, tokens_from}
 use Rattle.facet_solver_types.specs.WrittenTypes.{front_len}
 
 -- the items of a text, or the first fault
-abbrev read : List ℕ → Result (List Item) Fault
+abbrev read : List ℕ → Result (List ModuleItem) Fault
 read text = and_then (tokens text) (λ ts. items (record { tokens = ts; end = length text }))
 
 -- the name of a declaration that cannot be read, and why
@@ -35,7 +35,7 @@ fault_of item = []
 
 -- the names of the declarations of a text that cannot be read, and why
 abbrev faults : List ℕ → Result (List (Name × Fault)) Fault
-faults text = and_then (read text) (λ found. Ok (flat_map fault_of found))
+faults text = and_then (read text) (λ found. Ok (flat_map (λ (m : ModuleItem). fault_of m.item) found))
 
 -- the names of parameters, and which stand for values
 abbrev seen : List Parameter → List (List (Name × Bool))
@@ -50,7 +50,7 @@ parameters_of item = []
 
 -- the parameters of the declarations of a text
 abbrev parameters : List ℕ → Result (List (List (Name × Bool))) Fault
-parameters text = and_then (read text) (λ found. Ok (flat_map parameters_of found))
+parameters text = and_then (read text) (λ found. Ok (flat_map (λ (m : ModuleItem). parameters_of m.item) found))
 
 -- the name of a declaration, or of the type of an impl
 abbrev name_of : Item → List Name
@@ -62,7 +62,11 @@ name_of item = []
 
 -- the names of the declarations of a text, and of the types of its impls
 abbrev names : List ℕ → Result (List Name) Fault
-names text = and_then (read text) (λ found. Ok (flat_map name_of found))
+names text = and_then (read text) (λ found. Ok (flat_map (λ (m : ModuleItem). name_of m.item) found))
+
+-- the names of the modules in which the items of a text stand
+abbrev module_names : List ℕ → Result (List Name) Fault
+module_names text = and_then (read text) (λ found. Ok (map (λ (m : ModuleItem). m.module_name) found))
 
 -- faults of tokens
 pub token_rows :
@@ -148,8 +152,10 @@ pub enclosed_rows :
     × (names (codes "impl<'a, T: X<T>> a::Deserialize<'a> for b::C<T> { } unsafe impl Facet<'_> for D { }")
     ≡ Ok (codes "C" ∷ codes "D" ∷ []))
     × (names (codes "impl A { } impl B for C { } impl Facet<'_> for (D, E) { }") ≡ Ok [])
+    × (module_names (codes "struct A; mod a { struct B; fn f() { struct C; mod b { struct D; } } } enum E {}")
+    ≡ Ok ([] ∷ codes "a" ∷ codes "a" ∷ codes "b" ∷ [] ∷ []))
     × (read (codes "mod a { b }") ≡ Err (At 8 (problem.Expected expected.Item)))
     × (read (codes "mod { }") ≡ Err (At 4 (problem.Expected expected.Name)))
     × (read (codes "mod a b { }") ≡ Err (At 6 (problem.Expected expected.HeadEnd)))
 unfolding alias_of attributes_from begins_attribute begins_character begins_statement blank_len character continues_name enum_of first_part first_token front_len gap_len is_keyword item_len items_from mark named_call_len named_field nest_after opening_of path_from path_step piece pieces_from qualified_start qualifiers_len run_and_end_len run_from same_bracket start_of struct_of text_token tokens_from variant visible_len whole_call_len
-enclosed_rows = (refl, refl, refl, refl, refl, refl, refl, refl, refl)
+enclosed_rows = (refl, refl, refl, refl, refl, refl, refl, refl, refl, refl)

@@ -43,3 +43,4 @@ pub mod RefusalRows
 pub mod FaultRows
 pub mod DeclarationRows
 pub mod ShapeRows
+pub mod PathRows

@@ -108,14 +108,15 @@ turns_over rule scope inside parts at over =
 
 -- what is no alias is not followed
 pub followed_other : (rule : Rule) (scope : Scope) (head : code_head.Head) (inside : Inside)
-    → ((parameters : Bor (List code_parameter.Parameter)) (written : code_passage.Passage)
-    → head ≡ heads.Alias parameters written → ⊥)
+    → ((module_name : Bor (List ℕ)) (parameters : Bor (List code_parameter.Parameter))
+    (written : code_passage.Passage)
+    → head ≡ heads.Alias module_name parameters written → ⊥)
     → followed rule scope (head_view head) inside ≡ mention_of scope (head_view head) inside
 followed_other rule scope heads.Same inside other = refl
 followed_other rule scope (heads.Bound id) inside other = refl
 followed_other rule scope (heads.Declared index name) inside other = refl
-followed_other rule scope (heads.Alias parameters written) inside other =
-    absurd (other parameters written refl)
+followed_other rule scope (heads.Alias module_name parameters written) inside other =
+    absurd (other module_name parameters written refl)
 followed_other rule scope (heads.Scalar name kind) inside other = refl
 followed_other rule scope (heads.Dynamic name) inside other = refl
 followed_other rule scope (heads.Applied name kind) inside other = refl

@@ -50,9 +50,9 @@ pub help_rows :
     ≡ codes "'alias' cannot be said: write the one name that documents have")
     × (told on.Variant (codes "#[serde(other)]")
     ≡ codes "'other' cannot be said: write each variant")
-    × (told on.NamedField (codes "#[serde(with = \"m\")]")
+    × (told on.Variant (codes "#[serde(with = \"m\")]")
     ≡ codes "'with' cannot be said: write the type that it is read as, as in proxy = String")
-    × (told on.NamedField (codes "#[serde(deserialize_with = \"f\")]")
+    × (told on.Variant (codes "#[serde(deserialize_with = \"f\")]")
     ≡ codes "'deserialize_with' cannot be said: "
     ++ codes "write the type that it is read as, as in proxy = String")
     × (told on.NamedStruct (codes "#[serde(remote = \"S\")]")

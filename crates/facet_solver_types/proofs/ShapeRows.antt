@@ -72,6 +72,7 @@ field name flattened = record {
 -- a declaration of a name that stands at an offset
 abbrev declaration : ℕ → Name → Declared → Declaration
 declaration offset name what = record {
+  module_name = [];
   name = record { offset = offset; kind = tokens.Name; text = name };
   parameters = [];
   denies_unknown = false;

@@ -1,7 +1,6 @@
 -- Uses that are found one after the other.
-use Rattle.std.proofs.Common.{◌≡◌, ℕ, zero, suc, ◌+◌, List, map, Option, Some, None, Ok, Err, ap, option_map, slice_get, ◌∙◌, arith}
+use Rattle.std.proofs.Common.{◌≡◌, ℕ, zero, suc, ◌+◌, List, map, Some, None, Ok, Err, ap, option_map, slice_get, ◌∙◌, arith}
 use Rattle.std.proofs.lemmas.Option.{slice_get-map}
-use Rattle.facet_solver_types.specs.declared.fault.Fault.{Fault}
 use Rattle.facet_solver_types.specs.Understood.{Declaration}
 use Rattle.facet_solver_types.specs.UsedTypes.{follows, reached_from, too_many, use_types, with_uses}
 use Rattle.facet_solver_types.specs.Uses.{Use}

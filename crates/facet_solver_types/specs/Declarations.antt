@@ -1,5 +1,6 @@
 -- Declarations, as their tokens.
 use Rattle.std.specs.Prelude.{Bool, List, Option, option_map, map}
+use Rattle.facet_solver_shape.specs.Names.{Name}
 use Rattle.facet_solver_types.specs.declared.fault.Fault.{Fault}
 use Rattle.facet_solver_types.specs.declared.item.AliasDeclaration.{AliasDeclaration}
 use Rattle.facet_solver_types.specs.declared.item.Body as body
@@ -9,6 +10,7 @@ use Rattle.facet_solver_types.specs.declared.item.EnumDeclaration.{EnumDeclarati
 use Rattle.facet_solver_types.specs.declared.item.FaultyDeclaration.{FaultyDeclaration}
 use Rattle.facet_solver_types.specs.declared.item.Item as declared
 use Rattle.facet_solver_types.specs.declared.item.Item.TheVariants as item
+use Rattle.facet_solver_types.specs.declared.item.ModuleItem as module_item
 use Rattle.facet_solver_types.specs.declared.item.Parameter as parameter
 use Rattle.facet_solver_types.specs.declared.item.StructDeclaration.{StructDeclaration}
 use Rattle.facet_solver_types.specs.declared.item.VariantDeclaration.{VariantDeclaration}
@@ -117,6 +119,15 @@ item_view (item.Faulty f) = faulty_view f
 item_view (item.Impl name) = implements (token_view name)
 item_view item.Other = other
 
+-- an item, and the name of the innermost module around it, or nothing where it stands in none
+pub record ModuleItem : Type 0 where
+  pub module_name : Name
+  pub item : Item
+
+-- what is seen of an item where it stands
+abbrev pub module_item_view : module_item.ModuleItem → ModuleItem
+module_item_view m = record { module_name = m.module_name.now; item = item_view m.item }
+
 -- what is seen of items
-abbrev pub items_view : List declared.Item → List Item
-items_view items = map item_view items
+abbrev pub items_view : List module_item.ModuleItem → List ModuleItem
+items_view items = map module_item_view items

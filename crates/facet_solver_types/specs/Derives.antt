@@ -11,8 +11,9 @@ use Rattle.facet_solver_types.specs.declared.token.TokenKind.TheVariants.{Close,
 use Rattle.facet_solver_types.specs.declared.type_problem.TypeProblem.{TypeProblem}
 use Rattle.facet_solver_types.specs.declared.type_problem.TypeProblem.TheVariants.{OwnImpl, Underived}
 use Rattle.facet_solver_types.specs.AttributeEntries.{is_named}
-use Rattle.facet_solver_types.specs.Declarations.{Item, alias, enum, faulty, implements, other, struct}
+use Rattle.facet_solver_types.specs.Declarations.{Item, ModuleItem, enum, faulty, implements, struct}
 use Rattle.facet_solver_types.specs.FirstTokens.{is_name, sees_path}
+use Rattle.facet_solver_types.specs.Modules.{is_of_stand_ins}
 use Rattle.facet_solver_types.specs.Runs.{is_close, is_mark}
 use Rattle.facet_solver_types.specs.Tokens.{Token}
 
@@ -84,9 +85,13 @@ attributes_of (enum attributes name parameters variants) = attributes
 attributes_of (faulty attributes name fault) = attributes
 attributes_of item = []
 
--- whether some item derives that it is read as it is declared
-abbrev pub has_derives : List Item → Bool
-has_derives items = list_any (λ item. derives Reading (attributes_of item)) items
+-- whether an item derives that it is read as it is declared, and is no stand-in
+abbrev pub is_derived : ModuleItem → Bool
+is_derived m = not (is_of_stand_ins m.module_name) && derives Reading (attributes_of m.item)
+
+-- whether some item does
+abbrev pub has_derives : List ModuleItem → Bool
+has_derives items = list_any is_derived items
 
 -- whether an item is the impl that reads the type of a name
 abbrev pub is_impl : Name → Item → Bool
@@ -94,13 +99,14 @@ is_impl name (implements of) = name_eq of.text name
 is_impl name item = false
 
 -- whether one of some items is such an impl
-abbrev pub has_impl : Name → List Item → Bool
-has_impl name items = list_any (is_impl name) items
+abbrev pub has_impl : Name → List ModuleItem → Bool
+has_impl name items = list_any (λ (m : ModuleItem). is_impl name m.item) items
 
--- why a struct or an enum of a name and with attributes isn't read as it is declared, among items
--- of which some derive that, or none
-abbrev pub own_reading : List Item → Bool → List Token → Name → Option TypeProblem
-own_reading items has_derives attributes name =
-    if derives Reading attributes then None
+-- why a struct or an enum of a module, with attributes and a name, isn't read as it is declared,
+-- among items of which some derive that, or none: a stand-in is read so
+abbrev pub own_reading
+    : List ModuleItem → Bool → Name → List Token → Name → Option TypeProblem
+own_reading items has_derives module_name attributes name =
+    if is_of_stand_ins module_name || derives Reading attributes then None
     else (if derives OtherReading attributes || has_impl name items then Some OwnImpl
     else (if has_derives then Some Underived else None))

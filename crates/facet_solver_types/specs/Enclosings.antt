@@ -1,5 +1,7 @@
 -- What items stand in: modules and blocks.
-use Rattle.std.specs.Prelude.{◌-◌, Bool, true, false, ◌&&◌, ◌==◌, not, List, [], ◌∷◌, ◌++◌, length, map, take, Option, Some, None, slice_get}
+use Rattle.std.specs.Prelude.{◌-◌, Bool, true, false, ◌&&◌, ◌==◌, not, List, [], ◌∷◌, ◌++◌, length, map, take, Option, Some, slice_get}
+use Rattle.std.specs.List.{fold}
+use Rattle.facet_solver_shape.specs.Names.{Name}
 use Rattle.facet_solver_types.specs.declared.grammar.enclosing.Enclosing as declared
 use Rattle.facet_solver_types.specs.declared.grammar.enclosing.Enclosing.TheVariants as code
 use Rattle.facet_solver_types.specs.declared.grammar.enclosing.Piece as piece
@@ -7,7 +9,7 @@ use Rattle.facet_solver_types.specs.declared.grammar.enclosing.Piece.TheVariants
 use Rattle.facet_solver_types.specs.declared.token.Bracket.TheVariants.{Curly}
 use Rattle.facet_solver_types.specs.declared.token.TokenKind.{TokenKind}
 use Rattle.facet_solver_types.specs.declared.token.TokenKind.TheVariants.{Close}
-use Rattle.facet_solver_types.specs.Declarations.{Item, item_view}
+use Rattle.facet_solver_types.specs.Declarations.{Item, ModuleItem, item_view}
 use Rattle.facet_solver_types.specs.Tokens.{Token, token_view}
 
 -- what items stand in: the module of a name, or a block of a function
@@ -68,7 +70,16 @@ around_after (opens enclosing) around = around ++ enclosing ∷ []
 around_after closes around = take (length around - 1) around
 around_after piece around = around
 
--- the item that a piece is, if it is one
-abbrev pub items_of : Piece → List Item
-items_of (is item) = item ∷ []
-items_of piece = []
+-- the name of a module, or else another
+abbrev pub module_or : Name → Enclosing → Name
+module_or outer (module_of name) = name.text
+module_or outer block = outer
+
+-- the name of the innermost module of all that encloses something, or nothing where there is none
+abbrev pub module_in : List Enclosing → Name
+module_in around = fold module_or [] around
+
+-- the item that a piece is, if it is one, in what encloses it
+abbrev pub items_of : List Enclosing → Piece → List ModuleItem
+items_of around (is item) = record { module_name = module_in around; item = item } ∷ []
+items_of around piece = []

@@ -7,7 +7,7 @@ use Rattle.facet_solver_types.specs.declared.grammar.starts.Start as code
 use Rattle.facet_solver_types.specs.declared.grammar.starts.Start.TheVariants.{Struct, Enum, Alias, Module, Function, Impl, Statement, Head, Call, Unknown}
 use Rattle.facet_solver_types.specs.declared.problem.Expected.TheVariants as expected
 use Rattle.facet_solver_types.specs.declared.token.Bracket.TheVariants.{Curly}
-use Rattle.facet_solver_types.specs.Declarations.{Item, implements, other}
+use Rattle.facet_solver_types.specs.Declarations.{Item, ModuleItem, implements, other}
 use Rattle.facet_solver_types.specs.Enclosings.{Enclosing, Piece, around_after, block, closes, in_block, is, is_left, items_of, module_of, opens, passed}
 use Rattle.facet_solver_types.specs.Fields.{after_prefix, attributes}
 use Rattle.facet_solver_types.specs.FirstTokens.{sees_bracket, sees_mark, sees_open}
@@ -114,14 +114,14 @@ piece around passage =
 
 -- a piece, and the items after it in what encloses them then
 abbrev pub then_items
-    : List Enclosing → Result Piece Fault → (List Enclosing → Result (List Item) Fault)
-    → Result (List Item) Fault
+    : List Enclosing → Result Piece Fault → (List Enclosing → Result (List ModuleItem) Fault)
+    → Result (List ModuleItem) Fault
 then_items around piece later =
     and_then piece (λ piece.
-    and_then (later (around_after piece around)) (λ items. Ok (items_of piece ++ items)))
+    and_then (later (around_after piece around)) (λ items. Ok (items_of around piece ++ items)))
 
 -- the items that tokens have, in what encloses them, after the first tokens that are `left` out
-unfoldable pub items_from : List Enclosing → ℕ → ℕ → List Token → Result (List Item) Fault
+unfoldable pub items_from : List Enclosing → ℕ → ℕ → List Token → Result (List ModuleItem) Fault
 items_from around end left [] = Ok []
 items_from around end (suc left) (token ∷ tokens) = items_from around end left tokens
 items_from around end zero (token ∷ tokens) =
@@ -131,9 +131,9 @@ items_from around end zero (token ∷ tokens) =
     (λ around. items_from around end (len - 1) tokens)
 
 -- the items that a passage has, in what encloses it
-abbrev pub items_in : List Enclosing → Passage → Result (List Item) Fault
+abbrev pub items_in : List Enclosing → Passage → Result (List ModuleItem) Fault
 items_in around passage = items_from around passage.end 0 passage.tokens
 
 -- the items of a text, after its inner attributes, with those in its modules and functions
-abbrev pub items : Passage → Result (List Item) Fault
+abbrev pub items : Passage → Result (List ModuleItem) Fault
 items passage = items_in [] (after (attributes_len true passage.tokens) passage)

@@ -1,12 +1,15 @@
 -- What a type is outside, with its name looked up, and what stands in it.
-use Rattle.std.specs.Prelude.{ℕ, ◌+◌, Bool, false, ◌&&◌, not, ◌==◌, if◌then◌else◌, List, [], ◌∷◌, length, map, take, drop, codes, Option, Some, None, slice_get, Result, Ok, Err}
+use Rattle.std.specs.Prelude.{ℕ, ◌+◌, Bool, true, false, ◌&&◌, ◌||◌, ◌==◌, if◌then◌else◌, List, [], ◌∷◌, length, map, take, codes, Option, Some, None, slice_get, Result, Ok, Err}
+use Rattle.std.specs.Option.{option_map_or}
 use Rattle.facet_solver_shape.specs.Names.{Name}
 use Rattle.facet_solver_shape.specs.declared.shape.ScalarType.{ScalarType}
 use Rattle.facet_solver_shape.specs.declared.shape.ScalarType.TheVariants as scalars
 use Rattle.facet_solver_types.specs.Declarations.{Parameter, parameters_view}
 use Rattle.facet_solver_types.specs.declared.fault.Fault.{Fault}
 use Rattle.facet_solver_types.specs.declared.fault.Fault.TheVariants.{At}
-use Rattle.facet_solver_types.specs.declared.problem.Problem.TheVariants.{OfType}
+use Rattle.facet_solver_types.specs.declared.attribute.meaning.Misuse.TheVariants.{Unsupported}
+use Rattle.facet_solver_types.specs.declared.attribute.refusal.Refusal.TheVariants.{Misused}
+use Rattle.facet_solver_types.specs.declared.problem.Problem.TheVariants.{Attribute, OfType}
 use Rattle.facet_solver_types.specs.declared.type_problem.TypeProblem.{TypeProblem}
 use Rattle.facet_solver_types.specs.declared.type_problem.TypeProblem.TheVariants.{Unknown, Takes, Twice}
 use Rattle.facet_solver_types.specs.declared.typing.known.Applied.{Applied}
@@ -15,23 +18,27 @@ use Rattle.facet_solver_types.specs.declared.typing.known.Known.TheVariants as k
 use Rattle.facet_solver_types.specs.declared.typing.layer.Head as code_head
 use Rattle.facet_solver_types.specs.declared.typing.layer.Layer as code
 use Rattle.facet_solver_types.specs.declared.typing.layer.Part as code_part
+use Rattle.facet_solver_types.specs.Called.{Called, called_among, called_view}
 use Rattle.facet_solver_types.specs.KnownTypes.{arity_of, known_type}
+use Rattle.facet_solver_types.specs.Meant.{meant, namesakes}
+use Rattle.facet_solver_types.specs.Modules.{is_of_stand_ins}
+use Rattle.facet_solver_types.specs.Origins.{Origin, here, beside, known as to_known}
 use Rattle.facet_solver_types.specs.Paired.{paired}
 use Rattle.facet_solver_types.specs.Passages.{Passage, passage_view, place}
 use Rattle.facet_solver_types.specs.Pieces.{and_then}
-use Rattle.facet_solver_types.specs.Scopes.{Scope, bound_id, place_of}
+use Rattle.facet_solver_types.specs.Scopes.{Scope, bound_id}
 use Rattle.facet_solver_types.specs.Tokens.{Token, tokens_view}
-use Rattle.facet_solver_types.specs.Understood.{Declaration, Declared, alias as declares_alias}
+use Rattle.facet_solver_types.specs.Understood.{Declaration, Declared, alias as declares_alias, unread}
 use Rattle.facet_solver_types.specs.WrittenTypes.{NamedType, Written, is_str, written_type, unit, enclosed, tuple as tuple_of, slice as slice_of, array as array_of, text, bytes, this, named}
 
--- what a type is outside: the one in it, one by its id, what the declaration at an index declares
--- under a name, what an alias of some parameters names, a scalar, a dynamic value, what a name
--- makes of those in it, an array with its length, a slice or a tuple
+-- what a type is outside: the one in it, one by its id, what the declaration at an index declares,
+-- which is called so, what an alias in a module names with some parameters, a scalar, a dynamic
+-- value, what a name makes of those in it, an array with its length, a slice or a tuple
 pub data Head : Type 0 where
   same : Head
   bound : Name → Head
-  declared : ℕ → Name → Head
-  alias : List Parameter → Passage → Head
+  declared : ℕ → Called → Head
+  alias : Name → List Parameter → Passage → Head
   scalar : Name → ScalarType → Head
   dynamic : Name → Head
   applied : Name → Applied → Head
@@ -53,9 +60,9 @@ pub record Layer : Type 0 where
 abbrev pub head_view : code_head.Head → Head
 head_view code_head.TheVariants.Same = same
 head_view (code_head.TheVariants.Bound id) = bound id.now
-head_view (code_head.TheVariants.Declared index name) = declared index name.now
-head_view (code_head.TheVariants.Alias parameters written) =
-    alias (parameters_view parameters.now) (passage_view written)
+head_view (code_head.TheVariants.Declared index called) = declared index (called_view called)
+head_view (code_head.TheVariants.Alias module_name parameters written) =
+    alias module_name.now (parameters_view parameters.now) (passage_view written)
 head_view (code_head.TheVariants.Scalar name kind) = scalar name.now kind
 head_view (code_head.TheVariants.Dynamic name) = dynamic name.now
 head_view (code_head.TheVariants.Applied name kind) = applied name.now kind
@@ -103,41 +110,40 @@ part_of parameter passage =
 abbrev pub parts_of : List Parameter → List Passage → List Part
 parts_of parameters types = paired part_of parameters types
 
--- what a type is outside by the name of what is declared at an index, with parameters
-abbrev pub head_by : ℕ → Name → List Parameter → Declared → Head
-head_by index name parameters (declares_alias written) = alias parameters written
-head_by index name parameters what = declared index name
+-- what a type is outside that a declaration at an index declares, which is called so
+abbrev pub head_by : ℕ → Called → Declaration → Declared → Head
+head_by index called d (declares_alias written) = alias d.module_name d.parameters written
+head_by index called d what = declared index called
 
--- what a type is outside by the name of the declaration at an index
-abbrev pub declared_head : ℕ → Declaration → Head
-declared_head index d = head_by index d.name.text d.parameters d.declared
-
--- no declaration is found
-abbrev pub none_found : Option Declaration → Result (Unit {0}) Fault
-none_found None = Ok tt
-none_found (Some other) = Err (wrong other.name.offset Twice)
-
--- no declaration of some has a name
-abbrev pub once : Name → List Declaration → Result (Unit {0}) Fault
-once name others = none_found (slice_get others (place_of name others))
-
--- no declaration behind the one at an index has a name
-abbrev pub once_behind : Name → Scope → ℕ → Result (Unit {0}) Fault
-once_behind name scope index = once name (drop (index + 1) scope.declarations)
+-- what a type is outside by the declaration at an index, where those at some have its name
+abbrev pub declared_head : List ℕ → ℕ → Declaration → Head
+declared_head namesakes index d = head_by index (called_among namesakes index d) d d.declared
 
 -- what a name takes for these parameters
 abbrev pub taken_parts : List Parameter → NamedType → Result (List Part) Fault
 taken_parts parameters n =
     and_then (taken (length parameters) n) (λ types. Ok (parts_of parameters types))
 
--- a type by the name of the declaration at an index, which no other has: alone, and with a type or
--- a value for each parameter
-abbrev pub declared_layer : Scope → NamedType → ℕ → Declaration → Result Layer Fault
-declared_layer scope n index d =
-    if n.is_path then Err (wrong n.name.offset Unknown)
-    else and_then (once_behind n.name.text scope index) (λ end.
-    and_then (taken_parts d.parameters n) (λ parts.
-    Ok (record { head = declared_head index d; parts = parts })))
+-- whether nothing is declared that could be read
+abbrev pub is_unread : Declared → Bool
+is_unread unread = true
+is_unread what = false
+
+-- whether a declaration takes all types, which are passed over: a stand-in without parameters, and
+-- one of which nothing could be read
+abbrev pub takes_all : Declaration → Bool
+takes_all d =
+    is_unread d.declared || (is_of_stand_ins d.module_name && length d.parameters == 0)
+
+-- what stands for the parameters of a declaration
+abbrev pub declared_parts : Declaration → NamedType → Result (List Part) Fault
+declared_parts d n = if takes_all d then Ok [] else taken_parts d.parameters n
+
+-- a type by the declaration at an index, where those at some have its name
+abbrev pub declared_layer : NamedType → List ℕ → ℕ → Declaration → Result Layer Fault
+declared_layer n namesakes index d =
+    and_then (declared_parts d n)
+    (λ parts. Ok (record { head = declared_head namesakes index d; parts = parts }))
 
 -- whether a `Cow` of these is known: of `str` alone
 abbrev pub is_text : List Passage → Bool
@@ -185,21 +191,60 @@ known_or_not n None = Err (wrong n.name.offset Unknown)
 abbrev pub undeclared : NamedType → Result Layer Fault
 undeclared n = known_or_not n (known_type n.name.text)
 
--- a type by a name, which the declaration at an index has, if there is one
-abbrev pub layer_by : Scope → NamedType → ℕ → Option Declaration → Result Layer Fault
-layer_by scope n index (Some declaration) = declared_layer scope n index declaration
-layer_by scope n index None = undeclared n
+-- a type by the declaration at an index, if there is one, where those at some have its name
+abbrev pub layer_of_one : NamedType → List ℕ → ℕ → Option Declaration → Result Layer Fault
+layer_of_one n namesakes index (Some d) = declared_layer n namesakes index d
+layer_of_one n namesakes index None = undeclared n
+
+-- where the name of the declaration at an index stands
+abbrev pub offset_at : List Declaration → ℕ → ℕ
+offset_at declarations index =
+    option_map_or (λ (d : Declaration). d.name.offset) (slice_get declarations index) 0
+
+-- whether a path leads to the stand-ins alone
+abbrev pub is_to_stand_ins : Origin → Bool
+is_to_stand_ins (beside module_name) = is_of_stand_ins module_name
+is_to_stand_ins origin = false
+
+-- whether a path leads into a crate whose types are known
+abbrev pub is_to_known : Origin → Bool
+is_to_known to_known = true
+is_to_known origin = false
+
+-- the fault where nothing stands in for code
+abbrev pub unsaid : ℕ → Fault
+unsaid offset = At offset (Attribute (Misused Unsupported))
+
+-- a type by a name that is declared at some indices, and means none of these
+abbrev pub none_meant : NamedType → List ℕ → Result Layer Fault
+none_meant n namesakes =
+    if is_to_stand_ins n.origin then Err (unsaid n.name.offset)
+    else (if is_to_known n.origin || length namesakes == 0 then undeclared n
+    else Err (wrong n.name.offset Unknown))
+
+-- a type by a name that is declared at some indices, and means the declarations at others: one
+abbrev pub layer_by : Scope → NamedType → List ℕ → List ℕ → Result Layer Fault
+layer_by scope n namesakes [] = none_meant n namesakes
+layer_by scope n namesakes (index ∷ []) =
+    layer_of_one n namesakes index (slice_get scope.declarations index)
+layer_by scope n namesakes (index ∷ other ∷ others) =
+    Err (wrong (offset_at scope.declarations other) Twice)
 
 -- a type by a name: of a declaration, or else of one that needs none
 abbrev pub free_layer : Scope → NamedType → Result Layer Fault
 free_layer scope n =
-    let index = place_of n.name.text scope.declarations in
-    layer_by scope n index (slice_get scope.declarations index)
+    let found = namesakes n.name.text scope.declarations in
+    layer_by scope n found (meant scope n.origin found)
+
+-- whether a path leads nowhere else
+abbrev pub is_here : Origin → Bool
+is_here here = true
+is_here origin = false
 
 -- the id for which a name alone stands as a parameter, if it does
 abbrev pub alone_id : Scope → NamedType → Option Name
 alone_id scope n =
-    if not n.is_path && length n.types == 0 then bound_id scope n.name.text else None
+    if is_here n.origin && length n.types == 0 then bound_id scope n.name.text else None
 
 -- the type of an id, if there is one, or else another
 abbrev pub bound_or : Option Name → Result Layer Fault → Result Layer Fault

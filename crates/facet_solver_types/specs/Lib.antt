@@ -32,6 +32,7 @@ pub mod CataloguedTypes
 pub mod GivenTypes
 pub mod ParsedTexts
 pub mod Pieces
+pub mod Origins
 pub mod Fields
 pub mod Bodies
 pub mod Starts
@@ -47,6 +48,7 @@ pub mod LocatedTexts
 pub mod Cases
 pub mod Literals
 pub mod Meanings
+pub mod Modules
 pub mod Entries
 pub mod AttributeEntries
 pub mod Values
@@ -79,6 +81,8 @@ pub mod Keywords
 pub mod TypeProblems
 pub mod KnownTypes
 pub mod Scopes
+pub mod Meant
+pub mod Called
 pub mod Layers
 pub mod TypeIds
 pub mod Mentions

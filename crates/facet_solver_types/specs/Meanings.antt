@@ -1,12 +1,12 @@
 -- What an attribute of serde or facet means, by its name and by what it stands on.
-use Rattle.std.specs.Prelude.{Bool, ◌||◌, if◌then◌else◌, List, [], ◌∷◌, Option, Some, option_map, codes, Result, Ok, Err}
+use Rattle.std.specs.Prelude.{Bool, ◌||◌, if◌then◌else◌, List, [], ◌∷◌, Option, Some, option_map, codes, Result, Ok}
 use Rattle.std.specs.List.{list_any}
 use Rattle.std.specs.Option.{is_some, ok_or, option_or}
 use Rattle.facet_solver_shape.specs.Names.{Name, name_eq}
 use Rattle.facet_solver_shape.specs.declared.shape.DomMark.{DomMark}
 use Rattle.facet_solver_shape.specs.declared.shape.DomMark.TheVariants as dom
 use Rattle.facet_solver_types.specs.declared.attribute.meaning.Meaning.{Meaning}
-use Rattle.facet_solver_types.specs.declared.attribute.meaning.Meaning.TheVariants.{Flatten, Default, Rename, RenameAll, RenameAllFields, Tag, Content, Untagged, Transparent, Skip, Proxy, Dom, MetadataContainer, Metadata, DenyUnknownFields, Opaque, Nothing}
+use Rattle.facet_solver_types.specs.declared.attribute.meaning.Meaning.TheVariants.{Flatten, Default, Rename, RenameAll, RenameAllFields, Tag, Content, Untagged, Transparent, Skip, Proxy, With, Dom, MetadataContainer, Metadata, DenyUnknownFields, Opaque, Nothing}
 use Rattle.facet_solver_types.specs.declared.attribute.meaning.Misuse.{Misuse}
 use Rattle.facet_solver_types.specs.declared.attribute.meaning.Misuse.TheVariants.{Unknown, Misplaced, Unsupported}
 use Rattle.facet_solver_types.specs.declared.attribute.meaning.Subject.{Subject}
@@ -26,7 +26,7 @@ is_passed_over =
     ∷ codes "auto_traits" ∷ codes "pod" ∷ codes "derive" ∷ codes "truthy"
     ∷ codes "skip_unless_truthy" ∷ codes "skip_all_unless_truthy" ∷ [])
 
--- no catalogue says what these ask, whatever they stand on
+-- no catalogue says what these ask, where they have no meaning
 abbrev pub is_unsupported : Name → Bool
 is_unsupported =
     is_among (codes "alias" ∷ codes "other" ∷ codes "with" ∷ codes "deserialize_with"
@@ -75,20 +75,23 @@ on_named_field name =
     option_or
     (said_by ((codes "flatten", Flatten) ∷ (codes "default", Default) ∷ (codes "rename", Rename)
     ∷ (codes "skip", Skip) ∷ (codes "skip_deserializing", Skip) ∷ (codes "proxy", Proxy)
-    ∷ (codes "metadata", Metadata) ∷ []) name)
+    ∷ (codes "with", With) ∷ (codes "deserialize_with", With) ∷ (codes "metadata", Metadata)
+    ∷ []) name)
     (option_map Dom (dom_mark name))
 
 -- on a field of a tuple
 abbrev pub on_tuple_field : Name → Option Meaning
 on_tuple_field =
     said_by ((codes "default", Default) ∷ (codes "skip", Skip)
-    ∷ (codes "skip_deserializing", Skip) ∷ (codes "proxy", Proxy) ∷ [])
+    ∷ (codes "skip_deserializing", Skip) ∷ (codes "proxy", Proxy) ∷ (codes "with", With)
+    ∷ (codes "deserialize_with", With) ∷ [])
 
 -- on the one field of a tuple struct: what stands for the struct is always there
 abbrev pub on_newtype_field : Name → Option Meaning
 on_newtype_field =
     said_by ((codes "default", Nothing) ∷ (codes "skip", Nothing)
-    ∷ (codes "skip_deserializing", Nothing) ∷ (codes "proxy", Proxy) ∷ [])
+    ∷ (codes "skip_deserializing", Nothing) ∷ (codes "proxy", Proxy) ∷ (codes "with", With)
+    ∷ (codes "deserialize_with", With) ∷ [])
 
 -- on a subject, but `opaque`, which is said on each
 abbrev pub on : Subject → Name → Option Meaning
@@ -113,11 +116,12 @@ has_meaning name =
 
 -- an attribute that means nothing on its subject
 abbrev pub misuse : Name → Misuse
-misuse name = if has_meaning name then Misplaced else Unknown
+misuse name =
+    if is_unsupported name then Unsupported
+    else (if has_meaning name then Misplaced else Unknown)
 
 -- what an attribute means on a subject, by its name
 abbrev pub means : Subject → Name → Result Meaning Misuse
 means subject name =
     if is_passed_over name then Ok Nothing
-    else (if is_unsupported name then Err Unsupported
-    else ok_or (meaning_on subject name) (misuse name))
+    else ok_or (meaning_on subject name) (misuse name)

@@ -71,8 +71,8 @@ applied_form made.Map ids = mapping (first ids) (second ids)
 abbrev pub form_of : Head → List Name → Option Form
 form_of layers.same ids = None
 form_of (layers.bound id) ids = None
-form_of (layers.declared index name) ids = None
-form_of (layers.alias parameters written) ids = None
+form_of (layers.declared index called) ids = None
+form_of (layers.alias module_name parameters written) ids = None
 form_of (layers.scalar name kind) ids = Some (scalar kind)
 form_of (layers.dynamic name) ids = Some dynamic
 form_of (layers.applied name kind) ids = Some (applied_form kind ids)
@@ -87,7 +87,7 @@ own_entry id (Some form) = record { id = id; form = form } ∷ []
 
 -- the use of a declaration that a type itself is, if it is one
 abbrev pub own_use : Name → Head → List Name → List Use
-own_use id (layers.declared index name) ids =
+own_use id (layers.declared index called) ids =
     record { index = index; id = id; arguments = ids } ∷ []
 own_use id head ids = []
 
@@ -130,10 +130,11 @@ with_parts rule scope inside (part ∷ others) =
     and_then (part_mention rule scope part) (λ mention.
     with_parts rule scope (with_mention inside mention) others)
 
--- where the type stands that an alias of these parameters names
-abbrev pub alias_scope : Scope → List Parameter → List Name → Scope
-alias_scope scope parameters ids = record {
+-- where the type stands that an alias in a module names with these parameters
+abbrev pub alias_scope : Scope → Name → List Parameter → List Name → Scope
+alias_scope scope module_name parameters ids = record {
   declarations = scope.declarations;
+  module_name = module_name;
   this = None;
   parameters = parameters;
   arguments = ids;
@@ -142,8 +143,8 @@ alias_scope scope parameters ids = record {
 
 -- what a type mentions, with those in it: an alias is followed
 abbrev pub followed : Rule → Scope → Head → Inside → Result Mention Fault
-followed rule scope (layers.alias parameters written) inside =
-    and_then (rule (alias_scope scope parameters inside.ids) written)
+followed rule scope (layers.alias module_name parameters written) inside =
+    and_then (rule (alias_scope scope module_name parameters inside.ids) written)
     (λ mention. Ok (behind inside mention))
 followed rule scope head inside = mention_of scope head inside
 

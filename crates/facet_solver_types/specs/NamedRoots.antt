@@ -39,6 +39,7 @@ root_tokens base root = moved base (tokens root)
 abbrev pub root_scope : List Declaration → Scope
 root_scope declarations = record {
   declarations = declarations;
+  module_name = [];
   this = None;
   parameters = [];
   arguments = [];

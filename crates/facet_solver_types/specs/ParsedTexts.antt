@@ -5,7 +5,7 @@ use Rattle.facet_solver_types.specs.declared.error.TypesError.{TypesError}
 use Rattle.facet_solver_types.specs.declared.error.TypesError.TheVariants as error
 use Rattle.facet_solver_types.specs.CataloguedTypes.{catalogue_of}
 use Rattle.facet_solver_types.specs.DeclaredEntries.{type_entries}
-use Rattle.facet_solver_types.specs.Declarations.{Item}
+use Rattle.facet_solver_types.specs.Declarations.{ModuleItem}
 use Rattle.facet_solver_types.specs.Errors.{error_view, told_of}
 use Rattle.facet_solver_types.specs.Failures.{Failure, unless_failure, unless_fault}
 use Rattle.facet_solver_types.specs.GivenTypes.{IsTold}
@@ -30,7 +30,7 @@ declared_types base root declarations =
     unless_failure (root_type declarations base root) (rooted_types declarations)
 
 -- the types that a root needs of those that items declare
-abbrev pub item_types : ℕ → Option Name → List Item → Result Types Failure
+abbrev pub item_types : ℕ → Option Name → List ModuleItem → Result Types Failure
 item_types base root items = declared_types base root (declarations items)
 
 -- the types that a root needs of those that tokens declare

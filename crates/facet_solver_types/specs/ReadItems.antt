@@ -1,6 +1,7 @@
 -- The declarations of items, with what their attributes say.
-use Rattle.std.specs.Prelude.{Bool, false, List, [], ◌∷◌, ◌++◌, Option, Some, None, Result, Ok, Err, unwrap_or}
+use Rattle.std.specs.Prelude.{Bool, false, List, [], ◌∷◌, ◌++◌, Option, Some, None, option_map, Result, Ok, Err, unwrap_or}
 use Rattle.std.specs.List.{filter_map}
+use Rattle.facet_solver_shape.specs.Names.{Name}
 use Rattle.facet_solver_types.specs.declared.attribute.meaning.Meaning.TheVariants.{DenyUnknownFields}
 use Rattle.facet_solver_types.specs.declared.attribute.meaning.Subject.TheVariants as subject
 use Rattle.facet_solver_types.specs.declared.fault.Fault.{Fault}
@@ -9,7 +10,7 @@ use Rattle.facet_solver_types.specs.declared.problem.Problem.TheVariants.{OfType
 use Rattle.facet_solver_types.specs.declared.type_problem.TypeProblem.{TypeProblem}
 use Rattle.facet_solver_types.specs.Attributes.{Attribute}
 use Rattle.facet_solver_types.specs.Declarations as items
-use Rattle.facet_solver_types.specs.Declarations.{Body, Item, Parameter, Variant}
+use Rattle.facet_solver_types.specs.Declarations.{Body, Item, ModuleItem, Parameter, Variant}
 use Rattle.facet_solver_types.specs.Derives.{has_derives, own_reading}
 use Rattle.facet_solver_types.specs.Gatherings.{Gathering}
 use Rattle.facet_solver_types.specs.Passages.{Passage}
@@ -43,6 +44,7 @@ enum_by found variants = unwrap_or (proxied_by (proxies found)) (read_enum found
 -- the declaration of a name and parameters, with attributes and their faults
 abbrev pub declaration_of : Token → List Parameter → Gathering Attribute → Stated → Declaration
 declaration_of name parameters found known = record {
+  module_name = [];
   name = name;
   parameters = parameters;
   denies_unknown = is_said DenyUnknownFields found.values;
@@ -53,6 +55,7 @@ declaration_of name parameters found known = record {
 -- the declaration of a name that isn't read, since something is wrong with it
 abbrev pub unread_declaration : Token → Fault → Declaration
 unread_declaration name fault = record {
+  module_name = [];
   name = name;
   parameters = [];
   denies_unknown = false;
@@ -91,6 +94,7 @@ enum_declaration None attributes name parameters variants =
 -- the declaration of an alias, which has no attributes that say anything
 abbrev pub alias_declaration : Token → List Parameter → Passage → Declaration
 alias_declaration name parameters written = record {
+  module_name = [];
   name = name;
   parameters = parameters;
   denies_unknown = false;
@@ -98,22 +102,32 @@ alias_declaration name parameters written = record {
   declared = alias written;
 }
 
--- the declaration of an item, if it declares something, among items of which some derive how they
--- are read, or none
-abbrev pub declaration : List Item → Bool → Item → Option Declaration
-declaration all has_derives (items.struct attributes name parameters body) =
-    Some (struct_declaration (own_reading all has_derives attributes name.text) attributes name
-    parameters body)
-declaration all has_derives (items.enum attributes name parameters variants) =
-    Some (enum_declaration (own_reading all has_derives attributes name.text) attributes name
-    parameters variants)
-declaration all has_derives (items.alias name parameters written) =
+-- the declaration of an item of a module, as if it stood in none, if it declares something, among
+-- items of which some derive how they are read, or none
+abbrev pub declaration_of_item
+    : List ModuleItem → Bool → Name → Item → Option Declaration
+declaration_of_item all has_derives module_name (items.struct attributes name parameters body) =
+    Some (struct_declaration (own_reading all has_derives module_name attributes name.text) attributes
+    name parameters body)
+declaration_of_item all has_derives module_name (items.enum attributes name parameters variants) =
+    Some (enum_declaration (own_reading all has_derives module_name attributes name.text) attributes
+    name parameters variants)
+declaration_of_item all has_derives module_name (items.alias name parameters written) =
     Some (alias_declaration name parameters written)
-declaration all has_derives (items.faulty attributes name fault) =
+declaration_of_item all has_derives module_name (items.faulty attributes name fault) =
     Some (unread_declaration name fault)
-declaration all has_derives (items.implements name) = None
-declaration all has_derives items.other = None
+declaration_of_item all has_derives module_name (items.implements name) = None
+declaration_of_item all has_derives module_name items.other = None
+
+-- a declaration, which stands in a module
+abbrev pub in_module : Name → Declaration → Declaration
+in_module module_name d = record d { module_name = module_name }
+
+-- the declaration of an item where it stands, if it declares something
+abbrev pub declaration : List ModuleItem → Bool → ModuleItem → Option Declaration
+declaration all has_derives m =
+    option_map (in_module m.module_name) (declaration_of_item all has_derives m.module_name m.item)
 
 -- the declarations of items, in order
-abbrev pub declarations : List Item → List Declaration
+abbrev pub declarations : List ModuleItem → List Declaration
 declarations all = filter_map (declaration all (has_derives all)) all

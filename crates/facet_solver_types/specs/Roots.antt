@@ -1,15 +1,18 @@
 -- The type as which documents are read, where none is named.
-use Rattle.std.specs.Prelude.{ℕ, ◌+◌, ◌==◌, ◌&&◌, ◌||◌, not, Bool, true, false, List, [], ◌∷◌, filter, length, map, slice_get, Result, Ok, Err}
-use Rattle.std.specs.List.{list_any}
+use Rattle.std.specs.Prelude.{ℕ, ◌+◌, ◌==◌, ◌&&◌, ◌||◌, not, if◌then◌else◌, Bool, true, false, List, [], ◌∷◌, filter, length, map, slice_get, Result, Ok, Err}
+use Rattle.std.specs.List.{flat_map, list_any}
 use Rattle.std.specs.Option.{option_map_or}
-use Rattle.facet_solver_shape.specs.Names.{Name}
+use Rattle.facet_solver_shape.specs.Names.{Name, name_eq}
 use Rattle.facet_solver_types.specs.Declarations.{Parameter}
 use Rattle.facet_solver_types.specs.declared.fault.Fault.{Fault}
 use Rattle.facet_solver_types.specs.declared.fault.Fault.TheVariants.{At}
 use Rattle.facet_solver_types.specs.declared.problem.Problem.TheVariants.{OfType}
 use Rattle.facet_solver_types.specs.declared.type_problem.TypeProblem.TheVariants.{Underived, OwnImpl}
 use Rattle.facet_solver_types.specs.Failures.{Failure, roots as several}
+use Rattle.facet_solver_types.specs.Called.{by_name, called_among}
+use Rattle.facet_solver_types.specs.Meant.{namesakes}
 use Rattle.facet_solver_types.specs.Mentions.{Mention}
+use Rattle.facet_solver_types.specs.Modules.{is_of_stand_ins}
 use Rattle.facet_solver_types.specs.TypeIds.{used_id}
 use Rattle.facet_solver_types.specs.Understood.{Declaration, Declared, alias}
 use Rattle.facet_solver_types.specs.UsedTypes.{use_types}
@@ -23,7 +26,7 @@ parameter_names parameters = map (λ (p : Parameter). p.name.text) parameters
 abbrev pub own_use : ℕ → Declaration → Use
 own_use index d =
     let names = parameter_names d.parameters in
-    record { index = index; id = used_id d.name.text names; arguments = names }
+    record { index = index; id = used_id (by_name d) names; arguments = names }
 
 -- likewise of declarations, the first of which has an index
 abbrev pub own_uses_from : ℕ → List Declaration → List Use
@@ -77,31 +80,65 @@ abbrev pub declares_type : Declared → Bool
 declares_type (alias written) = false
 declares_type what = true
 
--- whether a declaration may be a root
-abbrev pub may_be_root : Declaration → Bool
-may_be_root d =
-    declares_type d.declared && length d.parameters == 0 && not (is_passed_over d.faults)
+-- the name of a declaration, if it is a stand-in
+abbrev pub stand_in_name : Declaration → List Name
+stand_in_name d = if is_of_stand_ins d.module_name then d.name.text ∷ [] else []
 
--- whether a use stands by itself: its declaration may be a root, and no other mentions it
-abbrev pub stands_alone : List Declaration → List (List ℕ) → Use → Bool
-stands_alone declarations links used =
-    option_map_or (λ (d : Declaration). may_be_root d && not (is_mentioned links used.index))
+-- the names of the stand-ins among declarations
+abbrev pub stand_in_names : List Declaration → List Name
+stand_in_names declarations = flat_map stand_in_name declarations
+
+-- whether a name is one of some
+abbrev pub is_one : List Name → Name → Bool
+is_one names name = list_any (λ one. name_eq one name) names
+
+-- whether a declaration may be a root, where stand-ins have these names: none of these names
+abbrev pub may_be_root : List Name → Declaration → Bool
+may_be_root names d =
+    declares_type d.declared && length d.parameters == 0
+    && not (is_passed_over d.faults || is_one names d.name.text)
+
+-- whether a use stands by itself, where stand-ins have these names: its declaration may be a root,
+-- and no other mentions it
+abbrev pub stands_alone : List Declaration → List Name → List (List ℕ) → Use → Bool
+stands_alone declarations names links used =
+    option_map_or
+    (λ (d : Declaration). may_be_root names d && not (is_mentioned links used.index))
     (slice_get declarations used.index) false
 
 -- those of some uses that stand by themselves
-abbrev pub roots : List Declaration → List (List ℕ) → List Use → List Use
-roots declarations links uses = filter (stands_alone declarations links) uses
+abbrev pub roots : List Declaration → List Name → List (List ℕ) → List Use → List Use
+roots declarations names links uses = filter (stands_alone declarations names links) uses
 
 -- the ids of uses
 abbrev pub ids : List Use → List Name
 ids uses = map (λ (u : Use). u.id) uses
 
+-- the id of a use of a declaration, as that is called among all
+abbrev pub id_among : List Declaration → Use → Declaration → Name
+id_among declarations used d =
+    used_id (called_among (namesakes d.name.text declarations) used.index d) used.arguments
+
+-- the id of a use, as its declaration is called among all
+abbrev pub called_id : List Declaration → Use → Name
+called_id declarations used =
+    option_map_or (λ (d : Declaration). id_among declarations used d)
+    (slice_get declarations used.index) []
+
+-- a use as a type, as its declaration is called among all
+abbrev pub root_mention : List Declaration → Use → Mention
+root_mention declarations used =
+    let id = called_id declarations used in
+    record { id = id; entries = []; uses = record used { id = id } ∷ [] }
+
 -- the only one of some uses, as the type that it is
-abbrev pub only : List Use → Result Mention Failure
-only (used ∷ []) = Ok (record { id = used.id; entries = []; uses = used ∷ [] })
-only uses = Err (several (ids uses))
+abbrev pub only : List Declaration → List Use → Result Mention Failure
+only declarations (used ∷ []) = Ok (root_mention declarations used)
+only declarations uses = Err (several (ids uses))
 
 -- the only struct or enum without parameters that no other mentions
 abbrev pub only_root : List Declaration → Result Mention Failure
 only_root declarations =
-    let uses = own_uses declarations in only (roots declarations (links declarations uses) uses)
+    let uses = own_uses declarations in
+    let names = stand_in_names declarations in
+    only declarations (roots declarations names (links declarations uses) uses)

@@ -13,11 +13,12 @@ use Rattle.facet_solver_types.specs.declared.type_problem.TypeProblem.TheVariant
 use Rattle.facet_solver_types.specs.declared.typing.scope.Scope as declared
 use Rattle.facet_solver_types.specs.Understood.{Declaration, declaration_view, declarations_view}
 
--- where a type stands: all declarations, the id for which `Self` stands, if it does, the parameters
--- that the type can name, the ids for which these stand, and where the whole type begins of which
--- it is a part
+-- where a type stands: all declarations, the name of its module, the id for which `Self` stands, if
+-- it does, the parameters that the type can name, the ids for which these stand, and where the
+-- whole type begins of which it is a part
 pub record Scope : Type 0 where
   pub declarations : List Declaration
+  pub module_name : Name
   pub this : Option Name
   pub parameters : List Parameter
   pub arguments : List Name
@@ -35,16 +36,12 @@ declared_view declaration = declaration_view declaration.now
 abbrev pub scope_view : declared.Scope → Scope
 scope_view scope = record {
   declarations = declarations_view scope.declarations.now;
+  module_name = scope.module_name.now;
   this = option_map str_view scope.this;
   parameters = parameters_view scope.parameters.now;
   arguments = map string_bytes scope.arguments.now;
   begin = scope.begin;
 }
-
--- the place of the first declaration of a name, or the number of declarations
-abbrev pub place_of : Name → List Declaration → ℕ
-place_of name declarations =
-    position_or_len (λ (d : Declaration). name_eq d.name.text name) declarations
 
 -- whether a parameter is a type of this name
 abbrev pub binds : Name → Parameter → Bool

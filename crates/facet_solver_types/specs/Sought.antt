@@ -5,7 +5,7 @@ use Rattle.facet_solver_shape.specs.Names.{Name}
 use Rattle.facet_solver_shape.specs.declared.shape.DomMark.{DomMark}
 use Rattle.facet_solver_shape.specs.declared.shape.DomMark.TheVariants as dom
 use Rattle.facet_solver_types.specs.declared.attribute.meaning.Meaning.{Meaning}
-use Rattle.facet_solver_types.specs.declared.attribute.meaning.Meaning.TheVariants.{Flatten, Default, Rename, RenameAll, RenameAllFields, Tag, Content, Untagged, Transparent, Skip, Proxy, Dom, MetadataContainer, Metadata, DenyUnknownFields, Opaque, Nothing}
+use Rattle.facet_solver_types.specs.declared.attribute.meaning.Meaning.TheVariants.{Flatten, Default, Rename, RenameAll, RenameAllFields, Tag, Content, Untagged, Transparent, Skip, Proxy, With, Dom, MetadataContainer, Metadata, DenyUnknownFields, Opaque, Nothing}
 use Rattle.facet_solver_types.specs.declared.case.Case.{Case}
 use Rattle.facet_solver_types.specs.Attributes.{Attribute}
 use Rattle.facet_solver_types.specs.AttributeTexts.{text_of}
@@ -26,6 +26,7 @@ is_same Untagged Untagged = true
 is_same Transparent Transparent = true
 is_same Skip Skip = true
 is_same Proxy Proxy = true
+is_same With With = true
 is_same (Dom one) (Dom other) = true
 is_same MetadataContainer MetadataContainer = true
 is_same Metadata Metadata = true

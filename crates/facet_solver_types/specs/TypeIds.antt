@@ -1,8 +1,9 @@
 -- The ids of types: as they are written, where aliases and parameters are followed, and lifetimes
 -- and paths dropped.
-use Rattle.std.specs.Prelude.{◌==◌, if◌then◌else◌, List, [], ◌∷◌, ◌++◌, length, codes}
+use Rattle.std.specs.Prelude.{◌==◌, if◌then◌else◌, List, [], ◌∷◌, ◌++◌, Option, Some, None, length, codes}
 use Rattle.std.specs.List.{flat_map}
 use Rattle.facet_solver_shape.specs.Names.{Name}
+use Rattle.facet_solver_types.specs.Called.{Called}
 use Rattle.facet_solver_types.specs.Layers.{Head, same, bound, declared, alias, scalar, dynamic, applied, array, slice, tuple}
 use Rattle.facet_solver_types.specs.PrintedTexts as printed
 use Rattle.facet_solver_types.specs.Tokens.{Token}
@@ -43,21 +44,30 @@ tuple_end ids = if length ids == 1 then codes ",)" else codes ")"
 abbrev pub applied_id : Name → List Name → Name
 applied_id name ids = name ++ (codes "<" ++ (joined ids ++ codes ">"))
 
--- the id of a declared type without parameters: its name, raw where it is a keyword
-abbrev pub declared_id : Name → Name
-declared_id = printed.declared
+-- what a module is called
+abbrev pub module_id : Name → Name
+module_id module_name = if length module_name == 0 then codes "crate" else module_name
+
+-- what is called by its name in a module
+abbrev pub id_in : Option Name → Name → Name
+id_in None name = name
+id_in (Some module_name) name = module_id module_name ++ (codes "::" ++ name)
+
+-- the id of a declared type without parameters: its name, raw where it is a keyword, and in its
+-- module where that is to be told
+abbrev pub declared_id : Called → Name
+declared_id c = id_in c.module_name (printed.declared c.name)
 
 -- the id of a declared type, with the ids of the types that it takes
-abbrev pub used_id : Name → List Name → Name
-used_id name ids =
-    if length ids == 0 then declared_id name else applied_id (declared_id name) ids
+abbrev pub used_id : Called → List Name → Name
+used_id c ids = if length ids == 0 then declared_id c else applied_id (declared_id c) ids
 
 -- the id of a type, by those of the types in it
 abbrev pub id_of : Head → List Name → Name
 id_of same ids = first ids
 id_of (bound id) ids = id
-id_of (declared index name) ids = used_id name ids
-id_of (alias parameters written) ids = first ids
+id_of (declared index called) ids = used_id called ids
+id_of (alias module_name parameters written) ids = first ids
 id_of (scalar name kind) ids = name
 id_of (dynamic name) ids = name
 id_of (applied name kind) ids = applied_id name ids

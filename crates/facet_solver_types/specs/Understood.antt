@@ -106,9 +106,11 @@ declared_view (Proxied proxies) = proxied (map proxy_view proxies.items)
 declared_view (Alias passage) = alias (passage_view passage)
 declared_view Unread = unread
 
--- a declaration of a type: its name, its parameters, whether it denies unknown members, what is
--- wrong with its attributes, fields and variants, and what it declares
+-- a declaration of a type: the name of the module that it stands in, or nothing, its name, its
+-- parameters, whether it denies unknown members, what is wrong with its attributes, fields and
+-- variants, and what it declares
 pub record Declaration : Type 0 where
+  pub module_name : Name
   pub name : Token
   pub parameters : List Parameter
   pub denies_unknown : Bool
@@ -118,6 +120,7 @@ pub record Declaration : Type 0 where
 -- what is seen of a declaration
 abbrev pub declaration_view : declaration.Declaration → Declaration
 declaration_view d = record {
+  module_name = d.module_name.now;
   name = token_view d.name;
   parameters = parameters_view d.parameters.items;
   denies_unknown = d.denies_unknown;

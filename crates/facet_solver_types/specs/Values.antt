@@ -35,6 +35,7 @@ form_of means.RenameAllFields = form.Names
 form_of means.Tag = form.Text
 form_of means.Content = form.Text
 form_of means.Proxy = form.Type
+form_of means.With = form.Text
 form_of means.Metadata = form.Value
 form_of means.Nothing = form.Anything
 form_of meaning = form.Nothing

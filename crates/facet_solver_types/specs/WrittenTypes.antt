@@ -1,5 +1,5 @@
 -- Types as they are written: what a type is outside, and the types in it.
-use Rattle.std.specs.Prelude.{ℕ, Bool, false, not, ◌||◌, ◌&&◌, ◌+◌, ◌-◌, ◌==◌, nat_lt, suc, if◌then◌else◌, List, [], ◌∷◌, codes, drop, length, map, Result, Ok, Err}
+use Rattle.std.specs.Prelude.{ℕ, Bool, false, ◌||◌, ◌&&◌, ◌+◌, ◌-◌, ◌==◌, suc, if◌then◌else◌, List, [], ◌∷◌, codes, drop, length, map, Result, Ok, Err}
 use Rattle.std.specs.Str.{bytes_eq}
 use Rattle.facet_solver_types.specs.Ascii as ascii
 use Rattle.facet_solver_types.specs.declared.fault.Fault.{Fault}
@@ -14,16 +14,16 @@ use Rattle.facet_solver_types.specs.declared.token.Bracket.TheVariants.{Round, S
 use Rattle.facet_solver_types.specs.Entries.{is_entry_word, is_over}
 use Rattle.facet_solver_types.specs.FirstTokens.{is_lifetime, is_name, is_open, is_path, sees_mark, sees_open, sees_path, sees_word}
 use Rattle.facet_solver_types.specs.Inside.{inside}
+use Rattle.facet_solver_types.specs.Origins.{Origin, origin_of, origin_view}
 use Rattle.facet_solver_types.specs.Passages.{Passage, after, passage_view, unexpected, up_to}
 use Rattle.facet_solver_types.specs.Pieces.{and_then, pieces}
 use Rattle.facet_solver_types.specs.Runs.{group_len, run_len}
 use Rattle.facet_solver_types.specs.Tokens.{Token, token_view, tokens_view}
 
--- a type by a name: the last part of its path, whether others stand before it that do not begin in
--- the crate of the text, and the types in it
+-- a type by a name: the last part of its path, where the path before it leads, and the types in it
 pub record NamedType : Type 0 where
   pub name : Token
-  pub is_path : Bool
+  pub origin : Origin
   pub types : List Passage
 
 -- a type: `()`, `(T)` or `&T`, a tuple, `[T]`, `[T; length]`, `&str`, `&[u8]`, `Self`, or one by a
@@ -47,7 +47,7 @@ passages_view passages = map passage_view passages
 abbrev pub named_view : code_named.NamedType → NamedType
 named_view n = record {
   name = token_view n.name;
-  is_path = n.is_path;
+  origin = origin_view n.origin;
   types = passages_view n.types.items;
 }
 
@@ -168,12 +168,6 @@ type_name_of (token ∷ tokens) end =
 abbrev pub type_name : Passage → Result Token Fault
 type_name passage = type_name_of passage.tokens passage.end
 
--- whether a path begins in the crate of the text
-abbrev pub is_own : List Token → Bool
-is_own tokens =
-    sees_word (codes "crate") tokens || sees_word (codes "self") tokens
-    || sees_word (codes "super") tokens
-
 -- a type by a name, whose path's front is so long
 abbrev pub named_after : ℕ → Passage → Result Written Fault
 named_after front passage =
@@ -182,7 +176,7 @@ named_after front passage =
     and_then (types_after (after 1 rest)) (λ types.
     Ok (named (record {
       name = name;
-      is_path = nat_lt 0 front && not (is_own passage.tokens);
+      origin = origin_of front passage.tokens;
       types = types;
     }))))
 

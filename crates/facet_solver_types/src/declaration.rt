@@ -108,6 +108,8 @@ pub(crate) enum Declared<'s, 't> {
 /// A declaration of a type.
 #[derive(Drop)]
 pub(crate) struct Declaration<'s, 't> {
+    /// The name of the module that it stands in, or nothing where it stands in none.
+    pub(crate) module_name: &'t str,
     /// Its name.
     pub(crate) name: Token<'t>,
     /// Its type and const parameters.

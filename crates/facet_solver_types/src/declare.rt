@@ -28,7 +28,8 @@ use crate::declaration::{Declaration, Declared};
 use crate::fault::Fault;
 use crate::gathering::Gathering;
 use crate::item::{
-    AliasDeclaration, Body, EnumDeclaration, Item, Parameter, StructDeclaration, VariantDeclaration,
+    AliasDeclaration, Body, EnumDeclaration, Item, ModuleItem, Parameter, StructDeclaration,
+    VariantDeclaration,
 };
 use crate::problem::Problem;
 use crate::token::Token;
@@ -136,6 +137,7 @@ fn declaration_of<'s, 't>(
     let mut faults = found.faults;
     faults.append(&mut others)?;
     Ok(Declaration {
+        module_name: "",
         name,
         parameters: copied(alloc, parameters)?,
         denies_unknown: is_said(Meaning::DenyUnknownFields, &found.values),
@@ -154,6 +156,7 @@ fn unread<'s, 't>(
         ≡ read.unread_declaration (token_view name.entry) fault) }
 {
     Ok(Declaration {
+        module_name: "",
         name,
         parameters: Vec::new(alloc),
         denies_unknown: false,
@@ -227,6 +230,7 @@ fn alias_declaration<'s, 't>(
         (passage_view item.now.written)) }
 {
     Ok(Declaration {
+        module_name: "",
         name: item.name,
         parameters: copied(alloc, &item.parameters)?,
         denies_unknown: false,
@@ -235,30 +239,61 @@ fn alias_declaration<'s, 't>(
     })
 }
 
-/// The declaration of an item, if it declares something, among items of which some derive how they
-/// are read, or none.
-fn declaration<'s, 't>(
+/// The declaration of an item of a module, as if it stood in none, if it declares something, among
+/// items of which some derive how they are read, or none.
+fn declaration_of_item<'s, 't>(
     alloc: Global,
-    items: &[Item<'s, 't>],
+    items: &[ModuleItem<'s, 't>],
     has_derives: bool,
+    module_name: &str,
     item: &Item<'s, 't>,
 ) -> Result<Option<Declaration<'s, 't>>, AllocError>
     ensures { IfOk result (λ made. option_map declaration_view made
-        ≡ read.declaration (written.items_view items.now) has_derives
+        ≡ read.declaration_of_item (written.items_view items.now) has_derives module_name.now
         (written.item_view item.now)) }
 {
     match item {
         Item::Struct(item) => {
-            let problem = own_reading(items, has_derives, item.attributes, item.name.text);
+            let name = item.name.text;
+            let problem = own_reading(items, has_derives, module_name, item.attributes, name);
             Ok(Some(struct_declaration(alloc, problem, item)?))
         }
         Item::Enum(item) => {
-            let problem = own_reading(items, has_derives, item.attributes, item.name.text);
+            let name = item.name.text;
+            let problem = own_reading(items, has_derives, module_name, item.attributes, name);
             Ok(Some(enum_declaration(alloc, problem, item)?))
         }
         Item::Alias(item) => Ok(Some(alias_declaration(alloc, item)?)),
         Item::Faulty(item) => Ok(Some(unread(alloc, item.name, item.fault)?)),
         Item::Impl(_) | Item::Other => Ok(None),
+    }
+}
+
+/// A declaration, which stands in a module.
+fn in_module<'s, 't>(module_name: &'t str, declaration: Declaration<'s, 't>) -> Declaration<'s, 't>
+    ensures { declaration_view result
+        ≡ read.in_module module_name.now (declaration_view declaration.entry) }
+{
+    Declaration {
+        module_name,
+        ..declaration
+    }
+}
+
+/// The declaration of an item where it stands, if it declares something.
+fn declaration<'s, 't>(
+    alloc: Global,
+    items: &[ModuleItem<'s, 't>],
+    has_derives: bool,
+    item: &ModuleItem<'s, 't>,
+) -> Result<Option<Declaration<'s, 't>>, AllocError>
+    ensures { IfOk result (λ made. option_map declaration_view made
+        ≡ read.declaration (written.items_view items.now) has_derives
+        (written.module_item_view item.now)) }
+{
+    match declaration_of_item(alloc, items, has_derives, item.module_name, &item.item)? {
+        Some(made) => Ok(Some(in_module(item.module_name, made))),
+        None => Ok(None),
     }
 }
 
@@ -269,7 +304,7 @@ fn declaration<'s, 't>(
 /// The only error is out of memory.
 pub(crate) fn declarations<'s, 't>(
     alloc: Global,
-    items: &[Item<'s, 't>],
+    items: &[ModuleItem<'s, 't>],
 ) -> Result<Vec<Declaration<'s, 't>>, AllocError>
     ensures { IfOk result (λ found. declarations_view found.items
         ≡ read.declarations (written.items_view items.now)) }

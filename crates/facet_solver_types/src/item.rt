@@ -94,3 +94,11 @@ pub(crate) enum Item<'s, 't> {
     /// One that declares no type: it is passed over.
     Other,
 }
+
+/// An item, and where it stands.
+#[derive(Drop)]
+pub(crate) struct ModuleItem<'s, 't> {
+    /// The name of the innermost module around it, or nothing where it stands in none.
+    pub(crate) module_name: &'t str,
+    pub(crate) item: Item<'s, 't>,
+}

@@ -22,6 +22,7 @@ mod keyword;
 pub mod laws;
 mod literal;
 mod located;
+mod modules;
 mod parsed;
 mod passage;
 mod place;

@@ -1,10 +1,12 @@
 //! From declarations to types by their ids.
 
+mod called;
 mod entries;
 mod field_types;
 mod id;
 mod known;
 mod layer;
+mod meant;
 mod mention;
 mod named;
 mod root;

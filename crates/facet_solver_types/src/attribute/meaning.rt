@@ -48,6 +48,8 @@ pub(crate) enum Meaning {
     Skip,
     /// Read as another type.
     Proxy,
+    /// Read by code: as the type that stands in for it.
+    With,
     /// What it is in a tree of elements.
     Dom(DomMark),
     /// The struct holds a value and metadata of it.
@@ -80,11 +82,9 @@ pub(crate) fn means(subject: Subject, name: &str) -> Result<Meaning, Misuse>
     if is_passed_over(name) {
         return Ok(Meaning::Nothing);
     }
-    if is_unsupported(name) {
-        return Err(Misuse::Unsupported);
-    }
     match meaning_on(subject, name) {
         Some(meaning) => Ok(meaning),
+        None if is_unsupported(name) => Err(Misuse::Unsupported),
         None if has_meaning(name) => Err(Misuse::Misplaced),
         None => Err(Misuse::Unknown),
     }
@@ -183,6 +183,7 @@ fn on_named_field(name: &str) -> Option<Meaning>
         "rename" => Some(Meaning::Rename),
         "skip" | "skip_deserializing" => Some(Meaning::Skip),
         "proxy" => Some(Meaning::Proxy),
+        "with" | "deserialize_with" => Some(Meaning::With),
         "metadata" => Some(Meaning::Metadata),
         _ => dom_mark(name).map(|mark| Meaning::Dom(mark)),
     }
@@ -196,6 +197,7 @@ fn on_tuple_field(name: &str) -> Option<Meaning>
         "default" => Some(Meaning::Default),
         "skip" | "skip_deserializing" => Some(Meaning::Skip),
         "proxy" => Some(Meaning::Proxy),
+        "with" | "deserialize_with" => Some(Meaning::With),
         _ => None,
     }
 }
@@ -207,6 +209,7 @@ fn on_newtype_field(name: &str) -> Option<Meaning>
     match name {
         "default" | "skip" | "skip_deserializing" => Some(Meaning::Nothing),
         "proxy" => Some(Meaning::Proxy),
+        "with" | "deserialize_with" => Some(Meaning::With),
         _ => None,
     }
 }
@@ -238,7 +241,7 @@ fn is_passed_over(name: &str) -> bool
     }
 }
 
-/// Whether no catalogue says what it asks, whatever it stands on.
+/// Whether no catalogue says what it asks, where it has no meaning.
 fn is_unsupported(name: &str) -> bool
     ensures { result ≡ meanings.is_unsupported name.now }
 {

@@ -50,7 +50,7 @@ pub(crate) fn form_of(meaning: Meaning) -> Form
     match meaning {
         Meaning::Default => Form::Default,
         Meaning::Rename | Meaning::RenameAll | Meaning::RenameAllFields => Form::Names,
-        Meaning::Tag | Meaning::Content => Form::Text,
+        Meaning::Tag | Meaning::Content | Meaning::With => Form::Text,
         Meaning::Proxy => Form::Type,
         Meaning::Metadata => Form::Value,
         Meaning::Nothing => Form::Anything,

@@ -5,7 +5,8 @@ ghost use Rattle.facet_solver_types.specs.Derives as derives;
 ghost use Rattle.facet_solver_types.specs.Tokens.{token_view, tokens_view};
 
 use crate::grammar::{is_close, is_mark, is_name, is_named, sees_path};
-use crate::item::Item;
+use crate::item::{Item, ModuleItem};
+use crate::modules::is_of_stand_ins;
 use crate::token::{Token, TokenKind};
 use crate::type_problem::TypeProblem;
 
@@ -134,12 +135,19 @@ fn attributes_of<'s, 't>(item: &Item<'s, 't>) -> &'s [Token<'t>]
     }
 }
 
-/// Whether some item derives that it is read as it is declared.
-pub(super) fn has_derives(items: &[Item<'_, '_>]) -> bool
+/// Whether an item derives that it is read as it is declared, and is no stand-in.
+fn is_derived(item: &ModuleItem<'_, '_>) -> bool
+    ensures { result ≡ derives.is_derived (written.module_item_view item.now) }
+{
+    !is_of_stand_ins(item.module_name) && derives(Derive::Reading, attributes_of(&item.item))
+}
+
+/// Whether some item derives that it is read as it is declared, and is no stand-in.
+pub(super) fn has_derives(items: &[ModuleItem<'_, '_>]) -> bool
     ensures { result ≡ derives.has_derives (written.items_view items.now) }
 {
     for item in items {
-        if derives(Derive::Reading, attributes_of(item)) {
+        if is_derived(item) {
             return true;
         }
     }
@@ -157,29 +165,30 @@ fn is_impl(name: &str, item: &Item<'_, '_>) -> bool
 }
 
 /// Whether one of some items is such an impl.
-fn has_impl(name: &str, items: &[Item<'_, '_>]) -> bool
+fn has_impl(name: &str, items: &[ModuleItem<'_, '_>]) -> bool
     ensures { result ≡ derives.has_impl name.now (written.items_view items.now) }
 {
     for item in items {
-        if is_impl(name, item) {
+        if is_impl(name, &item.item) {
             return true;
         }
     }
     false
 }
 
-/// Why a struct or an enum of a name and with attributes isn't read as it is declared, among items
-/// of which some derive that, or none.
+/// Why a struct or an enum of a module, with attributes and a name, isn't read as it is declared,
+/// among items of which some derive that, or none.
 pub(super) fn own_reading(
-    items: &[Item<'_, '_>],
+    items: &[ModuleItem<'_, '_>],
     has_derives: bool,
+    module_name: &str,
     attributes: &[Token<'_>],
     name: &str,
 ) -> Option<TypeProblem>
     ensures { result ≡ derives.own_reading (written.items_view items.now) has_derives
-        (tokens_view attributes.now) name.now }
+        module_name.now (tokens_view attributes.now) name.now }
 {
-    if derives(Derive::Reading, attributes) {
+    if is_of_stand_ins(module_name) || derives(Derive::Reading, attributes) {
         return None;
     }
     if derives(Derive::OtherReading, attributes) || has_impl(name, items) {

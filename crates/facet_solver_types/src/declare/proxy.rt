@@ -10,9 +10,10 @@ ghost use Rattle.facet_solver_types.specs.Understood.{proxy_view, said_type_view
 
 use super::gather::add;
 use super::said::refused;
-use crate::attribute::{Attribute, Form, Refusal, Value, only_text};
+use crate::attribute::{Attribute, Form, Meaning, Refusal, Value, only_text};
 use crate::declaration::{Proxy, SaidType};
 use crate::fault::Fault;
+use crate::modules::STAND_INS;
 use crate::passage::Passage;
 use crate::token::{Token, TokenKind};
 use crate::tokens::tokens;
@@ -115,18 +116,50 @@ fn said_type<'s, 't>(
     }
 }
 
-/// The proxy that an attribute is, if it says a type.
+/// The type that stands in for code, which a text names at an offset: by the last name of its path.
+///
+/// Errors: those of tokens, at that offset; out of memory.
+fn stand_in<'s, 't>(
+    alloc: Global,
+    offset: usize,
+    token: Token<'t>,
+) -> Result<SaidType<'s, 't>, Fault>
+    ensures { Gives said_type_view (proxies.stand_in offset (token_view token.entry)) result }
+{
+    let found = placed_tokens(alloc, offset, token.text)?;
+    let mut tokens = Vec::new(alloc);
+    tokens.push(Token {
+        offset,
+        kind: TokenKind::Name,
+        text: STAND_INS,
+    })?;
+    tokens.push(Token {
+        offset,
+        kind: TokenKind::PathMark,
+        text: "::",
+    })?;
+    if let Some(last) = found.last() {
+        tokens.push(*last)?;
+    }
+    Ok(SaidType::Quoted {
+        tokens,
+        place: offset,
+    })
+}
+
+/// The proxy that an attribute is, if it says a type or is read by code.
 fn proxy<'s, 't>(
     alloc: Global,
     attribute: &Attribute<'s, 't>,
 ) -> Result<Option<Proxy<'s, 't>>, Fault>
     ensures { Gives (option_map proxy_view) (proxies.proxy (attribute_view attribute.now)) result }
 {
-    let Value::Type(passage) = attribute.value else {
-        return Ok(None);
-    };
     let offset = attribute.offset;
-    let said = said_type(alloc, offset, passage)?;
+    let said = match (attribute.meaning, attribute.value) {
+        (_, Value::Type(passage)) => said_type(alloc, offset, passage)?,
+        (Meaning::With, Value::Text(token)) => stand_in(alloc, offset, token)?,
+        _ => return Ok(None),
+    };
     Ok(Some(Proxy { offset, said }))
 }
 

@@ -29,6 +29,7 @@ fn is_same(one: Meaning, other: Meaning) -> bool
         Meaning::Transparent => matches!(other, Meaning::Transparent),
         Meaning::Skip => matches!(other, Meaning::Skip),
         Meaning::Proxy => matches!(other, Meaning::Proxy),
+        Meaning::With => matches!(other, Meaning::With),
         Meaning::Dom(_) => matches!(other, Meaning::Dom(_)),
         Meaning::MetadataContainer => matches!(other, Meaning::MetadataContainer),
         Meaning::Metadata => matches!(other, Meaning::Metadata),

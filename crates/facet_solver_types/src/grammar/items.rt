@@ -17,7 +17,7 @@ use super::prefixes::attributes_len;
 use super::run::{Run, group_len, run_len};
 use super::starts::{Start, named_call_len, piece_len, qualifiers_len, start_of};
 use crate::fault::Fault;
-use crate::item::Item;
+use crate::item::{Item, ModuleItem};
 use crate::passage::Passage;
 use crate::problem::Expected;
 use crate::token::{Bracket, Token};
@@ -172,7 +172,7 @@ fn piece<'s, 't>(
 pub(crate) fn items<'s, 't>(
     alloc: Global,
     passage: Passage<'s, 't>,
-) -> Result<Vec<Item<'s, 't>>, Fault>
+) -> Result<Vec<ModuleItem<'s, 't>>, Fault>
     ensures { Gives (λ found. items_view found.items) (items (passage_view passage.entry)) result }
 {
     let mut found = Vec::new(alloc);

@@ -4,13 +4,14 @@ ghost use Rattle.facet_solver_types.specs.Outcomes.{Gives};
 ghost use Rattle.facet_solver_types.specs.Passages.{passage_view};
 ghost use Rattle.facet_solver_types.specs.Pieces.{pieces};
 ghost use Rattle.facet_solver_types.specs.Tokens.{token_view, tokens_view};
-ghost use Rattle.facet_solver_types.specs.WrittenTypes.{front_len, goes_on, has_angles, held_by, in_angles, in_round, in_square, is_bytes, is_lifetime_alone, is_own, is_str, lifetime_len, named_after, passages_view, path_type, reference, referred, sees_lifetime, this_type, type_name, types_after, without_lifetimes, written_type, written_view};
+ghost use Rattle.facet_solver_types.specs.WrittenTypes.{front_len, goes_on, has_angles, held_by, in_angles, in_round, in_square, is_bytes, is_lifetime_alone, is_str, lifetime_len, named_after, passages_view, path_type, reference, referred, sees_lifetime, this_type, type_name, types_after, without_lifetimes, written_type, written_view};
 
 use super::entry::is_entry_word;
 use super::first::{
     is_lifetime, is_name, is_open, is_path, sees_mark, sees_open, sees_path, sees_word,
 };
 use super::inside::inside;
+use super::origin::{Origin, origin_of};
 use super::run::{Run, group_len, run_len};
 use crate::fault::Fault;
 use crate::passage::Passage;
@@ -23,8 +24,8 @@ use std::alloc::{AllocError, Global};
 pub(crate) struct NamedType<'s, 't> {
     /// The last part of its path.
     pub(crate) name: Token<'t>,
-    /// Whether other parts stand before it, and the first is none of `crate`, `self` and `super`.
-    pub(crate) is_path: bool,
+    /// Where the path before it leads.
+    pub(crate) origin: Origin<'t>,
     /// The types in `<` and `>`.
     pub(crate) types: Vec<Passage<'s, 't>>,
 }
@@ -279,13 +280,6 @@ fn type_name<'t>(passage: Passage<'_, 't>) -> Result<Token<'t>, Fault>
     }
 }
 
-/// Whether a path begins in the crate of the text.
-fn is_own(tokens: &[Token<'_>]) -> bool
-    ensures { result ≡ is_own (tokens_view tokens.now) }
-{
-    sees_word("crate", tokens) || sees_word("self", tokens) || sees_word("super", tokens)
-}
-
 /// A type by a name, whose path's front is so long.
 fn named_after<'s, 't>(
     alloc: Global,
@@ -300,7 +294,7 @@ fn named_after<'s, 't>(
     let types = types_after(alloc, rest.after(1))?;
     Ok(Written::Named(NamedType {
         name,
-        is_path: front > 0 && !is_own(passage.tokens),
+        origin: origin_of(front, passage.tokens),
         types,
     }))
 }

@@ -14,7 +14,7 @@ use crate::declaration::Declaration;
 use crate::declare::declarations;
 use crate::failure::Failure;
 use crate::grammar::items;
-use crate::item::Item;
+use crate::item::ModuleItem;
 use crate::passage::Passage;
 use crate::tokens::tokens;
 use crate::typing::{Mention, root_type, type_entries};
@@ -51,7 +51,7 @@ fn declared_types(
 /// The types that a root needs of those that items declare.
 fn item_types(
     alloc: Global,
-    items: &[Item<'_, '_>],
+    items: &[ModuleItem<'_, '_>],
     base: usize,
     root: Option<&str>,
 ) -> Result<Types, Failure>

@@ -2,10 +2,12 @@
 //! and paths dropped.
 ghost use Rattle.std.specs.Prelude.{◌≡◌, IfOk, map};
 ghost use Rattle.std.specs.String.{string_bytes};
+ghost use Rattle.facet_solver_types.specs.Called.{called_view};
 ghost use Rattle.facet_solver_types.specs.Layers.{head_view};
 ghost use Rattle.facet_solver_types.specs.Tokens.{tokens_view};
 ghost use Rattle.facet_solver_types.specs.TypeIds as type_ids;
 
+use super::called::Called;
 use super::layer::Head;
 use crate::display::DeclaredName;
 use crate::token::Token;
@@ -78,7 +80,7 @@ pub(super) fn id_of(alloc: Global, head: Head<'_, '_>, ids: &[String]) -> Result
     match head {
         Head::Same | Head::Alias(..) => String::from_str(alloc, first(ids)),
         Head::Bound(id) => String::from_str(alloc, id),
-        Head::Declared(_, name) => used_id(alloc, name, ids),
+        Head::Declared(_, called) => used_id(alloc, called, ids),
         Head::Scalar(name, _) => String::from_str(alloc, name),
         Head::Dynamic(name) => String::from_str(alloc, name),
         Head::Applied(name, _) => applied_id(alloc, name, ids),
@@ -108,19 +110,42 @@ fn applied_id(alloc: Global, name: &str, ids: &[String]) -> Result<String, Alloc
     format!(in alloc; "{name}<{inside}>")
 }
 
-/// The id of a declared type without parameters.
-fn declared_id(alloc: Global, name: &str) -> Result<String, AllocError>
-    ensures { IfOk result (λ id. string_bytes id ≡ type_ids.declared_id name.now) }
+/// What a module is called.
+fn module_id(module_name: &str) -> &str
+    ensures { result.now ≡ type_ids.module_id module_name.now }
 {
-    DeclaredName(name).to_string(alloc)
+    if module_name.is_empty() {
+        "crate"
+    } else {
+        module_name
+    }
+}
+
+/// The id of a declared type without parameters.
+fn declared_id(alloc: Global, called: Called<'_>) -> Result<String, AllocError>
+    ensures { IfOk result (λ id. string_bytes id
+        ≡ type_ids.declared_id (called_view called.entry)) }
+{
+    let name = DeclaredName(called.name);
+    match called.module_name {
+        None => name.to_string(alloc),
+        Some(module_name) => {
+            let module_name = module_id(module_name);
+            format!(in alloc; "{module_name}::{name}")
+        }
+    }
 }
 
 /// The id of a declared type, with the ids of the types that it takes.
-pub(super) fn used_id(alloc: Global, name: &str, ids: &[String]) -> Result<String, AllocError>
+pub(super) fn used_id(
+    alloc: Global,
+    called: Called<'_>,
+    ids: &[String],
+) -> Result<String, AllocError>
     ensures { IfOk result (λ id. string_bytes id
-        ≡ type_ids.used_id name.now (map string_bytes ids.now)) }
+        ≡ type_ids.used_id (called_view called.entry) (map string_bytes ids.now)) }
 {
-    let id = declared_id(alloc, name)?;
+    let id = declared_id(alloc, called)?;
     if ids.is_empty() {
         return Ok(id);
     }

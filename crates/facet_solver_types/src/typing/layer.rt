@@ -3,6 +3,7 @@ ghost use Rattle.std.specs.Prelude.{◌≡◌, ◌<◌, IfOk, map, length, optio
 ghost use Rattle.facet_solver_types.specs.Declarations.{parameter_view, parameters_view};
 ghost use Rattle.facet_solver_types.specs.Layers as layers;
 ghost use Rattle.facet_solver_types.specs.Layers.{layer_view, part_view};
+ghost use Rattle.facet_solver_types.specs.Origins.{origin_view};
 ghost use Rattle.facet_solver_types.specs.Outcomes.{Gives};
 ghost use Rattle.facet_solver_types.specs.Passages.{passage_view};
 ghost use Rattle.facet_solver_types.specs.Scopes.{scope_view, str_view};
@@ -10,12 +11,16 @@ ghost use Rattle.facet_solver_types.specs.Tokens.{token_view};
 ghost use Rattle.facet_solver_types.specs.Understood.{declaration_view, declarations_view, declared_view};
 ghost use Rattle.facet_solver_types.specs.WrittenTypes.{named_view, passages_view, written_view};
 
+use super::called::{Called, called_among};
 use super::known::{Applied, Known, arity_of, known_type};
-use super::scope::{Scope, place_of};
+use super::meant::{meant, namesakes};
+use super::scope::Scope;
+use crate::attribute::{Misuse, Refusal};
 use crate::declaration::{Declaration, Declared};
 use crate::fault::Fault;
-use crate::grammar::{NamedType, Written, is_str, written_type};
+use crate::grammar::{NamedType, Origin, Written, is_str, written_type};
 use crate::item::Parameter;
+use crate::modules::is_of_stand_ins;
 use crate::passage::Passage;
 use crate::problem::Problem;
 use crate::token::Token;
@@ -30,10 +35,10 @@ pub(super) enum Head<'d, 't> {
     Same,
     /// The type of this id, for which a parameter or `Self` stands.
     Bound(&'d str),
-    /// What the declaration at an index declares, by its name.
-    Declared(usize, &'t str),
-    /// What an alias of these parameters names.
-    Alias(&'d [Parameter<'t>], Passage<'d, 't>),
+    /// What the declaration at an index declares, and what it is called.
+    Declared(usize, Called<'t>),
+    /// What an alias in this module names with these parameters.
+    Alias(&'t str, &'d [Parameter<'t>], Passage<'d, 't>),
     /// A scalar, by its name.
     Scalar(&'t str, ScalarType),
     /// A value of any shape, by its name.
@@ -152,35 +157,21 @@ fn parts_of<'d, 't>(
     Ok(parts)
 }
 
-/// What a type is outside by the name of the declaration at an index.
-fn declared_head<'d, 't>(index: usize, declaration: &'d Declaration<'d, 't>) -> Head<'d, 't>
+/// What a type is outside by the declaration at an index, where those at some have its name.
+fn declared_head<'d, 't>(
+    namesakes: &[usize],
+    index: usize,
+    declaration: &'d Declaration<'d, 't>,
+) -> Head<'d, 't>
     ensures { layers.head_view result
-        ≡ layers.declared_head index (declaration_view declaration.now) }
+        ≡ layers.declared_head namesakes.now index (declaration_view declaration.now) }
 {
     match &declaration.declared {
-        Declared::Alias(written) => Head::Alias(&declaration.parameters, *written),
-        _ => Head::Declared(index, declaration.name.text),
+        Declared::Alias(written) => {
+            Head::Alias(declaration.module_name, &declaration.parameters, *written)
+        }
+        _ => Head::Declared(index, called_among(namesakes, index, declaration)),
     }
-}
-
-/// No declaration of some has a name.
-fn once(name: &str, others: &[Declaration<'_, '_>]) -> Result<(), Fault>
-    ensures { Gives (λ end. end)
-        (layers.once name.now (declarations_view others.now)) result }
-{
-    match others.get(place_of(name, others)) {
-        Some(other) => Err(wrong(other.name, TypeProblem::Twice)),
-        None => Ok(()),
-    }
-}
-
-/// No declaration behind the one at an index has a name.
-fn once_behind(name: &str, scope: Scope<'_, '_>, index: usize) -> Result<(), Fault>
-    requires { index < length scope.declarations.now }
-    ensures { Gives (λ end. end)
-        (layers.once_behind name.now (scope_view scope.entry) index) result }
-{
-    once(name, &scope.declarations[index + 1..])
 }
 
 /// How many parameters there are.
@@ -203,26 +194,57 @@ fn taken_parts<'d, 't>(
     Ok(parts_of(alloc, parameters, &types)?)
 }
 
-/// A type by the name of the declaration at an index, which no other has.
+/// Whether nothing is declared that could be read.
+fn is_unread(declared: &Declared<'_, '_>) -> bool
+    ensures { result ≡ layers.is_unread (declared_view declared.now) }
+{
+    match declared {
+        Declared::Unread => true,
+        _ => false,
+    }
+}
+
+/// Whether a declaration takes all types, which are passed over: a stand-in without parameters, and
+/// one of which nothing could be read.
+fn takes_all(declaration: &Declaration<'_, '_>) -> bool
+    ensures { result ≡ layers.takes_all (declaration_view declaration.now) }
+{
+    is_unread(&declaration.declared)
+        || (is_of_stand_ins(declaration.module_name) && declaration.parameters.is_empty())
+}
+
+/// What stands for the parameters of a declaration.
+fn declared_parts<'d, 't>(
+    alloc: Global,
+    declaration: &'d Declaration<'d, 't>,
+    named: NamedType<'d, 't>,
+) -> Result<Vec<Part<'d, 't>>, Fault>
+    ensures { Gives (λ parts. map part_view parts.items)
+        (layers.declared_parts (declaration_view declaration.now) (named_view named.entry))
+        result }
+{
+    if takes_all(declaration) {
+        return Ok(Vec::new(alloc));
+    }
+    taken_parts(alloc, &declaration.parameters, named)
+}
+
+/// A type by the declaration at an index, where those at some have its name.
 fn declared_layer<'d, 't>(
     alloc: Global,
-    scope: Scope<'d, 't>,
     named: NamedType<'d, 't>,
+    namesakes: &[usize],
     index: usize,
     declaration: &'d Declaration<'d, 't>,
 ) -> Result<Layer<'d, 't>, Fault>
-    requires { index < length scope.declarations.now }
     ensures { Gives layer_view
-        (layers.declared_layer (scope_view scope.entry) (named_view named.entry) index
+        (layers.declared_layer (named_view named.entry) namesakes.now index
         (declaration_view declaration.now)) result }
 {
-    if named.is_path {
-        return Err(wrong(named.name, TypeProblem::Unknown));
-    }
-    once_behind(named.name.text, scope, index)?;
+    let parts = declared_parts(alloc, declaration, named)?;
     Ok(Layer {
-        head: declared_head(index, declaration),
-        parts: taken_parts(alloc, &declaration.parameters, named)?,
+        head: declared_head(namesakes, index, declaration),
+        parts,
     })
 }
 
@@ -243,7 +265,7 @@ fn without_hasher<'d, 't>(count: usize, named: NamedType<'d, 't>) -> NamedType<'
 {
     let NamedType {
         name,
-        is_path,
+        origin,
         mut types,
     } = named;
     if types.len() == count + 1 {
@@ -251,7 +273,7 @@ fn without_hasher<'d, 't>(count: usize, named: NamedType<'d, 't>) -> NamedType<'
     }
     NamedType {
         name,
-        is_path,
+        origin,
         types,
     }
 }
@@ -334,6 +356,81 @@ fn undeclared<'d, 't>(alloc: Global, named: NamedType<'d, 't>) -> Result<Layer<'
     }
 }
 
+/// Where the name of the declaration at an index stands.
+fn offset_at(declarations: &[Declaration<'_, '_>], index: usize) -> usize
+    ensures { result ≡ layers.offset_at (declarations_view declarations.now) index }
+{
+    match declarations.get(index) {
+        Some(declaration) => declaration.name.offset,
+        None => 0,
+    }
+}
+
+/// Whether a path leads to the stand-ins alone.
+fn is_to_stand_ins(origin: Origin<'_>) -> bool
+    ensures { result ≡ layers.is_to_stand_ins (origin_view origin.entry) }
+{
+    match origin {
+        Origin::Beside(module_name) => is_of_stand_ins(module_name),
+        _ => false,
+    }
+}
+
+/// Whether a path leads into a crate whose types are known.
+fn is_to_known(origin: Origin<'_>) -> bool
+    ensures { result ≡ layers.is_to_known (origin_view origin.entry) }
+{
+    match origin {
+        Origin::Known => true,
+        _ => false,
+    }
+}
+
+/// A type by a name that is declared at some indices, and means none of these.
+fn none_meant<'d, 't>(
+    alloc: Global,
+    named: NamedType<'d, 't>,
+    namesakes: &[usize],
+) -> Result<Layer<'d, 't>, Fault>
+    ensures { Gives layer_view (layers.none_meant (named_view named.entry) namesakes.now) result }
+{
+    if is_to_stand_ins(named.origin) {
+        return Err(Fault::At {
+            offset: named.name.offset,
+            problem: Problem::Attribute(Refusal::Misused(Misuse::Unsupported)),
+        });
+    }
+    if is_to_known(named.origin) || namesakes.is_empty() {
+        return undeclared(alloc, named);
+    }
+    Err(wrong(named.name, TypeProblem::Unknown))
+}
+
+/// A type by a name that is declared at some indices, and means the declarations at others.
+fn layer_by<'d, 't>(
+    alloc: Global,
+    scope: Scope<'d, 't>,
+    named: NamedType<'d, 't>,
+    namesakes: &[usize],
+    meant: &[usize],
+) -> Result<Layer<'d, 't>, Fault>
+    ensures { Gives layer_view
+        (layers.layer_by (scope_view scope.entry) (named_view named.entry) namesakes.now meant.now)
+        result }
+{
+    match meant {
+        [] => none_meant(alloc, named, namesakes),
+        [index] => match scope.at(*index) {
+            Some(declaration) => declared_layer(alloc, named, namesakes, *index, declaration),
+            None => undeclared(alloc, named),
+        },
+        [_, other, ..] => Err(Fault::At {
+            offset: offset_at(scope.declarations, *other),
+            problem: Problem::OfType(TypeProblem::Twice),
+        }),
+    }
+}
+
 /// A type by a name: of a declaration, or else of one that needs none.
 fn free_layer<'d, 't>(
     alloc: Global,
@@ -343,10 +440,18 @@ fn free_layer<'d, 't>(
     ensures { Gives layer_view
         (layers.free_layer (scope_view scope.entry) (named_view named.entry)) result }
 {
-    let index = place_of(named.name.text, scope.declarations);
-    match scope.at(index) {
-        Some(declaration) => declared_layer(alloc, scope, named, index, declaration),
-        None => undeclared(alloc, named),
+    let namesakes = namesakes(alloc, named.name.text, scope.declarations)?;
+    let meant = meant(alloc, scope, named.origin, &namesakes)?;
+    layer_by(alloc, scope, named, &namesakes, &meant)
+}
+
+/// Whether a path leads nowhere else.
+fn is_here(origin: Origin<'_>) -> bool
+    ensures { result ≡ layers.is_here (origin_view origin.entry) }
+{
+    match origin {
+        Origin::Here => true,
+        _ => false,
     }
 }
 
@@ -355,7 +460,7 @@ fn alone_id<'d, 't>(scope: Scope<'d, 't>, named: &NamedType<'_, 't>) -> Option<&
     ensures { option_map str_view result
         ≡ layers.alone_id (scope_view scope.entry) (named_view named.now) }
 {
-    if named.is_path || !named.types.is_empty() {
+    if !is_here(named.origin) || !named.types.is_empty() {
         return None;
     }
     scope.bound_id(named.name.text)

@@ -227,8 +227,9 @@ fn mentions<'d, 't>(
         add(&mut inside, mention)?;
     }
     match head {
-        Head::Alias(parameters, written) => {
+        Head::Alias(module_name, parameters, written) => {
             let named = Scope {
+                module_name,
                 this: None,
                 parameters,
                 arguments: &inside.ids,

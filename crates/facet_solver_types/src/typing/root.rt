@@ -85,6 +85,7 @@ fn passage_type(
 {
     let scope = Scope {
         declarations,
+        module_name: "",
         this: None,
         parameters: &[],
         arguments: &[],

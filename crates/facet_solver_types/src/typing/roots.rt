@@ -6,18 +6,22 @@ ghost use Rattle.facet_solver_types.specs.Failures.{Leads};
 ghost use Rattle.facet_solver_types.specs.Links.{links_view};
 ghost use Rattle.facet_solver_types.specs.Mentions.{mention_view};
 ghost use Rattle.facet_solver_types.specs.Roots as of;
+ghost use Rattle.facet_solver_types.specs.Scopes.{str_view};
 ghost use Rattle.facet_solver_types.specs.Understood.{declaration_view, declarations_view, declared_view};
 ghost use Rattle.facet_solver_types.specs.Uses.{use_view, uses_view};
 
+use super::called::{by_name, called_among};
 use super::field_types::Groups;
 use super::id::used_id;
-use super::mention::Mention;
+use super::meant::namesakes;
+use super::mention::{Mention, copied_ids};
 use super::type_use::Use;
 use super::uses::use_types;
 use crate::declaration::{Declaration, Declared};
 use crate::failure::Failure;
 use crate::fault::Fault;
 use crate::item::Parameter;
+use crate::modules::is_of_stand_ins;
 use crate::problem::Problem;
 use crate::type_problem::TypeProblem;
 use std::alloc::{AllocError, Global};
@@ -46,7 +50,7 @@ fn own_use(
     let arguments = parameter_names(alloc, &declaration.parameters)?;
     Ok(Use {
         index,
-        id: used_id(alloc, declaration.name.text, &arguments)?,
+        id: used_id(alloc, by_name(declaration), &arguments)?,
         arguments,
     })
 }
@@ -152,22 +156,58 @@ fn declares_type(declared: &Declared<'_, '_>) -> bool
     }
 }
 
-/// Whether a declaration may be a root.
-fn may_be_root(declaration: &Declaration<'_, '_>) -> bool
-    ensures { result ≡ of.may_be_root (declaration_view declaration.now) }
+/// The names of the stand-ins among declarations.
+fn stand_in_names<'t>(
+    alloc: Global,
+    declarations: &[Declaration<'_, 't>],
+) -> Result<Vec<&'t str>, AllocError>
+    ensures { IfOk result (λ names. map str_view names.items
+        ≡ of.stand_in_names (declarations_view declarations.now)) }
+{
+    let mut names = Vec::new(alloc);
+    for declaration in declarations {
+        if is_of_stand_ins(declaration.module_name) {
+            names.push(declaration.name.text)?;
+        }
+    }
+    Ok(names)
+}
+
+/// Whether a name is one of some.
+fn is_one(names: &[&str], name: &str) -> bool
+    ensures { result ≡ of.is_one (map str_view names.now) name.now }
+{
+    for one in names {
+        if *one == name {
+            return true;
+        }
+    }
+    false
+}
+
+/// Whether a declaration may be a root, where stand-ins have these names: none of these names.
+fn may_be_root(names: &[&str], declaration: &Declaration<'_, '_>) -> bool
+    ensures { result
+        ≡ of.may_be_root (map str_view names.now) (declaration_view declaration.now) }
 {
     declares_type(&declaration.declared)
         && declaration.parameters.is_empty()
-        && !is_passed_over(&declaration.faults)
+        && !(is_passed_over(&declaration.faults) || is_one(names, declaration.name.text))
 }
 
-/// Whether a use stands by itself: its declaration may be a root, and no other mentions it.
-fn stands_alone(declarations: &[Declaration<'_, '_>], links: &[Vec<usize>], used: &Use) -> bool
+/// Whether a use stands by itself, where stand-ins have these names: its declaration may be a root,
+/// and no other mentions it.
+fn stands_alone(
+    declarations: &[Declaration<'_, '_>],
+    names: &[&str],
+    links: &[Vec<usize>],
+    used: &Use,
+) -> bool
     ensures { result ≡ of.stands_alone (declarations_view declarations.now)
-        (links_view links.now) (use_view used.now) }
+        (map str_view names.now) (links_view links.now) (use_view used.now) }
 {
     match declarations.get(used.index) {
-        Some(declaration) => may_be_root(declaration) && !is_mentioned(links, used.index),
+        Some(declaration) => { may_be_root(names, declaration) && !is_mentioned(links, used.index) }
         None => false,
     }
 }
@@ -176,16 +216,17 @@ fn stands_alone(declarations: &[Declaration<'_, '_>], links: &[Vec<usize>], used
 fn roots(
     alloc: Global,
     declarations: &[Declaration<'_, '_>],
+    names: &[&str],
     links: &[Vec<usize>],
     uses: Vec<Use>,
 ) -> Result<Vec<Use>, AllocError>
     ensures { IfOk result (λ found. uses_view found.items
-        ≡ of.roots (declarations_view declarations.now) (links_view links.now)
-        (uses_view uses.items)) }
+        ≡ of.roots (declarations_view declarations.now) (map str_view names.now)
+        (links_view links.now) (uses_view uses.items)) }
 {
     let mut found = Vec::new(alloc);
     for used in uses {
-        if stands_alone(declarations, links, &used) {
+        if stands_alone(declarations, names, links, &used) {
             found.push(used)?;
         }
     }
@@ -203,17 +244,72 @@ fn ids(alloc: Global, uses: &[Use]) -> Result<Vec<String>, AllocError>
     Ok(ids)
 }
 
-/// The only one of some uses, as the type that it is.
-fn only(alloc: Global, uses: Vec<Use>) -> Result<Mention, Failure>
-    ensures { Leads mention_view (of.only (uses_view uses.items)) result }
+/// The id of a use of a declaration, as that is called among all.
+fn id_among(
+    alloc: Global,
+    declarations: &[Declaration<'_, '_>],
+    used: &Use,
+    declaration: &Declaration<'_, '_>,
+) -> Result<String, AllocError>
+    ensures { IfOk result (λ id. string_bytes id
+        ≡ of.id_among (declarations_view declarations.now) (use_view used.now)
+        (declaration_view declaration.now)) }
 {
-    match uses.as_slice() {
-        [used] => Ok(Mention {
-            id: used.id.clone()?,
-            entries: Vec::new(alloc),
-            uses,
-        }),
-        _ => Err(Failure::Roots(ids(alloc, &uses)?)),
+    let namesakes = namesakes(alloc, declaration.name.text, declarations)?;
+    let called = called_among(&namesakes, used.index, declaration);
+    used_id(alloc, called, &used.arguments)
+}
+
+/// The id of a use, as its declaration is called among all.
+fn called_id(
+    alloc: Global,
+    declarations: &[Declaration<'_, '_>],
+    used: &Use,
+) -> Result<String, AllocError>
+    ensures { IfOk result (λ id. string_bytes id
+        ≡ of.called_id (declarations_view declarations.now) (use_view used.now)) }
+{
+    match declarations.get(used.index) {
+        Some(declaration) => id_among(alloc, declarations, used, declaration),
+        None => Ok(String::new(alloc)),
+    }
+}
+
+/// A use as a type, as its declaration is called among all.
+fn root_mention(
+    alloc: Global,
+    declarations: &[Declaration<'_, '_>],
+    used: &Use,
+) -> Result<Mention, AllocError>
+    ensures { IfOk result (λ mention. mention_view mention
+        ≡ of.root_mention (declarations_view declarations.now) (use_view used.now)) }
+{
+    let id = called_id(alloc, declarations, used)?;
+    let mut uses = Vec::new(alloc);
+    uses.push(Use {
+        index: used.index,
+        id: id.clone()?,
+        arguments: copied_ids(alloc, &used.arguments)?,
+    })?;
+    Ok(Mention {
+        id,
+        entries: Vec::new(alloc),
+        uses,
+    })
+}
+
+/// The only one of some uses, as the type that it is.
+fn only(
+    alloc: Global,
+    declarations: &[Declaration<'_, '_>],
+    uses: &[Use],
+) -> Result<Mention, Failure>
+    ensures { Leads mention_view
+        (of.only (declarations_view declarations.now) (uses_view uses.now)) result }
+{
+    match uses {
+        [used] => Ok(root_mention(alloc, declarations, used)?),
+        _ => Err(Failure::Roots(ids(alloc, uses)?)),
     }
 }
 
@@ -227,6 +323,8 @@ pub(super) fn only_root(
     ensures { Leads mention_view (of.only_root (declarations_view declarations.now)) result }
 {
     let uses = own_uses(alloc, declarations)?;
+    let names = stand_in_names(alloc, declarations)?;
     let links = links(alloc, declarations, &uses)?;
-    only(alloc, roots(alloc, declarations, &links, uses)?)
+    let roots = roots(alloc, declarations, &names, &links, uses)?;
+    only(alloc, declarations, &roots)
 }

@@ -1,8 +1,7 @@
 //! Where a type stands: the declarations that it can name, and what parameters stand for.
 ghost use Rattle.std.specs.Prelude.{◌≡◌, ◌<◌, OnSome, length, option_map, slice_get};
 ghost use Rattle.facet_solver_types.specs.Declarations.{parameter_view, parameters_view};
-ghost use Rattle.facet_solver_types.specs.Scopes.{binds, bound_id, declared_view, parameter_place, place_of, scope_view, str_view, too_deep};
-ghost use Rattle.facet_solver_types.specs.Understood.{declarations_view};
+ghost use Rattle.facet_solver_types.specs.Scopes.{binds, bound_id, declared_view, parameter_place, scope_view, str_view, too_deep};
 
 use crate::declaration::Declaration;
 use crate::fault::Fault;
@@ -15,6 +14,8 @@ use crate::type_problem::TypeProblem;
 pub(super) struct Scope<'d, 't> {
     /// All declarations.
     pub(super) declarations: &'d [Declaration<'d, 't>],
+    /// The name of its module, or nothing where it stands in none.
+    pub(super) module_name: &'t str,
     /// The id for which `Self` stands, if it does for any.
     pub(super) this: Option<&'d str>,
     /// The parameters that it can name.
@@ -57,18 +58,6 @@ impl<'d, 't> Scope<'d, 't> {
             problem: Problem::OfType(TypeProblem::TooDeep),
         }
     }
-}
-
-/// The place of the first declaration of a name, or the number of declarations.
-pub(super) fn place_of(name: &str, declarations: &[Declaration<'_, '_>]) -> usize
-    ensures { result ≡ place_of name.now (declarations_view declarations.now) }
-{
-    for (place, declaration) in declarations.iter().enumerate() {
-        if declaration.name.text == name {
-            return place;
-        }
-    }
-    declarations.len()
 }
 
 /// Whether a parameter is a type of this name.
