@@ -3,7 +3,7 @@
 use crate::rooted::{name_at, tuple_of};
 use facet_solver::{ShapeId, Shapes};
 use facet_solver_reader::{Reader, Unknown};
-use facet_solver_types::{Declarations, Problem, Types, TypesError};
+use facet_solver_types::{Declarations, Problem, TypeProblem, Types, TypesError};
 use std::alloc::{AllocError, Global};
 use std::io;
 use std::rt::Clock;
@@ -97,6 +97,11 @@ fn letter_of_error(error: &TypesError<'_>) -> &'static str {
             Some(first) => letter_of_problem(first.problem),
             None => "?",
         },
+        // What stands by itself can have too long a name for a type.
+        TypesError::Root {
+            problem: Problem::OfType(TypeProblem::TooDeep),
+            ..
+        } => "T",
         TypesError::Root { .. } => "R",
         TypesError::Roots(_) => "V",
         TypesError::Catalogue(_) => "c",
