@@ -205,9 +205,10 @@ class Program:
             with self.started("try", *options, "--", *words, stdin=file, **how) as process:
                 return process.communicate()
 
-    def ended(self, words, given=None):
-        """Runs the proved program with these arguments, and gives how it ended: its status, nothing,
-        and what it said. What it answers goes to standard output at once.
+    def ended(self, words, given=None, answers=None):
+        """Runs the proved program with these arguments, and gives how it ended: its status,
+        nothing, and what it said. What it answers goes to standard output at once, or to the file
+        `answers`.
 
         It has these bytes on standard input, if there are any given.
         """
@@ -218,9 +219,9 @@ class Program:
                 write(stdin.fileno(), given)
                 os.lseek(stdin.fileno(), 0, os.SEEK_SET)
             # A write that fails is told by the program, as where it takes the place of the script.
-            how = {"stdin": stdin, "stderr": subprocess.PIPE, "restore_signals": False}
+            how = {"stdin": stdin, "stdout": answers, "stderr": subprocess.PIPE}
             with held_signals():
-                process = subprocess.Popen([self.path, *words], **how)
+                process = subprocess.Popen([self.path, *words], restore_signals=False, **how)
                 ends.callback(end, process)
             said = process.stderr.read()
             status = process.wait()

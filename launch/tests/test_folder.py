@@ -6,7 +6,7 @@ import tempfile
 import unittest
 from unittest import mock
 
-from launch import folder
+from launch import folder, joined
 
 from .stand_in import WORD, Repository
 
@@ -78,8 +78,15 @@ class Folders(unittest.TestCase):
 
     def test_what_stands_around_a_file_is_told_at_its_ends(self):
         found = folder.read(self.top)
-        self.assertEqual(found.place(1, 5), (self.top / "a/b-c.rs", 1, 1))
-        self.assertEqual(found.place(4, 1), (self.top / "a/b-c.rs", 3, 1))
+        for place, (file, *wanted) in {
+            (1, 1): ("a/b-c.rs", 1, 1),
+            (1, 16): ("a/b-c.rs", 1, 1),
+            (4, 1): ("a/b-c.rs", 2, 11),
+            (5, 1): ("a/b-c.rs", 2, 11),
+            (5, 7): ("a/mod.rs", 1, 1),
+            (8, 1): ("a/mod.rs", 2, 1),
+        }.items():
+            self.assertEqual(found.place(*place), (self.top / file, *wanted))
 
     def test_what_is_said_names_the_files(self):
         said = "t.rs:3:8: a fault\nt.rs: another\nx t.rs:3:8: no place\nt.rs:15:1: last\n"
@@ -92,7 +99,7 @@ class Folders(unittest.TestCase):
 
     def test_a_file_that_is_no_text_is_told(self):
         write_files(self.top, {"a/b-c.rs": b"one\ntwo \xff"})
-        with self.assertRaises(folder.NoText) as told:
+        with self.assertRaises(joined.NoText) as told:
             folder.read(self.top)
         self.assertEqual(str(told.exception), f"{self.top}/a/b-c.rs:2: no UTF-8 at byte 8")
 

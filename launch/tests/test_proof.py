@@ -143,7 +143,7 @@ class Stale(Repository):
 
 
 def ignoring(number):
-    """Has a process ignore this one of the signals that end it, whichever are ignored here."""
+    """Has a process ignore this one of the signals that end it alone, or none, whichever it was."""
     for it in ENDING:
         signal.signal(it, signal.SIG_IGN if it == number else signal.SIG_DFL)
 
@@ -162,7 +162,8 @@ class Proving(Repository):
         self.environment["BEHIND"] = HELD
         held = self.program.parent.parent / "held"
         held.unlink(missing_ok=True)
-        process = self.start("./facet-read", "--prove", start_new_session=True)
+        how = {"preexec_fn": functools.partial(ignoring, None), "start_new_session": True}
+        process = self.start("./facet-read", "--prove", **how)
         self.text_of(held)
         rt = self.rt_process()
         process.send_signal(number)
