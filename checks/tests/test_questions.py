@@ -50,6 +50,10 @@ class Questions(Repository):
         "examples/c/check.end": "0\nroot: C\n",
         "examples/c/documents/some.json": '{"a": 1}\n',
         "examples/c/documents/some.end": "0\na: 1\n",
+        "examples/d/src/lib.rs": "struct D;\n",
+        "examples/d/root": "D\n",
+        "examples/d/stand_ins.rs": "\nstruct wrong;\n",
+        "examples/d/check.end": "3\nexamples/d/stand_ins.rs:2:8: at fault\n",
         "examples/calls/root.call": "./facet-read check examples/a/types.rs 'Vec<S>'\n",
         "examples/calls/root.end": "0\nroot: Vec<S>\n",
         "examples/calls/none.call": "./facet-read check none.rs\n",
@@ -72,23 +76,23 @@ class Questions(Repository):
         f"{A}/lines.end": '0\n{"reading": {"a": 1}}\n1 of 1 documents read\n',
         f"{A}/table.end": "0\na: 1\n",
         **{f"{A}/{name}.end": end for name, end in ENDS.items()},
-        "checks/totals.txt": "questions of the examples: 20\nends of questions: 15\n",
+        "checks/totals.txt": "questions of the examples: 21\nends of questions: 16\n",
     }
 
     def test_nothing_wrong(self):
         self.prove("facet_solver_tool", self.top / CRATE / "program")
         for call in (CALL, GATE):
-            self.assertIn("23 passed, 0 failed", self.expect_passes(*call))
+            self.assertIn("24 passed, 0 failed", self.expect_passes(*call))
 
     def test_another_end(self):
-        names = ["a/check", "c/check", "c/documents/some", "faults/f", "faults/g"]
+        names = ["a/check", "c/check", "d/check", "c/documents/some", "faults/f", "faults/g"]
         names += ["calls/none", "calls/read", "calls/root"]
         for name in (*names, *(f"a/documents/{it}" for it in (*ENDS, "bad"))):
             file = self.top / "examples" / f"{name}.end"
             file.write_text(file.read_text() + "more\n")
         status, said = self.call(*CALL)
         # Of documents that are not read the end is also that with `--json`.
-        self.assertEqual((status, said.count("failed: ./facet-read")), (1, 12 + 2), said)
+        self.assertEqual((status, said.count("failed: ./facet-read")), (1, 13 + 2), said)
 
     def test_another_status(self):
         self.edit(f"{A}/none.end", "1\n", "2\n")
@@ -100,7 +104,8 @@ class Questions(Repository):
 
     def test_a_missing_end(self):
         files = ["a/check.end", "faults/f.end", *(f"a/documents/{it}.end" for it in ENDS)]
-        files += ["c/check.end", "c/documents/some.end", "calls/read.end", "faults/g.end"]
+        files += ["c/check.end", "c/documents/some.end", "d/check.end"]
+        files += ["calls/read.end", "faults/g.end"]
         for file in (*files, "a/documents/bad.end", "a/documents/lines.end"):
             self.remove(f"examples/{file}")
         texts = [f"the end in examples/{it}, which is missing" for it in files]
@@ -108,16 +113,16 @@ class Questions(Repository):
 
     def test_a_missing_end_of_json(self):
         self.remove(JSON_END)
-        self.expect_told(CALL, "the number of ends of questions\n  wanted: 15\n  came:   14")
+        self.expect_told(CALL, "the number of ends of questions\n  wanted: 16\n  came:   15")
 
     def test_a_missing_document_whose_end_is_gone_too(self):
         self.remove(f"{A}/none.json", f"{A}/none.end")
-        told = "the number of questions of the examples\n  wanted: 20\n  came:   18"
+        told = "the number of questions of the examples\n  wanted: 21\n  came:   19"
         self.expect_told(CALL, told)
 
     def test_missing_types(self):
         self.remove("examples/a/types.rs")
-        self.expect_told(CALL, "the number of questions of the examples\n  wanted: 20\n  came:   8")
+        self.expect_told(CALL, "the number of questions of the examples\n  wanted: 21\n  came:   9")
 
     def test_a_folder_whose_fault_stands_in_another_place(self):
         for old, new in (("g/below/it.rs:2", "g/below/it.rs:1"), ("g/below/it.rs", "g/lib.rs")):
@@ -153,4 +158,4 @@ class Questions(Repository):
 
     def test_a_question_that_is_not_answered(self):
         self.edit("../kit/bin/rt", "case=", "other=")
-        self.expect_told(CALL, "failed: 18 questions\n  wanted: runs")
+        self.expect_told(CALL, "failed: 19 questions\n  wanted: runs")
