@@ -6,6 +6,7 @@ pub mod Parts
 pub mod Turns
 pub mod WrittenTurns
 pub mod MentionTurns
+pub mod FlattenedSteps
 pub mod Settled
 pub mod Leads
 pub mod UseTurns

@@ -1,6 +1,7 @@
 -- The types that declarations mention: those of fields, and those as which something is read.
 use Rattle.std.specs.Prelude.{ℕ, if◌then◌else◌, List, [], ◌∷◌, ◌++◌, map, Result, Ok, Err}
 use Rattle.std.specs.List.{fold}
+use Rattle.std.specs.Option.{is_some}
 use Rattle.std.specs.String.{string_bytes}
 use Rattle.facet_solver_shape.specs.Names.{Name, name_eq}
 use Rattle.facet_solver_types.specs.declared.fault.Fault.{Fault}
@@ -9,6 +10,7 @@ use Rattle.facet_solver_types.specs.declared.problem.Problem.TheVariants.{OfType
 use Rattle.facet_solver_types.specs.declared.type_problem.TypeProblem.TheVariants.{OtherType}
 use Rattle.facet_solver_types.specs.declared.typing.field_types.Group as code_group
 use Rattle.facet_solver_types.specs.declared.typing.field_types.Groups as code_groups
+use Rattle.facet_solver_types.specs.Flattened.{flattened_type}
 use Rattle.facet_solver_types.specs.Mentions.{Mention, whole_type}
 use Rattle.facet_solver_types.specs.Passages.{Passage}
 use Rattle.facet_solver_types.specs.Pieces.{and_then}
@@ -99,14 +101,21 @@ proxied_type scope first others =
     and_then (whole_type scope first.said) (λ mention.
     and_then (all_agree scope mention.id others) (λ end. Ok mention))
 
--- the type that some attributes say, or else the one that is written
-abbrev pub said_or_written : Scope → Passage → List Proxy → Result Mention Fault
-said_or_written scope written [] = whole_type scope written
+-- the type that is written, of a field that is flattened or not
+abbrev pub written_type : Scope → DeclaredField → Result Mention Fault
+written_type scope field =
+    if is_some field.flattened then flattened_type scope field.written
+    else whole_type scope field.written
+
+-- the type that some attributes say, or else this
+abbrev pub said_or_written
+    : Scope → Result Mention Fault → List Proxy → Result Mention Fault
+said_or_written scope written [] = written
 said_or_written scope written (first ∷ others) = proxied_type scope first others
 
 -- the type of a field: the written one is not looked at where an attribute says another
 abbrev pub field_type : Scope → DeclaredField → Result Mention Fault
-field_type scope field = said_or_written scope field.written field.proxies
+field_type scope field = said_or_written scope (written_type scope field) field.proxies
 
 -- the types of some fields
 abbrev pub field_types : Scope → List DeclaredField → Group

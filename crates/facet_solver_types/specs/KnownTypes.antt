@@ -14,7 +14,7 @@ use Rattle.facet_solver_types.specs.declared.typing.known.Known.TheVariants.{Sca
 abbrev pub text : Name → Option ScalarType
 text =
     said_by ((codes "String", scalars.String) ∷ (codes "PathBuf", scalars.String)
-    ∷ (codes "Path", scalars.String) ∷ (codes "OsString", scalars.String)
+    ∷ (codes "Path", scalars.String)
     ∷ (codes "IpAddr", scalars.String) ∷ (codes "Ipv4Addr", scalars.String) ∷ (codes "Ipv6Addr", scalars.String)
     ∷ (codes "SocketAddr", scalars.String) ∷ [])
 

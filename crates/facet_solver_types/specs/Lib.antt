@@ -86,6 +86,7 @@ pub mod Called
 pub mod Layers
 pub mod TypeIds
 pub mod Mentions
+pub mod Flattened
 pub mod Failures
 pub mod Faults
 pub mod Named

@@ -3,6 +3,7 @@
 mod called;
 mod entries;
 mod field_types;
+mod flattened;
 mod id;
 mod known;
 mod layer;

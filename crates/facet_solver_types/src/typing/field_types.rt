@@ -9,6 +9,7 @@ ghost use Rattle.facet_solver_types.specs.Outcomes.{Gives, outcome_view};
 ghost use Rattle.facet_solver_types.specs.Scopes.{scope_view};
 ghost use Rattle.facet_solver_types.specs.Understood.{declared_view, field_view, proxy_view, variant_view};
 
+use super::flattened::flattened_type;
 use super::mention::{Mention, whole_type};
 use super::scope::Scope;
 use super::type_use::Use;
@@ -160,6 +161,21 @@ fn proxied_type<'d, 't>(
     Ok(mention)
 }
 
+/// The type of a field as it is written.
+fn written_type<'d, 't>(
+    alloc: Global,
+    scope: Scope<'d, 't>,
+    field: &'d DeclaredField<'d, 't>,
+) -> Result<Mention, Fault>
+    ensures { Gives mention_view
+        (of.written_type (scope_view scope.entry) (field_view field.now)) result }
+{
+    match field.flattened {
+        Some(_) => flattened_type(alloc, scope, field.written),
+        None => whole_type(alloc, scope, field.written),
+    }
+}
+
 /// The type of a field: the written one is not looked at where an attribute says another.
 fn field_type<'d, 't>(
     alloc: Global,
@@ -170,7 +186,7 @@ fn field_type<'d, 't>(
         (of.field_type (scope_view scope.entry) (field_view field.now)) result }
 {
     match field.proxies.split_first() {
-        None => whole_type(alloc, scope, field.written),
+        None => written_type(alloc, scope, field),
         Some((first, others)) => proxied_type(alloc, scope, first, others),
     }
 }

@@ -158,7 +158,7 @@ fn text(name: &str) -> Option<ScalarType>
     ensures { result ≡ known_types.text name.now }
 {
     match name {
-        "String" | "PathBuf" | "Path" | "OsString" => Some(ScalarType::String),
+        "String" | "PathBuf" | "Path" => Some(ScalarType::String),
         "IpAddr" | "Ipv4Addr" | "Ipv6Addr" | "SocketAddr" => Some(ScalarType::String),
         _ => None,
     }

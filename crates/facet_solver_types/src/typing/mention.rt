@@ -23,7 +23,7 @@ use crate::type_entry::{Form, TypeEntry};
 use std::alloc::{AllocError, Global};
 
 /// How many levels a type may have.
-const LEVELS: usize = 127;
+pub(super) const LEVELS: usize = 127;
 
 /// How many bytes an id may have.
 const LONGEST: usize = 4096;
@@ -40,10 +40,10 @@ pub(crate) struct Mention {
 
 /// The types that stand in one: their ids, and all that they mention.
 #[derive(Drop)]
-struct Inside {
-    ids: Vec<String>,
-    entries: Vec<TypeEntry>,
-    uses: Vec<Use>,
+pub(super) struct Inside {
+    pub(super) ids: Vec<String>,
+    pub(super) entries: Vec<TypeEntry>,
+    pub(super) uses: Vec<Use>,
 }
 
 /// A copy of ids.
@@ -125,7 +125,7 @@ fn own_use(
 }
 
 /// A type with those in it.
-fn mention_of(
+pub(super) fn mention_of(
     alloc: Global,
     scope: Scope<'_, '_>,
     head: Head<'_, '_>,
@@ -151,7 +151,7 @@ fn mention_of(
 }
 
 /// Adds a type to those that stand in one.
-fn add(inside: &mut Inside, mention: Mention) -> Result<(), AllocError>
+pub(super) fn add(inside: &mut Inside, mention: Mention) -> Result<(), AllocError>
     ensures { OnOk result
         (inside_view inside.new ≡ of.with_mention (inside_view inside.old) (mention_view mention)) }
 {
@@ -201,7 +201,7 @@ fn value(alloc: Global, tokens: &[Token<'_>]) -> Result<Mention, AllocError>
 /// The types that a type mentions, which may have so many levels.
 ///
 /// Errors: the first type in it that is none; more levels, or too long an id; out of memory.
-fn mentions<'d, 't>(
+pub(super) fn mentions<'d, 't>(
     alloc: Global,
     scope: Scope<'d, 't>,
     levels: usize,
