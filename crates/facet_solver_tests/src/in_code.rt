@@ -3,6 +3,7 @@
 mod debugs;
 mod errors;
 mod pieces;
+mod sources;
 
 use crate::answer::{Answer, Line};
 use crate::calling::documents_are_told;
@@ -18,6 +19,7 @@ use facet_solver::{
     Solver, specificity_score,
 };
 use pieces::texts_of_readings_are_written_in_few_pieces;
+use sources::places_are_those_of_sources;
 use std::alloc::AllocError;
 
 /// One check.
@@ -36,10 +38,11 @@ pub enum Check {
     Printed,
     Readme,
     Calling,
+    Sources,
 }
 
 /// The checks, by name.
-pub const CHECKS: [(&str, Check); 13] = [
+pub const CHECKS: [(&str, Check); 14] = [
     ("public_types_have_their_derives", Check::PublicTypes),
     ("keys_have_names_and_an_order", Check::Keys),
     ("a_catalogue_gives_its_shapes", Check::Catalogue),
@@ -56,6 +59,7 @@ pub const CHECKS: [(&str, Check); 13] = [
     ("schemas_and_solvers_are_printed", Check::Printed),
     ("the_sample_of_the_readme_holds", Check::Readme),
     ("the_program_of_a_caller_holds", Check::Calling),
+    ("places_are_those_of_sources", Check::Sources),
 ];
 
 impl Check {
@@ -75,6 +79,7 @@ impl Check {
             Check::Printed => schemas_and_solvers_are_printed(answer),
             Check::Readme => keys_tell_the_payload(answer),
             Check::Calling => documents_are_told(answer),
+            Check::Sources => places_are_those_of_sources(answer),
         }
     }
 }

@@ -19,6 +19,7 @@ pub mod Views
 pub mod Attributes
 pub mod Columns
 pub mod ByteOrderMark
+pub mod SourcePlaces
 pub mod Ascii
 pub mod Pieces
 pub mod Digits

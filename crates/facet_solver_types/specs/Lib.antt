@@ -49,6 +49,7 @@ pub mod Cases
 pub mod Literals
 pub mod Meanings
 pub mod Modules
+pub mod Sources
 pub mod Entries
 pub mod AttributeEntries
 pub mod Values
