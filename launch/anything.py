@@ -9,13 +9,17 @@ WHERE = "--any"  # What a line that is added here comes from.
 MOST_ROUNDS = 100
 NAME = r"((?:r#)?[^\W\d]\w*)"
 PATH = rf'"(?:\w+\s*::\s*)*{NAME}"'  # A type that a text says, as that of `from`.
-# What the program says of a type that is unknown, that is not read by its declaration, or that
-# code reads.
+VALUES = "Value|JsonValue|RawValue|OwnedValue"  # Those that are a value of any kind anyway.
+# What the program says of a type that is unknown, that is not read by its declaration, that takes
+# types as another one of its name, that is one of another crate, or that code reads.
 FAULT = re.compile(
     rf"^((.+?):(\d+):(\d+)): (?:unknown type '(?:{NAME}|{PATH})'"
-    rf"|'{NAME}' (?:derives no |has its own impl of )|'(?:deserialize_)?with' cannot be said)",
+    rf"|'{NAME}' (?:derives no |has its own impl of )|'({VALUES})' takes no types"
+    r"|'((?:deserialize_)?with|remote)' cannot be said)",
     re.MULTILINE,
 )
+# The struct or enum on which an attribute stands.
+SUBJECT = re.compile(rf"\b(?:struct|enum)\s+{NAME}")
 # The code that reads a type: its stand-in has the last name of its path.
 CODE = re.compile(r'(?:deserialize_)?with\s*=\s*"(?:\w+\s*::\s*)*([^\W\d]\w*)"')
 # A stand-in of such a name would be that of all these, too.
@@ -26,15 +30,27 @@ SCALARS = {"bool", "char", "str", "f32", "f64"} | {
 
 def code_at(types, file, line, column):
     """The name of the stand-in for the code that an attribute at a place names, or nothing."""
-    found = CODE.match(types.line(file, line), column - 1)
+    found = CODE.match(types.behind(file, line, column))
     return found[1] if found and found[1] not in SCALARS else None
+
+
+def subject_at(types, file, line, column):
+    """The name of what is declared behind an attribute at a place, or nothing."""
+    found = SUBJECT.search(types.behind(file, line, column))
+    return found and found[1]
+
+
+def named_at(attribute, types, file, line, column):
+    """The name of the stand-in for which an attribute at a place asks, or nothing."""
+    name = subject_at if attribute == "remote" else code_at
+    return name(types, file, line, column) if attribute else None
 
 
 def faults(types, said):
     """The types of which too little is said, by their names without `r#`: where, and as written."""
     found = {}
-    for place, file, line, column, *names in FAULT.findall(said):
-        name = "".join(names) or code_at(types, file, int(line), int(column))
+    for place, file, line, column, *names, attribute in FAULT.findall(said):
+        name = "".join(names) or named_at(attribute, types, file, int(line), int(column))
         if name:
             found.setdefault(name.removeprefix("r#"), (place, name))
     return found

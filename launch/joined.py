@@ -52,11 +52,11 @@ class Joined:
         """The text, in bytes."""
         return "\n".join(self.lines).encode()
 
-    def line(self, file, number):
-        """A line of a file, counted from 1, or nothing where there is none."""
+    def behind(self, file, line, column):
+        """What a file has from a place on, or nothing where there is no such line."""
         for begin, end, path in zip(self.begins, self.ends, self.files):
             if str(path) == file:
-                return "".join(self.lines[begin:end][number - 1 : number])
+                return "\n".join(self.lines[begin + line - 1 : end])[column - 1 :]
         return ""
 
     def copied(self):

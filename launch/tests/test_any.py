@@ -98,12 +98,39 @@ class Any(Teller):
         answer = self.expect(wanted, "check", "types.rs", "--any", "--with", "hex.rs")
         self.assertNotIn("type hex = IgnoredAny;", answer)
 
-    def test_code_of_no_name_that_can_be_declared_stays_a_fault(self):
-        """One of a name that is built in, and one whose text is not in the line of the attribute."""
-        self.write(types=read_by('with = "u64"', 'with =\n"a::hex"', 'with = "a::text"'))
-        faults = [f"types.rs:{line}:13: 'with' cannot be said: skip" for line in (2, 3)]
-        wanted = [told("types.rs:5:13", "text"), *faults]
+    def test_code_of_a_name_that_is_built_in_stays_a_fault(self):
+        self.write(types=read_by('with = "u64"', 'with = "a::text"'))
+        fault = "types.rs:2:13: 'with' cannot be said: skip"
+        wanted = [told("types.rs:3:13", "text"), fault]
         self.expect(wanted, "check", "types.rs", "--any", status=3)
+
+    def test_code_whose_text_stands_in_another_line(self):
+        self.write(types=read_by('with =\n"a::hex"'))
+        fault = ":{}:13: 'with' cannot be said: skip"
+        program = f'#!/bin/sh\ngrep -q IgnoredAny "$2" || echo "$2{fault.format(3)}" >&2\n'
+        program += 'grep -q IgnoredAny "$2" || exit 3\n'
+        (self.kit / "program").write_text(program)
+        self.expect([told("types.rs:2:13", "hex")], "check", "types.rs", "--any")
+
+    def test_another_type_of_a_known_name(self):
+        """Only where that is a value of any kind: a stand-in stands in for both."""
+        value = "$2:2:3: 'Value' takes no types"
+        number = "$2:3:3: 'u8' takes no types"
+        unless = f"grep -q 'type Value' \"$2\" || echo \"{value}\" >&2"
+        (self.kit / "program").write_text(f'#!/bin/sh\n{unless}\necho "{number}" >&2\nexit 3\n')
+        self.write(types="struct A {\n  a: B,\n  b: u8 }")
+        wanted = [told("types.rs:1:3", "Value"), "types.rs:2:3: 'u8' takes no types"]
+        self.expect(wanted, "check", "types.rs", "--any", status=3)
+
+    def test_what_is_declared_for_another_crate(self):
+        """Its stand-in has the name of the struct or enum on which the attribute stands."""
+        lines = "", '#[serde(remote = "a::B")]', "/// words", "pub struct r#type<T> { c: T }"
+        self.write(types="\n".join(lines))
+        fault = ":{}:9: 'remote' cannot be said: declare"
+        program = f'#!/bin/sh\ngrep -q IgnoredAny "$2" || echo "$2{fault.format(3)}" >&2\n'
+        program += 'grep -q IgnoredAny "$2" || exit 3\n'
+        (self.kit / "program").write_text(program)
+        self.expect([told("types.rs:2:9", "r#type")], "check", "types.rs", "--any")
 
     def test_a_line_that_no_file_has(self):
         text = Joined()
@@ -111,6 +138,7 @@ class Any(Teller):
         cases = ("types.rs", 1, "b"), ("types.rs", 2, None), ("none.rs", 1, None)
         for file, line, wanted in cases:
             self.assertEqual(anything.code_at(text, file, line, 1), wanted)
+            self.assertIsNone(anything.subject_at(text, file, line, 1))
 
     def test_another_fault_stays(self):
         fault = "types.rs:1:1: expected an item, met '}'"
