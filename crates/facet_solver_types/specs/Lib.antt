@@ -50,6 +50,7 @@ pub mod Literals
 pub mod Meanings
 pub mod Modules
 pub mod Sources
+pub mod Sites
 pub mod Entries
 pub mod AttributeEntries
 pub mod Values
@@ -68,6 +69,7 @@ pub mod ReadVariants
 pub mod ReadStructs
 pub mod ReadEnums
 pub mod Derives
+pub mod Conditions
 pub mod ReadItems
 pub mod Helps
 pub mod Refusals
