@@ -21,7 +21,6 @@ mod left;
 mod missing;
 mod name;
 mod named;
-mod naming;
 mod object;
 mod several;
 mod stop;

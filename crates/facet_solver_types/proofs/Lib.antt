@@ -14,7 +14,6 @@ pub mod ListedItems
 pub mod ListedParameters
 pub mod Paths
 pub mod Qualifiers
-pub mod ConditionTurns
 pub mod Listed
 pub mod Views
 pub mod Attributes

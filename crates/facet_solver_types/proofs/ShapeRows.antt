@@ -14,7 +14,6 @@ use Rattle.facet_solver_types.specs.Failures.{Failure, needed}
 use Rattle.facet_solver_types.specs.MadeShapes.{declared_shape, kind_of, tuple_field}
 use Rattle.facet_solver_types.specs.Passages.{Passage}
 use Rattle.facet_solver_types.specs.ShapeViews.{Kind, Shape, other, structure}
-use Rattle.facet_solver_types.specs.Sites.{top}
 use Rattle.facet_solver_types.specs.TypeEntries.{Form, TypeEntry, array, declared, dynamic, list, mapping, option, pointer, scalar, set, slice, tuple}
 use Rattle.facet_solver_types.specs.TypesViews.{Types}
 use Rattle.facet_solver_types.specs.Understood.{Declaration, Declared, DeclaredField, Tagging, enum, proxied, struct}
@@ -73,7 +72,7 @@ field name flattened = record {
 -- a declaration of a name that stands at an offset
 abbrev declaration : ℕ → Name → Declared → Declaration
 declaration offset name what = record {
-  site = top;
+  module_name = [];
   name = record { offset = offset; kind = tokens.Name; text = name };
   parameters = [];
   denies_unknown = false;

@@ -50,7 +50,6 @@ pub mod Literals
 pub mod Meanings
 pub mod Modules
 pub mod Sources
-pub mod Sites
 pub mod Entries
 pub mod AttributeEntries
 pub mod Values
@@ -69,7 +68,6 @@ pub mod ReadVariants
 pub mod ReadStructs
 pub mod ReadEnums
 pub mod Derives
-pub mod Conditions
 pub mod ReadItems
 pub mod Helps
 pub mod Refusals

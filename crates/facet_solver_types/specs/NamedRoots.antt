@@ -9,7 +9,6 @@ use Rattle.facet_solver_types.specs.Passages.{Passage}
 use Rattle.facet_solver_types.specs.Pieces.{and_then}
 use Rattle.facet_solver_types.specs.Roots.{only_root}
 use Rattle.facet_solver_types.specs.Scopes.{Scope}
-use Rattle.facet_solver_types.specs.Sites.{top}
 use Rattle.facet_solver_types.specs.Tokens.{Token, tokens}
 use Rattle.facet_solver_types.specs.Understood.{Declaration}
 
@@ -40,7 +39,7 @@ root_tokens base root = moved base (tokens root)
 abbrev pub root_scope : List Declaration → Scope
 root_scope declarations = record {
   declarations = declarations;
-  site = top;
+  module_name = [];
   this = None;
   parameters = [];
   arguments = [];

@@ -15,7 +15,6 @@ use Rattle.facet_solver_types.specs.declared.declaration.SaidType.TheVariants.{P
 use Rattle.facet_solver_types.specs.declared.fault.Fault.{Fault}
 use Rattle.facet_solver_types.specs.Declarations.{Parameter, parameters_view}
 use Rattle.facet_solver_types.specs.Passages.{Passage, passage_view}
-use Rattle.facet_solver_types.specs.Sites.{Site, site_view}
 use Rattle.facet_solver_types.specs.Tokens.{Token, token_view, tokens_view}
 
 -- the tokens of a type that an attribute says
@@ -107,10 +106,11 @@ declared_view (Proxied proxies) = proxied (map proxy_view proxies.items)
 declared_view (Alias passage) = alias (passage_view passage)
 declared_view Unread = unread
 
--- a declaration of a type: where it stands, its name, its parameters, whether it denies unknown
--- members, what is wrong with its attributes, fields and variants, and what it declares
+-- a declaration of a type: the name of the module that it stands in, or nothing, its name, its
+-- parameters, whether it denies unknown members, what is wrong with its attributes, fields and
+-- variants, and what it declares
 pub record Declaration : Type 0 where
-  pub site : Site
+  pub module_name : Name
   pub name : Token
   pub parameters : List Parameter
   pub denies_unknown : Bool
@@ -120,7 +120,7 @@ pub record Declaration : Type 0 where
 -- what is seen of a declaration
 abbrev pub declaration_view : declaration.Declaration → Declaration
 declaration_view d = record {
-  site = site_view d.site;
+  module_name = d.module_name.now;
   name = token_view d.name;
   parameters = parameters_view d.parameters.items;
   denies_unknown = d.denies_unknown;

@@ -4,7 +4,6 @@ ghost use Rattle.std.specs.Prelude.{◌≡◌};
 use crate::fault::Fault;
 use crate::item::Parameter;
 use crate::passage::Passage;
-use crate::site::Site;
 use crate::token::Token;
 use facet_solver_shape::{DomMark, StructKind};
 
@@ -109,8 +108,8 @@ pub(crate) enum Declared<'s, 't> {
 /// A declaration of a type.
 #[derive(Drop)]
 pub(crate) struct Declaration<'s, 't> {
-    /// Where it stands.
-    pub(crate) site: Site<'t>,
+    /// The name of the module that it stands in, or nothing where it stands in none.
+    pub(crate) module_name: &'t str,
     /// Its name.
     pub(crate) name: Token<'t>,
     /// Its type and const parameters.

@@ -2,7 +2,6 @@
 
 use crate::fault::Fault;
 use crate::passage::Passage;
-use crate::site::Site;
 use crate::token::Token;
 
 /// A parameter of a declaration. A lifetime is none.
@@ -67,8 +66,6 @@ pub(crate) struct EnumDeclaration<'s, 't> {
 /// An alias of a type.
 #[derive(Drop)]
 pub(crate) struct AliasDeclaration<'s, 't> {
-    /// The tokens of its attributes.
-    pub(crate) attributes: &'s [Token<'t>],
     pub(crate) name: Token<'t>,
     pub(crate) parameters: Vec<Parameter<'t>>,
     /// What stands between its `=` and `;`.
@@ -101,6 +98,7 @@ pub(crate) enum Item<'s, 't> {
 /// An item, and where it stands.
 #[derive(Drop)]
 pub(crate) struct ModuleItem<'s, 't> {
-    pub(crate) site: Site<'t>,
+    /// The name of the innermost module around it, or nothing where it stands in none.
+    pub(crate) module_name: &'t str,
     pub(crate) item: Item<'s, 't>,
 }

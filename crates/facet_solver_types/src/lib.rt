@@ -28,7 +28,6 @@ mod passage;
 mod place;
 mod problem;
 mod shape_problem;
-mod site;
 mod sources;
 mod token;
 mod tokens;

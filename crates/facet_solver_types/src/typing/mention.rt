@@ -227,9 +227,9 @@ pub(super) fn mentions<'d, 't>(
         add(&mut inside, mention)?;
     }
     match head {
-        Head::Alias(site, parameters, written) => {
+        Head::Alias(module_name, parameters, written) => {
             let named = Scope {
-                site,
+                module_name,
                 this: None,
                 parameters,
                 arguments: &inside.ids,

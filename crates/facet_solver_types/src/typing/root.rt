@@ -16,7 +16,6 @@ use crate::declaration::Declaration;
 use crate::failure::Failure;
 use crate::fault::Fault;
 use crate::passage::Passage;
-use crate::site::top;
 use crate::token::Token;
 use crate::tokens::tokens;
 use std::alloc::{AllocError, Global};
@@ -86,7 +85,7 @@ fn passage_type(
 {
     let scope = Scope {
         declarations,
-        site: top(),
+        module_name: "",
         this: None,
         parameters: &[],
         arguments: &[],

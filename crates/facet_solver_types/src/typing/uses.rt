@@ -30,7 +30,7 @@ fn scope_of<'d, 't>(
 {
     Scope {
         declarations,
-        site: declaration.site,
+        module_name: declaration.module_name,
         this: Some(used.id.as_str()),
         parameters: &declaration.parameters,
         arguments: &used.arguments,
