@@ -28,6 +28,12 @@ class Any(Teller):
             self.assertEqual((came, said), (status, wanted), answer)
         return answer
 
+    def tell_until_any(self, fault):
+        """Has the program tell a fault, in its text, until a value of any kind stands there."""
+        unless = 'grep -q IgnoredAny "$2"'
+        lines = "#!/bin/sh", f'{unless} || echo "$2{fault}" >&2', f"{unless} || exit 3", ""
+        (self.kit / "program").write_text("\n".join(lines))
+
     def test_each_kind_in_one_round(self):
         self.write(types="struct A { a: Uuid }\nstruct B { b: Plain, c: Own, d: r#type }\n")
         places = "types.rs:1:15", "types.rs:2:15", "types.rs:2:25", "types.rs:2:33"
@@ -106,10 +112,7 @@ class Any(Teller):
 
     def test_code_whose_text_stands_in_another_line(self):
         self.write(types=read_by('with =\n"a::hex"'))
-        fault = ":{}:13: 'with' cannot be said: skip"
-        program = f'#!/bin/sh\ngrep -q IgnoredAny "$2" || echo "$2{fault.format(3)}" >&2\n'
-        program += 'grep -q IgnoredAny "$2" || exit 3\n'
-        (self.kit / "program").write_text(program)
+        self.tell_until_any(":3:13: 'with' cannot be said: skip")
         self.expect([told("types.rs:2:13", "hex")], "check", "types.rs", "--any")
 
     def test_another_type_of_a_known_name(self):
@@ -126,10 +129,7 @@ class Any(Teller):
         """Its stand-in has the name of the struct or enum on which the attribute stands."""
         lines = "", '#[serde(remote = "a::B")]', "/// words", "pub struct r#type<T> { c: T }"
         self.write(types="\n".join(lines))
-        fault = ":{}:9: 'remote' cannot be said: declare"
-        program = f'#!/bin/sh\ngrep -q IgnoredAny "$2" || echo "$2{fault.format(3)}" >&2\n'
-        program += 'grep -q IgnoredAny "$2" || exit 3\n'
-        (self.kit / "program").write_text(program)
+        self.tell_until_any(":3:9: 'remote' cannot be said: declare")
         self.expect([told("types.rs:2:9", "r#type")], "check", "types.rs", "--any")
 
     def test_a_line_that_no_file_has(self):
