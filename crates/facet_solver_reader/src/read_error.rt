@@ -28,8 +28,8 @@ pub enum ReadError<'c, 'd> {
 ///
 /// The place is that of the first part that has none, from the root on: an item of a list, a value
 /// of a map, a member of an object. Where an object is read by one of several branches, and its
-/// names and the texts of tags leave just one, it is the first part of that one. Where they leave
-/// none or several, it is the place of the object.
+/// names and the texts of tags leave just one, or members that read only texts that name variants
+/// name just one, it is the first part of that one. Else it is the place of the object.
 #[derive(Debug, Drop)]
 pub struct NoReading<'c, 'd> {
     /// The place.
@@ -60,7 +60,8 @@ pub enum Obstacle<'c, 'd> {
     /// requires: the name of the member, the block, and the name that it lacks.
     Incomplete(&'d str, Branch<'c>, &'c str),
     /// None of several variants reads it: the type, and what stops each variant, in their order.
-    /// Where the text of a tag leaves some, it is these alone.
+    /// Where members that read only texts that name variants name some, those are left out whose
+    /// member of this kind does not read its value.
     NoVariant(&'c str, Vec<Misfit<'c, 'd>>),
     /// The member of a tag is missing, or its value is the text of no variant: the name of the tag,
     /// the value, and the variants.

@@ -21,6 +21,7 @@ mod left;
 mod missing;
 mod name;
 mod named;
+mod naming;
 mod object;
 mod several;
 mod stop;

@@ -19,10 +19,10 @@ pub enum Given<'d> {
     Number(Number<'d>),
     /// A text.
     Text(&'d str),
-    /// A list.
-    List,
-    /// An object.
-    Object,
+    /// A list of so many values.
+    List(usize),
+    /// An object of so many members.
+    Object(usize),
 }
 
 impl<'d> Given<'d> {
@@ -35,8 +35,8 @@ impl<'d> Given<'d> {
             Document::Bool(is_true) => Given::Bool(*is_true),
             Document::Number(number) => Given::Number(*number),
             Document::Text(text) => Given::Text(text),
-            Document::List(_) => Given::List,
-            Document::Object(_) => Given::Object,
+            Document::List(values) => Given::List(values.len()),
+            Document::Object(members) => Given::Object(members.len()),
         }
     }
 }
@@ -59,9 +59,20 @@ impl fmt::Display for Given<'_> {
                 write!(f, "the text {told:?}")?;
                 write_rest(text, told, f)
             }
-            Given::List => f.write_str("a list"),
-            Given::Object => f.write_str("an object"),
+            Given::List(_) => f.write_str("a list"),
+            Given::Object(_) => f.write_str("an object"),
         }
+    }
+}
+
+/// Writes a value where texts alone stand, a text between quotes, as `'Ftp'` or `5`.
+pub(super) fn write_given<W: fmt::Write>(
+    given: &Given<'_>,
+    f: &mut fmt::Formatter<W>,
+) -> fmt::Result {
+    match given {
+        Given::Text(text) => write_text(text, f),
+        _ => write!(f, "{given}"),
     }
 }
 

@@ -1,5 +1,5 @@
 //! The texts of errors.
-use super::given::write_text;
+use super::given::{write_given, write_text};
 use super::{
     Branch, Given, Misfit, NoReading, Obstacle, ReadError, Several, Stop, TypeName, Unread, Wanted,
 };
@@ -51,13 +51,12 @@ impl fmt::Display for Wanted<'_> {
     }
 }
 
-/// As `300 is no u8: 0 to 255`, `the text "3" is no u8`, or `Login reads an object`.
+/// As `300 is no u8: 0 to 255`, `the text "3" is no u8`, or `Login reads an object, not a list`.
 impl fmt::Display for Unread<'_, '_> {
     fn fmt<W: fmt::Write>(&self, f: &mut fmt::Formatter<W>) -> fmt::Result {
         let name = self.name;
         let given = &self.given;
         match (self.reads, given) {
-            (Wanted::Exactly(text), _) => write!(f, "only the text '{text}' is read"),
             (Wanted::Whole(range), Given::Number(_)) => {
                 let WholeRange { lowest, highest } = range;
                 write!(f, "{given} is no {name}: {lowest} to {highest}")
@@ -72,12 +71,56 @@ impl fmt::Display for Unread<'_, '_> {
                 | Wanted::Character,
                 _,
             ) => write!(f, "{given} is no {name}"),
-            (reads, _) => write!(f, "{name} reads {reads}"),
+            (Wanted::Exactly(text), _) => {
+                write!(f, "only the text '{text}' is read, not ")?;
+                write_given(given, f)
+            }
+            (Wanted::Named, Given::Text(text)) => {
+                write!(f, "{name} has no variant ")?;
+                write_text(text, f)?;
+                f.write_str(" here")
+            }
+            (Wanted::Other, _) => write_other(name, given, f),
+            (reads, _) => {
+                write!(f, "{name} reads {reads}, not ")?;
+                write_instead(reads, given, f)
+            }
         }
     }
 }
 
-/// What stops a variant, as `Token lacks 'token', and 'user' is no key of it`.
+/// That a type does not read a value of a kind of which it may read others, as `5 is no Option<u8>`
+/// or `Login reads no such object`.
+fn write_other<W: fmt::Write>(
+    name: TypeName<'_>,
+    given: &Given<'_>,
+    f: &mut fmt::Formatter<W>,
+) -> fmt::Result {
+    match given {
+        Given::List(_) => write!(f, "{name} reads no such list"),
+        Given::Object(_) => write!(f, "{name} reads no such object"),
+        _ => write!(f, "{given} is no {name}"),
+    }
+}
+
+/// What stands in place of what is wanted, as `a list`. Of the same kind it is how many there are,
+/// as `of 3`.
+fn write_instead<W: fmt::Write>(
+    reads: Wanted<'_>,
+    given: &Given<'_>,
+    f: &mut fmt::Formatter<W>,
+) -> fmt::Result {
+    match (reads, given) {
+        (Wanted::Values(_), Given::List(count)) | (Wanted::Named, Given::Object(count)) => {
+            write!(f, "of {count}")
+        }
+        (Wanted::Nothing, Given::Object(_)) => f.write_str("one with members"),
+        _ => write!(f, "{given}"),
+    }
+}
+
+/// What stops a variant, as `Token lacks 'token', and 'user' is no key of it`. A value that is not
+/// read itself is told once, before all variants.
 impl fmt::Display for Misfit<'_, '_> {
     fn fmt<W: fmt::Write>(&self, f: &mut fmt::Formatter<W>) -> fmt::Result {
         let branch = &self.branch;
@@ -115,6 +158,7 @@ impl fmt::Display for Obstacle<'_, '_> {
             }
             Obstacle::NoVariant(name, misfits) => {
                 write!(f, "no variant of {name} fits")?;
+                write_unfitting(misfits, f)?;
                 for misfit in misfits {
                     write!(f, "; {misfit}")?;
                 }
@@ -140,6 +184,24 @@ impl fmt::Display for Obstacle<'_, '_> {
     }
 }
 
+/// The value that variants do not read themselves, if some is stopped by that, as ` null` or
+/// ` this list`.
+fn write_unfitting<W: fmt::Write>(
+    misfits: &[Misfit<'_, '_>],
+    f: &mut fmt::Formatter<W>,
+) -> fmt::Result {
+    for misfit in misfits {
+        if let Stop::Itself(unread) = &misfit.stop {
+            return match &unread.given {
+                Given::List(_) => f.write_str(" this list"),
+                Given::Object(_) => f.write_str(" this object"),
+                given => write!(f, " {given}"),
+            };
+        }
+    }
+    Ok(())
+}
+
 /// What stands where a tag does, as `'in' is missing` or `'in' is 'Ftp'`.
 fn write_tag<W: fmt::Write>(
     tag: &str,
@@ -148,11 +210,10 @@ fn write_tag<W: fmt::Write>(
 ) -> fmt::Result {
     match given {
         None => write!(f, "'{tag}' is missing"),
-        Some(Given::Text(text)) => {
+        Some(given) => {
             write!(f, "'{tag}' is ")?;
-            write_text(text, f)
+            write_given(given, f)
         }
-        Some(given) => write!(f, "'{tag}' is {given}"),
     }
 }
 

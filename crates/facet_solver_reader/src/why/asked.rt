@@ -6,6 +6,7 @@ ghost use Rattle.facet_solver_reader.specs.Blaming.{IsAsked, IsPosition};
 
 use super::left::left_by_names;
 use super::missing::missing_names;
+use super::naming::{Naming, namings};
 use crate::count::{Count, Memo, Object, count_list};
 use crate::nodes::Nodes;
 use crate::part::ListId;
@@ -23,6 +24,8 @@ pub(super) struct Asked<'r, 'c> {
     pub(super) left: Vec<bool>,
     /// The first name that the list requires and the object lacks.
     pub(super) missing: Vec<Option<&'c str>>,
+    /// Whether it names the list.
+    pub(super) namings: Vec<Naming>,
 }
 
 /// What is known of an object.
@@ -41,11 +44,13 @@ pub(super) fn ask<'r, 'c>(
     let counts = counts_of(tables, nodes, memo, object)?;
     let left = left_by_names(tables, nodes, object)?;
     let missing = missing_names(tables, nodes, object)?;
+    let namings = namings(tables, nodes, memo, object)?;
     Ok(Asked {
         object: *object,
         counts,
         left,
         missing,
+        namings,
     })
 }
 

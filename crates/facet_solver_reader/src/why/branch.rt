@@ -14,9 +14,10 @@ ghost use Rattle.facet_solver_reader.specs.Why.{IsMisfit, IsNoKey, Lacks};
 use super::asked::{Asked, position_of};
 use super::left::only_left;
 use super::name::{branch_of, selection_name};
+use super::naming::{names_some, told_at};
 use super::object::Found;
 use super::stop::stop_of;
-use super::tag::{is_told_apart, none_by_tag, tag_leaves_some};
+use super::tag::none_by_tag;
 use super::walk::{Here, Next};
 use crate::count::{Memo, Object, count_selection, members_of, touches_rest};
 use crate::nodes::Nodes;
@@ -47,23 +48,29 @@ pub(super) fn none_in_selection<'c, 'd>(
     if !count_selection(tables, nodes, object, selection, &asked.counts).is_none() {
         return Ok(None);
     }
-    if let Some(position) = one_branch(tables, nodes, asked, selection) {
+    let by_name = names_some(tables, asked, selection);
+    if let Some(position) = one_branch(tables, nodes, asked, selection, by_name) {
         return Ok(Some(Found::Branch(position, selection.optional)));
     }
     if let Some(here) = none_by_tag(tables, nodes, object, selection)? {
         return Ok(Some(Found::Next(Next::Here(here))));
     }
-    let misfits = misfits_of(tables, nodes, memo, asked, selection)?;
+    if let Some(position) = one_named(tables, nodes, asked, selection, by_name) {
+        return Ok(Some(Found::Branch(position, selection.optional)));
+    }
+    let misfits = misfits_of(tables, nodes, memo, asked, selection, by_name)?;
     let none = Obstacle::NoVariant(selection_name(tables.shapes, selection), misfits);
     Ok(Some(Found::Next(Next::Here(Here::Stops(none)))))
 }
 
-/// The position of the branch that a selection has alone, or that names leave alone.
+/// The position of the branch that a selection has alone, or that names leave alone of those that are
+/// told.
 fn one_branch(
     tables: &Tables<'_>,
     nodes: &Nodes<'_, '_>,
     asked: &Asked<'_, '_>,
     selection: &Selection<'_>,
+    by_name: bool,
 ) -> Option<usize>
     requires tables { AreTables tables.now }
     requires numbering { IsNumbering nodes.now }
@@ -73,17 +80,52 @@ fn one_branch(
 {
     match selection.branches.as_slice() {
         [branch] => position_of(tables, &asked.object, *branch),
-        _ => only_left(tables, nodes, &asked.object, selection, &asked.left),
+        _ => only_left(tables, nodes, asked, selection, by_name),
     }
 }
 
-/// What stops each branch that has a choice. Where the text of a tag leaves some, it is these alone.
+/// The position of the one branch that is told where the object names some. A member that is no key
+/// of it is told in another way.
+fn one_named(
+    tables: &Tables<'_>,
+    nodes: &Nodes<'_, '_>,
+    asked: &Asked<'_, '_>,
+    selection: &Selection<'_>,
+    by_name: bool,
+) -> Option<usize>
+    requires tables { AreTables tables.now }
+    requires object { IsObject tables.now nodes.now asked.now.object }
+    requires served { All (ListIsServed tables.now) (selection_view selection.now).branches }
+    requires named { HasBranchNames (rules_at tables.now).lists selection.now }
+{
+    if !by_name {
+        return None;
+    }
+    let mut only = None;
+    for branch in &selection.branches {
+        let position = told_at(tables, asked, *branch, true);
+        if position.is_some() {
+            if only.is_some() {
+                return None;
+            }
+            if no_key(tables, nodes, &asked.object, selection, *branch).is_some() {
+                return None;
+            }
+            only = position;
+        }
+    }
+    only
+}
+
+/// What stops each branch that has a choice. Where it goes by names, those that the object names
+/// otherwise are left out.
 pub(super) fn misfits_of<'c, 'd>(
     tables: &Tables<'c>,
     nodes: &Nodes<'_, 'd>,
     memo: &mut Memo,
     asked: &Asked<'_, 'c>,
     selection: &Selection<'_>,
+    by_name: bool,
 ) -> Result<Vec<Misfit<'c, 'd>>, AllocError>
     requires sound { AreSound tables.now nodes.now memo.old.entries.items }
     requires asked { IsAsked tables.now nodes.now asked.now }
@@ -94,7 +136,6 @@ pub(super) fn misfits_of<'c, 'd>(
         (value_of nodes.now asked.now.object.node)) misfits.items) }
 {
     let mut misfits = Vec::new(tables.alloc);
-    let by_tag = tag_leaves_some(tables, nodes, &asked.object, selection);
     for branch in &selection.branches {
         add_misfit(
             tables,
@@ -102,7 +143,7 @@ pub(super) fn misfits_of<'c, 'd>(
             memo,
             asked,
             selection,
-            by_tag,
+            by_name,
             branch,
             &mut misfits,
         )?;
@@ -110,15 +151,14 @@ pub(super) fn misfits_of<'c, 'd>(
     Ok(misfits)
 }
 
-/// Adds what stops a branch, if it has a choice. Where it goes by the text of a tag, it is one that
-/// the text leaves.
+/// Adds what stops a branch, if it is told.
 fn add_misfit<'c, 'd>(
     tables: &Tables<'c>,
     nodes: &Nodes<'_, 'd>,
     memo: &mut Memo,
     asked: &Asked<'_, 'c>,
     selection: &Selection<'_>,
-    by_tag: bool,
+    by_name: bool,
     branch: &ListId,
     misfits: &mut Vec<Misfit<'c, 'd>>,
 ) -> Result<(), AllocError>
@@ -133,21 +173,20 @@ fn add_misfit<'c, 'd>(
     ensures misfits { OnOk result (All (IsMisfit (rules_at tables.now)
         (value_of nodes.now asked.now.object.node)) misfits.new.items) }
 {
-    if by_tag && is_told_apart(tables, nodes, &asked.object, *branch) {
+    let Some(position) = told_at(tables, asked, *branch, by_name) else {
         return Ok(());
-    }
-    match misfit_of(tables, nodes, memo, asked, selection, branch) {
+    };
+    match misfit_of(tables, nodes, memo, asked, selection, branch, position) {
         // In place of `?`, for which no proof is generated at an entry of this type.
-        Ok(Some(misfit)) => match misfits.push(misfit) {
+        Ok(misfit) => match misfits.push(misfit) {
             Ok(()) => Ok(()),
             Err(_) => Err(AllocError),
         },
-        Ok(None) => Ok(()),
         Err(error) => Err(error),
     }
 }
 
-/// What stops a branch, if it has a choice.
+/// What stops a branch, whose list has a position.
 fn misfit_of<'c, 'd>(
     tables: &Tables<'c>,
     nodes: &Nodes<'_, 'd>,
@@ -155,38 +194,36 @@ fn misfit_of<'c, 'd>(
     asked: &Asked<'_, 'c>,
     selection: &Selection<'_>,
     branch: &ListId,
-) -> Result<Option<Misfit<'c, 'd>>, AllocError>
+    position: usize,
+) -> Result<Misfit<'c, 'd>, AllocError>
     requires sound { AreSound tables.now nodes.now memo.old.entries.items }
     requires asked { IsAsked tables.now nodes.now asked.now }
     requires served { All (ListIsServed tables.now) (selection_view selection.now).branches }
     requires named { HasBranchNames (rules_at tables.now).lists selection.now }
     requires branch { IsBranchOf (selection_view selection.now) (list_view branch.now) }
     ensures sound { AreSound tables.now nodes.now memo.new.entries.items }
-    ensures misfit { IfOk result (λ misfit. IfSome misfit (IsMisfit (rules_at tables.now)
-        (value_of nodes.now asked.now.object.node))) }
+    ensures misfit { IfOk result (IsMisfit (rules_at tables.now)
+        (value_of nodes.now asked.now.object.node)) }
 {
-    let Some(position) = position_of(tables, &asked.object, *branch) else {
-        return Ok(None);
-    };
     let lacks = lacks_of(tables, asked, *branch);
     let no_key = no_key(tables, nodes, &asked.object, selection, *branch);
     let name = branch_of(tables.shapes, *branch);
     match (&lacks, &no_key) {
         (None, None) => match stop_of(tables, nodes, memo, asked, position) {
-            Ok(stop) => Ok(Some(Misfit {
+            Ok(stop) => Ok(Misfit {
                 branch: name,
                 lacks: None,
                 no_key: None,
                 stop,
-            })),
+            }),
             Err(error) => Err(error),
         },
-        _ => Ok(Some(Misfit {
+        _ => Ok(Misfit {
             branch: name,
             lacks,
             no_key,
             stop: Stop::Nothing,
-        })),
+        }),
     }
 }
 

@@ -6,7 +6,8 @@ ghost use Rattle.facet_solver_reader.specs.SelectionNames.{HasBranchNames, PartH
 ghost use Rattle.facet_solver_reader.specs.Tables.{AreTables, ListIsServed, PartIsServed, rules_at};
 ghost use Rattle.facet_solver_reader.specs.Views.{list_view, part_view, selection_view};
 
-use super::asked::position_of;
+use super::asked::{Asked, position_of};
+use super::naming::told_at;
 use crate::count::{Object, fails_at_once, fits, touches};
 use crate::nodes::Nodes;
 use crate::part::{ListId, Part, Selection};
@@ -128,24 +129,32 @@ fn left_at(
     }
 }
 
-/// The position of the one branch that is left of a selection.
+/// The position of the one branch that is left of a selection, of those that are told.
 pub(super) fn only_left(
     tables: &Tables<'_>,
     nodes: &Nodes<'_, '_>,
-    object: &Object<'_, '_>,
+    asked: &Asked<'_, '_>,
     selection: &Selection<'_>,
-    left: &[bool],
+    by_name: bool,
 ) -> Option<usize>
     requires tables { AreTables tables.now }
     requires numbering { IsNumbering nodes.now }
-    requires object { IsObject tables.now nodes.now object.now }
+    requires object { IsObject tables.now nodes.now asked.now.object }
     requires served { All (ListIsServed tables.now) (selection_view selection.now).branches }
     requires named { HasBranchNames (rules_at tables.now).lists selection.now }
 {
     let mut only = None;
     for branch in &selection.branches {
-        let position = left_at(tables, nodes, object, selection, *branch, left);
-        if position.is_some() {
+        let is_told = told_at(tables, asked, *branch, by_name).is_some();
+        let position = left_at(
+            tables,
+            nodes,
+            &asked.object,
+            selection,
+            *branch,
+            &asked.left,
+        );
+        if is_told && position.is_some() {
             if only.is_some() {
                 return None;
             }

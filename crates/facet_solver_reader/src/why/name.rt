@@ -103,11 +103,13 @@ pub(super) fn unread<'c, 'd>(
     })
 }
 
-/// Whether a value is a list or an object of the kind that is wanted.
+/// Whether a value is a list or an object of the kind that is wanted. An object of one member names
+/// a variant.
 fn is_of_kind(value: &Document<'_>, reads: Wanted<'_>) -> bool {
     match (value, reads) {
         (Document::List(_), Wanted::List) | (Document::Object(_), Wanted::Object) => true,
         (Document::List(items), Wanted::Values(count)) => items.len() == count,
+        (Document::Object(members), Wanted::Named) => members.len() == 1,
         _ => false,
     }
 }

@@ -89,46 +89,6 @@ fn given_at<'d>(nodes: &Nodes<'_, 'd>, node: usize, name: &str) -> Option<Given<
     Some(Given::of(nodes.value(member)))
 }
 
-/// Whether the texts of tags in an object leave some branch of a selection.
-pub(super) fn tag_leaves_some(
-    tables: &Tables<'_>,
-    nodes: &Nodes<'_, '_>,
-    object: &Object<'_, '_>,
-    selection: &Selection<'_>,
-) -> bool
-    requires tables { AreTables tables.now }
-    requires numbering { IsNumbering nodes.now }
-    requires inside { object.now.node < count nodes.now }
-    requires served { All (ListIsServed tables.now) (selection_view selection.now).branches }
-{
-    for branch in &selection.branches {
-        if !is_told_apart(tables, nodes, object, *branch) {
-            return true;
-        }
-    }
-    false
-}
-
-/// Whether an object has another value where a branch wants the text of its tag.
-pub(super) fn is_told_apart(
-    tables: &Tables<'_>,
-    nodes: &Nodes<'_, '_>,
-    object: &Object<'_, '_>,
-    branch: ListId,
-) -> bool
-    requires tables { AreTables tables.now }
-    requires numbering { IsNumbering nodes.now }
-    requires inside { object.now.node < count nodes.now }
-    requires served { ListIsServed tables.now (list_view branch) }
-{
-    match tag_of(tables, branch) {
-        Some((tag, text)) => {
-            nodes.member(object.node, tag).is_some() && lacks_text(nodes, object.node, tag, text)
-        }
-        None => false,
-    }
-}
-
 /// The tag of a branch that begins with one, and its text.
 fn tag_of<'c>(tables: &Tables<'c>, branch: ListId) -> Option<(&'c str, &'c str)>
     requires tables { AreTables tables.now }

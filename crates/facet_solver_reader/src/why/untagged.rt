@@ -11,6 +11,7 @@ ghost use Rattle.facet_solver_reader.specs.declared.count.Count.TheVariants.{Non
 use super::asked::{Asked, ask};
 use super::branch::misfits_of;
 use super::name::{branch_of, shape_name, unread};
+use super::naming::names_some;
 use super::object::{none_in_object, object_by};
 use super::several::{branches_by, several_in_object};
 use super::walk::{Here, Next, count_of, into};
@@ -287,7 +288,8 @@ fn misfits_by<'c, 'd>(
 {
     for part in &asked.object.list.parts {
         if let Part::Selection(selection) = part {
-            return misfits_of(tables, nodes, memo, asked, selection);
+            let by_name = names_some(tables, asked, selection);
+            return misfits_of(tables, nodes, memo, asked, selection, by_name);
         }
     }
     Ok(Vec::new(tables.alloc))

@@ -16,8 +16,8 @@ lacks_of-lacks-requires c =
           c.requires.branch.1;
     }
 
-pub returns-in_default-2-clause-misfit : goal.returns-in_default-2-clause-misfit
-returns-in_default-2-clause-misfit c =
+pub returns-in_default-clause-misfit : goal.returns-in_default-clause-misfit
+returns-in_default-clause-misfit c =
     let rules = rules_at c.args.tables.now in
     let ms = members_in (value_of c.args.nodes.now c.args.asked.now.object.node) in
     let same = sym c.branch_of-name.ensures in
