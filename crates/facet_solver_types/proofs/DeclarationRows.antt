@@ -62,7 +62,7 @@ seen see text = and_then (read text) (λ found. Ok (flat_map see found))
 
 -- the fields of a struct
 abbrev fields_in : Declared → List DeclaredField
-fields_in (struct kind fields transparent container) = fields
+fields_in (struct kind fields transparent says_so container) = fields
 fields_in other = []
 
 -- what is seen of the fields of structs
@@ -92,14 +92,15 @@ variants =
     seen (λ d. map (λ v. (v.written_name, v.name, v.kind, map (λ f. f.rename) v.fields))
     (variants_in d.declared))
 
--- the kind of a struct, how many fields it has, whether it stands for one, and for metadata
-abbrev struct_seen : Declared → List (StructKind × ℕ × Bool × Bool)
-struct_seen (struct kind fields transparent container) =
-    (kind, length fields, transparent, container) ∷ []
+-- the kind of a struct, how many fields it has, whether it stands for one, whether it says so, and
+-- whether it is for metadata
+abbrev struct_seen : Declared → List (StructKind × ℕ × Bool × Bool × Bool)
+struct_seen (struct kind fields transparent says_so container) =
+    (kind, length fields, transparent, says_so, container) ∷ []
 struct_seen other = []
 
 -- the same of all structs
-abbrev structs : List ℕ → Result (List (StructKind × ℕ × Bool × Bool)) Fault
+abbrev structs : List ℕ → Result (List (StructKind × ℕ × Bool × Bool × Bool)) Fault
 structs = seen (λ d. struct_seen d.declared)
 
 -- the tag, the content, and whether there is no tag
@@ -124,7 +125,7 @@ proxies =
 
 -- a word for what is declared
 abbrev kind_of : Declared → Name
-kind_of (struct kind fields transparent container) = codes "struct"
+kind_of (struct kind fields transparent says_so container) = codes "struct"
 kind_of (enum variants tagging) = codes "enum"
 kind_of (proxied proxies) = codes "proxied"
 kind_of (alias passage) = codes "alias"
@@ -228,19 +229,20 @@ pub variant_rows :
 unfolding alias_of attributes_from begins_attribute begins_character begins_statement blank_len character chars continues_name encode entries_from enum_of first_part first_token front_len gap_len is_keyword is_same item_len items_from mark named_call_len named_field nest_after opening_of path_from path_step piece pieces_from qualified_start qualifiers_len run_and_end_len run_from same_bracket start_of struct_of text_token tokens_from variant visible_len whole_call_len
 variant_rows = (refl, refl, refl, refl, refl, refl, refl)
 
--- structs: their kind, how many fields they have, whether they stand for one, and for metadata
+-- structs: their kind, how many fields they have, whether they stand for one, whether they say so, and
+-- whether they are for metadata
 pub struct_rows :
     (structs (codes "struct S { a: u8 } struct T(u8, u8); struct U;")
-    ≡ Ok ((kind.Struct, 1, false, false) ∷ (kind.TupleStruct, 2, false, false)
-    ∷ (kind.Unit, 0, false, false) ∷ []))
+    ≡ Ok ((kind.Struct, 1, false, false, false) ∷ (kind.TupleStruct, 2, false, false, false)
+    ∷ (kind.Unit, 0, false, false, false) ∷ []))
     × (structs (codes "struct S(u8);")
-    ≡ Ok ((kind.TupleStruct, 1, true, false) ∷ []))
+    ≡ Ok ((kind.TupleStruct, 1, true, false, false) ∷ []))
     × (structs (codes "#[serde(transparent)] struct S(u8);")
-    ≡ Ok ((kind.TupleStruct, 1, true, false) ∷ []))
+    ≡ Ok ((kind.TupleStruct, 1, true, true, false) ∷ []))
     × (structs (codes "#[facet(transparent)] struct S { a: u8, #[serde(default)] b: u8 }")
-    ≡ Ok ((kind.Struct, 1, true, false) ∷ []))
+    ≡ Ok ((kind.Struct, 1, true, true, false) ∷ []))
     × (structs (codes "#[facet(metadata_container)] struct S { a: u8 }")
-    ≡ Ok ((kind.Struct, 1, false, true) ∷ []))
+    ≡ Ok ((kind.Struct, 1, false, false, true) ∷ []))
 unfolding alias_of attributes_from begins_attribute begins_character begins_statement blank_len character chars continues_name encode entries_from enum_of first_part first_token front_len gap_len is_keyword is_same item_len items_from mark named_call_len named_field nest_after opening_of path_from path_step piece pieces_from qualified_start qualifiers_len run_and_end_len run_from same_bracket start_of struct_of text_token tokens_from variant visible_len whole_call_len
 struct_rows = (refl, refl, refl, refl, refl)
 
@@ -397,9 +399,9 @@ pub tuple_rows :
     × (names (codes "struct S(#[serde(skip)] u8);")
     ≡ Ok ((decimal 0, None) ∷ []))
     × (structs (codes "#[serde(transparent)] struct S(u8, #[serde(skip)] u16);")
-    ≡ Ok ((kind.TupleStruct, 1, true, false) ∷ []))
+    ≡ Ok ((kind.TupleStruct, 1, true, true, false) ∷ []))
     × (structs (codes "#[serde(transparent)] struct S(u8, #[serde(default)] u16);")
-    ≡ Ok ((kind.TupleStruct, 1, true, false) ∷ []))
+    ≡ Ok ((kind.TupleStruct, 1, true, true, false) ∷ []))
     × (variants (codes "enum E { A(#[serde(skip)] u8), B(#[serde(skip)] u8, u16) }")
     ≡ Ok ((codes "A", codes "A", kind.Tuple, [])
     ∷ (codes "B", codes "B", kind.Tuple, None ∷ []) ∷ []))

@@ -1,5 +1,5 @@
 -- What items texts have, or why they have none: the definitions, row by row.
-use Rattle.std.proofs.Common.{◌≡◌, ℕ, Bool, true, false, List, [], ◌∷◌, length, map, Result, Ok, Err, codes, refl}
+use Rattle.std.proofs.Common.{◌≡◌, ℕ, Bool, true, false, List, [], ◌∷◌, length, map, Option, Some, None, Result, Ok, Err, codes, refl}
 use Rattle.std.specs.List.{flat_map}
 use Rattle.facet_solver_shape.specs.Names.{Name}
 use Rattle.facet_solver_types.specs.declared.fault.Fault.{Fault}
@@ -45,7 +45,7 @@ seen parameters = map (λ p. (p.name.text, p.is_const)) parameters ∷ []
 abbrev parameters_of : Item → List (List (Name × Bool))
 parameters_of (struct attributes name parameters body) = seen parameters
 parameters_of (enum attributes name parameters variants) = seen parameters
-parameters_of (alias name parameters written) = seen parameters
+parameters_of (alias attributes name parameters written) = seen parameters
 parameters_of item = []
 
 -- the parameters of the declarations of a text
@@ -56,7 +56,7 @@ parameters text = and_then (read text) (λ found. Ok (flat_map (λ (m : ModuleIt
 abbrev name_of : Item → List Name
 name_of (struct attributes name parameters body) = name.text ∷ []
 name_of (enum attributes name parameters variants) = name.text ∷ []
-name_of (alias name parameters written) = name.text ∷ []
+name_of (alias attributes name parameters written) = name.text ∷ []
 name_of (implements name) = name.text ∷ []
 name_of item = []
 
@@ -66,7 +66,11 @@ names text = and_then (read text) (λ found. Ok (flat_map (λ (m : ModuleItem). 
 
 -- the names of the modules in which the items of a text stand
 abbrev module_names : List ℕ → Result (List Name) Fault
-module_names text = and_then (read text) (λ found. Ok (map (λ (m : ModuleItem). m.module_name) found))
+module_names text = and_then (read text) (λ found. Ok (map (λ (m : ModuleItem). m.site.module_name) found))
+
+-- where the braces stand of the blocks in which the items of a text are
+abbrev blocks : List ℕ → Result (List (Option ℕ)) Fault
+blocks text = and_then (read text) (λ found. Ok (map (λ (m : ModuleItem). m.site.block) found))
 
 -- faults of tokens
 pub token_rows :
@@ -146,7 +150,15 @@ pub enclosed_rows :
     × (names (codes "fn f(a: T<U>) -> T { let a = S { b: 1 }; struct A; if a != c { struct B; } }")
     ≡ Ok (codes "A" ∷ codes "B" ∷ []))
     × (names (codes "fn f() { a!(struct A;).b(|| { struct B; }); impl C { fn d() { struct D; } } }")
-    ≡ Ok (codes "B" ∷ []))
+    ≡ Ok (codes "B" ∷ codes "D" ∷ []))
+    × (names (codes "impl A { type B = { }; const C: D<{ 1 }> = { 2 }; e! { fn f() { struct G; } } pub fn h() { struct I; } }")
+    ≡ Ok (codes "I" ∷ []))
+    × (names (codes "impl Facet<'_> for A { #[b] unsafe fn c() { impl Facet<'_> for D { } } struct E; } struct F;")
+    ≡ Ok (codes "A" ∷ codes "D" ∷ codes "F" ∷ []))
+    × (names (codes "fn f() { let a = b as extern \"C\" fn(); g(h as unsafe extern fn(u8)); struct I; }")
+    ≡ Ok (codes "I" ∷ []))
+    × (blocks (codes "struct A; fn f() { struct B; { struct C; } struct D; mod e { struct F; } } impl G { fn h() { struct I; } }")
+    ≡ Ok (None ∷ Some 17 ∷ Some 29 ∷ Some 17 ∷ None ∷ Some 91 ∷ []))
     × (names (codes "mod a { struct A; fn f() { mod b { struct B; } struct C; } } struct D;")
     ≡ Ok (codes "A" ∷ codes "B" ∷ codes "C" ∷ codes "D" ∷ []))
     × (names (codes "impl<'a, T: X<T>> a::Deserialize<'a> for b::C<T> { } unsafe impl Facet<'_> for D { }")
@@ -158,4 +170,4 @@ pub enclosed_rows :
     × (read (codes "mod { }") ≡ Err (At 4 (problem.Expected expected.Name)))
     × (read (codes "mod a b { }") ≡ Err (At 6 (problem.Expected expected.HeadEnd)))
 unfolding alias_of attributes_from begins_attribute begins_character begins_statement blank_len character continues_name enum_of first_part first_token front_len gap_len is_keyword item_len items_from mark named_call_len named_field nest_after opening_of path_from path_step piece pieces_from qualified_start qualifiers_len run_and_end_len run_from same_bracket start_of struct_of text_token tokens_from variant visible_len whole_call_len
-enclosed_rows = (refl, refl, refl, refl, refl, refl, refl, refl, refl, refl)
+enclosed_rows = (refl, refl, refl, refl, refl, refl, refl, refl, refl, refl, refl, refl, refl, refl)

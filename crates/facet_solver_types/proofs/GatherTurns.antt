@@ -1,10 +1,9 @@
 -- What a rule reads of each element of a list, an element at a time.
 use Rattle.std.proofs.Common.{◌≡◌, ℕ, ◌+◌, ◌<◌, List, ◌∷◌, ◌++◌, length, get_or, drop, map, Option, Some, None, option_map, Result, Ok, Err, refl, ap, sym, ◌∙◌, add-one, drop-cons, append_assoc}
 use Rattle.std.proofs.lemmas.List.{map-append}
-use Rattle.std.specs.List.{cons_option, filter_map}
 use Rattle.std.specs.Option.{option_to_list}
 use Rattle.facet_solver_types.specs.declared.fault.Fault.{Fault}
-use Rattle.facet_solver_types.specs.Gathered.{Rule, gathered}
+use Rattle.facet_solver_types.specs.Gathered.{Rule, gathered, kept}
 use Rattle.facet_solver_types.specs.Pieces.{and_then}
 use Rattle.facet_solver_types.proofs.Listed.{before}
 
@@ -51,31 +50,24 @@ module _ {A B D : Type 0} (rule : Rule A B) (view : D → A) (xs : List D) (at :
       ∙ one_more (map see so_far) (option_map see found) later
       ∙ ap (λ ys. before ys later) all
 
--- an element in front, if there is one
-consed : {B : Type 0} (found : Option B) (others : List B)
-    → cons_option found others ≡ option_to_list found ++ others
-consed None others = refl
-consed (Some value) others = refl
-
-module _ {A B C D : Type 0} (rule : A → Option B) (view : D → A) (see : C → B) (xs : List D)
-    (at : ℕ) (d : D) (within : at < length xs) where
+module _ {A B C D : Type 0} (rule : ℕ → A → Option B) (view : D → A) (see : C → B)
+    (xs : List D) (at : ℕ) (d : D) (within : at < length xs) where
   -- an element that was read by a rule that has no faults
   pub kept_turn : (so_far after : List C) (found : Option C)
-      → option_map see found ≡ rule (view (get_or xs at d))
+      → option_map see found ≡ rule at (view (get_or xs at d))
       → after ≡ so_far ++ option_to_list found
-      → map see so_far ++ filter_map rule (map view (drop at xs))
-      ≡ map see after ++ filter_map rule (map view (drop (at + 1) xs))
+      → map see so_far ++ kept rule at (map view (drop at xs))
+      ≡ map see after ++ kept rule (at + 1) (map view (drop (at + 1) xs))
   kept_turn so_far after found is more =
       let split : drop at xs ≡ get_or xs at d ∷ drop (at + 1) xs =
       rw (add-one, drop-cons xs at d) refl in
-      let later = filter_map rule (map view (drop (at + 1) xs)) in
+      let later = kept rule (at + 1) (map view (drop (at + 1) xs)) in
       let one = option_map see found in
       let all : map see so_far ++ option_to_list one ≡ map see after =
       ap (λ ys. map see so_far ++ ys) (seen see found)
       ∙ sym (map-append see so_far (option_to_list found))
       ∙ ap (map see) (sym more) in
-      ap (λ ys. map see so_far ++ filter_map rule (map view ys)) split
-      ∙ ap (λ o. map see so_far ++ cons_option o later) (sym is)
-      ∙ ap (λ ys. map see so_far ++ ys) (consed one later)
+      ap (λ ys. map see so_far ++ kept rule at (map view ys)) split
+      ∙ ap (λ o. map see so_far ++ (option_to_list o ++ later)) (sym is)
       ∙ sym (append_assoc (map see so_far) (option_to_list one) later)
       ∙ ap (λ ys. ys ++ later) all

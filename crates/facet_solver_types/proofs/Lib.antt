@@ -14,6 +14,7 @@ pub mod ListedItems
 pub mod ListedParameters
 pub mod Paths
 pub mod Qualifiers
+pub mod ConditionTurns
 pub mod Listed
 pub mod Views
 pub mod Attributes
@@ -36,6 +37,8 @@ pub mod PrintedAttributes
 pub mod Walks
 pub mod Ranges
 pub mod ZippedLists
+pub mod InPlace
+pub mod Absences
 pub mod ShapeFaults
 pub mod ParsedTexts
 pub mod CaseRows

@@ -7,6 +7,7 @@ use Rattle.facet_solver_types.specs.declared.fault.Fault.TheVariants.{OutOfMemor
 use denote.Bor.{Bor}
 use Rattle.facet_solver_types.specs.declared.item.Parameter as code_parameter
 use Rattle.facet_solver_types.specs.declared.passage.Passage as code_passage
+use Rattle.facet_solver_types.specs.declared.site.Site as code_site
 use Rattle.facet_solver_types.specs.declared.typing.layer.Head as code_head
 use Rattle.facet_solver_types.specs.declared.typing.layer.Head.TheVariants as heads
 use Rattle.facet_solver_types.specs.declared.typing.layer.Part as declared
@@ -108,15 +109,15 @@ turns_over rule scope inside parts at over =
 
 -- what is no alias is not followed
 pub followed_other : (rule : Rule) (scope : Scope) (head : code_head.Head) (inside : Inside)
-    → ((module_name : Bor (List ℕ)) (parameters : Bor (List code_parameter.Parameter))
+    → ((site : code_site.Site) (parameters : Bor (List code_parameter.Parameter))
     (written : code_passage.Passage)
-    → head ≡ heads.Alias module_name parameters written → ⊥)
+    → head ≡ heads.Alias site parameters written → ⊥)
     → followed rule scope (head_view head) inside ≡ mention_of scope (head_view head) inside
 followed_other rule scope heads.Same inside other = refl
 followed_other rule scope (heads.Bound id) inside other = refl
 followed_other rule scope (heads.Declared index name) inside other = refl
-followed_other rule scope (heads.Alias module_name parameters written) inside other =
-    absurd (other module_name parameters written refl)
+followed_other rule scope (heads.Alias site parameters written) inside other =
+    absurd (other site parameters written refl)
 followed_other rule scope (heads.Scalar name kind) inside other = refl
 followed_other rule scope (heads.Dynamic name) inside other = refl
 followed_other rule scope (heads.Applied name kind) inside other = refl

@@ -1,11 +1,15 @@
 -- Shapes of declarations and types: the definitions, row by row.
-use Rattle.std.proofs.Common.{◌≡◌, ℕ, true, false, List, [], ◌∷◌, Option, Some, None, Result, Ok, Err, codes, map, refl}
+use Rattle.std.proofs.Common.{◌≡◌, ℕ, Bool, true, false, List, [], ◌∷◌, ◌++◌, Option, Some, None, Result, Ok, Err, codes, map, refl}
+use Rattle.std.specs.List.{range_with_len}
 use Rattle.facet_solver_shape.specs.Names.{Name}
 use Rattle.facet_solver_shape.specs.declared.shape.DomMark.TheVariants as marks
 use Rattle.facet_solver_shape.specs.declared.shape.ScalarType.TheVariants as scalars
 use Rattle.facet_solver_shape.specs.declared.shape.ShapeKind.TheVariants as kinds
 use Rattle.facet_solver_shape.specs.declared.shape.StructKind.TheVariants as structs
+use Rattle.facet_solver_types.specs.declared.catalogue.absences.Absence.{Absence}
+use Rattle.facet_solver_types.specs.declared.catalogue.absences.Absence.TheVariants.{Taken, Passed, Refused}
 use Rattle.facet_solver_types.specs.declared.fault.Fault.TheVariants.{At}
+use Rattle.facet_solver_types.specs.Absences.{absence_of, is_taken, leads_to_option}
 use Rattle.facet_solver_types.specs.declared.problem.Problem.TheVariants as problem
 use Rattle.facet_solver_types.specs.declared.shape_problem.ShapeProblem.TheVariants as why
 use Rattle.facet_solver_types.specs.declared.token.TokenKind.TheVariants as tokens
@@ -14,6 +18,7 @@ use Rattle.facet_solver_types.specs.Failures.{Failure, needed}
 use Rattle.facet_solver_types.specs.MadeShapes.{declared_shape, kind_of, tuple_field}
 use Rattle.facet_solver_types.specs.Passages.{Passage}
 use Rattle.facet_solver_types.specs.ShapeViews.{Kind, Shape, other, structure}
+use Rattle.facet_solver_types.specs.Sites.{top}
 use Rattle.facet_solver_types.specs.TypeEntries.{Form, TypeEntry, array, declared, dynamic, list, mapping, option, pointer, scalar, set, slice, tuple}
 use Rattle.facet_solver_types.specs.TypesViews.{Types}
 use Rattle.facet_solver_types.specs.Understood.{Declaration, Declared, DeclaredField, Tagging, enum, proxied, struct}
@@ -72,7 +77,7 @@ field name flattened = record {
 -- a declaration of a name that stands at an offset
 abbrev declaration : ℕ → Name → Declared → Declaration
 declaration offset name what = record {
-  module_name = [];
+  site = top;
   name = record { offset = offset; kind = tokens.Name; text = name };
   parameters = [];
   denies_unknown = false;
@@ -86,7 +91,7 @@ entry id form = record { id = id; form = form }
 
 -- a struct with a field of a name, which is flattened or not
 abbrev with_field : Name → Option ℕ → Declared
-with_field name flattened = struct structs.Struct (field name flattened ∷ []) false false
+with_field name flattened = struct structs.Struct (field name flattened ∷ []) false false false
 
 -- the name and the kind of a shape
 abbrev said : Shape → Name × Kind
@@ -137,9 +142,9 @@ byte = entry (codes "u8") (scalar scalars.U8)
 
 -- types that no field may flatten
 pub flatten_rows :
-    (two (Some 20) (codes "B") (struct structs.Unit [] false false) ([] ∷ []) [] ≡ refused)
-    × (two (Some 20) (codes "B") (struct structs.TupleStruct [] false false) ([] ∷ []) [] ≡ refused)
-    × (two (Some 20) (codes "B") (struct structs.Struct (field (codes "u") None ∷ []) true false)
+    (two (Some 20) (codes "B") (struct structs.Unit [] false false false) ([] ∷ []) [] ≡ refused)
+    × (two (Some 20) (codes "B") (struct structs.TupleStruct [] false false false) ([] ∷ []) [] ≡ refused)
+    × (two (Some 20) (codes "B") (struct structs.Struct (field (codes "u") None ∷ []) true false false)
     ((codes "u8" ∷ []) ∷ []) (byte ∷ []) ≡ refused)
     × (two (Some 20) (codes "u8") empty [] (byte ∷ []) ≡ refused)
     × (two (Some 20) (codes "P") empty [] (entry (codes "P") (pointer (codes "B")) ∷ []) ≡ refused)
@@ -152,7 +157,7 @@ flatten_rows = (refl, refl, refl, refl, refl, refl, refl)
 -- types that a field may flatten
 pub flattened_rows :
     (names_of (two (Some 20) (codes "B") empty [] []) ≡ codes "B" ∷ codes "A" ∷ [])
-    × (names_of (two (Some 20) (codes "B") (struct structs.Struct [] false false) ([] ∷ []) [])
+    × (names_of (two (Some 20) (codes "B") (struct structs.Struct [] false false false) ([] ∷ []) [])
     ≡ codes "B" ∷ codes "A" ∷ [])
     × (names_of (two (Some 20) (codes "O") empty [] (entry (codes "O") (option (codes "B")) ∷ []))
     ≡ codes "B" ∷ codes "O" ∷ codes "A" ∷ [])
@@ -167,10 +172,10 @@ flattened_rows = (refl, refl, refl, refl, refl)
 -- the shapes of declarations
 pub declared_rows :
     ((declared_shape (codes "u8" ∷ []) (codes "S")
-    (struct structs.TupleStruct (field (codes "0") None ∷ []) true false) ((codes "u8" ∷ []) ∷ [])).inner
+    (struct structs.TupleStruct (field (codes "0") None ∷ []) true false false) ((codes "u8" ∷ []) ∷ [])).inner
     ≡ Some 0)
     × ((declared_shape (codes "u8" ∷ []) (codes "S")
-    (struct structs.TupleStruct (field (codes "0") None ∷ []) false true) ((codes "u8" ∷ []) ∷ [])).inner
+    (struct structs.TupleStruct (field (codes "0") None ∷ []) false false true) ((codes "u8" ∷ []) ∷ [])).inner
     ≡ None)
     × ((declared_shape (codes "u8" ∷ []) (codes "S") (proxied []) ((codes "u8" ∷ []) ∷ [])).proxy
     ≡ Some 0)
@@ -180,3 +185,40 @@ pub declared_rows :
     (enum [] (record { tag = Some (codes "t"); content = Some (codes "c"); untagged = true })) []).tag
     ≡ Some (codes "t"))
 declared_rows = (refl, refl, refl, refl, refl)
+
+-- what types do with an absent member, `S` among them, which is declared so, with the type `T` in it
+abbrev absence : Declared → Form → Absence
+absence what form = absence_of (declaration 0 (codes "S") what ∷ []) (codes "S" ∷ codes "T" ∷ []) form
+
+-- the same of `S`
+abbrev of_declared : Declared → Absence
+of_declared what = absence what (declared 0 ((codes "T" ∷ []) ∷ []))
+
+-- an option takes it, others pass it on, and others refuse it
+pub absence_rows :
+    (absence empty (option (codes "T")) ≡ Taken)
+    × (absence empty (pointer (codes "T")) ≡ Passed 1)
+    × (absence empty (list (codes "T")) ≡ Refused)
+    × (of_declared (proxied []) ≡ Passed 1)
+    × (of_declared (struct structs.Struct (field (codes "a") None ∷ []) true true false) ≡ Passed 1)
+    × (of_declared (struct structs.TupleStruct (field (codes "0") None ∷ []) true true false) ≡ Passed 1)
+    × (of_declared (struct structs.TupleStruct (field (codes "0") None ∷ []) true false false) ≡ Refused)
+    × (of_declared (with_field (codes "a") None) ≡ Refused)
+    × (of_declared empty ≡ Refused)
+    × (absence empty (declared 1 []) ≡ Refused)
+absence_rows = (refl, refl, refl, refl, refl, refl, refl, refl, refl, refl)
+
+-- 0 leads over 1 to the option 2; 4 leads to 3, which refuses it; 5 and 6 lead to one another
+abbrev leads : ℕ → Bool
+leads place =
+    leads_to_option (Passed 1 ∷ Passed 2 ∷ Taken ∷ Refused ∷ Passed 3 ∷ Passed 6 ∷ Passed 5 ∷ []) place
+
+-- which of them are no options, and lead to one
+pub lead_rows :
+    (map leads (0 ∷ 1 ∷ 2 ∷ 3 ∷ 4 ∷ 5 ∷ 6 ∷ 7 ∷ [])
+    ≡ true ∷ true ∷ false ∷ false ∷ false ∷ false ∷ false ∷ false ∷ [])
+    × (leads_to_option (map Passed (range_with_len 1 127) ++ Taken ∷ []) 0 ≡ true)
+    × (leads_to_option (map Passed (range_with_len 1 128) ++ Taken ∷ []) 0 ≡ false)
+    × (leads_to_option (map Passed (range_with_len 1 128) ++ Taken ∷ []) 1 ≡ true)
+unfolding is_taken
+lead_rows = (refl, refl, refl, refl)

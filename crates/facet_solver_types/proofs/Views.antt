@@ -14,6 +14,11 @@ pub rest_seen : {A B : Type 0} (view : A → B) (xs : List A) (n : ℕ)
     → map view (take (length xs - n) (drop n xs)) ≡ drop n (map view xs)
 rest_seen view xs n = ap (map view) (take_rest xs n) ∙ sym (drop-map view n xs)
 
+-- the first of a list are seen as the first of what is seen
+pub front_seen : {A B : Type 0} (view : A → B) (xs : List A) (n : ℕ)
+    → map view (take n xs) ≡ take n (map view xs)
+front_seen view xs n = sym (take-map view n xs)
+
 -- as many tokens are seen as there are
 pub view_len : (ts : List declared.Token) → length (tokens_view ts) ≡ length ts
 view_len ts = length-map ts token_view

@@ -4,13 +4,15 @@ use Rattle.std.specs.List.{range_with_len}
 use Rattle.std.specs.Option.{option_map_or}
 use Rattle.facet_solver_shape.specs.Names.{Name}
 use Rattle.facet_solver_types.specs.declared.catalogue.parts.Parts as parts
+use Rattle.facet_solver_types.specs.Absences.{absences_of}
+use Rattle.facet_solver_types.specs.AbsentMembers.{let_absent}
 use Rattle.facet_solver_types.specs.Failures.{Failure, needed}
 use Rattle.facet_solver_types.specs.Faults.{told}
 use Rattle.facet_solver_types.specs.TypeTables.{TypeTable}
 use Rattle.facet_solver_types.specs.Links.{ids, needs, place_in}
 use Rattle.facet_solver_types.specs.MadeShapes.{shape_of}
 use Rattle.facet_solver_types.specs.ShapeFaults.{shape_faults}
-use Rattle.facet_solver_types.specs.ShapeViews.{shapes_view}
+use Rattle.facet_solver_types.specs.ShapeViews.{Shape, shapes_view}
 use Rattle.facet_solver_types.specs.TypeEntries.{Form, TypeEntry, declared}
 use Rattle.facet_solver_types.specs.TypesViews.{DeclaredType, Types, declared_type_view}
 use Rattle.facet_solver_types.specs.Understood.{Declaration}
@@ -68,10 +70,17 @@ declared_type declarations order entry = declared_by declarations order entry.id
 abbrev pub declared_types : List Declaration → List Name → List TypeEntry → List DeclaredType
 declared_types declarations order entries = flat_map (declared_type declarations order) entries
 
+-- the shapes of types in order, whose ids are these, whose members may be absent where their types
+-- lead to options
+abbrev pub shapes_by : List Declaration → List Name → List TypeEntry → List Shape
+shapes_by declarations order entries =
+    map (let_absent (absences_of declarations order entries))
+    (map (shape_of declarations order) entries)
+
 -- types in order, whose ids are these, with a root
 abbrev pub types_by : TypeTable → List Name → List TypeEntry → Name → Types
 types_by table order entries root = record {
-  shapes = map (shape_of table.declarations order) entries;
+  shapes = shapes_by table.declarations order entries;
   declared = declared_types table.declarations order table.entries;
   root = place_in order root;
 }

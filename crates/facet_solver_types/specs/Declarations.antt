@@ -1,6 +1,5 @@
 -- Declarations, as their tokens.
 use Rattle.std.specs.Prelude.{Bool, List, Option, option_map, map}
-use Rattle.facet_solver_shape.specs.Names.{Name}
 use Rattle.facet_solver_types.specs.declared.fault.Fault.{Fault}
 use Rattle.facet_solver_types.specs.declared.item.AliasDeclaration.{AliasDeclaration}
 use Rattle.facet_solver_types.specs.declared.item.Body as body
@@ -15,6 +14,7 @@ use Rattle.facet_solver_types.specs.declared.item.Parameter as parameter
 use Rattle.facet_solver_types.specs.declared.item.StructDeclaration.{StructDeclaration}
 use Rattle.facet_solver_types.specs.declared.item.VariantDeclaration.{VariantDeclaration}
 use Rattle.facet_solver_types.specs.Passages.{Passage, passage_view}
+use Rattle.facet_solver_types.specs.Sites.{Site, site_view}
 use Rattle.facet_solver_types.specs.Tokens.{Token, token_view, tokens_view}
 
 -- a field: its attributes, its name if it has one, and its type
@@ -84,7 +84,7 @@ parameters_view parameters = map parameter_view parameters
 pub data Item : Type 0 where
   struct : List Token → Token → List Parameter → Body → Item
   enum : List Token → Token → List Parameter → List Variant → Item
-  alias : Token → List Parameter → Passage → Item
+  alias : List Token → Token → List Parameter → Passage → Item
   faulty : List Token → Token → Fault → Item
   implements : Token → Item
   other : Item
@@ -104,7 +104,8 @@ enum_view e =
 -- what is seen of an alias
 abbrev pub alias_view : AliasDeclaration → Item
 alias_view a =
-    alias (token_view a.name) (parameters_view a.parameters.items) (passage_view a.written)
+    alias (tokens_view a.attributes.now) (token_view a.name) (parameters_view a.parameters.items)
+    (passage_view a.written)
 
 -- what is seen of a declaration that cannot be read
 abbrev pub faulty_view : FaultyDeclaration → Item
@@ -119,14 +120,14 @@ item_view (item.Faulty f) = faulty_view f
 item_view (item.Impl name) = implements (token_view name)
 item_view item.Other = other
 
--- an item, and the name of the innermost module around it, or nothing where it stands in none
+-- an item, and where it stands
 pub record ModuleItem : Type 0 where
-  pub module_name : Name
+  pub site : Site
   pub item : Item
 
 -- what is seen of an item where it stands
 abbrev pub module_item_view : module_item.ModuleItem → ModuleItem
-module_item_view m = record { module_name = m.module_name.now; item = item_view m.item }
+module_item_view m = record { site = site_view m.site; item = item_view m.item }
 
 -- what is seen of items
 abbrev pub items_view : List module_item.ModuleItem → List ModuleItem

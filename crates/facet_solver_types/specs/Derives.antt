@@ -87,7 +87,7 @@ attributes_of item = []
 
 -- whether an item derives that it is read as it is declared, and is no stand-in
 abbrev pub is_derived : ModuleItem → Bool
-is_derived m = not (is_of_stand_ins m.module_name) && derives Reading (attributes_of m.item)
+is_derived m = not (is_of_stand_ins m.site.module_name) && derives Reading (attributes_of m.item)
 
 -- whether some item does
 abbrev pub has_derives : List ModuleItem → Bool

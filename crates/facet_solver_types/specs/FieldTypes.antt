@@ -140,7 +140,7 @@ proxy_types scope (first ∷ others) =
 
 -- the types that a declaration mentions; an alias is looked at where it is named
 abbrev pub declared_types : Scope → Declared → Groups
-declared_types scope (struct kind fields is_transparent is_container) =
+declared_types scope (struct kind fields is_transparent says_so is_container) =
     one_group (field_types scope fields)
 declared_types scope (enum variants tagging) = variant_types scope variants
 declared_types scope (proxied proxies) = proxy_types scope proxies

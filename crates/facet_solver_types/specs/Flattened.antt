@@ -1,7 +1,6 @@
 -- What the type of a flattened field is: without the pointers to it, and as what it is read.
 use Rattle.std.specs.Prelude.{ℕ, zero, suc, ◌==◌, if◌then◌else◌, List, [], ◌∷◌, length, Option, Some, None, slice_get, Result, Err}
 use Rattle.std.specs.Option.{option_map_or}
-use Rattle.facet_solver_shape.specs.Names.{Name}
 use Rattle.facet_solver_types.specs.Declarations.{Parameter, parameters_view}
 use Rattle.facet_solver_types.specs.declared.fault.Fault.{Fault}
 use Rattle.facet_solver_types.specs.declared.typing.flattened.Lead as code
@@ -13,6 +12,7 @@ use Rattle.facet_solver_types.specs.Mentions.{Mention, Rule, alias_scope, mentio
 use Rattle.facet_solver_types.specs.Passages.{Passage, passage_view, place}
 use Rattle.facet_solver_types.specs.Pieces.{and_then}
 use Rattle.facet_solver_types.specs.Scopes.{Scope, too_deep}
+use Rattle.facet_solver_types.specs.Sites.{Site, site_view}
 use Rattle.facet_solver_types.specs.Understood.{Declaration, Declared, Proxy, proxied}
 
 -- what a flattened type leads to: the type that stands in it, an option of that, the type that an
@@ -20,15 +20,15 @@ use Rattle.facet_solver_types.specs.Understood.{Declaration, Declared, Proxy, pr
 pub data Lead : Type 0 where
   inside : Passage → Lead
   option_of : Passage → Lead
-  named : Name → List Parameter → Passage → Lead
+  named : Site → List Parameter → Passage → Lead
   itself : Lead
 
 -- what is seen of it
 abbrev pub lead_view : code.Lead → Lead
 lead_view (code.TheVariants.Inside passage) = inside (passage_view passage)
 lead_view (code.TheVariants.Option passage) = option_of (passage_view passage)
-lead_view (code.TheVariants.Named module_name parameters written) =
-    named module_name.now (parameters_view parameters.now) (passage_view written)
+lead_view (code.TheVariants.Named site parameters written) =
+    named (site_view site) (parameters_view parameters.now) (passage_view written)
 lead_view code.TheVariants.Itself = itself
 
 -- the type that a part is, if it is one
@@ -53,13 +53,13 @@ bare_lead lead [] = lead
 bare_lead lead parts = itself
 
 -- what is declared in a module leads to: the type that it is read as, if one attribute says it
-abbrev pub said_lead : Name → Declared → Lead
-said_lead module_name (proxied (proxy ∷ [])) = named module_name [] proxy.said
-said_lead module_name declared = itself
+abbrev pub said_lead : Site → Declared → Lead
+said_lead site (proxied (proxy ∷ [])) = named site [] proxy.said
+said_lead site declared = itself
 
 -- what a declaration leads to that has no fault; one with some is looked at itself
 abbrev pub declared_lead : Declaration → Lead
-declared_lead d = if length d.faults == 0 then said_lead d.module_name d.declared else itself
+declared_lead d = if length d.faults == 0 then said_lead d.site d.declared else itself
 
 -- what the declaration at an index leads to
 abbrev pub lead_at : Scope → ℕ → Lead
@@ -70,8 +70,8 @@ lead_at scope index =
 abbrev pub lead_by : Scope → Head → List Part → Lead
 lead_by scope layers.same parts = option_map_or inside (only_type parts) itself
 lead_by scope (layers.applied name kind) parts = applied_lead kind parts
-lead_by scope (layers.alias module_name parameters written) parts =
-    bare_lead (named module_name parameters written) parts
+lead_by scope (layers.alias site parameters written) parts =
+    bare_lead (named site parameters written) parts
 lead_by scope (layers.declared index called) parts = bare_lead (lead_at scope index) parts
 lead_by scope head parts = itself
 
@@ -89,8 +89,8 @@ abbrev pub by_lead
     : Rule → Scope → Head → Result Mention Fault → Lead → Result Mention Fault
 by_lead rule scope head own (inside passage) = rule scope passage
 by_lead rule scope head own (option_of passage) = and_then (rule scope passage) (around scope head)
-by_lead rule scope head own (named module_name parameters written) =
-    rule (alias_scope scope module_name parameters []) written
+by_lead rule scope head own (named site parameters written) =
+    rule (alias_scope scope site parameters []) written
 by_lead rule scope head own itself = own
 
 -- what a flattened type mentions, which may have so many levels

@@ -27,18 +27,19 @@ use Rattle.facet_solver_types.specs.Paired.{paired}
 use Rattle.facet_solver_types.specs.Passages.{Passage, passage_view, place}
 use Rattle.facet_solver_types.specs.Pieces.{and_then}
 use Rattle.facet_solver_types.specs.Scopes.{Scope, bound_id}
+use Rattle.facet_solver_types.specs.Sites.{Site, site_view}
 use Rattle.facet_solver_types.specs.Tokens.{Token, tokens_view}
 use Rattle.facet_solver_types.specs.Understood.{Declaration, Declared, alias as declares_alias, unread}
 use Rattle.facet_solver_types.specs.WrittenTypes.{NamedType, Written, is_str, written_type, unit, enclosed, tuple as tuple_of, slice as slice_of, array as array_of, text, bytes, this, named}
 
 -- what a type is outside: the one in it, one by its id, what the declaration at an index declares,
--- which is called so, what an alias in a module names with some parameters, a scalar, a dynamic
--- value, what a name makes of those in it, an array with its length, a slice or a tuple
+-- which is called so, what an alias that stands somewhere names with some parameters, a scalar, a
+-- dynamic value, what a name makes of those in it, an array with its length, a slice or a tuple
 pub data Head : Type 0 where
   same : Head
   bound : Name → Head
   declared : ℕ → Called → Head
-  alias : Name → List Parameter → Passage → Head
+  alias : Site → List Parameter → Passage → Head
   scalar : Name → ScalarType → Head
   dynamic : Name → Head
   applied : Name → Applied → Head
@@ -61,8 +62,8 @@ abbrev pub head_view : code_head.Head → Head
 head_view code_head.TheVariants.Same = same
 head_view (code_head.TheVariants.Bound id) = bound id.now
 head_view (code_head.TheVariants.Declared index called) = declared index (called_view called)
-head_view (code_head.TheVariants.Alias module_name parameters written) =
-    alias module_name.now (parameters_view parameters.now) (passage_view written)
+head_view (code_head.TheVariants.Alias site parameters written) =
+    alias (site_view site) (parameters_view parameters.now) (passage_view written)
 head_view (code_head.TheVariants.Scalar name kind) = scalar name.now kind
 head_view (code_head.TheVariants.Dynamic name) = dynamic name.now
 head_view (code_head.TheVariants.Applied name kind) = applied name.now kind
@@ -112,12 +113,13 @@ parts_of parameters types = paired part_of parameters types
 
 -- what a type is outside that a declaration at an index declares, which is called so
 abbrev pub head_by : ℕ → Called → Declaration → Declared → Head
-head_by index called d (declares_alias written) = alias d.module_name d.parameters written
+head_by index called d (declares_alias written) = alias d.site d.parameters written
 head_by index called d what = declared index called
 
 -- what a type is outside by the declaration at an index, where those at some have its name
-abbrev pub declared_head : List ℕ → ℕ → Declaration → Head
-declared_head namesakes index d = head_by index (called_among namesakes index d) d d.declared
+abbrev pub declared_head : List Declaration → List ℕ → ℕ → Declaration → Head
+declared_head declarations namesakes index d =
+    head_by index (called_among declarations namesakes index d) d d.declared
 
 -- what a name takes for these parameters
 abbrev pub taken_parts : List Parameter → NamedType → Result (List Part) Fault
@@ -133,17 +135,18 @@ is_unread what = false
 -- one of which nothing could be read
 abbrev pub takes_all : Declaration → Bool
 takes_all d =
-    is_unread d.declared || (is_of_stand_ins d.module_name && length d.parameters == 0)
+    is_unread d.declared || (is_of_stand_ins d.site.module_name && length d.parameters == 0)
 
 -- what stands for the parameters of a declaration
 abbrev pub declared_parts : Declaration → NamedType → Result (List Part) Fault
 declared_parts d n = if takes_all d then Ok [] else taken_parts d.parameters n
 
 -- a type by the declaration at an index, where those at some have its name
-abbrev pub declared_layer : NamedType → List ℕ → ℕ → Declaration → Result Layer Fault
-declared_layer n namesakes index d =
+abbrev pub declared_layer
+    : List Declaration → NamedType → List ℕ → ℕ → Declaration → Result Layer Fault
+declared_layer declarations n namesakes index d =
     and_then (declared_parts d n)
-    (λ parts. Ok (record { head = declared_head namesakes index d; parts = parts }))
+    (λ parts. Ok (record { head = declared_head declarations namesakes index d; parts = parts }))
 
 -- whether a `Cow` of these is known: of `str` alone
 abbrev pub is_text : List Passage → Bool
@@ -192,9 +195,11 @@ abbrev pub undeclared : NamedType → Result Layer Fault
 undeclared n = known_or_not n (known_type n.name.text)
 
 -- a type by the declaration at an index, if there is one, where those at some have its name
-abbrev pub layer_of_one : NamedType → List ℕ → ℕ → Option Declaration → Result Layer Fault
-layer_of_one n namesakes index (Some d) = declared_layer n namesakes index d
-layer_of_one n namesakes index None = undeclared n
+abbrev pub layer_of_one
+    : List Declaration → NamedType → List ℕ → ℕ → Option Declaration → Result Layer Fault
+layer_of_one declarations n namesakes index (Some d) =
+    declared_layer declarations n namesakes index d
+layer_of_one declarations n namesakes index None = undeclared n
 
 -- where the name of the declaration at an index stands
 abbrev pub offset_at : List Declaration → ℕ → ℕ
@@ -226,7 +231,8 @@ none_meant n namesakes =
 abbrev pub layer_by : Scope → NamedType → List ℕ → List ℕ → Result Layer Fault
 layer_by scope n namesakes [] = none_meant n namesakes
 layer_by scope n namesakes (index ∷ []) =
-    layer_of_one n namesakes index (slice_get scope.declarations index)
+    let declarations = scope.declarations in
+    layer_of_one declarations n namesakes index (slice_get declarations index)
 layer_by scope n namesakes (index ∷ other ∷ others) =
     Err (wrong (offset_at scope.declarations other) Twice)
 

@@ -27,6 +27,8 @@ pub mod ShapeFaults
 pub mod Paired
 pub mod ShapeViews
 pub mod MadeShapes
+pub mod Absences
+pub mod AbsentMembers
 pub mod TypesViews
 pub mod CataloguedTypes
 pub mod GivenTypes
@@ -50,6 +52,7 @@ pub mod Literals
 pub mod Meanings
 pub mod Modules
 pub mod Sources
+pub mod Sites
 pub mod Entries
 pub mod AttributeEntries
 pub mod Values
@@ -68,6 +71,7 @@ pub mod ReadVariants
 pub mod ReadStructs
 pub mod ReadEnums
 pub mod Derives
+pub mod Conditions
 pub mod ReadItems
 pub mod Helps
 pub mod Refusals

@@ -78,7 +78,7 @@ first_place ids (id ∷ types) = Some (place_in ids id)
 
 -- the shape of what is declared under an id, with these types
 abbrev pub declared_shape : List Name → Name → Declared → List (List Name) → Shape
-declared_shape ids id (struct kind fields is_transparent is_container) types =
+declared_shape ids id (struct kind fields is_transparent says_so is_container) types =
     let own = first_types types in
     record (plain id (structure kind (fields_of ids fields own))) {
       inner = if is_transparent then first_place ids own else None;

@@ -13,6 +13,7 @@ use Rattle.facet_solver_types.specs.Layers.{Head, Part, layer_at, type_part, val
 use Rattle.facet_solver_types.specs.Passages.{Passage, place}
 use Rattle.facet_solver_types.specs.Pieces.{and_then}
 use Rattle.facet_solver_types.specs.Scopes.{Scope, too_deep}
+use Rattle.facet_solver_types.specs.Sites.{Site}
 use Rattle.facet_solver_types.specs.Tokens.{Token}
 use Rattle.facet_solver_types.specs.TypeEntries.{Form, TypeEntry, entries_view, scalar, option, list, array, slice, set, mapping, pointer, tuple, dynamic}
 use Rattle.facet_solver_types.specs.TypeIds.{first, second, spaced, id_of}
@@ -72,7 +73,7 @@ abbrev pub form_of : Head → List Name → Option Form
 form_of layers.same ids = None
 form_of (layers.bound id) ids = None
 form_of (layers.declared index called) ids = None
-form_of (layers.alias module_name parameters written) ids = None
+form_of (layers.alias site parameters written) ids = None
 form_of (layers.scalar name kind) ids = Some (scalar kind)
 form_of (layers.dynamic name) ids = Some dynamic
 form_of (layers.applied name kind) ids = Some (applied_form kind ids)
@@ -130,11 +131,11 @@ with_parts rule scope inside (part ∷ others) =
     and_then (part_mention rule scope part) (λ mention.
     with_parts rule scope (with_mention inside mention) others)
 
--- where the type stands that an alias in a module names with these parameters
-abbrev pub alias_scope : Scope → Name → List Parameter → List Name → Scope
-alias_scope scope module_name parameters ids = record {
+-- where the type stands that an alias that stands so names with these parameters
+abbrev pub alias_scope : Scope → Site → List Parameter → List Name → Scope
+alias_scope scope site parameters ids = record {
   declarations = scope.declarations;
-  module_name = module_name;
+  site = site;
   this = None;
   parameters = parameters;
   arguments = ids;
@@ -143,8 +144,8 @@ alias_scope scope module_name parameters ids = record {
 
 -- what a type mentions, with those in it: an alias is followed
 abbrev pub followed : Rule → Scope → Head → Inside → Result Mention Fault
-followed rule scope (layers.alias module_name parameters written) inside =
-    and_then (rule (alias_scope scope module_name parameters inside.ids) written)
+followed rule scope (layers.alias site parameters written) inside =
+    and_then (rule (alias_scope scope site parameters inside.ids) written)
     (λ mention. Ok (behind inside mention))
 followed rule scope head inside = mention_of scope head inside
 

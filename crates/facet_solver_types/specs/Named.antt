@@ -77,6 +77,6 @@ variant_repeats variants =
 
 -- the faults of names in a declaration that are those of others before them
 abbrev pub name_faults : Declared → List Fault
-name_faults (struct kind fields is_transparent is_container) = field_repeats fields
+name_faults (struct kind fields is_transparent says_so is_container) = field_repeats fields
 name_faults (enum variants tagging) = variant_repeats variants
 name_faults other = []

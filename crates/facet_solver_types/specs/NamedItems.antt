@@ -55,17 +55,17 @@ up_to_semicolon passage =
     and_then (semicolon (after len passage)) (λ end. Ok (up_to len passage))
 
 -- an alias, after its name: parameters if any, a `where` if any, `=`, and a type up to `;`
-unfoldable pub alias_of : Token → Passage → Result Item Fault
-alias_of name passage =
+unfoldable pub alias_of : List Token → Token → Passage → Result Item Fault
+alias_of attributes name passage =
     and_then (parameters passage) (λ parameters.
     and_then (after_equals (after_heading passage)) (λ rest.
-    and_then (up_to_semicolon rest) (λ written. Ok (alias name parameters written))))
+    and_then (up_to_semicolon rest) (λ written. Ok (alias attributes name parameters written))))
 
 -- a struct, an enum or an alias, as it begins, after its name
 abbrev pub declared_by : Start → List Token → Token → Passage → Result Item Fault
 declared_by Struct attributes name passage = struct_of attributes name passage
 declared_by Enum attributes name passage = enum_of attributes name passage
-declared_by start attributes name passage = alias_of name passage
+declared_by start attributes name passage = alias_of attributes name passage
 
 -- what was read by a name, or one that cannot be read
 abbrev pub or_faulty : List Token → Token → Result Item Fault → Item

@@ -9,6 +9,7 @@ use Rattle.facet_solver_types.specs.Passages.{Passage}
 use Rattle.facet_solver_types.specs.Pieces.{and_then}
 use Rattle.facet_solver_types.specs.Roots.{only_root}
 use Rattle.facet_solver_types.specs.Scopes.{Scope}
+use Rattle.facet_solver_types.specs.Sites.{top}
 use Rattle.facet_solver_types.specs.Tokens.{Token, tokens}
 use Rattle.facet_solver_types.specs.Understood.{Declaration}
 
@@ -39,7 +40,7 @@ root_tokens base root = moved base (tokens root)
 abbrev pub root_scope : List Declaration → Scope
 root_scope declarations = record {
   declarations = declarations;
-  module_name = [];
+  site = top;
   this = None;
   parameters = [];
   arguments = [];

@@ -1,6 +1,5 @@
 -- The declarations of items, with what their attributes say.
-use Rattle.std.specs.Prelude.{Bool, false, List, [], ◌∷◌, ◌++◌, Option, Some, None, option_map, Result, Ok, Err, unwrap_or}
-use Rattle.std.specs.List.{filter_map}
+use Rattle.std.specs.Prelude.{ℕ, Bool, false, if◌then◌else◌, List, [], ◌∷◌, ◌++◌, Option, Some, None, option_map, Result, Ok, Err, take, unwrap_or}
 use Rattle.facet_solver_shape.specs.Names.{Name}
 use Rattle.facet_solver_types.specs.declared.attribute.meaning.Meaning.TheVariants.{DenyUnknownFields}
 use Rattle.facet_solver_types.specs.declared.attribute.meaning.Subject.TheVariants as subject
@@ -9,15 +8,18 @@ use Rattle.facet_solver_types.specs.declared.fault.Fault.TheVariants.{At}
 use Rattle.facet_solver_types.specs.declared.problem.Problem.TheVariants.{OfType}
 use Rattle.facet_solver_types.specs.declared.type_problem.TypeProblem.{TypeProblem}
 use Rattle.facet_solver_types.specs.Attributes.{Attribute}
+use Rattle.facet_solver_types.specs.Conditions.{has_other_form}
 use Rattle.facet_solver_types.specs.Declarations as items
 use Rattle.facet_solver_types.specs.Declarations.{Body, Item, ModuleItem, Parameter, Variant}
 use Rattle.facet_solver_types.specs.Derives.{has_derives, own_reading}
+use Rattle.facet_solver_types.specs.Gathered.{kept}
 use Rattle.facet_solver_types.specs.Gatherings.{Gathering}
 use Rattle.facet_solver_types.specs.Passages.{Passage}
 use Rattle.facet_solver_types.specs.Proxies.{proxies}
 use Rattle.facet_solver_types.specs.ReadEnums.{read_enum}
 use Rattle.facet_solver_types.specs.ReadStructs.{read_struct, subject_of}
 use Rattle.facet_solver_types.specs.SaidOn.{said_on}
+use Rattle.facet_solver_types.specs.Sites.{Site, top}
 use Rattle.facet_solver_types.specs.Sought.{is_said}
 use Rattle.facet_solver_types.specs.Stated.{Stated}
 use Rattle.facet_solver_types.specs.Tokens.{Token}
@@ -44,7 +46,7 @@ enum_by found variants = unwrap_or (proxied_by (proxies found)) (read_enum found
 -- the declaration of a name and parameters, with attributes and their faults
 abbrev pub declaration_of : Token → List Parameter → Gathering Attribute → Stated → Declaration
 declaration_of name parameters found known = record {
-  module_name = [];
+  site = top;
   name = name;
   parameters = parameters;
   denies_unknown = is_said DenyUnknownFields found.values;
@@ -55,7 +57,7 @@ declaration_of name parameters found known = record {
 -- the declaration of a name that isn't read, since something is wrong with it
 abbrev pub unread_declaration : Token → Fault → Declaration
 unread_declaration name fault = record {
-  module_name = [];
+  site = top;
   name = name;
   parameters = [];
   denies_unknown = false;
@@ -94,7 +96,7 @@ enum_declaration None attributes name parameters variants =
 -- the declaration of an alias, which has no attributes that say anything
 abbrev pub alias_declaration : Token → List Parameter → Passage → Declaration
 alias_declaration name parameters written = record {
-  module_name = [];
+  site = top;
   name = name;
   parameters = parameters;
   denies_unknown = false;
@@ -102,7 +104,7 @@ alias_declaration name parameters written = record {
   declared = alias written;
 }
 
--- the declaration of an item of a module, as if it stood in none, if it declares something, among
+-- the declaration of an item of a module, as if it stood nowhere, if it declares something, among
 -- items of which some derive how they are read, or none
 abbrev pub declaration_of_item
     : List ModuleItem → Bool → Name → Item → Option Declaration
@@ -112,22 +114,27 @@ declaration_of_item all has_derives module_name (items.struct attributes name pa
 declaration_of_item all has_derives module_name (items.enum attributes name parameters variants) =
     Some (enum_declaration (own_reading all has_derives module_name attributes name.text) attributes
     name parameters variants)
-declaration_of_item all has_derives module_name (items.alias name parameters written) =
+declaration_of_item all has_derives module_name (items.alias attributes name parameters written) =
     Some (alias_declaration name parameters written)
 declaration_of_item all has_derives module_name (items.faulty attributes name fault) =
     Some (unread_declaration name fault)
 declaration_of_item all has_derives module_name (items.implements name) = None
 declaration_of_item all has_derives module_name items.other = None
 
--- a declaration, which stands in a module
-abbrev pub in_module : Name → Declaration → Declaration
-in_module module_name d = record d { module_name = module_name }
+-- a declaration, which stands so
+abbrev pub at_site : Site → Declaration → Declaration
+at_site site d = record d { site = site }
 
 -- the declaration of an item where it stands, if it declares something
 abbrev pub declaration : List ModuleItem → Bool → ModuleItem → Option Declaration
 declaration all has_derives m =
-    option_map (in_module m.module_name) (declaration_of_item all has_derives m.module_name m.item)
+    option_map (at_site m.site) (declaration_of_item all has_derives m.site.module_name m.item)
 
--- the declarations of items, in order
+-- the same of an item at an index, unless one before it is what it is under another condition
+abbrev pub declaration_at : List ModuleItem → Bool → ℕ → ModuleItem → Option Declaration
+declaration_at all has_derives index m =
+    if has_other_form (take index all) m then None else declaration all has_derives m
+
+-- the declarations of items, in order: of those that are one under different conditions the first
 abbrev pub declarations : List ModuleItem → List Declaration
-declarations all = filter_map (declaration all (has_derives all)) all
+declarations all = kept (declaration_at all (has_derives all)) 0 all

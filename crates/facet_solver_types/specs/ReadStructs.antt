@@ -75,7 +75,7 @@ transparent_fault found fields = fault_by (offset_of Transparent found) fields
 abbrev pub struct_with : List Attribute → Body → List DeclaredField → Declared
 struct_with found body fields =
     struct (struct_kind body) fields (is_newtype body || is_said Transparent found)
-    (is_said MetadataContainer found)
+    (is_said Transparent found) (is_said MetadataContainer found)
 
 -- the same beside what is wrong with the fields, or else with `transparent`
 abbrev pub struct_of : List Attribute → Body → Gathering DeclaredField → Stated

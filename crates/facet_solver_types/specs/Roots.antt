@@ -10,7 +10,7 @@ use Rattle.facet_solver_types.specs.declared.problem.Problem.TheVariants.{OfType
 use Rattle.facet_solver_types.specs.declared.type_problem.TypeProblem.TheVariants.{Underived, OwnImpl}
 use Rattle.facet_solver_types.specs.Failures.{Failure, roots as several}
 use Rattle.facet_solver_types.specs.Called.{by_name, called_among}
-use Rattle.facet_solver_types.specs.Meant.{namesakes}
+use Rattle.facet_solver_types.specs.Meant.{is_outside, namesakes}
 use Rattle.facet_solver_types.specs.Mentions.{Mention}
 use Rattle.facet_solver_types.specs.Modules.{is_of_stand_ins}
 use Rattle.facet_solver_types.specs.TypeIds.{used_id}
@@ -42,9 +42,21 @@ own_uses declarations = own_uses_from 0 declarations
 abbrev pub indices : List Use → List ℕ
 indices uses = map (λ (u : Use). u.index) uses
 
--- the indices of the declarations that a use mentions, where its types have no fault
+-- those of some declarations that stand in a block
+abbrev pub those_inside : List Declaration → List ℕ → List ℕ
+those_inside declarations indices = filter (λ index. not (is_outside declarations index)) indices
+
+-- those of some indices that count as mentioned by the declaration at another: one in a block does
+-- not count for those in none
+abbrev pub counted : List Declaration → ℕ → List ℕ → List ℕ
+counted declarations by indices =
+    if is_outside declarations by then indices else those_inside declarations indices
+
+-- the indices of the declarations that a use mentions, as far as it counts, where its types have no
+-- fault
 abbrev pub mentioned : List Declaration → Use → List ℕ
-mentioned declarations used = indices (use_types declarations used).uses
+mentioned declarations used =
+    counted declarations used.index (indices (use_types declarations used).uses)
 
 -- the indices of the declarations that each of some uses mentions
 abbrev pub links : List Declaration → List Use → List (List ℕ)
@@ -82,7 +94,7 @@ declares_type what = true
 
 -- the name of a declaration, if it is a stand-in
 abbrev pub stand_in_name : Declaration → List Name
-stand_in_name d = if is_of_stand_ins d.module_name then d.name.text ∷ [] else []
+stand_in_name d = if is_of_stand_ins d.site.module_name then d.name.text ∷ [] else []
 
 -- the names of the stand-ins among declarations
 abbrev pub stand_in_names : List Declaration → List Name
@@ -110,6 +122,23 @@ stands_alone declarations names links used =
 abbrev pub roots : List Declaration → List Name → List (List ℕ) → List Use → List Use
 roots declarations names links uses = filter (stands_alone declarations names links) uses
 
+-- whether one of some uses is of a declaration in no block
+abbrev pub has_outside : List Declaration → List Use → Bool
+has_outside declarations uses =
+    list_any (λ (u : Use). is_outside declarations u.index) uses
+
+-- those of some uses that are of declarations in no block, or all where there is none
+abbrev pub outside_or_all : List Declaration → List Use → List Use
+outside_or_all declarations uses =
+    if has_outside declarations uses
+    then filter (λ (u : Use). is_outside declarations u.index) uses
+    else uses
+
+-- those of some uses that stand by themselves: those in no block, or else all
+abbrev pub likely_roots : List Declaration → List Name → List (List ℕ) → List Use → List Use
+likely_roots declarations names links uses =
+    outside_or_all declarations (roots declarations names links uses)
+
 -- the ids of uses
 abbrev pub ids : List Use → List Name
 ids uses = map (λ (u : Use). u.id) uses
@@ -117,7 +146,8 @@ ids uses = map (λ (u : Use). u.id) uses
 -- the id of a use of a declaration, as that is called among all
 abbrev pub id_among : List Declaration → Use → Declaration → Name
 id_among declarations used d =
-    used_id (called_among (namesakes d.name.text declarations) used.index d) used.arguments
+    let names = namesakes d.name.text declarations in
+    used_id (called_among declarations names used.index d) used.arguments
 
 -- the id of a use, as its declaration is called among all
 abbrev pub called_id : List Declaration → Use → Name
@@ -136,9 +166,10 @@ abbrev pub only : List Declaration → List Use → Result Mention Failure
 only declarations (used ∷ []) = Ok (root_mention declarations used)
 only declarations uses = Err (several (ids uses))
 
--- the only struct or enum without parameters that no other mentions
+-- the only struct or enum without parameters that no other mentions: what stands in a block counts
+-- only where there is no other
 abbrev pub only_root : List Declaration → Result Mention Failure
 only_root declarations =
     let uses = own_uses declarations in
     let names = stand_in_names declarations in
-    only declarations (roots declarations names (links declarations uses) uses)
+    only declarations (likely_roots declarations names (links declarations uses) uses)

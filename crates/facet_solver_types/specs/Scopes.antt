@@ -11,14 +11,15 @@ use Rattle.facet_solver_types.specs.declared.fault.Fault.TheVariants.{At}
 use Rattle.facet_solver_types.specs.declared.problem.Problem.TheVariants.{OfType}
 use Rattle.facet_solver_types.specs.declared.type_problem.TypeProblem.TheVariants.{TooDeep}
 use Rattle.facet_solver_types.specs.declared.typing.scope.Scope as declared
+use Rattle.facet_solver_types.specs.Sites.{Site, site_view}
 use Rattle.facet_solver_types.specs.Understood.{Declaration, declaration_view, declarations_view}
 
--- where a type stands: all declarations, the name of its module, the id for which `Self` stands, if
--- it does, the parameters that the type can name, the ids for which these stand, and where the
+-- where a type stands: all declarations, its module and its block, the id for which `Self` stands,
+-- if it does, the parameters that the type can name, the ids for which these stand, and where the
 -- whole type begins of which it is a part
 pub record Scope : Type 0 where
   pub declarations : List Declaration
-  pub module_name : Name
+  pub site : Site
   pub this : Option Name
   pub parameters : List Parameter
   pub arguments : List Name
@@ -36,7 +37,7 @@ declared_view declaration = declaration_view declaration.now
 abbrev pub scope_view : declared.Scope → Scope
 scope_view scope = record {
   declarations = declarations_view scope.declarations.now;
-  module_name = scope.module_name.now;
+  site = site_view scope.site;
   this = option_map str_view scope.this;
   parameters = parameters_view scope.parameters.now;
   arguments = map string_bytes scope.arguments.now;

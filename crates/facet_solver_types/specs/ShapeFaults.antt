@@ -36,7 +36,7 @@ variants_faults table (variant ∷ variants) (types ∷ others) =
 
 -- of what is declared, with these types
 abbrev pub members_faults : TypeTable → Declared → List (List Name) → List Fault
-members_faults table (struct kind fields is_transparent is_container) (types ∷ others) =
+members_faults table (struct kind fields is_transparent says_so is_container) (types ∷ others) =
     fields_faults table fields types
 members_faults table (enum variants tagging) types = variants_faults table variants types
 members_faults table other types = []

@@ -4,6 +4,8 @@ use Rattle.std.specs.Str.{bytes_eq}
 use Rattle.facet_solver_types.specs.Ascii as ascii
 use Rattle.facet_solver_types.specs.declared.grammar.run.Run.{Run}
 use Rattle.facet_solver_types.specs.declared.grammar.run.Run.TheVariants as run
+use Rattle.facet_solver_types.specs.declared.grammar.starts.Context.{Context}
+use Rattle.facet_solver_types.specs.declared.grammar.starts.Context.TheVariants as contexts
 use Rattle.facet_solver_types.specs.declared.grammar.starts.Path.{Path}
 use Rattle.facet_solver_types.specs.declared.grammar.starts.Path.TheVariants.{Begun, Named, Called, Broken}
 use Rattle.facet_solver_types.specs.declared.grammar.starts.Start.{Start}
@@ -55,11 +57,17 @@ qualifiers_len (token ∷ tokens) =
 abbrev pub begins_function : List Token → Bool
 begins_function tokens = sees_word (codes "fn") tokens && sees_name (drop 1 tokens)
 
--- whether the items of another language stand first, or a crate
-abbrev pub begins_extern : List Token → Bool
-begins_extern tokens =
+-- whether `extern` stands first, maybe after `unsafe`
+abbrev pub sees_extern : List Token → Bool
+sees_extern tokens =
     sees_word (codes "extern") tokens
     || (sees_word (codes "unsafe") tokens && sees_word (codes "extern") (drop 1 tokens))
+
+-- whether the items of another language stand first, or a crate, with what stands after the words
+-- that stand first; the type of a function of another language is neither
+abbrev pub begins_extern : List Token → List Token → Bool
+begins_extern tokens rest =
+    sees_extern tokens && (sees_open Curly rest || sees_word (codes "crate") rest)
 
 -- whether a trait or a union stands first
 abbrev pub begins_trait : List Token → Bool
@@ -128,7 +136,7 @@ abbrev pub start_with : List Token → List Token → Start
 start_with tokens rest =
     if begins_function rest then Function
     else (if sees_word (codes "impl") rest then Impl
-    else (if begins_trait rest || begins_extern tokens then Head
+    else (if begins_trait rest || begins_extern tokens rest then Head
     else (if is_some (call_len tokens) then Call
     else Unknown)))
 
@@ -154,6 +162,18 @@ has_keyword Alias = true
 has_keyword Module = true
 has_keyword start = false
 
+-- how a piece begins in the body of an impl that would begin so elsewhere: only functions and calls
+-- of macros are looked for there
+abbrev pub body_start : Start → Start
+body_start Function = Function
+body_start Call = Call
+body_start start = Unknown
+
+-- how a piece begins in a context, after attributes and `pub`
+abbrev pub start_in : Context → List Token → Start
+start_in contexts.Body tokens = body_start (start_of tokens)
+start_in other tokens = start_of tokens
+
 -- up to what an item goes that begins so: `;`, or `;` or braces
 abbrev pub run_of : Start → Run
 run_of Alias = run.Statement
@@ -174,10 +194,11 @@ abbrev pub opening_len : List Token → ℕ
 opening_len tokens =
     if sees_open Curly tokens then 1 + attributes_len true (drop 1 tokens) else first_len tokens
 
--- how many tokens the end of an item has that begins so; a function and a module end where their
--- braces open
+-- how many tokens the end of an item has that begins so; a function, an impl and a module end where
+-- their braces open
 abbrev pub end_len_of : Start → List Token → ℕ
 end_len_of Function tokens = first_len tokens
+end_len_of Impl tokens = first_len tokens
 end_len_of Module tokens = opening_len tokens
 end_len_of start tokens = end_len tokens
 
@@ -222,24 +243,29 @@ abbrev pub is_unknown : Start → Bool
 is_unknown Unknown = true
 is_unknown start = false
 
--- whether what stands first in a block is no item
-abbrev pub is_nothing : Bool → List Token → Bool
-is_nothing is_in_block tokens = is_in_block && is_unknown (start_of tokens)
+-- whether a piece may be something else than an item
+abbrev pub has_code : Context → Bool
+has_code contexts.Module = false
+has_code other = true
 
--- how many tokens an item has, after attributes, with `pub`; in a block none where it is no item
-unfoldable pub visible_len : Bool → List Token → ℕ
-visible_len is_in_block tokens =
+-- whether what stands first is no item, in a context where it may be something else
+abbrev pub is_nothing : Context → List Token → Bool
+is_nothing context tokens = has_code context && is_unknown (start_in context tokens)
+
+-- how many tokens an item has, after attributes, with `pub`; none where it is something else
+unfoldable pub visible_len : Context → List Token → ℕ
+visible_len context tokens =
     let visibility = visibility_len tokens in
     let bare = drop visibility tokens in
-    if is_nothing is_in_block bare then 0 else visibility + bare_len bare
+    if is_nothing context bare then 0 else visibility + bare_len bare
 
--- how many tokens the item has that stands first, with attributes and `pub`; in a block, where no
--- item stands first, the attributes alone
-unfoldable pub item_len : Bool → List Token → ℕ
-item_len is_in_block tokens =
+-- how many tokens the item has that stands first, with attributes and `pub`; where it is something
+-- else, the attributes alone
+unfoldable pub item_len : Context → List Token → ℕ
+item_len context tokens =
     let attributes = attributes_len false tokens in
-    attributes + visible_len is_in_block (drop attributes tokens)
+    attributes + visible_len context (drop attributes tokens)
 
 -- how many tokens the piece has that stands first: an item's, or one
-abbrev pub piece_len : Bool → List Token → ℕ
-piece_len is_in_block tokens = max 1 (item_len is_in_block tokens)
+abbrev pub piece_len : Context → List Token → ℕ
+piece_len context tokens = max 1 (item_len context tokens)

@@ -1,6 +1,7 @@
 -- The ids of types: as they are written, where aliases and parameters are followed, and lifetimes
 -- and paths dropped.
-use Rattle.std.specs.Prelude.{◌==◌, if◌then◌else◌, List, [], ◌∷◌, ◌++◌, Option, Some, None, length, codes}
+use Rattle.std.specs.Prelude.{ℕ, ◌==◌, if◌then◌else◌, List, [], ◌∷◌, ◌++◌, Option, Some, None, length, codes}
+use Rattle.std.specs.Fmt.{decimal}
 use Rattle.std.specs.List.{flat_map}
 use Rattle.facet_solver_shape.specs.Names.{Name}
 use Rattle.facet_solver_types.specs.Called.{Called}
@@ -48,15 +49,20 @@ applied_id name ids = name ++ (codes "<" ++ (joined ids ++ codes ">"))
 abbrev pub module_id : Name → Name
 module_id module_name = if length module_name == 0 then codes "crate" else module_name
 
--- what is called by its name in a module
-abbrev pub id_in : Option Name → Name → Name
-id_in None name = name
-id_in (Some module_name) name = module_id module_name ++ (codes "::" ++ name)
+-- what is called by its name behind so many others of its module
+abbrev pub id_behind : ℕ → Name → Name
+id_behind number name = if number == 0 then name else decimal number ++ (codes "::" ++ name)
+
+-- what is called by its name in a module, if that is told, behind so many others
+abbrev pub id_in : Option Name → ℕ → Name → Name
+id_in None number name = name
+id_in (Some module_name) number name =
+    module_id module_name ++ (codes "::" ++ id_behind number name)
 
 -- the id of a declared type without parameters: its name, raw where it is a keyword, and in its
--- module where that is to be told
+-- module where that is to be told, with a number where others are told by that
 abbrev pub declared_id : Called → Name
-declared_id c = id_in c.module_name (printed.declared c.name)
+declared_id c = id_in c.module_name c.number (printed.declared c.name)
 
 -- the id of a declared type, with the ids of the types that it takes
 abbrev pub used_id : Called → List Name → Name
@@ -67,7 +73,7 @@ abbrev pub id_of : Head → List Name → Name
 id_of same ids = first ids
 id_of (bound id) ids = id
 id_of (declared index called) ids = used_id called ids
-id_of (alias module_name parameters written) ids = first ids
+id_of (alias site parameters written) ids = first ids
 id_of (scalar name kind) ids = name
 id_of (dynamic name) ids = name
 id_of (applied name kind) ids = applied_id name ids

@@ -34,7 +34,7 @@ has_names kind = false
 
 -- whether what is declared has members of its own: named fields, or variants
 abbrev pub has_members : Declared → Bool
-has_members (struct kind fields is_transparent is_container) = has_names kind && not is_transparent
+has_members (struct kind fields is_transparent says_so is_container) = has_names kind && not is_transparent
 has_members (enum variants tagging) = true
 has_members other = false
 

@@ -1,5 +1,5 @@
 -- Types with their shapes.
-use Rattle.std.specs.Prelude.{ℕ, ◌==◌, ◌&&◌, Bool, List, Option, option_map, find}
+use Rattle.std.specs.Prelude.{ℕ, ◌==◌, ◌&&◌, Bool, List, Option, filter, find, map, option_map}
 use Rattle.std.specs.List.{list_any}
 use Rattle.std.specs.String.{string_bytes}
 use Rattle.facet_solver_shape.specs.Names.{Name, name_eq}
@@ -37,3 +37,8 @@ denies_at place d = d.shape == place && d.denies_unknown
 -- whether one of some types does
 abbrev pub denies_unknown : List DeclaredType → ℕ → Bool
 denies_unknown types place = list_any (denies_at place) types
+
+-- the names of those of some types that deny unknown members
+abbrev pub denying : List DeclaredType → List Name
+denying types =
+    map (λ (d : DeclaredType). d.name) (filter (λ (d : DeclaredType). d.denies_unknown) types)

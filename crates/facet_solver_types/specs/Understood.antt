@@ -15,6 +15,7 @@ use Rattle.facet_solver_types.specs.declared.declaration.SaidType.TheVariants.{P
 use Rattle.facet_solver_types.specs.declared.fault.Fault.{Fault}
 use Rattle.facet_solver_types.specs.Declarations.{Parameter, parameters_view}
 use Rattle.facet_solver_types.specs.Passages.{Passage, passage_view}
+use Rattle.facet_solver_types.specs.Sites.{Site, site_view}
 use Rattle.facet_solver_types.specs.Tokens.{Token, token_view, tokens_view}
 
 -- the tokens of a type that an attribute says
@@ -83,10 +84,10 @@ pub record Tagging : Type 0 where
   pub content : Option Name
   pub untagged : Bool
 
--- what a declaration declares: a struct, maybe one that stands for its one field or that holds
--- metadata; an enum; what is read as another type; an alias; or nothing that could be read
+-- what a declaration declares: a struct, maybe one that stands for its one field, that says so by
+-- `transparent`, or that holds metadata; an enum; what is read as another type; an alias; or nothing that could be read
 pub data Declared : Type 0 where
-  struct : StructKind → List DeclaredField → Bool → Bool → Declared
+  struct : StructKind → List DeclaredField → Bool → Bool → Bool → Declared
   enum : List DeclaredVariant → Tagging → Declared
   proxied : List Proxy → Declared
   alias : Passage → Declared
@@ -94,8 +95,8 @@ pub data Declared : Type 0 where
 
 -- what is seen of what a declaration declares
 abbrev pub declared_view : declared.Declared → Declared
-declared_view (Struct kind fields is_transparent is_metadata_container) =
-    struct kind (map field_view fields.items) is_transparent is_metadata_container
+declared_view (Struct kind fields is_transparent says_transparent is_container) =
+    struct kind (map field_view fields.items) is_transparent says_transparent is_container
 declared_view (Enum variants tag content untagged) =
     enum (map variant_view variants.items) (record {
       tag = option_map string_bytes tag;
@@ -106,11 +107,10 @@ declared_view (Proxied proxies) = proxied (map proxy_view proxies.items)
 declared_view (Alias passage) = alias (passage_view passage)
 declared_view Unread = unread
 
--- a declaration of a type: the name of the module that it stands in, or nothing, its name, its
--- parameters, whether it denies unknown members, what is wrong with its attributes, fields and
--- variants, and what it declares
+-- a declaration of a type: where it stands, its name, its parameters, whether it denies unknown
+-- members, what is wrong with its attributes, fields and variants, and what it declares
 pub record Declaration : Type 0 where
-  pub module_name : Name
+  pub site : Site
   pub name : Token
   pub parameters : List Parameter
   pub denies_unknown : Bool
@@ -120,7 +120,7 @@ pub record Declaration : Type 0 where
 -- what is seen of a declaration
 abbrev pub declaration_view : declaration.Declaration → Declaration
 declaration_view d = record {
-  module_name = d.module_name.now;
+  site = site_view d.site;
   name = token_view d.name;
   parameters = parameters_view d.parameters.items;
   denies_unknown = d.denies_unknown;

@@ -16,7 +16,7 @@ use Rattle.facet_solver_types.specs.Uses.{Use}
 abbrev pub scope_of : List Declaration → Declaration → Use → Scope
 scope_of declarations declaration used = record {
   declarations = declarations;
-  module_name = declaration.module_name;
+  site = declaration.site;
   this = Some used.id;
   parameters = declaration.parameters;
   arguments = used.arguments;

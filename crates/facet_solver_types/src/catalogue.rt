@@ -6,6 +6,8 @@ ghost use Rattle.facet_solver_types.specs.Links.{links_view};
 ghost use Rattle.facet_solver_types.specs.TypeEntries.{entries_view};
 ghost use Rattle.facet_solver_types.specs.Understood.{declarations_view};
 
+mod absences;
+mod absent;
 mod declared;
 mod faults;
 mod links;

@@ -4,6 +4,7 @@ ghost use Rattle.std.specs.Prelude.{◌≡◌};
 use crate::fault::Fault;
 use crate::item::Parameter;
 use crate::passage::Passage;
+use crate::site::Site;
 use crate::token::Token;
 use facet_solver_shape::{DomMark, StructKind};
 
@@ -88,6 +89,8 @@ pub(crate) enum Declared<'s, 't> {
         fields: Vec<DeclaredField<'s, 't>>,
         /// Whether it stands for its one field.
         is_transparent: bool,
+        /// Whether it stands for it since it says `transparent`.
+        says_transparent: bool,
         is_metadata_container: bool,
     },
     /// An enum.
@@ -108,8 +111,8 @@ pub(crate) enum Declared<'s, 't> {
 /// A declaration of a type.
 #[derive(Drop)]
 pub(crate) struct Declaration<'s, 't> {
-    /// The name of the module that it stands in, or nothing where it stands in none.
-    pub(crate) module_name: &'t str,
+    /// Where it stands.
+    pub(crate) site: Site<'t>,
     /// Its name.
     pub(crate) name: Token<'t>,
     /// Its type and const parameters.

@@ -1,5 +1,5 @@
 //! From items to declarations, with what their attributes say.
-ghost use Rattle.std.specs.Prelude.{◌≡◌, [], ◌∷◌, IfOk, option_map};
+ghost use Rattle.std.specs.Prelude.{◌≡◌, ◌≤◌, [], ◌∷◌, IfOk, length, option_map};
 ghost use Rattle.facet_solver_types.specs.AttributeLists.{attributes_view};
 ghost use Rattle.facet_solver_types.specs.Attributes.{attribute_view};
 ghost use Rattle.facet_solver_types.specs.Declarations as written;
@@ -7,10 +7,12 @@ ghost use Rattle.facet_solver_types.specs.Gatherings.{gathering_view};
 ghost use Rattle.facet_solver_types.specs.Passages.{passage_view};
 ghost use Rattle.facet_solver_types.specs.Proxies.{proxies as proxies_of};
 ghost use Rattle.facet_solver_types.specs.ReadItems as read;
+ghost use Rattle.facet_solver_types.specs.Sites.{site_view};
 ghost use Rattle.facet_solver_types.specs.Stated.{stated_view};
 ghost use Rattle.facet_solver_types.specs.Tokens.{token_view, tokens_view};
 ghost use Rattle.facet_solver_types.specs.Understood.{declaration_view, declarations_view};
 
+mod conditions;
 mod derived;
 mod enums;
 mod fields;
@@ -32,8 +34,10 @@ use crate::item::{
     VariantDeclaration,
 };
 use crate::problem::Problem;
+use crate::site::{Site, top};
 use crate::token::Token;
 use crate::type_problem::TypeProblem;
+use conditions::has_other_form;
 use derived::{has_derives, own_reading};
 use enums::read_enum;
 use gather::add;
@@ -137,7 +141,7 @@ fn declaration_of<'s, 't>(
     let mut faults = found.faults;
     faults.append(&mut others)?;
     Ok(Declaration {
-        module_name: "",
+        site: top(),
         name,
         parameters: copied(alloc, parameters)?,
         denies_unknown: is_said(Meaning::DenyUnknownFields, &found.values),
@@ -156,7 +160,7 @@ fn unread<'s, 't>(
         ≡ read.unread_declaration (token_view name.entry) fault) }
 {
     Ok(Declaration {
-        module_name: "",
+        site: top(),
         name,
         parameters: Vec::new(alloc),
         denies_unknown: false,
@@ -230,7 +234,7 @@ fn alias_declaration<'s, 't>(
         (passage_view item.now.written)) }
 {
     Ok(Declaration {
-        module_name: "",
+        site: top(),
         name: item.name,
         parameters: copied(alloc, &item.parameters)?,
         denies_unknown: false,
@@ -239,7 +243,7 @@ fn alias_declaration<'s, 't>(
     })
 }
 
-/// The declaration of an item of a module, as if it stood in none, if it declares something, among
+/// The declaration of an item of a module, as if it stood nowhere, if it declares something, among
 /// items of which some derive how they are read, or none.
 fn declaration_of_item<'s, 't>(
     alloc: Global,
@@ -269,13 +273,13 @@ fn declaration_of_item<'s, 't>(
     }
 }
 
-/// A declaration, which stands in a module.
-fn in_module<'s, 't>(module_name: &'t str, declaration: Declaration<'s, 't>) -> Declaration<'s, 't>
+/// A declaration, which stands so.
+fn at_site<'s, 't>(site: Site<'t>, declaration: Declaration<'s, 't>) -> Declaration<'s, 't>
     ensures { declaration_view result
-        ≡ read.in_module module_name.now (declaration_view declaration.entry) }
+        ≡ read.at_site (site_view site.entry) (declaration_view declaration.entry) }
 {
     Declaration {
-        module_name,
+        site,
         ..declaration
     }
 }
@@ -291,13 +295,33 @@ fn declaration<'s, 't>(
         ≡ read.declaration (written.items_view items.now) has_derives
         (written.module_item_view item.now)) }
 {
-    match declaration_of_item(alloc, items, has_derives, item.module_name, &item.item)? {
-        Some(made) => Ok(Some(in_module(item.module_name, made))),
+    match declaration_of_item(alloc, items, has_derives, item.site.module_name, &item.item)? {
+        Some(made) => Ok(Some(at_site(item.site, made))),
         None => Ok(None),
     }
 }
 
-/// The declarations of items, in order, with what their attributes say. Each holds the faults of
+/// The same of an item at an index, unless one before it is what it is under another condition.
+fn declaration_at<'s, 't>(
+    alloc: Global,
+    items: &[ModuleItem<'s, 't>],
+    has_derives: bool,
+    index: usize,
+    item: &ModuleItem<'s, 't>,
+) -> Result<Option<Declaration<'s, 't>>, AllocError>
+    requires { index ≤ length items.now }
+    ensures { IfOk result (λ made. option_map declaration_view made
+        ≡ read.declaration_at (written.items_view items.now) has_derives index
+        (written.module_item_view item.now)) }
+{
+    if has_other_form(items, index, item) {
+        return Ok(None);
+    }
+    declaration(alloc, items, has_derives, item)
+}
+
+/// The declarations of items, in order, with what their attributes say. Of those that are one under
+/// different conditions the first is taken. Each holds the faults of
 /// its attributes, of its fields and of its variants, which are left out. One that cannot be read,
 /// or is not read as it is declared, holds that fault alone.
 ///
@@ -311,8 +335,11 @@ pub(crate) fn declarations<'s, 't>(
 {
     let has_derives = has_derives(items);
     let mut found = Vec::new(alloc);
-    for item in items {
-        add(&mut found, declaration(alloc, items, has_derives, item)?)?;
+    for (index, item) in items.iter().enumerate() {
+        add(
+            &mut found,
+            declaration_at(alloc, items, has_derives, index, item)?,
+        )?;
     }
     Ok(found)
 }

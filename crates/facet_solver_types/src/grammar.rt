@@ -19,8 +19,8 @@ mod written;
 
 pub(crate) use attributes::{attribute_entries, is_named};
 pub(crate) use entry::{Entry, EntryValue, entries};
-pub(crate) use first::{is_name, sees_mark, sees_path};
+pub(crate) use first::{is_name, is_open, sees_mark, sees_path};
 pub(crate) use items::items;
 pub(crate) use origin::Origin;
-pub(crate) use run::{is_close, is_mark};
+pub(crate) use run::{group_len, is_close, is_mark};
 pub(crate) use written::{NamedType, Written, is_str, written_type};

@@ -2,6 +2,7 @@
 
 use crate::fault::Fault;
 use crate::passage::Passage;
+use crate::site::Site;
 use crate::token::Token;
 
 /// A parameter of a declaration. A lifetime is none.
@@ -66,6 +67,8 @@ pub(crate) struct EnumDeclaration<'s, 't> {
 /// An alias of a type.
 #[derive(Drop)]
 pub(crate) struct AliasDeclaration<'s, 't> {
+    /// The tokens of its attributes.
+    pub(crate) attributes: &'s [Token<'t>],
     pub(crate) name: Token<'t>,
     pub(crate) parameters: Vec<Parameter<'t>>,
     /// What stands between its `=` and `;`.
@@ -98,7 +101,6 @@ pub(crate) enum Item<'s, 't> {
 /// An item, and where it stands.
 #[derive(Drop)]
 pub(crate) struct ModuleItem<'s, 't> {
-    /// The name of the innermost module around it, or nothing where it stands in none.
-    pub(crate) module_name: &'t str,
+    pub(crate) site: Site<'t>,
     pub(crate) item: Item<'s, 't>,
 }

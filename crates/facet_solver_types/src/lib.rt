@@ -28,6 +28,7 @@ mod passage;
 mod place;
 mod problem;
 mod shape_problem;
+mod site;
 mod sources;
 mod token;
 mod tokens;

@@ -1,6 +1,7 @@
 //! Types with their shapes.
-ghost use Rattle.std.specs.Prelude.{◌≡◌, map};
-ghost use Rattle.facet_solver_types.specs.TypesViews.{declared_type_view, denies_unknown, shape_named};
+ghost use Rattle.std.specs.Prelude.{◌≡◌, IfOk, map};
+ghost use Rattle.facet_solver_shape.specs.Names.{names_of};
+ghost use Rattle.facet_solver_types.specs.TypesViews.{declared_type_view, denies_unknown, denying, shape_named};
 
 mod stages;
 
@@ -8,7 +9,7 @@ use crate::error::{TypesError, error_of};
 use crate::place::without_mark;
 use facet_solver_shape::{ShapeId, Shapes};
 use stages::types;
-use std::alloc::Global;
+use std::alloc::{AllocError, Global};
 use std::marker::Model;
 
 /// A struct or an enum.
@@ -45,12 +46,13 @@ impl Model for Types {
 }
 
 impl Types {
-    ghost use Rattle.std.specs.Prelude.{option_map};
+    ghost use Rattle.std.specs.Prelude.{IfOk, option_map};
+    ghost use Rattle.facet_solver_shape.specs.Names.{names_of};
     ghost use Rattle.facet_solver_types.specs.ParsedTexts.{Parses};
     ghost use Rattle.facet_solver_types.specs.Places.{without_mark};
     ghost use Rattle.facet_solver_types.specs.ShapeViews.{shapes_view};
     ghost use Rattle.facet_solver_types.specs.Scopes.{str_view};
-    ghost use Rattle.facet_solver_types.specs.TypesViews.{denies_unknown, shape_named};
+    ghost use Rattle.facet_solver_types.specs.TypesViews.{denies_unknown, denying, shape_named};
 
     /// The types that a root needs of those that a text declares.
     ///
@@ -101,6 +103,15 @@ impl Types {
     {
         denies_unknown(&self.declared, id)
     }
+
+    /// The names of the structs and enums with `deny_unknown_fields`, in the order of their shapes.
+    ///
+    /// The only error is out of memory.
+    pub fn denying(&self, alloc: Global) -> Result<Vec<&str>, AllocError>
+        ensures { IfOk result (λ names. names_of names.items ≡ denying self.now.declared) }
+    {
+        denying(alloc, &self.declared)
+    }
 }
 
 /// The shape of the struct or enum of a name.
@@ -125,4 +136,18 @@ fn denies_unknown(types: &[DeclaredType], id: ShapeId) -> bool
         }
     }
     false
+}
+
+/// The names of those of some types that deny unknown members.
+fn denying(alloc: Global, types: &[DeclaredType]) -> Result<Vec<&str>, AllocError>
+    ensures { IfOk result (λ names. names_of names.items
+        ≡ denying (map declared_type_view types.now)) }
+{
+    let mut names = Vec::new(alloc);
+    for declared in types {
+        if declared.denies_unknown {
+            names.push(declared.name.as_str())?;
+        }
+    }
+    Ok(names)
 }

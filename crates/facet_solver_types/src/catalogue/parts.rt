@@ -10,6 +10,8 @@ ghost use Rattle.facet_solver_types.specs.ShapeViews.{shapes_view};
 ghost use Rattle.facet_solver_types.specs.TypeEntries.{entry_view};
 ghost use Rattle.facet_solver_types.specs.Understood.{declarations_view};
 
+use super::absences::absences_of;
+use super::absent::let_absent;
 use super::declared::declared_types;
 use super::links::place_in;
 use super::ordered::{ordered, ordered_ids};
@@ -61,7 +63,9 @@ fn types_by(
         ≡ types_by (table_view table.entry) (names_of order.now)
         (map (λ e. entry_view e.now) entries.now) root.now) }
 {
-    let shapes = shapes_of(alloc, table.declarations, order, entries)?;
+    let mut shapes = shapes_of(alloc, table.declarations, order, entries)?;
+    let absences = absences_of(alloc, table.declarations, order, entries)?;
+    let_absent(&absences, &mut shapes);
     let declared = declared_types(alloc, table.declarations, order, table.entries)?;
     Ok(Parts {
         shapes,

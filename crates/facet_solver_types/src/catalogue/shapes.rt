@@ -23,7 +23,7 @@ fn at(ids: &[&str], id: &str) -> ShapeId
 }
 
 /// The first of some lists of types.
-fn first_types(types: &[Vec<String>]) -> &[String]
+pub(super) fn first_types(types: &[Vec<String>]) -> &[String]
     ensures { map string_bytes result.now ≡ first_types (names_view types.now) }
 {
     match types.first() {
@@ -61,6 +61,7 @@ fn declared_shape(
             fields,
             is_transparent,
             is_metadata_container,
+            ..
         } => {
             let own = first_types(types);
             let fields = fields_of(alloc, ids, fields, own)?;

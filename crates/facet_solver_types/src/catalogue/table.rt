@@ -77,7 +77,7 @@ impl<'k, 's, 't> TypeTable<'k, 's, 't> {
 }
 
 /// Whether fields have names.
-fn has_names(kind: StructKind) -> bool
+pub(super) fn has_names(kind: StructKind) -> bool
     ensures { result ≡ has_names kind }
 {
     match kind {

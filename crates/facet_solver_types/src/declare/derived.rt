@@ -139,7 +139,7 @@ fn attributes_of<'s, 't>(item: &Item<'s, 't>) -> &'s [Token<'t>]
 fn is_derived(item: &ModuleItem<'_, '_>) -> bool
     ensures { result ≡ derives.is_derived (written.module_item_view item.now) }
 {
-    !is_of_stand_ins(item.module_name) && derives(Derive::Reading, attributes_of(&item.item))
+    !is_of_stand_ins(item.site.module_name) && derives(Derive::Reading, attributes_of(&item.item))
 }
 
 /// Whether some item derives that it is read as it is declared, and is no stand-in.

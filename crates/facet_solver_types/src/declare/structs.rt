@@ -125,6 +125,7 @@ pub(super) fn read_struct<'s, 't>(
         kind: struct_kind(body),
         fields: fields.values,
         is_transparent: is_newtype(body) || is_said(Meaning::Transparent, found),
+        says_transparent: is_said(Meaning::Transparent, found),
         is_metadata_container: is_said(Meaning::MetadataContainer, found),
     };
     Ok(Stated {

@@ -1,20 +1,26 @@
-//! What items stand in: modules and blocks.
-ghost use Rattle.std.specs.Prelude.{◌≡◌, ◌++◌, IfErr, OnOk};
-ghost use Rattle.facet_solver_types.specs.Declarations.{items_view};
-ghost use Rattle.facet_solver_types.specs.Enclosings.{around_after, around_view, closes_braces, in_block, is_left, items_of, module_in, piece_view, sees_close_brace};
+//! What items stand in: modules, blocks and the bodies of impls.
+ghost use Rattle.std.specs.Prelude.{◌≡◌, [], ◌∷◌, ◌++◌, IfErr, OnOk};
+ghost use Rattle.facet_solver_types.specs.Declarations.{item_view, items_view};
+ghost use Rattle.facet_solver_types.specs.Enclosings.{around_after, around_view, block_in, closes_braces, context_of, is_left, item_at, items_of, module_in, piece_view, sees_close_brace, site_in};
+ghost use Rattle.facet_solver_types.specs.Sites.{site_view};
 ghost use Rattle.facet_solver_types.specs.Tokens.{tokens_view};
 
+use super::starts::Context;
 use crate::fault::Fault;
 use crate::item::{Item, ModuleItem};
+use crate::site::Site;
 use crate::token::{Bracket, Token, TokenKind};
+use std::alloc::AllocError;
 
 /// What items stand in.
 #[derive(Clone, Copy, Debug, PartialEq, Eq)]
 pub(super) enum Enclosing<'t> {
     /// The module of this name.
     Module(Token<'t>),
-    /// A block of a function.
-    Block,
+    /// A block of a function, by where its brace stands.
+    Block(usize),
+    /// The body of an impl.
+    Body,
 }
 
 /// A piece of a text.
@@ -23,19 +29,22 @@ pub(super) enum Piece<'s, 't> {
     Item(Item<'s, 't>),
     /// It ends with a brace that opens this.
     Opens(Enclosing<'t>),
+    /// An impl that reads documents for the type of this name. It ends with the brace of its body.
+    Impl(Token<'t>),
     /// The brace that closes the innermost that encloses it.
     Closes,
     /// It is passed over.
     Passed,
 }
 
-/// Whether the innermost of all that encloses something is a block.
-pub(super) fn in_block(around: &[Enclosing<'_>]) -> bool
-    ensures { result ≡ in_block (around_view around.now) }
+/// What the innermost of all that encloses something may have in it.
+pub(super) fn context_of(around: &[Enclosing<'_>]) -> Context
+    ensures { result ≡ context_of (around_view around.now) }
 {
     match around.last() {
-        Some(Enclosing::Block) => true,
-        _ => false,
+        Some(Enclosing::Block(_)) => Context::Block,
+        Some(Enclosing::Body) => Context::Body,
+        _ => Context::Module,
     }
 }
 
@@ -79,6 +88,41 @@ fn module_in<'t>(around: &[Enclosing<'t>]) -> &'t str
     module_name
 }
 
+/// Where the block begins that is the innermost of all that encloses something, if it is one.
+fn block_in(around: &[Enclosing<'_>]) -> Option<usize>
+    ensures { result ≡ block_in (around_view around.now) }
+{
+    match around.last() {
+        Some(Enclosing::Block(place)) => Some(*place),
+        _ => None,
+    }
+}
+
+/// Where an item stands that all this encloses.
+fn site_in<'t>(around: &[Enclosing<'t>]) -> Site<'t>
+    ensures { site_view result ≡ site_in (around_view around.now) }
+{
+    Site {
+        module_name: module_in(around),
+        block: block_in(around),
+    }
+}
+
+/// Adds an item that all this encloses.
+fn add<'s, 't>(
+    found: &mut Vec<ModuleItem<'s, 't>>,
+    around: &[Enclosing<'t>],
+    item: Item<'s, 't>,
+) -> Result<(), AllocError>
+    ensures { OnOk result (items_view found.new.items
+        ≡ items_view found.old.items
+        ++ item_at (around_view around.now) (item_view item.entry) ∷ []) }
+{
+    let site = site_in(around);
+    found.push(ModuleItem { site, item })?;
+    Ok(())
+}
+
 /// Adds the item that a piece is, or goes into what it opens, or out of what it closes.
 pub(super) fn follow<'s, 't>(
     found: &mut Vec<ModuleItem<'s, 't>>,
@@ -93,11 +137,12 @@ pub(super) fn follow<'s, 't>(
     ensures memory { IfErr result (λ fault. fault ≡ Fault.OutOfMemory) }
 {
     match piece {
-        Piece::Item(item) => {
-            let module_name = module_in(around);
-            found.push(ModuleItem { module_name, item })?;
-        }
+        Piece::Item(item) => add(found, around, item)?,
         Piece::Opens(enclosing) => around.push(enclosing)?,
+        Piece::Impl(name) => {
+            add(found, around, Item::Impl(name))?;
+            around.push(Enclosing::Body)?;
+        }
         Piece::Closes => {
             around.pop();
         }

@@ -7,7 +7,7 @@ use super::run::{is_close, is_mark};
 use crate::token::{Bracket, Token, TokenKind, same_bracket};
 
 /// Whether a token opens a bracket.
-pub(super) fn is_open(bracket: Bracket, kind: TokenKind) -> bool
+pub(crate) fn is_open(bracket: Bracket, kind: TokenKind) -> bool
     ensures { result ≡ is_open bracket kind }
 {
     match kind {

@@ -1,13 +1,13 @@
 //! The items of a text.
 ghost use Rattle.std.specs.Prelude.{◌≡◌};
 ghost use Rattle.facet_solver_types.specs.Declarations.{items_view};
-ghost use Rattle.facet_solver_types.specs.Enclosings.{around_view, piece_view};
-ghost use Rattle.facet_solver_types.specs.Items.{after_call, after_head, call, function, head, implementation, items, module_piece, nothing, opening, piece, piece_by, statement};
+ghost use Rattle.facet_solver_types.specs.Enclosings.{around_view, enclosing_view, piece_view};
+ghost use Rattle.facet_solver_types.specs.Items.{after_call, after_head, call, function, head, implementation, items, module_piece, nothing, opening, other_brace, piece, piece_by, statement};
 ghost use Rattle.facet_solver_types.specs.Outcomes.{Gives};
 ghost use Rattle.facet_solver_types.specs.Passages.{passage_view};
 ghost use Rattle.facet_solver_types.specs.Tokens.{tokens_view};
 
-use super::enclosing::{Enclosing, Piece, follow, in_block, is_left};
+use super::enclosing::{Enclosing, Piece, context_of, follow, is_left};
 use super::fields::{after_prefix, attributes};
 use super::first::{sees_bracket, sees_mark, sees_open};
 use super::implements::implemented;
@@ -15,7 +15,9 @@ use super::inside::name_at;
 use super::named::{declaration, semicolon};
 use super::prefixes::attributes_len;
 use super::run::{Run, group_len, run_len};
-use super::starts::{Start, named_call_len, piece_len, qualifiers_len, start_of};
+use super::starts::{
+    Context, Start, has_code, named_call_len, piece_len, qualifiers_len, start_in,
+};
 use crate::fault::Fault;
 use crate::item::{Item, ModuleItem};
 use crate::passage::Passage;
@@ -63,7 +65,8 @@ fn head<'s, 't>(passage: Passage<'s, 't>) -> Result<Piece<'s, 't>, Fault>
 fn function<'s, 't>(passage: Passage<'s, 't>) -> Result<Piece<'s, 't>, Fault>
     ensures { Gives piece_view (function (passage_view passage.entry)) result }
 {
-    opening(Piece::Opens(Enclosing::Block), after_head(passage))
+    let rest = after_head(passage);
+    opening(Piece::Opens(Enclosing::Block(rest.place())), rest)
 }
 
 /// A module, after `mod`, which is opened.
@@ -74,15 +77,15 @@ fn module_piece<'s, 't>(passage: Passage<'s, 't>) -> Result<Piece<'s, 't>, Fault
     opening(Piece::Opens(Enclosing::Module(name)), passage.after(1))
 }
 
-/// An impl, which is passed over, with the type that it is for, if documents are read by its trait.
+/// An impl, whose body is opened, with the type that it is for, if documents are read by its trait.
 fn implementation<'s, 't>(passage: Passage<'s, 't>) -> Result<Piece<'s, 't>, Fault>
     ensures { Gives piece_view (implementation (passage_view passage.entry)) result }
 {
-    let item = match implemented(passage.after(qualifiers_len(passage.tokens))) {
-        Some(name) => Item::Impl(name),
-        None => Item::Other,
+    let piece = match implemented(passage.after(qualifiers_len(passage.tokens))) {
+        Some(name) => Piece::Impl(name),
+        None => Piece::Opens(Enclosing::Body),
     };
-    opening(Piece::Item(item), after_head(passage))
+    opening(piece, after_head(passage))
 }
 
 /// What stands after the `!` of a call, and after a name, if one stands there.
@@ -92,13 +95,13 @@ fn after_call<'s, 't>(passage: Passage<'s, 't>) -> Passage<'s, 't>
     passage.after(named_call_len(passage.tokens))
 }
 
-/// The call of a macro, which is passed over: brackets, and `;` unless they are braces. In a block
-/// anything may stand after its `!`.
-fn call<'s, 't>(is_in_block: bool, passage: Passage<'s, 't>) -> Result<Piece<'s, 't>, Fault>
-    ensures { Gives piece_view (call is_in_block (passage_view passage.entry)) result }
+/// The call of a macro, which is passed over: brackets, and `;` unless they are braces. Among other
+/// things than items anything may stand after its `!`.
+fn call<'s, 't>(context: Context, passage: Passage<'s, 't>) -> Result<Piece<'s, 't>, Fault>
+    ensures { Gives piece_view (call context (passage_view passage.entry)) result }
 {
     let rest = after_call(passage);
-    if is_in_block || sees_open(Bracket::Curly, rest.tokens) {
+    if has_code(context) || sees_open(Bracket::Curly, rest.tokens) {
         Ok(Piece::Passed)
     } else if sees_bracket(rest.tokens) {
         semicolon(rest.after(group_len(rest.tokens)))?;
@@ -108,14 +111,24 @@ fn call<'s, 't>(is_in_block: bool, passage: Passage<'s, 't>) -> Result<Piece<'s,
     }
 }
 
-/// What begins no item: in a block a brace opens another, and something else is passed over.
-fn nothing<'s, 't>(is_in_block: bool, passage: Passage<'s, 't>) -> Result<Piece<'s, 't>, Fault>
-    ensures { Gives piece_view (nothing is_in_block (passage_view passage.entry)) result }
+/// What a brace opens that stands first and begins no item: in a block another one.
+fn other_brace<'t>(context: Context, passage: Passage<'_, 't>) -> Enclosing<'t>
+    ensures { enclosing_view result ≡ other_brace context (passage_view passage.entry) }
 {
-    if !is_in_block {
+    match context {
+        Context::Block => Enclosing::Block(passage.place()),
+        _ => Enclosing::Body,
+    }
+}
+
+/// What begins no item: a brace opens something, and something else is passed over.
+fn nothing<'s, 't>(context: Context, passage: Passage<'s, 't>) -> Result<Piece<'s, 't>, Fault>
+    ensures { Gives piece_view (nothing context (passage_view passage.entry)) result }
+{
+    if !has_code(context) {
         Err(passage.unexpected(Expected::Item))
     } else if sees_open(Bracket::Curly, passage.tokens) {
-        Ok(Piece::Opens(Enclosing::Block))
+        Ok(Piece::Opens(other_brace(context, passage)))
     } else {
         Ok(Piece::Passed)
     }
@@ -124,14 +137,14 @@ fn nothing<'s, 't>(is_in_block: bool, passage: Passage<'s, 't>) -> Result<Piece<
 /// What stands first, after attributes and `pub`, by how it begins. Its attributes are these.
 fn piece_by<'s, 't>(
     alloc: Global,
-    is_in_block: bool,
+    context: Context,
     attributes: &'s [Token<'t>],
     passage: Passage<'s, 't>,
 ) -> Result<Piece<'s, 't>, Fault>
-    ensures { Gives piece_view (piece_by is_in_block (tokens_view attributes.now)
+    ensures { Gives piece_view (piece_by context (tokens_view attributes.now)
         (passage_view passage.entry)) result }
 {
-    let start = start_of(passage.tokens);
+    let start = start_in(context, passage.tokens);
     match start {
         Start::Struct | Start::Enum | Start::Alias => {
             let item = declaration(alloc, start, attributes, passage.after(1))?;
@@ -142,8 +155,8 @@ fn piece_by<'s, 't>(
         Start::Impl => implementation(passage),
         Start::Statement => statement(passage),
         Start::Head => head(passage),
-        Start::Call => call(is_in_block, passage),
-        Start::Unknown => nothing(is_in_block, passage),
+        Start::Call => call(context, passage),
+        Start::Unknown => nothing(context, passage),
     }
 }
 
@@ -162,10 +175,10 @@ fn piece<'s, 't>(
         return Ok(Piece::Closes);
     }
     let rest = after_prefix(true, passage);
-    piece_by(alloc, in_block(around), attributes(passage), rest)
+    piece_by(alloc, context_of(around), attributes(passage), rest)
 }
 
-/// The items of a text, after its inner attributes, with those in its modules and functions.
+/// The items of a text, after its inner attributes, with those in its modules, functions and impls.
 ///
 /// Errors: where something else stands than the grammar expects, unless it stands after the name of
 /// a struct, an enum or an alias; out of memory.
@@ -179,7 +192,7 @@ pub(crate) fn items<'s, 't>(
     let mut around = Vec::new(alloc);
     let mut left = passage.after(attributes_len(true, passage.tokens));
     while !left.tokens.is_empty() {
-        let len = piece_len(in_block(&around), left.tokens);
+        let len = piece_len(context_of(&around), left.tokens);
         let piece = piece(alloc, &around, left.up_to(len))?;
         follow(&mut found, &mut around, piece)?;
         left = left.after(len);

@@ -105,16 +105,18 @@ fn up_to_semicolon<'s, 't>(passage: Passage<'s, 't>) -> Result<Passage<'s, 't>, 
 #[tactic(auto, unfolding(crate::specs::NamedItems::alias_of))]
 fn alias_of<'s, 't>(
     alloc: Global,
+    attributes: &'s [Token<'t>],
     name: Token<'t>,
     passage: Passage<'s, 't>,
 ) -> Result<AliasDeclaration<'s, 't>, Fault>
-    ensures { Gives alias_view (alias_of (token_view name.entry) (passage_view passage.entry))
-        result }
+    ensures { Gives alias_view (alias_of (tokens_view attributes.now) (token_view name.entry)
+        (passage_view passage.entry)) result }
 {
     let parameters = parameters(alloc, passage)?;
     let rest = after_equals(after_heading(passage))?;
     let written = up_to_semicolon(rest)?;
     Ok(AliasDeclaration {
+        attributes,
         name,
         parameters,
         written,
@@ -135,7 +137,7 @@ fn declared_by<'s, 't>(
     match start {
         Start::Struct => Ok(Item::Struct(struct_of(alloc, attributes, name, passage)?)),
         Start::Enum => Ok(Item::Enum(enum_of(alloc, attributes, name, passage)?)),
-        _ => Ok(Item::Alias(alias_of(alloc, name, passage)?)),
+        _ => Ok(Item::Alias(alias_of(alloc, attributes, name, passage)?)),
     }
 }
 

@@ -177,7 +177,7 @@ pub(super) fn run_len(run: Run, tokens: &[Token<'_>]) -> usize
 }
 
 /// How many tokens a group has whose bracket stands first, with both brackets.
-pub(super) fn group_len(tokens: &[Token<'_>]) -> usize
+pub(crate) fn group_len(tokens: &[Token<'_>]) -> usize
     requires { 0 < length tokens.now }
     ensures value { result ≡ group_len (tokens_view tokens.now) }
     ensures within { (0 < result) × (result ≤ length tokens.now) }

@@ -1,6 +1,6 @@
 //! How an item begins, and how many tokens it has.
 ghost use Rattle.std.specs.Prelude.{◌≡◌, ◌+◌, ◌<◌, ◌≤◌, IfSome, IsTrue, false, length, true};
-ghost use Rattle.facet_solver_types.specs.Starts.{bare_len, begins_constant, begins_extern, begins_function, begins_statement, begins_trait, brackets_len, call_len, end_len, end_len_of, first_len, has_keyword, is_broken, is_called, is_nothing, is_path_mark, is_plain, is_qualifier, is_segment, is_unknown, item_len, len_of, named_call_len, opening_len, path_len, path_step, piece_len, qualified_start, qualifiers_len, run_and_end_len, run_of, sees_path_mark, sees_plain, semicolon_len, start_of, start_with, visible_len, whole_call_len};
+ghost use Rattle.facet_solver_types.specs.Starts.{bare_len, begins_constant, begins_extern, begins_function, begins_statement, begins_trait, body_start, brackets_len, call_len, end_len, end_len_of, first_len, has_code, has_keyword, is_broken, is_called, is_nothing, is_path_mark, is_plain, is_qualifier, is_segment, is_unknown, item_len, len_of, named_call_len, opening_len, path_len, path_step, piece_len, qualified_start, qualifiers_len, run_and_end_len, run_of, sees_extern, sees_path_mark, sees_plain, semicolon_len, start_in, start_of, start_with, visible_len, whole_call_len};
 ghost use Rattle.facet_solver_types.specs.Tokens.{tokens_view};
 
 use super::first::{
@@ -9,6 +9,17 @@ use super::first::{
 use super::prefixes::{attributes_len, visibility_len};
 use super::run::{Run, group_len, is_mark, run_len};
 use crate::token::{Bracket, Token, TokenKind};
+
+/// What a piece stands in, by what it may be there.
+#[derive(Clone, Copy, Debug, PartialEq, Eq)]
+pub(super) enum Context {
+    /// A module, or none: each piece is an item.
+    Module,
+    /// A block of a function: items stand among code.
+    Block,
+    /// The body of an impl: what is no function is passed over.
+    Body,
+}
 
 /// How an item begins.
 #[derive(Clone, Copy, Debug, PartialEq, Eq)]
@@ -102,12 +113,20 @@ fn begins_function(tokens: &[Token<'_>]) -> bool
     sees_word("fn", tokens) && sees_name(&tokens[1..])
 }
 
-/// Whether the items of another language stand first, or a crate.
-fn begins_extern(tokens: &[Token<'_>]) -> bool
-    ensures { result ≡ begins_extern (tokens_view tokens.now) }
+/// Whether `extern` stands first, maybe after `unsafe`.
+fn sees_extern(tokens: &[Token<'_>]) -> bool
+    ensures { result ≡ sees_extern (tokens_view tokens.now) }
 {
     sees_word("extern", tokens)
         || (sees_word("unsafe", tokens) && sees_word("extern", &tokens[1..]))
+}
+
+/// Whether the items of another language stand first, or a crate, with what stands after the words
+/// that stand first. The type of a function of another language is neither.
+fn begins_extern(tokens: &[Token<'_>], rest: &[Token<'_>]) -> bool
+    ensures { result ≡ begins_extern (tokens_view tokens.now) (tokens_view rest.now) }
+{
+    sees_extern(tokens) && (sees_open(Bracket::Curly, rest) || sees_word("crate", rest))
 }
 
 /// Whether a trait or a union stands first.
@@ -251,7 +270,7 @@ fn start_with(tokens: &[Token<'_>], rest: &[Token<'_>]) -> Start
         Start::Function
     } else if sees_word("impl", rest) {
         Start::Impl
-    } else if begins_trait(rest) || begins_extern(tokens) {
+    } else if begins_trait(rest) || begins_extern(tokens, rest) {
         Start::Head
     } else if call_len(tokens).is_some() {
         Start::Call
@@ -286,6 +305,29 @@ pub(super) fn start_of(tokens: &[Token<'_>]) -> Start
         Start::Statement
     } else {
         qualified_start(tokens)
+    }
+}
+
+/// How a piece begins in the body of an impl that would begin so elsewhere.
+fn body_start(start: Start) -> Start
+    ensures value { result ≡ body_start start }
+    ensures bare { has_keyword result ≡ false }
+{
+    match start {
+        Start::Function => Start::Function,
+        Start::Call => Start::Call,
+        _ => Start::Unknown,
+    }
+}
+
+/// How a piece begins in a context, after attributes and `pub`.
+pub(super) fn start_in(context: Context, tokens: &[Token<'_>]) -> Start
+    ensures value { result ≡ start_in context (tokens_view tokens.now) }
+    ensures some { has_keyword result ≡ true → 0 < length tokens.now }
+{
+    match context {
+        Context::Body => body_start(start_of(tokens)),
+        _ => start_of(tokens),
     }
 }
 
@@ -338,14 +380,14 @@ fn opening_len(tokens: &[Token<'_>]) -> usize
     }
 }
 
-/// How many tokens the end of an item has that begins so. A function and a module end where their
-/// braces open.
+/// How many tokens the end of an item has that begins so. A function, an impl and a module end where
+/// their braces open.
 fn end_len_of(start: Start, tokens: &[Token<'_>]) -> usize
     ensures value { result ≡ end_len_of start (tokens_view tokens.now) }
     ensures within { result ≤ length tokens.now }
 {
     match start {
-        Start::Function => first_len(tokens),
+        Start::Function | Start::Impl => first_len(tokens),
         Start::Module => opening_len(tokens),
         _ => end_len(tokens),
     }
@@ -433,44 +475,54 @@ fn is_unknown(start: Start) -> bool
     }
 }
 
-/// Whether what stands first in a block is no item.
-fn is_nothing(is_in_block: bool, tokens: &[Token<'_>]) -> bool
-    ensures { result ≡ is_nothing is_in_block (tokens_view tokens.now) }
+/// Whether a piece may be something else than an item.
+pub(super) fn has_code(context: Context) -> bool
+    ensures { result ≡ has_code context }
 {
-    is_in_block && is_unknown(start_of(tokens))
+    match context {
+        Context::Module => false,
+        _ => true,
+    }
 }
 
-/// How many tokens an item has, after attributes, with `pub`; in a block none where it is no item.
-fn visible_len(is_in_block: bool, tokens: &[Token<'_>]) -> usize
-    ensures value { result ≡ visible_len is_in_block (tokens_view tokens.now) }
+/// Whether what stands first is no item, in a context where it may be something else.
+fn is_nothing(context: Context, tokens: &[Token<'_>]) -> bool
+    ensures { result ≡ is_nothing context (tokens_view tokens.now) }
+{
+    has_code(context) && is_unknown(start_in(context, tokens))
+}
+
+/// How many tokens an item has, after attributes, with `pub`; none where it is something else.
+fn visible_len(context: Context, tokens: &[Token<'_>]) -> usize
+    ensures value { result ≡ visible_len context (tokens_view tokens.now) }
     ensures within { result ≤ length tokens.now }
 {
     let visibility = visibility_len(tokens);
     let bare = &tokens[visibility..];
-    if is_nothing(is_in_block, bare) {
+    if is_nothing(context, bare) {
         0
     } else {
         visibility + bare_len(bare)
     }
 }
 
-/// How many tokens the item has that stands first, with attributes and `pub`; in a block, where no
-/// item stands first, the attributes alone.
-fn item_len(is_in_block: bool, tokens: &[Token<'_>]) -> usize
-    ensures value { result ≡ item_len is_in_block (tokens_view tokens.now) }
+/// How many tokens the item has that stands first, with attributes and `pub`; where it is something
+/// else, the attributes alone.
+fn item_len(context: Context, tokens: &[Token<'_>]) -> usize
+    ensures value { result ≡ item_len context (tokens_view tokens.now) }
     ensures within { result ≤ length tokens.now }
 {
     let attributes = attributes_len(false, tokens);
-    attributes + visible_len(is_in_block, &tokens[attributes..])
+    attributes + visible_len(context, &tokens[attributes..])
 }
 
 /// How many tokens the piece has that stands first: an item's, or one.
-pub(super) fn piece_len(is_in_block: bool, tokens: &[Token<'_>]) -> usize
+pub(super) fn piece_len(context: Context, tokens: &[Token<'_>]) -> usize
     requires { 0 < length tokens.now }
-    ensures value { result ≡ piece_len is_in_block (tokens_view tokens.now) }
+    ensures value { result ≡ piece_len context (tokens_view tokens.now) }
     ensures some { 0 < result }
     ensures within { result ≤ length tokens.now }
 {
-    let len = item_len(is_in_block, tokens);
+    let len = item_len(context, tokens);
     if len == 0 { 1 } else { len }
 }

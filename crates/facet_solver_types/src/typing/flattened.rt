@@ -9,6 +9,7 @@ ghost use Rattle.facet_solver_types.specs.Mentions.{alias_scope, mention_view};
 ghost use Rattle.facet_solver_types.specs.Outcomes.{Gives};
 ghost use Rattle.facet_solver_types.specs.Passages.{passage_view};
 ghost use Rattle.facet_solver_types.specs.Scopes.{scope_view};
+ghost use Rattle.facet_solver_types.specs.Sites.{site_view};
 ghost use Rattle.facet_solver_types.specs.Understood.{declaration_view, declared_view};
 
 use super::known::Applied;
@@ -19,6 +20,7 @@ use crate::declaration::{Declaration, Declared};
 use crate::fault::Fault;
 use crate::item::Parameter;
 use crate::passage::Passage;
+use crate::site::Site;
 use std::alloc::Global;
 
 /// What a flattened type leads to.
@@ -29,7 +31,7 @@ enum Lead<'d, 't> {
     /// An option of the type that stands in it.
     Option(Passage<'d, 't>),
     /// What an alias in this module names with these parameters, or a declaration is read as.
-    Named(&'t str, &'d [Parameter<'t>], Passage<'d, 't>),
+    Named(Site<'t>, &'d [Parameter<'t>], Passage<'d, 't>),
     /// Nothing else.
     Itself,
 }
@@ -98,12 +100,12 @@ fn bare_lead<'d, 't>(lead: Lead<'d, 't>, parts: &[Part<'d, 't>]) -> Lead<'d, 't>
 }
 
 /// What is declared in a module leads to: the type that it is read as, if one attribute says it.
-fn said_lead<'d, 't>(module_name: &'t str, declared: &'d Declared<'d, 't>) -> Lead<'d, 't>
-    ensures { lead_view result ≡ of.said_lead module_name.now (declared_view declared.now) }
+fn said_lead<'d, 't>(site: Site<'t>, declared: &'d Declared<'d, 't>) -> Lead<'d, 't>
+    ensures { lead_view result ≡ of.said_lead (site_view site.entry) (declared_view declared.now) }
 {
     match declared {
         Declared::Proxied(proxies) => match proxies.as_slice() {
-            [proxy] => Lead::Named(module_name, &[], proxy.said.passage()),
+            [proxy] => Lead::Named(site, &[], proxy.said.passage()),
             _ => Lead::Itself,
         },
         _ => Lead::Itself,
@@ -115,7 +117,7 @@ fn declared_lead<'d, 't>(declaration: &'d Declaration<'d, 't>) -> Lead<'d, 't>
     ensures { lead_view result ≡ of.declared_lead (declaration_view declaration.now) }
 {
     if declaration.faults.is_empty() {
-        said_lead(declaration.module_name, &declaration.declared)
+        said_lead(declaration.site, &declaration.declared)
     } else {
         Lead::Itself
     }
@@ -139,8 +141,8 @@ fn lead_of<'d, 't>(scope: Scope<'d, 't>, layer: &Layer<'d, 't>) -> Lead<'d, 't>
     match layer.head {
         Head::Same => inner_lead(parts),
         Head::Applied(_, kind) => applied_lead(kind, parts),
-        Head::Alias(module_name, parameters, written) => {
-            bare_lead(Lead::Named(module_name, parameters, written), parts)
+        Head::Alias(site, parameters, written) => {
+            bare_lead(Lead::Named(site, parameters, written), parts)
         }
         Head::Declared(index, _) => bare_lead(lead_at(scope, index), parts),
         _ => Lead::Itself,
@@ -169,14 +171,14 @@ fn around(
 /// Where a type stands that is named in a module with these parameters, for which nothing stands.
 fn scope_in<'d, 't>(
     scope: Scope<'d, 't>,
-    module_name: &'t str,
+    site: Site<'t>,
     parameters: &'d [Parameter<'t>],
 ) -> Scope<'d, 't>
-    ensures { scope_view result ≡ alias_scope (scope_view scope.entry) module_name.now
+    ensures { scope_view result ≡ alias_scope (scope_view scope.entry) (site_view site.entry)
         (parameters_view parameters.now) [] }
 {
     Scope {
-        module_name,
+        site,
         this: None,
         parameters,
         arguments: &[],
@@ -206,8 +208,8 @@ fn members<'d, 't>(
             let mention = members(alloc, scope, levels - 1, inside)?;
             around(alloc, scope, layer.head, mention)
         }
-        Lead::Named(module_name, parameters, written) => {
-            let named = scope_in(scope, module_name, parameters);
+        Lead::Named(site, parameters, written) => {
+            let named = scope_in(scope, site, parameters);
             members(alloc, named, levels - 1, written)
         }
         Lead::Itself => mentions(alloc, scope, levels, passage),

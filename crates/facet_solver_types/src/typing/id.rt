@@ -129,9 +129,14 @@ fn declared_id(alloc: Global, called: Called<'_>) -> Result<String, AllocError>
     let name = DeclaredName(called.name);
     match called.module_name {
         None => name.to_string(alloc),
-        Some(module_name) => {
+        Some(module_name) if called.number == 0 => {
             let module_name = module_id(module_name);
             format!(in alloc; "{module_name}::{name}")
+        }
+        Some(module_name) => {
+            let module_name = module_id(module_name);
+            let number = called.number;
+            format!(in alloc; "{module_name}::{number}::{name}")
         }
     }
 }

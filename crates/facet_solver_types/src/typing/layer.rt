@@ -23,6 +23,7 @@ use crate::item::Parameter;
 use crate::modules::is_of_stand_ins;
 use crate::passage::Passage;
 use crate::problem::Problem;
+use crate::site::Site;
 use crate::token::Token;
 use crate::type_problem::TypeProblem;
 use facet_solver_shape::ScalarType;
@@ -37,8 +38,8 @@ pub(super) enum Head<'d, 't> {
     Bound(&'d str),
     /// What the declaration at an index declares, and what it is called.
     Declared(usize, Called<'t>),
-    /// What an alias in this module names with these parameters.
-    Alias(&'t str, &'d [Parameter<'t>], Passage<'d, 't>),
+    /// What an alias that stands so names with these parameters.
+    Alias(Site<'t>, &'d [Parameter<'t>], Passage<'d, 't>),
     /// A scalar, by its name.
     Scalar(&'t str, ScalarType),
     /// A value of any shape, by its name.
@@ -159,18 +160,23 @@ fn parts_of<'d, 't>(
 
 /// What a type is outside by the declaration at an index, where those at some have its name.
 fn declared_head<'d, 't>(
+    declarations: &[Declaration<'d, 't>],
     namesakes: &[usize],
     index: usize,
     declaration: &'d Declaration<'d, 't>,
 ) -> Head<'d, 't>
     ensures { layers.head_view result
-        ≡ layers.declared_head namesakes.now index (declaration_view declaration.now) }
+        ≡ layers.declared_head (declarations_view declarations.now) namesakes.now index
+        (declaration_view declaration.now) }
 {
     match &declaration.declared {
         Declared::Alias(written) => {
-            Head::Alias(declaration.module_name, &declaration.parameters, *written)
+            Head::Alias(declaration.site, &declaration.parameters, *written)
         }
-        _ => Head::Declared(index, called_among(namesakes, index, declaration)),
+        _ => {
+            let called = called_among(declarations, namesakes, index, declaration);
+            Head::Declared(index, called)
+        }
     }
 }
 
@@ -210,7 +216,7 @@ fn takes_all(declaration: &Declaration<'_, '_>) -> bool
     ensures { result ≡ layers.takes_all (declaration_view declaration.now) }
 {
     is_unread(&declaration.declared)
-        || (is_of_stand_ins(declaration.module_name) && declaration.parameters.is_empty())
+        || (is_of_stand_ins(declaration.site.module_name) && declaration.parameters.is_empty())
 }
 
 /// What stands for the parameters of a declaration.
@@ -232,18 +238,19 @@ fn declared_parts<'d, 't>(
 /// A type by the declaration at an index, where those at some have its name.
 fn declared_layer<'d, 't>(
     alloc: Global,
+    declarations: &[Declaration<'d, 't>],
     named: NamedType<'d, 't>,
     namesakes: &[usize],
     index: usize,
     declaration: &'d Declaration<'d, 't>,
 ) -> Result<Layer<'d, 't>, Fault>
     ensures { Gives layer_view
-        (layers.declared_layer (named_view named.entry) namesakes.now index
-        (declaration_view declaration.now)) result }
+        (layers.declared_layer (declarations_view declarations.now) (named_view named.entry)
+        namesakes.now index (declaration_view declaration.now)) result }
 {
     let parts = declared_parts(alloc, declaration, named)?;
     Ok(Layer {
-        head: declared_head(namesakes, index, declaration),
+        head: declared_head(declarations, namesakes, index, declaration),
         parts,
     })
 }
@@ -421,7 +428,10 @@ fn layer_by<'d, 't>(
     match meant {
         [] => none_meant(alloc, named, namesakes),
         [index] => match scope.at(*index) {
-            Some(declaration) => declared_layer(alloc, named, namesakes, *index, declaration),
+            Some(declaration) => {
+                let declarations = scope.declarations;
+                declared_layer(alloc, declarations, named, namesakes, *index, declaration)
+            }
             None => undeclared(alloc, named),
         },
         [_, other, ..] => Err(Fault::At {

@@ -29,24 +29,84 @@ pub(super) fn namesakes(
     Ok(found)
 }
 
-/// Whether an index is the first of some.
-pub(super) fn is_first(indices: &[usize], index: usize) -> bool
-    ensures { result ≡ of.is_first indices.now index }
+/// Whether the declaration at an index stands in a module.
+pub(super) fn is_in(declarations: &[Declaration<'_, '_>], module_name: &str, index: usize) -> bool
+    ensures { result ≡ of.is_in (declarations_view declarations.now) module_name.now index }
 {
-    match indices.first() {
-        Some(first) => *first == index,
+    match declarations.get(index) {
+        Some(declaration) => declaration.site.module_name == module_name,
         None => false,
     }
 }
 
-/// Whether the declaration at an index stands in a module.
-fn is_in(declarations: &[Declaration<'_, '_>], module_name: &str, index: usize) -> bool
-    ensures { result ≡ of.is_in (declarations_view declarations.now) module_name.now index }
+/// Whether this stands in the block whose brace stands there.
+fn is_of_block(place: usize, block: Option<usize>) -> bool
+    ensures { result ≡ of.is_of_block place block }
 {
-    match declarations.get(index) {
-        Some(declaration) => declaration.module_name == module_name,
+    match block {
+        Some(other) => other == place,
         None => false,
     }
+}
+
+/// Whether the declaration at an index stands in the block whose brace stands there.
+fn is_in_block(declarations: &[Declaration<'_, '_>], place: usize, index: usize) -> bool
+    ensures { result ≡ of.is_in_block (declarations_view declarations.now) place index }
+{
+    match declarations.get(index) {
+        Some(declaration) => is_of_block(place, declaration.site.block),
+        None => false,
+    }
+}
+
+/// Whether the declaration at an index stands in no block.
+pub(super) fn is_outside(declarations: &[Declaration<'_, '_>], index: usize) -> bool
+    ensures { result ≡ of.is_outside (declarations_view declarations.now) index }
+{
+    match declarations.get(index) {
+        Some(declaration) => declaration.site.block.is_none(),
+        None => false,
+    }
+}
+
+/// Those of some that stand in no block.
+fn those_outside(
+    alloc: Global,
+    declarations: &[Declaration<'_, '_>],
+    indices: &[usize],
+) -> Result<Vec<usize>, AllocError>
+    ensures { IfOk result (λ found. found.items
+        ≡ of.those_outside (declarations_view declarations.now) indices.now) }
+{
+    let mut found = Vec::new(alloc);
+    for index in indices {
+        if is_outside(declarations, *index) {
+            found.push(*index)?;
+        }
+    }
+    Ok(found)
+}
+
+/// Those of some that stand in a block, if it is one.
+fn those_in_block(
+    alloc: Global,
+    declarations: &[Declaration<'_, '_>],
+    block: Option<usize>,
+    indices: &[usize],
+) -> Result<Vec<usize>, AllocError>
+    ensures { IfOk result (λ found. found.items
+        ≡ of.those_in_block (declarations_view declarations.now) block indices.now) }
+{
+    let mut found = Vec::new(alloc);
+    let Some(place) = block else {
+        return Ok(found);
+    };
+    for index in indices {
+        if is_in_block(declarations, place, *index) {
+            found.push(*index)?;
+        }
+    }
+    Ok(found)
 }
 
 /// Those of some that stand in a module.
@@ -133,16 +193,68 @@ fn led_to(
         ≡ of.led_to (scope_view scope.entry) (origin_view origin.entry) indices.now) }
 {
     match origin {
-        Origin::Here => in_or_all(alloc, scope.declarations, scope.module_name, indices),
-        Origin::Above => out_or_all(alloc, scope.declarations, scope.module_name, indices),
+        Origin::Here => in_or_all(alloc, scope.declarations, scope.site.module_name, indices),
+        Origin::Above => out_or_all(alloc, scope.declarations, scope.site.module_name, indices),
         Origin::Within(module_name) => in_or_all(alloc, scope.declarations, module_name, indices),
         Origin::Beside(module_name) => those_in(alloc, scope.declarations, module_name, indices),
         Origin::Known | Origin::Elsewhere => Ok(Vec::new(alloc)),
     }
 }
 
-/// Those of some that a type means: the ones that stand in for others, or else those that its path
-/// leads to.
+/// Those of some that a path leads to, of those in no block, or else of all.
+fn led_outside(
+    alloc: Global,
+    scope: Scope<'_, '_>,
+    origin: Origin<'_>,
+    indices: &[usize],
+) -> Result<Vec<usize>, AllocError>
+    ensures { IfOk result (λ found. found.items
+        ≡ of.led_outside (scope_view scope.entry) (origin_view origin.entry) indices.now) }
+{
+    let outside = those_outside(alloc, scope.declarations, indices)?;
+    let found = led_to(alloc, scope, origin, &outside)?;
+    if found.is_empty() {
+        return led_to(alloc, scope, origin, indices);
+    }
+    Ok(found)
+}
+
+/// Those of some that stand in the block of a type whose path leads nowhere else.
+fn those_beside(
+    alloc: Global,
+    scope: Scope<'_, '_>,
+    origin: Origin<'_>,
+    indices: &[usize],
+) -> Result<Vec<usize>, AllocError>
+    ensures { IfOk result (λ found. found.items
+        ≡ of.those_beside (scope_view scope.entry) (origin_view origin.entry) indices.now) }
+{
+    match origin {
+        Origin::Here => those_in_block(alloc, scope.declarations, scope.site.block, indices),
+        _ => Ok(Vec::new(alloc)),
+    }
+}
+
+/// Those of some that a name means for which none stands in: those in the block of the type, or else
+/// those that its path leads to.
+fn meant_there(
+    alloc: Global,
+    scope: Scope<'_, '_>,
+    origin: Origin<'_>,
+    indices: &[usize],
+) -> Result<Vec<usize>, AllocError>
+    ensures { IfOk result (λ found. found.items
+        ≡ of.meant_there (scope_view scope.entry) (origin_view origin.entry) indices.now) }
+{
+    let found = those_beside(alloc, scope, origin, indices)?;
+    if found.is_empty() {
+        return led_outside(alloc, scope, origin, indices);
+    }
+    Ok(found)
+}
+
+/// Those of some that a type means: the ones that stand in for others, or else those in its block,
+/// or else those that its path leads to.
 pub(super) fn meant(
     alloc: Global,
     scope: Scope<'_, '_>,
@@ -154,7 +266,7 @@ pub(super) fn meant(
 {
     let found = those_in(alloc, scope.declarations, STAND_INS, indices)?;
     if found.is_empty() {
-        return led_to(alloc, scope, origin, indices);
+        return meant_there(alloc, scope, origin, indices);
     }
     Ok(found)
 }

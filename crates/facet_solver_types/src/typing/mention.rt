@@ -227,9 +227,9 @@ pub(super) fn mentions<'d, 't>(
         add(&mut inside, mention)?;
     }
     match head {
-        Head::Alias(module_name, parameters, written) => {
+        Head::Alias(site, parameters, written) => {
             let named = Scope {
-                module_name,
+                site,
                 this: None,
                 parameters,
                 arguments: &inside.ids,

@@ -16,6 +16,7 @@ use crate::declaration::Declaration;
 use crate::failure::Failure;
 use crate::fault::Fault;
 use crate::passage::Passage;
+use crate::site::top;
 use crate::token::Token;
 use crate::tokens::tokens;
 use std::alloc::{AllocError, Global};
@@ -85,7 +86,7 @@ fn passage_type(
 {
     let scope = Scope {
         declarations,
-        module_name: "",
+        site: top(),
         this: None,
         parameters: &[],
         arguments: &[],

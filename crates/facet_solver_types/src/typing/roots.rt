@@ -13,7 +13,7 @@ ghost use Rattle.facet_solver_types.specs.Uses.{use_view, uses_view};
 use super::called::{by_name, called_among};
 use super::field_types::Groups;
 use super::id::used_id;
-use super::meant::namesakes;
+use super::meant::{is_outside, namesakes};
 use super::mention::{Mention, copied_ids};
 use super::type_use::Use;
 use super::uses::use_types;
@@ -78,7 +78,43 @@ fn indices(alloc: Global, uses: &[Use]) -> Result<Vec<usize>, AllocError>
     Ok(found)
 }
 
-/// The indices of the declarations that a use mentions, where its types have no fault.
+/// Those of some declarations that stand in a block.
+fn those_inside(
+    alloc: Global,
+    declarations: &[Declaration<'_, '_>],
+    indices: &[usize],
+) -> Result<Vec<usize>, AllocError>
+    ensures { IfOk result (λ found. found.items
+        ≡ of.those_inside (declarations_view declarations.now) indices.now) }
+{
+    let mut found = Vec::new(alloc);
+    for index in indices {
+        if !is_outside(declarations, *index) {
+            found.push(*index)?;
+        }
+    }
+    Ok(found)
+}
+
+/// Those of some indices that count as mentioned by the declaration at another: one in a block does
+/// not count for those in none.
+fn counted(
+    alloc: Global,
+    declarations: &[Declaration<'_, '_>],
+    by: usize,
+    indices: Vec<usize>,
+) -> Result<Vec<usize>, AllocError>
+    ensures { IfOk result (λ found. found.items
+        ≡ of.counted (declarations_view declarations.now) by indices.items) }
+{
+    if is_outside(declarations, by) {
+        return Ok(indices);
+    }
+    those_inside(alloc, declarations, &indices)
+}
+
+/// The indices of the declarations that a use mentions, as far as it counts, where its types have no
+/// fault.
 fn mentioned(
     alloc: Global,
     declarations: &[Declaration<'_, '_>],
@@ -94,7 +130,8 @@ fn mentioned(
         uses,
         faults: _,
     } = groups;
-    indices(alloc, &uses)
+    let found = indices(alloc, &uses)?;
+    counted(alloc, declarations, used.index, found)
 }
 
 /// The indices of the declarations that each of some uses mentions.
@@ -166,7 +203,7 @@ fn stand_in_names<'t>(
 {
     let mut names = Vec::new(alloc);
     for declaration in declarations {
-        if is_of_stand_ins(declaration.module_name) {
+        if is_of_stand_ins(declaration.site.module_name) {
             names.push(declaration.name.text)?;
         }
     }
@@ -233,6 +270,55 @@ fn roots(
     Ok(found)
 }
 
+/// Whether one of some uses is of a declaration in no block.
+fn has_outside(declarations: &[Declaration<'_, '_>], uses: &[Use]) -> bool
+    ensures { result ≡ of.has_outside (declarations_view declarations.now) (uses_view uses.now) }
+{
+    for used in uses {
+        if is_outside(declarations, used.index) {
+            return true;
+        }
+    }
+    false
+}
+
+/// Those of some uses that are of declarations in no block, or all where there is none.
+fn outside_or_all(
+    alloc: Global,
+    declarations: &[Declaration<'_, '_>],
+    uses: Vec<Use>,
+) -> Result<Vec<Use>, AllocError>
+    ensures { IfOk result (λ found. uses_view found.items
+        ≡ of.outside_or_all (declarations_view declarations.now) (uses_view uses.items)) }
+{
+    if !has_outside(declarations, &uses) {
+        return Ok(uses);
+    }
+    let mut found = Vec::new(alloc);
+    for used in uses {
+        if is_outside(declarations, used.index) {
+            found.push(used)?;
+        }
+    }
+    Ok(found)
+}
+
+/// Those of some uses that stand by themselves: those in no block, or else all.
+fn likely_roots(
+    alloc: Global,
+    declarations: &[Declaration<'_, '_>],
+    names: &[&str],
+    links: &[Vec<usize>],
+    uses: Vec<Use>,
+) -> Result<Vec<Use>, AllocError>
+    ensures { IfOk result (λ found. uses_view found.items
+        ≡ of.likely_roots (declarations_view declarations.now) (map str_view names.now)
+        (links_view links.now) (uses_view uses.items)) }
+{
+    let found = roots(alloc, declarations, names, links, uses)?;
+    outside_or_all(alloc, declarations, found)
+}
+
 /// The ids of uses.
 fn ids(alloc: Global, uses: &[Use]) -> Result<Vec<String>, AllocError>
     ensures { IfOk result (λ ids. map string_bytes ids.items ≡ of.ids (uses_view uses.now)) }
@@ -256,7 +342,7 @@ fn id_among(
         (declaration_view declaration.now)) }
 {
     let namesakes = namesakes(alloc, declaration.name.text, declarations)?;
-    let called = called_among(&namesakes, used.index, declaration);
+    let called = called_among(declarations, &namesakes, used.index, declaration);
     used_id(alloc, called, &used.arguments)
 }
 
@@ -313,7 +399,8 @@ fn only(
     }
 }
 
-/// The only struct or enum without parameters that no other mentions.
+/// The only struct or enum without parameters that no other mentions. What stands in a block counts
+/// only where there is no other.
 ///
 /// Errors: the ids of those that there are, if there is not just one; out of memory.
 pub(super) fn only_root(
@@ -325,6 +412,6 @@ pub(super) fn only_root(
     let uses = own_uses(alloc, declarations)?;
     let names = stand_in_names(alloc, declarations)?;
     let links = links(alloc, declarations, &uses)?;
-    let roots = roots(alloc, declarations, &names, &links, uses)?;
+    let roots = likely_roots(alloc, declarations, &names, &links, uses)?;
     only(alloc, declarations, &roots)
 }

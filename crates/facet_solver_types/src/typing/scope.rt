@@ -7,6 +7,7 @@ use crate::declaration::Declaration;
 use crate::fault::Fault;
 use crate::item::Parameter;
 use crate::problem::Problem;
+use crate::site::Site;
 use crate::type_problem::TypeProblem;
 
 /// Where a type stands.
@@ -14,8 +15,8 @@ use crate::type_problem::TypeProblem;
 pub(super) struct Scope<'d, 't> {
     /// All declarations.
     pub(super) declarations: &'d [Declaration<'d, 't>],
-    /// The name of its module, or nothing where it stands in none.
-    pub(super) module_name: &'t str,
+    /// In which module and in which block.
+    pub(super) site: Site<'t>,
     /// The id for which `Self` stands, if it does for any.
     pub(super) this: Option<&'d str>,
     /// The parameters that it can name.

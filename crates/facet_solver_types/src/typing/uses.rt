@@ -30,7 +30,7 @@ fn scope_of<'d, 't>(
 {
     Scope {
         declarations,
-        module_name: declaration.module_name,
+        site: declaration.site,
         this: Some(used.id.as_str()),
         parameters: &declaration.parameters,
         arguments: &used.arguments,

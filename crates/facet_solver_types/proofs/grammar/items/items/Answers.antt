@@ -2,7 +2,7 @@ use Rattle.std.proofs.Common.{◌≡◌, ◌≢◌, ◌<◌, [], Err, length, sy
 use Rattle.std.proofs.lemmas.Bool.Decides.{nat_tests}
 use Rattle.facet_solver_types.specs.declared.fault.Fault.TheVariants.{OutOfMemory}
 use Rattle.facet_solver_types.specs.Declarations.{items_view}
-use Rattle.facet_solver_types.specs.Enclosings.{around_after, around_view, in_block, piece_view}
+use Rattle.facet_solver_types.specs.Enclosings.{around_after, around_view, context_of, piece_view}
 use Rattle.facet_solver_types.specs.Items.{items, items_in, piece}
 use Rattle.facet_solver_types.specs.Passages.{after, passage_view}
 use Rattle.facet_solver_types.specs.Starts.{piece_len}
@@ -28,7 +28,7 @@ returns-in_err-piece c =
     let seen = view_len l.left.tokens.now in
     let filled : 0 < length l.left.tokens.now = grind (arith, nat_tests) in
     let some : 0 < length left.tokens = omega (arith, seen, filled) in
-    let len_is = c.piece_len-len.ensures.value ∙ ap (λ b. piece_len b left.tokens) (c.in_block.ensures ∙ ap (λ around. in_block (around_view around)) c.deref.ensures.value) in
+    let len_is = c.piece_len-len.ensures.value ∙ ap (λ b. piece_len b left.tokens) (c.context_of.ensures ∙ ap (λ around. context_of (around_view around)) c.deref.ensures.value) in
     let same = ap (λ around. piece (around_view around) (passage_view c.up_to.result)) (sym c.deref-in-loop-left.ensures.value) in
     let told : fault ≢ OutOfMemory → items (passage_view c.args.passage) ≡ Err fault =
     λ real. l.invariant
@@ -44,7 +44,7 @@ loop-left-preserved c =
     let seen = view_len l.left.tokens.now in
     let filled : 0 < length l.left.tokens.now = grind (arith, nat_tests) in
     let some : 0 < length left.tokens = omega (arith, seen, filled) in
-    let len_is = c.piece_len-len.ensures.value ∙ ap (λ b. piece_len b left.tokens) (c.in_block.ensures ∙ ap (λ around. in_block (around_view around)) c.deref.ensures.value) in
+    let len_is = c.piece_len-len.ensures.value ∙ ap (λ b. piece_len b left.tokens) (c.context_of.ensures ∙ ap (λ around. context_of (around_view around)) c.deref.ensures.value) in
     let same = ap (λ around. piece (around_view around) (passage_view c.up_to.result)) (sym c.deref-in-loop-left.ensures.value) in
     let x = c.in_ok-piece.piece in
     l.invariant

@@ -8,8 +8,8 @@ pub returns-clause-value : goal.returns-clause-value
 unfolding item_len
 returns-clause-value c =
     let ts = c.args.tokens.now in
-    let block = c.args.is_in_block in
+    let context = c.args.context in
     let a = c.attributes_len-attributes.result in
-    let rest : c.visible_len.result ≡ visible_len block (drop a (tokens_view ts)) =
-    c.visible_len.ensures.value ∙ ap (visible_len block) (rest_view ts a) in
-    ap (λ n. a + n) rest ∙ ap (λ n. n + visible_len block (drop n (tokens_view ts))) c.attributes_len-attributes.ensures.value
+    let rest : c.visible_len.result ≡ visible_len context (drop a (tokens_view ts)) =
+    c.visible_len.ensures.value ∙ ap (visible_len context) (rest_view ts a) in
+    ap (λ n. a + n) rest ∙ ap (λ n. n + visible_len context (drop n (tokens_view ts))) c.attributes_len-attributes.ensures.value

@@ -7,6 +7,7 @@ use Rattle.facet_solver_types.specs.Mentions.{Mention, alias_scope, mention_view
 use Rattle.facet_solver_types.specs.Passages.{passage_view}
 use Rattle.facet_solver_types.specs.Pieces.{and_then}
 use Rattle.facet_solver_types.specs.Scopes.{scope_view}
+use Rattle.facet_solver_types.specs.Sites.{site_view}
 use Rattle.facet_solver_types.proofs.FlattenedSteps.{layer_fault, led, no_members}
 use Rattle.facet_solver_types.proofs.MentionTurns.{gives_same}
 use Rattle.facet_solver_types.proofs.typing.flattened.+members.Goals as goal
@@ -76,7 +77,7 @@ returns-in-Named t c =
     let layer = layer_view c.in_ok-layer.layer in
     let parameters = parameters_view c.in-Named.parameters.now in
     let written = passage_view c.in-Named.written in
-    let lead : Lead = named c.in-Named.module_name.now parameters written in
+    let lead : Lead = named (site_view c.in-Named.site) parameters written in
     let is : lead ≡ lead_of scope layer = ap lead_view (sym c.in-Named.is) ∙ c.lead_of.ensures in
     gives_same mention_view (members c.args.levels scope p) _ c.members-in-Named.result
     (led c.args.levels scope p some layer lead c.in_ok-layer.ensures is

@@ -9,6 +9,7 @@ use Rattle.facet_solver_types.specs.Mentions.{Mention, alias_scope, behind, foll
 use Rattle.facet_solver_types.specs.Passages.{passage_view}
 use Rattle.facet_solver_types.specs.Pieces.{and_then}
 use Rattle.facet_solver_types.specs.Scopes.{scope_view}
+use Rattle.facet_solver_types.specs.Sites.{site_view}
 use Rattle.facet_solver_types.proofs.MentionTurns.{below, err_given, followed_other, gives_same, layer_fault, no_levels, part_fault, parts_ok, turn_fault, turn_ok, turns_over}
 use Rattle.facet_solver_types.proofs.typing.mention.+mentions.Goals as goal
 use Rattle.facet_solver_types.proofs.typing.mention.+mentions.Goals.{in-Type+in_ok-mention-in-Type, in-Value+in_ok-mention-in-Value}
@@ -93,7 +94,7 @@ returns-in_err-mention-in-Alias t c =
     ap (λ ps. with_parts rule scope nothing (map part_view ps))
     (sym c.deref-part-items.ensures.value)
     ∙ l.invariant ∙ turns_over rule scope inside parts l.part-index c.loop-part-test.false in
-    let is : c.in_ok-head.field-0.head ≡ Alias c.in-Alias.module_name c.in-Alias.parameters c.in-Alias.written =
+    let is : c.in_ok-head.field-0.head ≡ Alias c.in-Alias.site c.in-Alias.parameters c.in-Alias.written =
     c.in-Alias.is in
     let parameters = parameters_view c.in-Alias.parameters.now in
     let written = passage_view c.in-Alias.written in
@@ -102,7 +103,7 @@ returns-in_err-mention-in-Alias t c =
     let told : fault ≢ OutOfMemory → mentions c.args.levels scope p ≡ Err fault =
     λ real. parts_ok c.args.levels scope p some layer inside c.in_ok-head.ensures all
     ∙ ap (λ h. followed rule scope (head_view h) inside) is
-    ∙ ap (λ ids. after (rule (alias_scope scope c.in-Alias.module_name.now parameters (map string_bytes ids)) written))
+    ∙ ap (λ ids. after (rule (alias_scope scope (site_view c.in-Alias.site) parameters (map string_bytes ids)) written))
     (sym c.deref.ensures.value)
     ∙ ap after (c.in_err-mention-in-Alias.ensures real) in
     err_given mention_view (mentions c.args.levels scope p) fault
@@ -123,7 +124,7 @@ returns-in-Alias t c =
     ap (λ ps. with_parts rule scope nothing (map part_view ps))
     (sym c.deref-part-items.ensures.value)
     ∙ l.invariant ∙ turns_over rule scope inside parts l.part-index c.loop-part-test.false in
-    let is : c.in_ok-head.field-0.head ≡ Alias c.in-Alias.module_name c.in-Alias.parameters c.in-Alias.written =
+    let is : c.in_ok-head.field-0.head ≡ Alias c.in-Alias.site c.in-Alias.parameters c.in-Alias.written =
     c.in-Alias.is in
     let parameters = parameters_view c.in-Alias.parameters.now in
     let written = passage_view c.in-Alias.written in
@@ -131,7 +132,7 @@ returns-in-Alias t c =
     λ r. and_then r (λ m. Ok (behind inside m)) in
     parts_ok c.args.levels scope p some layer inside c.in_ok-head.ensures all
     ∙ ap (λ h. followed rule scope (head_view h) inside) is
-    ∙ ap (λ ids. after (rule (alias_scope scope c.in-Alias.module_name.now parameters (map string_bytes ids)) written))
+    ∙ ap (λ ids. after (rule (alias_scope scope (site_view c.in-Alias.site) parameters (map string_bytes ids)) written))
     (sym c.deref.ensures.value)
     ∙ ap after c.in_ok-mention-in-Alias.ensures
     ∙ ap Ok (sym c.in_ok-behind-in-Alias.ensures)

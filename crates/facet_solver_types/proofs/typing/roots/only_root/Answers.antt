@@ -1,7 +1,7 @@
 use Rattle.std.proofs.Common.{ap, map, sym, ◌∙◌}
 use Rattle.facet_solver_types.specs.Links.{links_view}
 use Rattle.facet_solver_types.specs.Mentions.{mention_view}
-use Rattle.facet_solver_types.specs.Roots.{links, only, only_root, roots, stand_in_names}
+use Rattle.facet_solver_types.specs.Roots.{likely_roots, links, only, only_root, stand_in_names}
 use Rattle.facet_solver_types.specs.Scopes.{str_view}
 use Rattle.facet_solver_types.specs.Understood.{declarations_view}
 use Rattle.facet_solver_types.specs.Uses.{uses_view}
@@ -14,12 +14,12 @@ returns c =
     let uses = uses_view c.in_ok-uses.uses.items in
     let names = map str_view c.deref-2.result.now in
     leads_same mention_view (only_root ds) (only ds (uses_view c.deref-4.result.now)) c.only.result
-    (ap (λ us. only ds (roots ds (stand_in_names ds) (links ds us) us)) (sym c.in_ok-uses.ensures)
-    ∙ ap (λ us. only ds (roots ds (stand_in_names ds) (links ds (uses_view us)) uses)) (sym c.deref.ensures.value)
-    ∙ ap (λ ls. only ds (roots ds (stand_in_names ds) ls uses)) (sym c.in_ok-links.ensures)
-    ∙ ap (λ ns. only ds (roots ds ns (links_view c.in_ok-links.links.items) uses)) (sym c.in_ok-names.ensures)
-    ∙ ap (λ ns. only ds (roots ds (map str_view ns) (links_view c.in_ok-links.links.items) uses)) (sym c.deref-2.ensures.value)
-    ∙ ap (λ ls. only ds (roots ds names (links_view ls) uses)) (sym c.deref-3.ensures.value)
+    (ap (λ us. only ds (likely_roots ds (stand_in_names ds) (links ds us) us)) (sym c.in_ok-uses.ensures)
+    ∙ ap (λ us. only ds (likely_roots ds (stand_in_names ds) (links ds (uses_view us)) uses)) (sym c.deref.ensures.value)
+    ∙ ap (λ ls. only ds (likely_roots ds (stand_in_names ds) ls uses)) (sym c.in_ok-links.ensures)
+    ∙ ap (λ ns. only ds (likely_roots ds ns (links_view c.in_ok-links.links.items) uses)) (sym c.in_ok-names.ensures)
+    ∙ ap (λ ns. only ds (likely_roots ds (map str_view ns) (links_view c.in_ok-links.links.items) uses)) (sym c.deref-2.ensures.value)
+    ∙ ap (λ ls. only ds (likely_roots ds names (links_view ls) uses)) (sym c.deref-3.ensures.value)
     ∙ ap (only ds) (sym c.in_ok-roots.ensures)
     ∙ ap (λ us. only ds (uses_view us)) (sym c.deref-4.ensures.value))
     c.only.ensures
