@@ -21,6 +21,7 @@ mod root;
 mod run;
 mod status;
 mod types;
+mod unserved;
 mod utf8;
 
 use run::run;
