@@ -17,7 +17,6 @@ pub struct Manifest {
 }
 
 #[derive(Deserialize)]
-#[serde(deny_unknown_fields)]
 pub struct Repository {
     r#type: String,
     url: String,

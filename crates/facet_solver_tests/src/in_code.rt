@@ -1,6 +1,7 @@
 //! What only code can show: names, derives, and errors that no transcript meets.
 
 mod debugs;
+mod denying;
 mod errors;
 mod pieces;
 mod sources;
@@ -11,6 +12,7 @@ use crate::public_names::public_types_have_their_derives;
 use crate::readme::keys_tell_the_payload;
 use crate::types::Types;
 use debugs::schemas_and_solvers_are_printed;
+use denying::denying_types_are_told;
 use errors::{
     a_second_field_is_an_error_of_a_schema, names_in_lists_are_escaped, refused_memory_has_a_text,
 };
@@ -39,10 +41,11 @@ pub enum Check {
     Readme,
     Calling,
     Sources,
+    Denying,
 }
 
 /// The checks, by name.
-pub const CHECKS: [(&str, Check); 14] = [
+pub const CHECKS: [(&str, Check); 15] = [
     ("public_types_have_their_derives", Check::PublicTypes),
     ("keys_have_names_and_an_order", Check::Keys),
     ("a_catalogue_gives_its_shapes", Check::Catalogue),
@@ -60,6 +63,7 @@ pub const CHECKS: [(&str, Check); 14] = [
     ("the_sample_of_the_readme_holds", Check::Readme),
     ("the_program_of_a_caller_holds", Check::Calling),
     ("places_are_those_of_sources", Check::Sources),
+    ("denying_types_are_told", Check::Denying),
 ];
 
 impl Check {
@@ -80,6 +84,7 @@ impl Check {
             Check::Readme => keys_tell_the_payload(answer),
             Check::Calling => documents_are_told(answer),
             Check::Sources => places_are_those_of_sources(answer),
+            Check::Denying => denying_types_are_told(answer),
         }
     }
 }
