@@ -121,6 +121,7 @@ followed_other rule scope (heads.Alias site parameters written) inside other =
 followed_other rule scope (heads.Scalar name kind) inside other = refl
 followed_other rule scope (heads.Dynamic name) inside other = refl
 followed_other rule scope (heads.Applied name kind) inside other = refl
+followed_other rule scope (heads.Standard name kind) inside other = refl
 followed_other rule scope (heads.Array len) inside other = refl
 followed_other rule scope heads.Slice inside other = refl
 followed_other rule scope heads.Tuple inside other = refl

@@ -80,6 +80,7 @@ declaration offset name what = record {
   site = top;
   name = record { offset = offset; kind = tokens.Name; text = name };
   parameters = [];
+  has_other_forms = false;
   denies_unknown = false;
   faults = [];
   declared = what;

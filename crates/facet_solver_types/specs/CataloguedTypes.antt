@@ -53,11 +53,17 @@ abbrev pub denies_at : List Declaration → ℕ → Bool
 denies_at declarations index =
     option_map_or (λ (d : Declaration). d.denies_unknown) (slice_get declarations index) false
 
+-- whether the declaration at an index is one of some that are one under different conditions
+abbrev pub has_forms_at : List Declaration → ℕ → Bool
+has_forms_at declarations index =
+    option_map_or (λ (d : Declaration). d.has_other_forms) (slice_get declarations index) false
+
 -- a type of this id and form, if it is declared, where ids have an order
 abbrev pub declared_by : List Declaration → List Name → Name → Form → List DeclaredType
 declared_by declarations order id (declared index types) = record {
   name = id;
   shape = place_in order id;
+  has_other_forms = has_forms_at declarations index;
   denies_unknown = denies_at declarations index;
 } ∷ []
 declared_by declarations order id form = []

@@ -68,7 +68,7 @@ is_other_form condition m other =
 abbrev pub has_form_in : List Token → ModuleItem → List ModuleItem → Bool
 has_form_in condition m others = list_any (is_other_form condition m) others
 
--- whether one of the items before an item is what that is under another condition
+-- whether one of some items, as those before an item, is what that is under another condition
 abbrev pub has_other_form : List ModuleItem → ModuleItem → Bool
 has_other_form before m =
     let condition = condition_of m.item in

@@ -80,13 +80,14 @@ abbrev pub parameters_view : List parameter.Parameter → List Parameter
 parameters_view parameters = map parameter_view parameters
 
 -- an item: a struct, an enum, an alias, one of these that cannot be read, the impl of a trait that
--- reads documents for a type, or another
+-- reads documents for a type, a `use` of some tokens, or another
 pub data Item : Type 0 where
   struct : List Token → Token → List Parameter → Body → Item
   enum : List Token → Token → List Parameter → List Variant → Item
   alias : List Token → Token → List Parameter → Passage → Item
   faulty : List Token → Token → Fault → Item
   implements : Token → Item
+  takes : List Token → Item
   other : Item
 
 -- what is seen of a struct
@@ -118,6 +119,7 @@ item_view (item.Enum e) = enum_view e
 item_view (item.Alias a) = alias_view a
 item_view (item.Faulty f) = faulty_view f
 item_view (item.Impl name) = implements (token_view name)
+item_view (item.Use tokens) = takes (tokens_view tokens.now)
 item_view item.Other = other
 
 -- an item, and where it stands

@@ -1,5 +1,5 @@
 -- The items of a text.
-use Rattle.std.specs.Prelude.{ℕ, zero, suc, ◌-◌, Bool, true, ◌||◌, if◌then◌else◌, List, [], ◌∷◌, ◌++◌, Option, Some, None, Result, Ok, Err}
+use Rattle.std.specs.Prelude.{ℕ, zero, suc, ◌-◌, Bool, true, ◌||◌, if◌then◌else◌, List, [], ◌∷◌, ◌++◌, Option, Some, None, Result, Ok, Err, codes}
 use Rattle.facet_solver_types.specs.Ascii as ascii
 use Rattle.facet_solver_types.specs.declared.fault.Fault.{Fault}
 use Rattle.facet_solver_types.specs.declared.grammar.run.Run.TheVariants as run
@@ -9,10 +9,10 @@ use Rattle.facet_solver_types.specs.declared.grammar.starts.Start as code
 use Rattle.facet_solver_types.specs.declared.grammar.starts.Start.TheVariants.{Struct, Enum, Alias, Module, Function, Impl, Statement, Head, Call, Unknown}
 use Rattle.facet_solver_types.specs.declared.problem.Expected.TheVariants as expected
 use Rattle.facet_solver_types.specs.declared.token.Bracket.TheVariants.{Curly}
-use Rattle.facet_solver_types.specs.Declarations.{ModuleItem, other}
+use Rattle.facet_solver_types.specs.Declarations.{Item, ModuleItem, other, takes}
 use Rattle.facet_solver_types.specs.Enclosings.{Enclosing, Piece, around_after, block, body, closes, context_of, implementing, is, is_left, items_of, module_of, opens, passed}
 use Rattle.facet_solver_types.specs.Fields.{after_prefix, attributes}
-use Rattle.facet_solver_types.specs.FirstTokens.{sees_bracket, sees_mark, sees_open}
+use Rattle.facet_solver_types.specs.FirstTokens.{is_word, sees_bracket, sees_mark, sees_open}
 use Rattle.facet_solver_types.specs.Implements.{implemented}
 use Rattle.facet_solver_types.specs.Inside.{name_at}
 use Rattle.facet_solver_types.specs.NamedItems.{declaration, semicolon}
@@ -23,11 +23,18 @@ use Rattle.facet_solver_types.specs.Runs.{group_len, run_len}
 use Rattle.facet_solver_types.specs.Starts.{has_code, named_call_len, piece_len, qualifiers_len, start_in}
 use Rattle.facet_solver_types.specs.Tokens.{Token}
 
--- an item that is passed over, to `;`
+-- what an item is that has these tokens and a `;`: a `use`, or one that is passed over
+abbrev pub stated_item : List Token → Item
+stated_item [] = other
+stated_item (word ∷ tokens) =
+    if is_word (codes "use") word.kind word.text then takes tokens else other
+
+-- an item to `;`, which declares no type
 abbrev pub statement : Passage → Result Piece Fault
 statement passage =
-    and_then (semicolon (after (run_len run.Statement passage.tokens) passage))
-    (λ end. Ok (is other))
+    let len = run_len run.Statement passage.tokens in
+    and_then (semicolon (after len passage))
+    (λ end. Ok (is (stated_item (up_to len passage).tokens)))
 
 -- what stands after the head of an item
 abbrev pub after_head : Passage → Passage

@@ -5,10 +5,12 @@ use Rattle.facet_solver_shape.specs.Names.{Name}
 use Rattle.facet_solver_shape.specs.declared.shape.ScalarType.{ScalarType}
 use Rattle.facet_solver_shape.specs.declared.shape.ScalarType.TheVariants as scalars
 use Rattle.facet_solver_types.specs.Cases.{said_by}
+use Rattle.facet_solver_types.specs.declared.standard.Standard.{Standard}
+use Rattle.facet_solver_types.specs.declared.standard.Standard.TheVariants as standards
 use Rattle.facet_solver_types.specs.declared.typing.known.Applied.{Applied}
 use Rattle.facet_solver_types.specs.declared.typing.known.Applied.TheVariants as made
 use Rattle.facet_solver_types.specs.declared.typing.known.Known.{Known}
-use Rattle.facet_solver_types.specs.declared.typing.known.Known.TheVariants.{Scalar, Dynamic, Cow, Phantom, ArrayVec, Wrapper, Hashed, Applied as AppliedTo}
+use Rattle.facet_solver_types.specs.declared.typing.known.Known.TheVariants.{Scalar, Dynamic, Cow, Phantom, ArrayVec, Wrapper, Hashed, Applied as AppliedTo, Standard as StandardType}
 
 -- texts: any text is read
 abbrev pub text : Name → Option ScalarType
@@ -67,10 +69,24 @@ hashed_type =
     said_by ((codes "HashSet", made.Set) ∷ (codes "IndexSet", made.Set)
     ∷ (codes "HashMap", made.Map) ∷ (codes "IndexMap", made.Map) ∷ [])
 
--- the types that take types
+-- the types of std that documents have as a struct or an enum
+abbrev pub standard_type : Name → Option Standard
+standard_type =
+    said_by ((codes "Duration", standards.Duration) ∷ (codes "SystemTime", standards.SystemTime)
+    ∷ (codes "Range", standards.Range) ∷ (codes "RangeInclusive", standards.Range)
+    ∷ (codes "RangeFrom", standards.RangeFrom) ∷ (codes "RangeTo", standards.RangeTo)
+    ∷ (codes "Result", standards.Result) ∷ (codes "Bound", standards.Bound)
+    ∷ (codes "OsString", standards.OsString) ∷ [])
+
+-- the types that take types and may name no hasher, and those of std
+abbrev pub plain_type : Name → Option Known
+plain_type name =
+    option_or (option_map AppliedTo (applied_type name))
+    (option_map StandardType (standard_type name))
+
+-- the types that take types, and those of std
 abbrev pub made_type : Name → Option Known
-made_type name =
-    option_or (option_map Hashed (hashed_type name)) (option_map AppliedTo (applied_type name))
+made_type name = option_or (option_map Hashed (hashed_type name)) (plain_type name)
 
 -- the types that are what a document has for the type in them
 abbrev pub wrapper : Name → Option Known

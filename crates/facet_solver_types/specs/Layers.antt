@@ -1,5 +1,5 @@
 -- What a type is outside, with its name looked up, and what stands in it.
-use Rattle.std.specs.Prelude.{ℕ, ◌+◌, Bool, true, false, ◌&&◌, ◌||◌, ◌==◌, if◌then◌else◌, List, [], ◌∷◌, length, map, take, codes, Option, Some, None, slice_get, Result, Ok, Err}
+use Rattle.std.specs.Prelude.{ℕ, ◌+◌, Bool, true, false, ◌&&◌, ◌||◌, ◌==◌, not, if◌then◌else◌, List, [], ◌∷◌, length, map, take, codes, Option, Some, None, slice_get, Result, Ok, Err}
 use Rattle.std.specs.Option.{option_map_or}
 use Rattle.facet_solver_shape.specs.Names.{Name}
 use Rattle.facet_solver_shape.specs.declared.shape.ScalarType.{ScalarType}
@@ -20,7 +20,7 @@ use Rattle.facet_solver_types.specs.declared.typing.layer.Layer as code
 use Rattle.facet_solver_types.specs.declared.typing.layer.Part as code_part
 use Rattle.facet_solver_types.specs.Called.{Called, called_among, called_view}
 use Rattle.facet_solver_types.specs.KnownTypes.{arity_of, known_type}
-use Rattle.facet_solver_types.specs.Meant.{meant, namesakes}
+use Rattle.facet_solver_types.specs.Meant.{meant, namesakes, those_in}
 use Rattle.facet_solver_types.specs.Modules.{is_of_stand_ins}
 use Rattle.facet_solver_types.specs.Origins.{Origin, here, beside, known as to_known}
 use Rattle.facet_solver_types.specs.Paired.{paired}
@@ -28,13 +28,16 @@ use Rattle.facet_solver_types.specs.Passages.{Passage, passage_view, place}
 use Rattle.facet_solver_types.specs.Pieces.{and_then}
 use Rattle.facet_solver_types.specs.Scopes.{Scope, bound_id}
 use Rattle.facet_solver_types.specs.Sites.{Site, site_view}
+use Rattle.facet_solver_types.specs.declared.standard.Standard.{Standard}
+use Rattle.facet_solver_types.specs.Standards.{count_of}
 use Rattle.facet_solver_types.specs.Tokens.{Token, tokens_view}
-use Rattle.facet_solver_types.specs.Understood.{Declaration, Declared, alias as declares_alias, unread}
+use Rattle.facet_solver_types.specs.Understood.{Declaration, Declared, alias as declares_alias, elsewhere, unread}
 use Rattle.facet_solver_types.specs.WrittenTypes.{NamedType, Written, is_str, written_type, unit, enclosed, tuple as tuple_of, slice as slice_of, array as array_of, text, bytes, this, named}
 
 -- what a type is outside: the one in it, one by its id, what the declaration at an index declares,
 -- which is called so, what an alias that stands somewhere names with some parameters, a scalar, a
--- dynamic value, what a name makes of those in it, an array with its length, a slice or a tuple
+-- dynamic value, what a name makes of those in it, a type of std by its name, an array with its
+-- length, a slice or a tuple
 pub data Head : Type 0 where
   same : Head
   bound : Name → Head
@@ -43,6 +46,7 @@ pub data Head : Type 0 where
   scalar : Name → ScalarType → Head
   dynamic : Name → Head
   applied : Name → Applied → Head
+  standard : Name → Standard → Head
   array : List Token → Head
   slice : Head
   tuple : Head
@@ -67,6 +71,7 @@ head_view (code_head.TheVariants.Alias site parameters written) =
 head_view (code_head.TheVariants.Scalar name kind) = scalar name.now kind
 head_view (code_head.TheVariants.Dynamic name) = dynamic name.now
 head_view (code_head.TheVariants.Applied name kind) = applied name.now kind
+head_view (code_head.TheVariants.Standard name kind) = standard name.now kind
 head_view (code_head.TheVariants.Array len) = array (tokens_view len.now)
 head_view code_head.TheVariants.Slice = slice
 head_view code_head.TheVariants.Tuple = tuple
@@ -184,6 +189,9 @@ known_as n known.ArrayVec = array_of_two n.name n.types
 known_as n known.Wrapper = and_then (taken 1 n) (λ types. Ok (around_all same types))
 known_as n (known.Hashed kind) = made_of kind (without_hasher (arity_of kind) n)
 known_as n (known.Applied kind) = made_of kind n
+known_as n (known.Standard kind) =
+    and_then (taken (count_of kind) n)
+    (λ types. Ok (around_all (standard n.name.text kind) types))
 
 -- a type by a name that is known, or not
 abbrev pub known_or_not : NamedType → Option Known → Result Layer Fault
@@ -236,16 +244,39 @@ layer_by scope n namesakes (index ∷ []) =
 layer_by scope n namesakes (index ∷ other ∷ others) =
     Err (wrong (offset_at scope.declarations other) Twice)
 
--- a type by a name: of a declaration, or else of one that needs none
-abbrev pub free_layer : Scope → NamedType → Result Layer Fault
-free_layer scope n =
-    let found = namesakes n.name.text scope.declarations in
-    layer_by scope n found (meant scope n.origin found)
-
 -- whether a path leads nowhere else
 abbrev pub is_here : Origin → Bool
 is_here here = true
 is_here origin = false
+
+-- whether nothing is declared, but the name is taken from elsewhere
+abbrev pub is_elsewhere : Declared → Bool
+is_elsewhere elsewhere = true
+is_elsewhere what = false
+
+-- whether the declaration at an index says that its name is taken from elsewhere
+abbrev pub is_taken : List Declaration → ℕ → Bool
+is_taken declarations index =
+    option_map_or (λ (d : Declaration). is_elsewhere d.declared) (slice_get declarations index) false
+
+-- whether the first of some declarations, by their indices, says so: then all do
+abbrev pub are_taken : List Declaration → List ℕ → Bool
+are_taken declarations [] = false
+are_taken declarations (index ∷ others) = is_taken declarations index
+
+-- a type by a name that some modules take from elsewhere: in one of these it is unknown
+abbrev pub taken_layer : Scope → NamedType → List ℕ → Result Layer Fault
+taken_layer scope n namesakes =
+    let here = those_in scope.declarations scope.site.module_name namesakes in
+    if is_here n.origin && not (length here == 0) then Err (wrong n.name.offset Unknown)
+    else undeclared n
+
+-- a type by a name: of a declaration, or else of one that needs none
+abbrev pub free_layer : Scope → NamedType → Result Layer Fault
+free_layer scope n =
+    let found = namesakes n.name.text scope.declarations in
+    if are_taken scope.declarations found then taken_layer scope n found
+    else layer_by scope n found (meant scope n.origin found)
 
 -- the id for which a name alone stands as a parameter, if it does
 abbrev pub alone_id : Scope → NamedType → Option Name

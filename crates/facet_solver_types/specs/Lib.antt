@@ -2,6 +2,9 @@ pub mod Ascii
 pub mod Characters
 pub mod Closings
 pub mod Spellings
+pub mod Standards
+pub mod StandardShapes
+pub mod Elsewhere
 pub mod Words
 pub mod Texts
 pub mod MarkTokens

@@ -6,7 +6,7 @@ use Rattle.std.specs.declared.string.String.{String}
 use Rattle.std.specs.declared.vec.Vec.{Vec}
 use Rattle.std.specs.declared.alloc.Global.{Global}
 use Rattle.facet_solver_shape.specs.Names.{Name, name_eq}
-use Rattle.facet_solver_types.specs.TypeEntries.{Form, TypeEntry, option, array, tuple, declared}
+use Rattle.facet_solver_types.specs.TypeEntries.{Form, TypeEntry, option, array, tuple, standard, declared}
 
 -- the ids of types
 abbrev pub ids : List TypeEntry → List Name
@@ -20,11 +20,13 @@ place_in names name = position_or_len (λ other. name_eq other name) names
 abbrev pub places_in : List Name → List Name → List ℕ
 places_in names wanted = map (place_in names) wanted
 
--- the types that a type needs: those of its fields, its proxy, the inside of an option or an array
+-- the types that a type needs: those of its fields or variants, its proxy, the inside of an option
+-- or an array
 abbrev pub needed : Form → List Name
 needed (option inside) = inside ∷ []
 needed (array inside) = inside ∷ []
 needed (tuple types) = types
+needed (standard kind types) = types
 needed (declared index types) = flat_map (λ names. names) types
 needed form = []
 

@@ -7,7 +7,8 @@ use Rattle.facet_solver_shape.specs.declared.shape.StructKind.TheVariants.{Tuple
 use Rattle.facet_solver_types.specs.Links.{place_in}
 use Rattle.facet_solver_types.specs.Paired.{paired}
 use Rattle.facet_solver_types.specs.ShapeViews.{Field, Kind, Shape, Variant, structure, enumeration, other}
-use Rattle.facet_solver_types.specs.TypeEntries.{Form, TypeEntry, scalar, option, list, array, slice, set, mapping, pointer, tuple, dynamic, declared}
+use Rattle.facet_solver_types.specs.StandardShapes.{standard_kind}
+use Rattle.facet_solver_types.specs.TypeEntries.{Form, TypeEntry, scalar, option, list, array, slice, set, mapping, pointer, tuple, dynamic, standard, declared}
 use Rattle.facet_solver_types.specs.Understood.{Declaration, Declared, DeclaredField, DeclaredVariant, struct, enum, proxied}
 
 -- a field of this type
@@ -106,6 +107,7 @@ kind_of ids (mapping key value) = other (kinds.Map (place_in ids key) (place_in 
 kind_of ids (pointer inside) = other (kinds.Pointer (Some (place_in ids inside)))
 kind_of ids (tuple types) = structure Tuple (tuple_fields ids 0 types)
 kind_of ids dynamic = other kinds.DynamicValue
+kind_of ids (standard kind types) = standard_kind ids kind types
 kind_of ids (declared index types) = other kinds.Other
 
 -- the shape of what a declaration declares under an id, with these types

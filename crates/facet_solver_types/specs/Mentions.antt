@@ -14,8 +14,9 @@ use Rattle.facet_solver_types.specs.Passages.{Passage, place}
 use Rattle.facet_solver_types.specs.Pieces.{and_then}
 use Rattle.facet_solver_types.specs.Scopes.{Scope, too_deep}
 use Rattle.facet_solver_types.specs.Sites.{Site}
+use Rattle.facet_solver_types.specs.Standards.{inner_entries, inner_ids}
 use Rattle.facet_solver_types.specs.Tokens.{Token}
-use Rattle.facet_solver_types.specs.TypeEntries.{Form, TypeEntry, entries_view, scalar, option, list, array, slice, set, mapping, pointer, tuple, dynamic}
+use Rattle.facet_solver_types.specs.TypeEntries.{Form, TypeEntry, entries_view, scalar, option, list, array, slice, set, mapping, pointer, tuple, dynamic, standard}
 use Rattle.facet_solver_types.specs.TypeIds.{first, second, spaced, id_of}
 use Rattle.facet_solver_types.specs.Uses.{Use, uses_view}
 
@@ -77,6 +78,7 @@ form_of (layers.alias site parameters written) ids = None
 form_of (layers.scalar name kind) ids = Some (scalar kind)
 form_of (layers.dynamic name) ids = Some dynamic
 form_of (layers.applied name kind) ids = Some (applied_form kind ids)
+form_of (layers.standard name kind) ids = Some (standard kind (inner_ids kind ids))
 form_of (layers.array len) ids = Some (array (first ids))
 form_of layers.slice ids = Some (slice (first ids))
 form_of layers.tuple ids = Some (tuple ids)
@@ -85,6 +87,11 @@ form_of layers.tuple ids = Some (tuple ids)
 abbrev pub own_entry : Name → Option Form → List TypeEntry
 own_entry id None = []
 own_entry id (Some form) = record { id = id; form = form } ∷ []
+
+-- what stands in a type that is so outside whatever it takes, each outer before inner
+abbrev pub fixed_entries : Head → List TypeEntry
+fixed_entries (layers.standard name kind) = inner_entries kind
+fixed_entries head = []
 
 -- the use of a declaration that a type itself is, if it is one
 abbrev pub own_use : Name → Head → List Name → List Use
@@ -99,7 +106,7 @@ mention_of scope head inside =
     if nat_lt 4096 (length id) then Err (too_deep scope)
     else Ok (record {
       id = id;
-      entries = own_entry id (form_of head inside.ids) ++ inside.entries;
+      entries = own_entry id (form_of head inside.ids) ++ fixed_entries head ++ inside.entries;
       uses = own_use id head inside.ids ++ inside.uses;
     })
 

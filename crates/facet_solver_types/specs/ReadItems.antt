@@ -12,6 +12,7 @@ use Rattle.facet_solver_types.specs.Conditions.{has_other_form}
 use Rattle.facet_solver_types.specs.Declarations as items
 use Rattle.facet_solver_types.specs.Declarations.{Body, Item, ModuleItem, Parameter, Variant}
 use Rattle.facet_solver_types.specs.Derives.{has_derives, own_reading}
+use Rattle.facet_solver_types.specs.Elsewhere.{elsewhere}
 use Rattle.facet_solver_types.specs.Gathered.{kept}
 use Rattle.facet_solver_types.specs.Gatherings.{Gathering}
 use Rattle.facet_solver_types.specs.Passages.{Passage}
@@ -49,6 +50,7 @@ declaration_of name parameters found known = record {
   site = top;
   name = name;
   parameters = parameters;
+  has_other_forms = false;
   denies_unknown = is_said DenyUnknownFields found.values;
   faults = found.faults ++ known.faults;
   declared = known.declared;
@@ -60,6 +62,7 @@ unread_declaration name fault = record {
   site = top;
   name = name;
   parameters = [];
+  has_other_forms = false;
   denies_unknown = false;
   faults = fault ∷ [];
   declared = unread;
@@ -99,6 +102,7 @@ alias_declaration name parameters written = record {
   site = top;
   name = name;
   parameters = parameters;
+  has_other_forms = false;
   denies_unknown = false;
   faults = [];
   declared = alias written;
@@ -119,22 +123,30 @@ declaration_of_item all has_derives module_name (items.alias attributes name par
 declaration_of_item all has_derives module_name (items.faulty attributes name fault) =
     Some (unread_declaration name fault)
 declaration_of_item all has_derives module_name (items.implements name) = None
+declaration_of_item all has_derives module_name (items.takes tokens) = None
 declaration_of_item all has_derives module_name items.other = None
 
--- a declaration, which stands so
-abbrev pub at_site : Site → Declaration → Declaration
-at_site site d = record d { site = site }
+-- a declaration, which stands so, and is one of some that are one under different conditions, or
+-- isn't
+abbrev pub at_site : Site → Bool → Declaration → Declaration
+at_site site has_other_forms d = record d { site = site; has_other_forms = has_other_forms }
 
 -- the declaration of an item where it stands, if it declares something
 abbrev pub declaration : List ModuleItem → Bool → ModuleItem → Option Declaration
 declaration all has_derives m =
-    option_map (at_site m.site) (declaration_of_item all has_derives m.site.module_name m.item)
+    option_map (at_site m.site (has_other_form all m))
+    (declaration_of_item all has_derives m.site.module_name m.item)
 
 -- the same of an item at an index, unless one before it is what it is under another condition
 abbrev pub declaration_at : List ModuleItem → Bool → ℕ → ModuleItem → Option Declaration
 declaration_at all has_derives index m =
     if has_other_form (take index all) m then None else declaration all has_derives m
 
--- the declarations of items, in order: of those that are one under different conditions the first
+-- what items declare, in order: of what is one under different conditions the first
+abbrev pub own_declarations : List ModuleItem → List Declaration
+own_declarations all = kept (declaration_at all (has_derives all)) 0 all
+
+-- the declarations of items, in order, and behind them what says which names are taken from
+-- elsewhere
 abbrev pub declarations : List ModuleItem → List Declaration
-declarations all = kept (declaration_at all (has_derives all)) 0 all
+declarations all = let own = own_declarations all in own ++ elsewhere all own

@@ -14,7 +14,7 @@ use Rattle.facet_solver_types.specs.Meant.{is_outside, namesakes}
 use Rattle.facet_solver_types.specs.Mentions.{Mention}
 use Rattle.facet_solver_types.specs.Modules.{is_of_stand_ins}
 use Rattle.facet_solver_types.specs.TypeIds.{used_id}
-use Rattle.facet_solver_types.specs.Understood.{Declaration, Declared, alias}
+use Rattle.facet_solver_types.specs.Understood.{Declaration, Declared, alias, elsewhere}
 use Rattle.facet_solver_types.specs.UsedTypes.{use_types}
 use Rattle.facet_solver_types.specs.Uses.{Use}
 
@@ -90,6 +90,7 @@ is_passed_over (fault ∷ others) = is_unread fault
 -- whether a struct or an enum is declared
 abbrev pub declares_type : Declared → Bool
 declares_type (alias written) = false
+declares_type elsewhere = false
 declares_type what = true
 
 -- the name of a declaration, if it is a stand-in

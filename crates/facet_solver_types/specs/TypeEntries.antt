@@ -3,13 +3,15 @@ use Rattle.std.specs.Prelude.{ℕ, List, map}
 use Rattle.std.specs.String.{string_bytes}
 use Rattle.facet_solver_shape.specs.Names.{Name}
 use Rattle.facet_solver_shape.specs.declared.shape.ScalarType.{ScalarType}
+use Rattle.facet_solver_types.specs.declared.standard.Standard.{Standard}
 use Rattle.facet_solver_types.specs.declared.type_entry.Form as form
-use Rattle.facet_solver_types.specs.declared.type_entry.Form.TheVariants.{Scalar, Option, List as ListForm, Array, Slice, Set, Map, Pointer, Tuple, Dynamic, Declared}
+use Rattle.facet_solver_types.specs.declared.type_entry.Form.TheVariants.{Scalar, Option, List as ListForm, Array, Slice, Set, Map, Pointer, Tuple, Dynamic, Standard as StandardForm, Declared}
 use Rattle.facet_solver_types.specs.declared.type_entry.TypeEntry as entry
 
--- what a type is made of, with other types by their ids: one of its kind, or what the declaration
--- at an index declares, with the types of the fields of a struct, of the fields of each variant, or
--- the one type as which it is read
+-- what a type is made of, with other types by their ids: one of its kind; a type of std, with the
+-- types of its members or of its variants that have a value; or what the declaration at an index
+-- declares, with the types of the fields of a struct, of the fields of each variant, or the one type
+-- as which it is read
 pub data Form : Type 0 where
   scalar : ScalarType → Form
   option : Name → Form
@@ -21,6 +23,7 @@ pub data Form : Type 0 where
   pointer : Name → Form
   tuple : List Name → Form
   dynamic : Form
+  standard : Standard → List Name → Form
   declared : ℕ → List (List Name) → Form
 
 -- what is seen of a form
@@ -35,6 +38,7 @@ form_view (Map key value) = mapping (string_bytes key) (string_bytes value)
 form_view (Pointer inside) = pointer (string_bytes inside)
 form_view (Tuple inside) = tuple (map string_bytes inside.items)
 form_view Dynamic = dynamic
+form_view (StandardForm kind types) = standard kind (map string_bytes types.items)
 form_view (Declared index types) =
     declared index (map (λ ids. map string_bytes ids.items) types.items)
 

@@ -5,7 +5,7 @@ use Rattle.std.specs.Fmt.{decimal}
 use Rattle.std.specs.List.{flat_map}
 use Rattle.facet_solver_shape.specs.Names.{Name}
 use Rattle.facet_solver_types.specs.Called.{Called}
-use Rattle.facet_solver_types.specs.Layers.{Head, same, bound, declared, alias, scalar, dynamic, applied, array, slice, tuple}
+use Rattle.facet_solver_types.specs.Layers.{Head, same, bound, declared, alias, scalar, dynamic, applied, standard, array, slice, tuple}
 use Rattle.facet_solver_types.specs.PrintedTexts as printed
 use Rattle.facet_solver_types.specs.Tokens.{Token}
 
@@ -45,6 +45,10 @@ tuple_end ids = if length ids == 1 then codes ",)" else codes ")"
 abbrev pub applied_id : Name → List Name → Name
 applied_id name ids = name ++ (codes "<" ++ (joined ids ++ codes ">"))
 
+-- the id of a type of std, which may take no types
+abbrev pub standard_id : Name → List Name → Name
+standard_id name ids = if length ids == 0 then name else applied_id name ids
+
 -- what a module is called
 abbrev pub module_id : Name → Name
 module_id module_name = if length module_name == 0 then codes "crate" else module_name
@@ -77,6 +81,7 @@ id_of (alias site parameters written) ids = first ids
 id_of (scalar name kind) ids = name
 id_of (dynamic name) ids = name
 id_of (applied name kind) ids = applied_id name ids
+id_of (standard name kind) ids = standard_id name ids
 id_of (array len) ids = codes "[" ++ (first ids ++ (codes "; " ++ (spaced len ++ codes "]")))
 id_of slice ids = codes "[" ++ (first ids ++ codes "]")
 id_of tuple ids = codes "(" ++ (joined ids ++ tuple_end ids)

@@ -6,7 +6,7 @@ use Rattle.facet_solver_shape.specs.declared.shape.StructKind.{StructKind}
 use Rattle.facet_solver_shape.specs.declared.shape.StructKind.TheVariants.{Struct}
 use Rattle.facet_solver_types.specs.declared.catalogue.table.TypeTable as table
 use Rattle.facet_solver_types.specs.Links.{place_in}
-use Rattle.facet_solver_types.specs.TypeEntries.{Form, TypeEntry, declared, dynamic, entries_view, mapping, option}
+use Rattle.facet_solver_types.specs.TypeEntries.{Form, TypeEntry, declared, dynamic, entries_view, mapping, option, standard}
 use Rattle.facet_solver_types.specs.Understood.{Declaration, Declared, declarations_view, enum, struct}
 
 -- types with their declarations: the declarations of a text, the types, and their ids
@@ -49,6 +49,7 @@ abbrev pub is_spread : TypeTable → Form → Bool
 is_spread table (declared index types) = declares_members table index
 is_spread table (mapping key value) = true
 is_spread table dynamic = true
+is_spread table (standard kind types) = true
 is_spread table form = false
 
 -- whether a type may be flattened: one with members, or an option of one

@@ -6,7 +6,7 @@ use Rattle.facet_solver_shape.specs.declared.shape.DomMark.{DomMark}
 use Rattle.facet_solver_shape.specs.declared.shape.StructKind.{StructKind}
 use Rattle.facet_solver_types.specs.declared.declaration.Declaration as declaration
 use Rattle.facet_solver_types.specs.declared.declaration.Declared as declared
-use Rattle.facet_solver_types.specs.declared.declaration.Declared.TheVariants.{Struct, Enum, Proxied, Alias, Unread}
+use Rattle.facet_solver_types.specs.declared.declaration.Declared.TheVariants.{Struct, Enum, Proxied, Alias, Elsewhere, Unread}
 use Rattle.facet_solver_types.specs.declared.declaration.DeclaredField as field
 use Rattle.facet_solver_types.specs.declared.declaration.DeclaredVariant as variant
 use Rattle.facet_solver_types.specs.declared.declaration.Proxy as declared_proxy
@@ -85,12 +85,14 @@ pub record Tagging : Type 0 where
   pub untagged : Bool
 
 -- what a declaration declares: a struct, maybe one that stands for its one field, that says so by
--- `transparent`, or that holds metadata; an enum; what is read as another type; an alias; or nothing that could be read
+-- `transparent`, or that holds metadata; an enum; what is read as another type; an alias; nothing,
+-- where a `use` takes the name from elsewhere; or nothing that could be read
 pub data Declared : Type 0 where
   struct : StructKind → List DeclaredField → Bool → Bool → Bool → Declared
   enum : List DeclaredVariant → Tagging → Declared
   proxied : List Proxy → Declared
   alias : Passage → Declared
+  elsewhere : Declared
   unread : Declared
 
 -- what is seen of what a declaration declares
@@ -105,14 +107,17 @@ declared_view (Enum variants tag content untagged) =
     })
 declared_view (Proxied proxies) = proxied (map proxy_view proxies.items)
 declared_view (Alias passage) = alias (passage_view passage)
+declared_view Elsewhere = elsewhere
 declared_view Unread = unread
 
--- a declaration of a type: where it stands, its name, its parameters, whether it denies unknown
--- members, what is wrong with its attributes, fields and variants, and what it declares
+-- a declaration of a type: where it stands, its name, its parameters, whether it is one of some that
+-- are one under different conditions, whether it denies unknown members, what is wrong with its
+-- attributes, fields and variants, and what it declares
 pub record Declaration : Type 0 where
   pub site : Site
   pub name : Token
   pub parameters : List Parameter
+  pub has_other_forms : Bool
   pub denies_unknown : Bool
   pub faults : List Fault
   pub declared : Declared
@@ -123,6 +128,7 @@ declaration_view d = record {
   site = site_view d.site;
   name = token_view d.name;
   parameters = parameters_view d.parameters.items;
+  has_other_forms = d.has_other_forms;
   denies_unknown = d.denies_unknown;
   faults = d.faults.items;
   declared = declared_view d.declared;

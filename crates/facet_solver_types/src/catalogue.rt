@@ -15,6 +15,7 @@ mod members;
 mod ordered;
 mod parts;
 mod shapes;
+mod standards;
 mod table;
 mod walks;
 

@@ -104,6 +104,8 @@ pub(crate) enum Declared<'s, 't> {
     Proxied(Vec<Proxy<'s, 't>>),
     /// An alias of a type.
     Alias(Passage<'s, 't>),
+    /// Nothing: a `use` takes the name from elsewhere.
+    Elsewhere,
     /// What could not be read. The declaration has a fault.
     Unread,
 }
@@ -117,6 +119,8 @@ pub(crate) struct Declaration<'s, 't> {
     pub(crate) name: Token<'t>,
     /// Its type and const parameters.
     pub(crate) parameters: Vec<Parameter<'t>>,
+    /// Whether it is one of some that are one under different conditions.
+    pub(crate) has_other_forms: bool,
     /// Whether members of other names than its fields' are refused.
     pub(crate) denies_unknown: bool,
     /// What is wrong with its attributes, its fields and its variants. A field or variant that has

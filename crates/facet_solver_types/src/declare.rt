@@ -14,6 +14,7 @@ ghost use Rattle.facet_solver_types.specs.Understood.{declaration_view, declarat
 
 mod conditions;
 mod derived;
+mod elsewhere;
 mod enums;
 mod fields;
 mod gather;
@@ -37,8 +38,9 @@ use crate::problem::Problem;
 use crate::site::{Site, top};
 use crate::token::Token;
 use crate::type_problem::TypeProblem;
-use conditions::has_other_form;
+use conditions::{has_forms, has_other_form};
 use derived::{has_derives, own_reading};
+use elsewhere::elsewhere;
 use enums::read_enum;
 use gather::add;
 use proxy::proxies;
@@ -144,6 +146,7 @@ fn declaration_of<'s, 't>(
         site: top(),
         name,
         parameters: copied(alloc, parameters)?,
+        has_other_forms: false,
         denies_unknown: is_said(Meaning::DenyUnknownFields, &found.values),
         faults,
         declared,
@@ -163,6 +166,7 @@ fn unread<'s, 't>(
         site: top(),
         name,
         parameters: Vec::new(alloc),
+        has_other_forms: false,
         denies_unknown: false,
         faults: alone(alloc, fault)?,
         declared: Declared::Unread,
@@ -237,6 +241,7 @@ fn alias_declaration<'s, 't>(
         site: top(),
         name: item.name,
         parameters: copied(alloc, &item.parameters)?,
+        has_other_forms: false,
         denies_unknown: false,
         faults: Vec::new(alloc),
         declared: Declared::Alias(item.written),
@@ -269,17 +274,23 @@ fn declaration_of_item<'s, 't>(
         }
         Item::Alias(item) => Ok(Some(alias_declaration(alloc, item)?)),
         Item::Faulty(item) => Ok(Some(unread(alloc, item.name, item.fault)?)),
-        Item::Impl(_) | Item::Other => Ok(None),
+        Item::Impl(_) | Item::Use(_) | Item::Other => Ok(None),
     }
 }
 
-/// A declaration, which stands so.
-fn at_site<'s, 't>(site: Site<'t>, declaration: Declaration<'s, 't>) -> Declaration<'s, 't>
-    ensures { declaration_view result
-        ≡ read.at_site (site_view site.entry) (declaration_view declaration.entry) }
+/// A declaration, which stands so, and is one of some that are one under different conditions, or
+/// isn't.
+fn at_site<'s, 't>(
+    site: Site<'t>,
+    has_other_forms: bool,
+    declaration: Declaration<'s, 't>,
+) -> Declaration<'s, 't>
+    ensures { declaration_view result ≡ read.at_site (site_view site.entry) has_other_forms
+        (declaration_view declaration.entry) }
 {
     Declaration {
         site,
+        has_other_forms,
         ..declaration
     }
 }
@@ -296,7 +307,7 @@ fn declaration<'s, 't>(
         (written.module_item_view item.now)) }
 {
     match declaration_of_item(alloc, items, has_derives, item.site.module_name, &item.item)? {
-        Some(made) => Ok(Some(at_site(item.site, made))),
+        Some(made) => Ok(Some(at_site(item.site, has_forms(items, item), made))),
         None => Ok(None),
     }
 }
@@ -320,18 +331,13 @@ fn declaration_at<'s, 't>(
     declaration(alloc, items, has_derives, item)
 }
 
-/// The declarations of items, in order, with what their attributes say. Of those that are one under
-/// different conditions the first is taken. Each holds the faults of
-/// its attributes, of its fields and of its variants, which are left out. One that cannot be read,
-/// or is not read as it is declared, holds that fault alone.
-///
-/// The only error is out of memory.
-pub(crate) fn declarations<'s, 't>(
+/// What items declare, in order. Of what is one under different conditions the first is taken.
+fn own_declarations<'s, 't>(
     alloc: Global,
     items: &[ModuleItem<'s, 't>],
 ) -> Result<Vec<Declaration<'s, 't>>, AllocError>
     ensures { IfOk result (λ found. declarations_view found.items
-        ≡ read.declarations (written.items_view items.now)) }
+        ≡ read.own_declarations (written.items_view items.now)) }
 {
     let has_derives = has_derives(items);
     let mut found = Vec::new(alloc);
@@ -341,5 +347,25 @@ pub(crate) fn declarations<'s, 't>(
             declaration_at(alloc, items, has_derives, index, item)?,
         )?;
     }
+    Ok(found)
+}
+
+/// The declarations of items, in order, with what their attributes say. Of those that are one under
+/// different conditions the first is taken. Each holds the faults of its attributes, of its fields
+/// and of its variants, which are left out. One that cannot be read, or is not read as it is
+/// declared, holds that fault alone. Behind them stands what says which names are taken from
+/// elsewhere.
+///
+/// The only error is out of memory.
+pub(crate) fn declarations<'s, 't>(
+    alloc: Global,
+    items: &[ModuleItem<'s, 't>],
+) -> Result<Vec<Declaration<'s, 't>>, AllocError>
+    ensures { IfOk result (λ found. declarations_view found.items
+        ≡ read.declarations (written.items_view items.now)) }
+{
+    let mut found = own_declarations(alloc, items)?;
+    let mut others = elsewhere(alloc, items, &found)?;
+    found.append(&mut others)?;
     Ok(found)
 }

@@ -94,6 +94,8 @@ pub(crate) enum Item<'s, 't> {
     Faulty(FaultyDeclaration<'s, 't>),
     /// The impl of `Deserialize` or `Facet` by hand for the type of this name.
     Impl(Token<'t>),
+    /// A `use`, by the tokens between it and its `;`.
+    Use(&'s [Token<'t>]),
     /// One that declares no type: it is passed over.
     Other,
 }

@@ -30,6 +30,7 @@ mod problem;
 mod shape_problem;
 mod site;
 mod sources;
+mod standard;
 mod token;
 mod tokens;
 mod type_entry;

@@ -1,7 +1,7 @@
 //! Types with their shapes.
 ghost use Rattle.std.specs.Prelude.{◌≡◌, IfOk, map};
 ghost use Rattle.facet_solver_shape.specs.Names.{names_of};
-ghost use Rattle.facet_solver_types.specs.TypesViews.{declared_type_view, denies_unknown, denying, shape_named};
+ghost use Rattle.facet_solver_types.specs.TypesViews.{conditional, declared_type_view, denies_unknown, denying, shape_named};
 
 mod stages;
 
@@ -19,6 +19,8 @@ pub(crate) struct DeclaredType {
     pub(crate) name: String,
     /// Its shape.
     pub(crate) shape: ShapeId,
+    /// Whether it is one of some that are one under different conditions.
+    pub(crate) has_other_forms: bool,
     /// Whether members of other names than its fields' are refused.
     pub(crate) denies_unknown: bool,
 }
@@ -52,7 +54,7 @@ impl Types {
     ghost use Rattle.facet_solver_types.specs.Places.{without_mark};
     ghost use Rattle.facet_solver_types.specs.ShapeViews.{shapes_view};
     ghost use Rattle.facet_solver_types.specs.Scopes.{str_view};
-    ghost use Rattle.facet_solver_types.specs.TypesViews.{denies_unknown, denying, shape_named};
+    ghost use Rattle.facet_solver_types.specs.TypesViews.{conditional, denies_unknown, denying, shape_named};
 
     /// The types that a root needs of those that a text declares.
     ///
@@ -112,6 +114,16 @@ impl Types {
     {
         denying(alloc, &self.declared)
     }
+
+    /// The names of the structs and enums that the text declares once more under another `cfg`, in
+    /// the order of their shapes. The first declaration is taken.
+    ///
+    /// The only error is out of memory.
+    pub fn conditional(&self, alloc: Global) -> Result<Vec<&str>, AllocError>
+        ensures { IfOk result (λ names. names_of names.items ≡ conditional self.now.declared) }
+    {
+        conditional(alloc, &self.declared)
+    }
 }
 
 /// The shape of the struct or enum of a name.
@@ -146,6 +158,20 @@ fn denying(alloc: Global, types: &[DeclaredType]) -> Result<Vec<&str>, AllocErro
     let mut names = Vec::new(alloc);
     for declared in types {
         if declared.denies_unknown {
+            names.push(declared.name.as_str())?;
+        }
+    }
+    Ok(names)
+}
+
+/// The names of those of some types that are one of some under different conditions.
+fn conditional(alloc: Global, types: &[DeclaredType]) -> Result<Vec<&str>, AllocError>
+    ensures { IfOk result (λ names. names_of names.items
+        ≡ conditional (map declared_type_view types.now)) }
+{
+    let mut names = Vec::new(alloc);
+    for declared in types {
+        if declared.has_other_forms {
             names.push(declared.name.as_str())?;
         }
     }

@@ -1,5 +1,6 @@
 //! Types, each by its id, with the ids of the types that it is made of.
 
+use crate::standard::Standard;
 use facet_solver_shape::ScalarType;
 
 /// What a type is made of. Other types stand in it by their ids.
@@ -16,6 +17,8 @@ pub(crate) enum Form {
     Pointer(String),
     Tuple(Vec<String>),
     Dynamic,
+    /// A type of std, with the types of its members or of its variants that have a value.
+    Standard(Standard, Vec<String>),
     /// What a declaration declares.
     Declared {
         /// Its index among the declarations.

@@ -13,10 +13,12 @@ mod named;
 mod root;
 mod roots;
 mod scope;
+mod standards;
 mod type_use;
 mod use_faults;
 mod uses;
 
 pub(crate) use entries::type_entries;
+pub(crate) use id::{first, second};
 pub(crate) use mention::Mention;
 pub(crate) use root::root_type;

@@ -1,7 +1,7 @@
 //! Structs and enums, with the places of their shapes.
 ghost use Rattle.std.specs.Prelude.{◌≡◌, ◌++◌, IfOk, OnOk, map};
 ghost use Rattle.facet_solver_shape.specs.Names.{names_of};
-ghost use Rattle.facet_solver_types.specs.CataloguedTypes.{declared_type, declared_types, denies_at};
+ghost use Rattle.facet_solver_types.specs.CataloguedTypes.{declared_type, declared_types, denies_at, has_forms_at};
 ghost use Rattle.facet_solver_types.specs.TypeEntries.{entries_view, entry_view};
 ghost use Rattle.facet_solver_types.specs.TypesViews.{declared_type_view};
 ghost use Rattle.facet_solver_types.specs.Understood.{declarations_view};
@@ -23,6 +23,16 @@ fn denies_at(declarations: &[Declaration<'_, '_>], index: usize) -> bool
     }
 }
 
+/// Whether the declaration at an index is one of some that are one under different conditions.
+fn has_forms_at(declarations: &[Declaration<'_, '_>], index: usize) -> bool
+    ensures { result ≡ has_forms_at (declarations_view declarations.now) index }
+{
+    match declarations.get(index) {
+        Some(declaration) => declaration.has_other_forms,
+        None => false,
+    }
+}
+
 /// Adds a type, if it is declared.
 fn add_type(
     types: &mut Vec<DeclaredType>,
@@ -39,6 +49,7 @@ fn add_type(
         types.push(DeclaredType {
             name: entry.id.clone()?,
             shape: ShapeId::new(place_in(order, entry.id())),
+            has_other_forms: has_forms_at(declarations, *index),
             denies_unknown: denies_at(declarations, *index),
         })?;
     }

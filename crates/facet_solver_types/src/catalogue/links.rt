@@ -75,7 +75,7 @@ fn needed(alloc: Global, names: &[&str], form: &Form) -> Result<Vec<usize>, Allo
 {
     match form {
         Form::Option(inside) | Form::Array(inside) => one_place(alloc, names, inside.as_str()),
-        Form::Tuple(types) => {
+        Form::Tuple(types) | Form::Standard(_, types) => {
             let mut found = Vec::new(alloc);
             add_places(&mut found, names, types)?;
             Ok(found)

@@ -10,6 +10,7 @@ ghost use Rattle.facet_solver_types.specs.Understood.{declaration_view, declarat
 
 use super::links::place_in;
 use super::members::{copied, fields_of, tuple_fields, variants_of};
+use super::standards::standard_kind;
 use crate::declaration::{Declaration, Declared};
 use crate::type_entry::{Form, TypeEntry};
 use facet_solver_shape::{Shape, ShapeId, ShapeKind, StructKind};
@@ -96,7 +97,9 @@ fn declared_shape(
             shape.proxy = first_place(ids, first_types(types));
             Ok(shape)
         }
-        Declared::Alias(_) | Declared::Unread => Ok(Shape::new(name, ShapeKind::Other)),
+        Declared::Alias(_) | Declared::Elsewhere | Declared::Unread => {
+            Ok(Shape::new(name, ShapeKind::Other))
+        }
     }
 }
 
@@ -119,6 +122,7 @@ fn kind_of(alloc: Global, ids: &[&str], form: &Form) -> Result<ShapeKind, AllocE
             fields: tuple_fields(alloc, ids, types)?,
         }),
         Form::Dynamic => Ok(ShapeKind::DynamicValue),
+        Form::Standard(kind, types) => standard_kind(alloc, ids, *kind, types),
         Form::Declared { .. } => Ok(ShapeKind::Other),
     }
 }

@@ -47,7 +47,7 @@ impl<'k, 's, 't> TypeTable<'k, 's, 't> {
     {
         match form {
             Form::Declared { index, .. } => self.declares_members(*index),
-            Form::Map(_, _) | Form::Dynamic => true,
+            Form::Map(_, _) | Form::Dynamic | Form::Standard(_, _) => true,
             _ => false,
         }
     }

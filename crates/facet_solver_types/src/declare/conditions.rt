@@ -47,7 +47,7 @@ fn attributes_of<'s, 't>(item: &Item<'s, 't>) -> &'s [Token<'t>]
         Item::Enum(item) => item.attributes,
         Item::Alias(item) => item.attributes,
         Item::Faulty(item) => item.attributes,
-        Item::Impl(_) | Item::Other => &[],
+        Item::Impl(_) | Item::Use(_) | Item::Other => &[],
     }
 }
 
@@ -60,7 +60,7 @@ fn name_of<'t>(item: &Item<'_, 't>) -> &'t str
         Item::Enum(item) => item.name.text,
         Item::Alias(item) => item.name.text,
         Item::Faulty(item) => item.name.text,
-        Item::Impl(_) | Item::Other => "",
+        Item::Impl(_) | Item::Use(_) | Item::Other => "",
     }
 }
 
@@ -148,4 +148,12 @@ pub(super) fn has_other_form(
 {
     let condition = condition_of(&item.item);
     !condition.is_empty() && has_form_in(condition, item, &items[..index])
+}
+
+/// Whether one of some items is what an item is under another condition.
+pub(super) fn has_forms(items: &[ModuleItem<'_, '_>], item: &ModuleItem<'_, '_>) -> bool
+    ensures { result ≡ of.has_other_form (items_view items.now) (module_item_view item.now) }
+{
+    let condition = condition_of(&item.item);
+    !condition.is_empty() && has_form_in(condition, item, items)
 }

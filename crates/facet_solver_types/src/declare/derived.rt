@@ -131,7 +131,7 @@ fn attributes_of<'s, 't>(item: &Item<'s, 't>) -> &'s [Token<'t>]
         Item::Struct(item) => item.attributes,
         Item::Enum(item) => item.attributes,
         Item::Faulty(item) => item.attributes,
-        Item::Alias(_) | Item::Impl(_) | Item::Other => &[],
+        Item::Alias(_) | Item::Impl(_) | Item::Use(_) | Item::Other => &[],
     }
 }
 

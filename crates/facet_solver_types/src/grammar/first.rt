@@ -69,7 +69,7 @@ pub(super) fn is_word(word: &str, kind: TokenKind, text: &str) -> bool
 }
 
 /// Whether the first token is this keyword.
-pub(super) fn sees_word(word: &str, tokens: &[Token<'_>]) -> bool
+pub(crate) fn sees_word(word: &str, tokens: &[Token<'_>]) -> bool
     ensures value { result ≡ sees_word word.now (tokens_view tokens.now) }
     ensures some { IsTrue result → 0 < length tokens.now }
 {

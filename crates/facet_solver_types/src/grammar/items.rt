@@ -1,15 +1,15 @@
 //! The items of a text.
 ghost use Rattle.std.specs.Prelude.{◌≡◌};
-ghost use Rattle.facet_solver_types.specs.Declarations.{items_view};
+ghost use Rattle.facet_solver_types.specs.Declarations.{item_view, items_view};
 ghost use Rattle.facet_solver_types.specs.Enclosings.{around_view, enclosing_view, piece_view};
-ghost use Rattle.facet_solver_types.specs.Items.{after_call, after_head, call, function, head, implementation, items, module_piece, nothing, opening, other_brace, piece, piece_by, statement};
+ghost use Rattle.facet_solver_types.specs.Items.{after_call, after_head, call, function, head, implementation, items, module_piece, nothing, opening, other_brace, piece, piece_by, stated_item, statement};
 ghost use Rattle.facet_solver_types.specs.Outcomes.{Gives};
 ghost use Rattle.facet_solver_types.specs.Passages.{passage_view};
 ghost use Rattle.facet_solver_types.specs.Tokens.{tokens_view};
 
 use super::enclosing::{Enclosing, Piece, context_of, follow, is_left};
 use super::fields::{after_prefix, attributes};
-use super::first::{sees_bracket, sees_mark, sees_open};
+use super::first::{sees_bracket, sees_mark, sees_open, sees_word};
 use super::implements::implemented;
 use super::inside::name_at;
 use super::named::{declaration, semicolon};
@@ -25,12 +25,24 @@ use crate::problem::Expected;
 use crate::token::{Bracket, Token};
 use std::alloc::Global;
 
-/// An item that is passed over, to `;`.
+/// What an item is that has these tokens and a `;`: a `use`, or one that is passed over.
+fn stated_item<'s, 't>(tokens: &'s [Token<'t>]) -> Item<'s, 't>
+    ensures { item_view result ≡ stated_item (tokens_view tokens.now) }
+{
+    if sees_word("use", tokens) {
+        Item::Use(&tokens[1..])
+    } else {
+        Item::Other
+    }
+}
+
+/// An item to `;`, which declares no type.
 fn statement<'s, 't>(passage: Passage<'s, 't>) -> Result<Piece<'s, 't>, Fault>
     ensures { Gives piece_view (statement (passage_view passage.entry)) result }
 {
-    semicolon(passage.after(run_len(Run::Statement, passage.tokens)))?;
-    Ok(Piece::Item(Item::Other))
+    let len = run_len(Run::Statement, passage.tokens);
+    semicolon(passage.after(len))?;
+    Ok(Piece::Item(stated_item(passage.up_to(len).tokens)))
 }
 
 /// What stands after the head of an item.

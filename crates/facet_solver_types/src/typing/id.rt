@@ -14,7 +14,7 @@ use crate::token::Token;
 use std::alloc::{AllocError, Global};
 
 /// The first of some ids.
-pub(super) fn first(ids: &[String]) -> &str
+pub(crate) fn first(ids: &[String]) -> &str
     ensures { result.now ≡ type_ids.first (map string_bytes ids.now) }
 {
     match ids.split_first() {
@@ -24,7 +24,7 @@ pub(super) fn first(ids: &[String]) -> &str
 }
 
 /// The second of some ids.
-pub(super) fn second(ids: &[String]) -> &str
+pub(crate) fn second(ids: &[String]) -> &str
     ensures { result.now ≡ type_ids.second (map string_bytes ids.now) }
 {
     match ids.split_first() {
@@ -84,6 +84,7 @@ pub(super) fn id_of(alloc: Global, head: Head<'_, '_>, ids: &[String]) -> Result
         Head::Scalar(name, _) => String::from_str(alloc, name),
         Head::Dynamic(name) => String::from_str(alloc, name),
         Head::Applied(name, _) => applied_id(alloc, name, ids),
+        Head::Standard(name, _) => standard_id(alloc, name, ids),
         Head::Array(len) => {
             let item = first(ids);
             let len = spaced(alloc, len)?;
@@ -108,6 +109,17 @@ fn applied_id(alloc: Global, name: &str, ids: &[String]) -> Result<String, Alloc
 {
     let inside = joined(alloc, ids)?;
     format!(in alloc; "{name}<{inside}>")
+}
+
+/// The id of a type of std, which may take no types.
+fn standard_id(alloc: Global, name: &str, ids: &[String]) -> Result<String, AllocError>
+    ensures { IfOk result (λ id. string_bytes id
+        ≡ type_ids.standard_id name.now (map string_bytes ids.now)) }
+{
+    if ids.is_empty() {
+        return String::from_str(alloc, name);
+    }
+    applied_id(alloc, name, ids)
 }
 
 /// What a module is called.

@@ -2,6 +2,7 @@
 ghost use Rattle.std.specs.Prelude.{◌≡◌, ◌<◌};
 ghost use Rattle.facet_solver_types.specs.KnownTypes as known_types;
 
+use crate::standard::Standard;
 use facet_solver_shape::ScalarType;
 
 /// What a type makes of the types that it takes.
@@ -36,6 +37,7 @@ pub(crate) enum Known {
     /// What may name a hasher behind the types that it takes.
     Hashed(Applied),
     Applied(Applied),
+    Standard(Standard),
 }
 
 /// The type of a name.
@@ -80,7 +82,34 @@ fn made_type(name: &str) -> Option<Known>
 {
     match hashed_type(name) {
         Some(kind) => Some(Known::Hashed(kind)),
-        None => applied_type(name).map(|kind| Known::Applied(kind)),
+        None => plain_type(name),
+    }
+}
+
+/// The same of a name that may name no hasher.
+fn plain_type(name: &str) -> Option<Known>
+    ensures { result ≡ known_types.plain_type name.now }
+{
+    match applied_type(name) {
+        Some(kind) => Some(Known::Applied(kind)),
+        None => standard_type(name).map(|kind| Known::Standard(kind)),
+    }
+}
+
+/// The type of std of a name that documents have as a struct or an enum.
+fn standard_type(name: &str) -> Option<Standard>
+    ensures { result ≡ known_types.standard_type name.now }
+{
+    match name {
+        "Duration" => Some(Standard::Duration),
+        "SystemTime" => Some(Standard::SystemTime),
+        "Range" | "RangeInclusive" => Some(Standard::Range),
+        "RangeFrom" => Some(Standard::RangeFrom),
+        "RangeTo" => Some(Standard::RangeTo),
+        "Result" => Some(Standard::Result),
+        "Bound" => Some(Standard::Bound),
+        "OsString" => Some(Standard::OsString),
+        _ => None,
     }
 }
 

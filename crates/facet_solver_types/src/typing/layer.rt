@@ -13,7 +13,7 @@ ghost use Rattle.facet_solver_types.specs.WrittenTypes.{named_view, passages_vie
 
 use super::called::{Called, called_among};
 use super::known::{Applied, Known, arity_of, known_type};
-use super::meant::{meant, namesakes};
+use super::meant::{meant, namesakes, those_in};
 use super::scope::Scope;
 use crate::attribute::{Misuse, Refusal};
 use crate::declaration::{Declaration, Declared};
@@ -24,6 +24,7 @@ use crate::modules::is_of_stand_ins;
 use crate::passage::Passage;
 use crate::problem::Problem;
 use crate::site::Site;
+use crate::standard::{Standard, count_of};
 use crate::token::Token;
 use crate::type_problem::TypeProblem;
 use facet_solver_shape::ScalarType;
@@ -46,6 +47,8 @@ pub(super) enum Head<'d, 't> {
     Dynamic(&'t str),
     /// What a type of this name makes of those in it.
     Applied(&'t str, Applied),
+    /// A type of std of this name.
+    Standard(&'t str, Standard),
     /// An array, with the tokens of its length.
     Array(&'d [Token<'t>]),
     Slice,
@@ -349,6 +352,10 @@ fn known_as<'d, 't>(
         }
         Known::Hashed(kind) => made_of(alloc, kind, without_hasher(arity_of(kind), named)),
         Known::Applied(kind) => made_of(alloc, kind, named),
+        Known::Standard(kind) => {
+            let types = taken(count_of(kind), named)?;
+            Ok(around_all(alloc, Head::Standard(name.text, kind), &types)?)
+        }
     }
 }
 
@@ -441,6 +448,54 @@ fn layer_by<'d, 't>(
     }
 }
 
+/// Whether nothing is declared, but the name is taken from elsewhere.
+fn is_elsewhere(declared: &Declared<'_, '_>) -> bool
+    ensures { result ≡ layers.is_elsewhere (declared_view declared.now) }
+{
+    match declared {
+        Declared::Elsewhere => true,
+        _ => false,
+    }
+}
+
+/// Whether the declaration at an index says that its name is taken from elsewhere.
+fn is_taken(declarations: &[Declaration<'_, '_>], index: usize) -> bool
+    ensures { result ≡ layers.is_taken (declarations_view declarations.now) index }
+{
+    match declarations.get(index) {
+        Some(declaration) => is_elsewhere(&declaration.declared),
+        None => false,
+    }
+}
+
+/// Whether the first of some declarations, by their indices, says so: then all do.
+fn are_taken(declarations: &[Declaration<'_, '_>], namesakes: &[usize]) -> bool
+    ensures { result ≡ layers.are_taken (declarations_view declarations.now) namesakes.now }
+{
+    match namesakes.first() {
+        Some(index) => is_taken(declarations, *index),
+        None => false,
+    }
+}
+
+/// A type by a name that some modules take from elsewhere: in one of these it is unknown.
+fn taken_layer<'d, 't>(
+    alloc: Global,
+    scope: Scope<'d, 't>,
+    named: NamedType<'d, 't>,
+    namesakes: &[usize],
+) -> Result<Layer<'d, 't>, Fault>
+    ensures { Gives layer_view
+        (layers.taken_layer (scope_view scope.entry) (named_view named.entry) namesakes.now)
+        result }
+{
+    let here = those_in(alloc, scope.declarations, scope.site.module_name, namesakes)?;
+    if is_here(named.origin) && !here.is_empty() {
+        return Err(wrong(named.name, TypeProblem::Unknown));
+    }
+    undeclared(alloc, named)
+}
+
 /// A type by a name: of a declaration, or else of one that needs none.
 fn free_layer<'d, 't>(
     alloc: Global,
@@ -451,6 +506,9 @@ fn free_layer<'d, 't>(
         (layers.free_layer (scope_view scope.entry) (named_view named.entry)) result }
 {
     let namesakes = namesakes(alloc, named.name.text, scope.declarations)?;
+    if are_taken(scope.declarations, &namesakes) {
+        return taken_layer(alloc, scope, named, &namesakes);
+    }
     let meant = meant(alloc, scope, named.origin, &namesakes)?;
     layer_by(alloc, scope, named, &namesakes, &meant)
 }

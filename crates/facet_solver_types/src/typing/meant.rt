@@ -110,7 +110,7 @@ fn those_in_block(
 }
 
 /// Those of some that stand in a module.
-fn those_in(
+pub(super) fn those_in(
     alloc: Global,
     declarations: &[Declaration<'_, '_>],
     module_name: &str,

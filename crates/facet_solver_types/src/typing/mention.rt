@@ -15,6 +15,7 @@ use super::id::{first, id_of, second, spaced};
 use super::known::Applied;
 use super::layer::{Head, Layer, Part, layer_at};
 use super::scope::Scope;
+use super::standards::{inner_entries, inner_ids};
 use super::type_use::Use;
 use crate::fault::Fault;
 use crate::passage::Passage;
@@ -82,6 +83,7 @@ fn form_of(alloc: Global, head: Head<'_, '_>, ids: &[String]) -> Result<Option<F
         Head::Scalar(_, kind) => Ok(Some(Form::Scalar(kind))),
         Head::Dynamic(_) => Ok(Some(Form::Dynamic)),
         Head::Applied(_, kind) => Ok(Some(applied_form(alloc, kind, ids)?)),
+        Head::Standard(_, kind) => Ok(Some(Form::Standard(kind, inner_ids(alloc, kind, ids)?))),
         Head::Array(_) => Ok(Some(Form::Array(String::from_str(alloc, first(ids))?))),
         Head::Slice => Ok(Some(Form::Slice(String::from_str(alloc, first(ids))?))),
         Head::Tuple => Ok(Some(Form::Tuple(copied_ids(alloc, ids)?))),
@@ -101,6 +103,17 @@ fn own_entry(alloc: Global, id: &str, form: Option<Form>) -> Result<Vec<TypeEntr
         })?;
     }
     Ok(entries)
+}
+
+/// What stands in a type that is so outside whatever it takes, each outer before inner.
+fn fixed_entries(alloc: Global, head: Head<'_, '_>) -> Result<Vec<TypeEntry>, AllocError>
+    ensures { IfOk result (λ entries. entries_view entries.items
+        ≡ of.fixed_entries (head_view head.entry)) }
+{
+    match head {
+        Head::Standard(_, kind) => inner_entries(alloc, kind),
+        _ => Ok(Vec::new(alloc)),
+    }
 }
 
 /// The use of a declaration that a type itself is, if it is one.
@@ -144,7 +157,9 @@ pub(super) fn mention_of(
         return Err(scope.too_deep());
     }
     let mut entries = own_entry(alloc, &id, form_of(alloc, head, &ids)?)?;
+    let mut fixed = fixed_entries(alloc, head)?;
     let mut uses = own_use(alloc, &id, head, ids)?;
+    entries.append(&mut fixed)?;
     entries.append(&mut inner_entries)?;
     uses.append(&mut inner_uses)?;
     Ok(Mention { id, entries, uses })

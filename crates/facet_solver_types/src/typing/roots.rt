@@ -188,7 +188,7 @@ fn declares_type(declared: &Declared<'_, '_>) -> bool
     ensures { result ≡ of.declares_type (declared_view declared.now) }
 {
     match declared {
-        Declared::Alias(_) => false,
+        Declared::Alias(_) | Declared::Elsewhere => false,
         _ => true,
     }
 }
