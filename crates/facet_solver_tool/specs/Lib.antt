@@ -7,6 +7,7 @@ pub mod Utf8
 pub mod ReadAnswers
 pub mod ShapeNames
 pub mod Representations
+pub mod Notes
 pub mod UnservedTypes
 pub mod QuotedText
 pub mod PrintableText

@@ -17,7 +17,7 @@ use Rattle.facet_solver_tool.specs.CatalogueText.{catalogue}
 use Rattle.facet_solver_tool.specs.ReadAnswers.{AnswersBytes}
 use Rattle.facet_solver_tool.specs.Representations.{enum_lines}
 use Rattle.facet_solver_tool.specs.ShapeNames.{name_at}
-use Rattle.facet_solver_tool.specs.UnservedTypes.{unserved, unserved_lines}
+use Rattle.facet_solver_tool.specs.UnservedTypes.{conditional_lines, unserved, unserved_lines}
 
 -- a root: its types, the path of their file, and its index
 pub record Root : Type 0 where
@@ -60,12 +60,13 @@ pub data AnswersRead (r : Root) (unknown : Unknown) (document : List ℕ) (a : A
   by_reader : (shapes : Catalogue) → shapes_view shapes ≡ r.types.shapes
       → AnswersBytes (reader_of r shapes unknown) document a → AnswersRead r unknown document a
 
--- the text of a checked root: its name, how each enum is written, and the types that refuse unknown
--- members where the root does not
+-- the text of a checked root: its name, how each enum is written, the types that are declared once
+-- more, and those that refuse unknown members where the root does not
 abbrev pub check_text : Catalogue → Types → ℕ → List ℕ
 check_text shapes types id =
     codes "root: " ++ (name_at (shapes_view shapes) id
-    ++ (enum_lines shapes ++ unserved_lines (unserved types id)))
+    ++ (enum_lines shapes
+    ++ (conditional_lines types ++ unserved_lines (unserved types id))))
 
 -- the answer that checks a root
 pub data AnswersCheck (r : Root) (a : Answer) : Type 0 where

@@ -9,14 +9,15 @@ use crate::name::name_at;
 use crate::representation::EnumLines;
 use crate::root::refused;
 use crate::status::Status;
-use crate::unserved::unserved_text;
+use crate::unserved::{conditional_text, unserved_text};
 use facet_solver_reader::{Reader, Unknown};
 use facet_solver_shape::{ShapeId, Shapes};
 use facet_solver_types::Types;
 use std::alloc::{AllocError, Global};
 
-/// The answer that has the root's name, how each enum is written, and the types that refuse unknown
-/// members where the root does not; or why documents cannot be read as the root.
+/// The answer that has the root's name, how each enum is written, the types that are declared once
+/// more, and those that refuse unknown members where the root does not; or why documents cannot be
+/// read as the root.
 ///
 /// The only error is out of memory.
 pub fn answer(alloc: Global, path: &str, types: &Types, id: ShapeId) -> Result<Answer, AllocError>
@@ -30,17 +31,18 @@ pub fn answer(alloc: Global, path: &str, types: &Types, id: ShapeId) -> Result<A
     }
 }
 
-/// The answer that has the root's name, how each enum is written, and the types that refuse unknown
-/// members where the root does not.
+/// The answer that has the root's name, how each enum is written, the types that are declared once
+/// more, and those that refuse unknown members where the root does not.
 fn checked(alloc: Global, shapes: &Shapes, types: &Types, id: ShapeId) -> Result<Answer, AllocError>
     ensures { IfOk result (λ a.
         answer_view a ≡ says Answered (check_text shapes.now types.now id)) }
 {
     let name = name_at(shapes, id);
     let enums = EnumLines(shapes);
+    let conditional = conditional_text(alloc, types)?;
     let unserved = unserved_text(alloc, types, id)?;
     Ok(Answer {
         status: Status::Answered,
-        text: format!(in alloc; "root: {name}{enums}{unserved}")?,
+        text: format!(in alloc; "root: {name}{enums}{conditional}{unserved}")?,
     })
 }

@@ -11,6 +11,7 @@ mod help;
 mod json;
 mod lines;
 mod name;
+mod notes;
 mod printable;
 mod question;
 mod quoted;
