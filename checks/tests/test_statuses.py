@@ -6,15 +6,15 @@ from .scratch import TOP, Repository
 
 TOOL, PROGRAM = "crates/facet_solver_tool", "crates/facet_solver_program"
 STATUS, HELP, COUNT = (f"{TOOL}/src/{it}.rt" for it in ("status", "help", "count"))
-ANSWER, SERVE = f"{PROGRAM}/specs/Answer.antt", f"{PROGRAM}/src/serve.rt"
+REPLY = f"{PROGRAM}/src/reply.rt"
 PAGE = "examples/README.md"
 CALL = ("docs/statuses",)
 # Edits of files, each with what is told of it. Those of a part are made at once.
 EDITS = (
     (
         (STATUS, "NoReading => 1", "NoReading => 6", f"{PAGE}: ./facet-read: there is no status 1"),
-        (ANSWER, "status_of bad_input = 4", "status_of bad_input = 3", "./solve: of status 3"),
-        (SERVE, '5, "out of memory")', '6, "out of memory")', "./solve: the status 6 is missing"),
+        (REPLY, "BadInput => 4", "BadInput => 3", "./solve: of status 3"),
+        (REPLY, "OutOfMemory => 5", "OutOfMemory => 6", "./solve: the status 6 is missing"),
         ("facet-read", "127 where `rt`", "126 where `rt`", "of its own: the status 127 is missing"),
         ("sweep/run", "FAILED = 4 ", "FAILED = 9 ", "sweep/run: FAILED: it is 9"),
     ),
@@ -48,7 +48,7 @@ class Statuses(Repository):
 
     def setUp(self):
         super().setUp()
-        for file in (STATUS, HELP, COUNT, ANSWER, SERVE, PAGE):
+        for file in (STATUS, HELP, COUNT, REPLY, PAGE):
             (self.top / file).parent.mkdir(parents=True, exist_ok=True)
             shutil.copy(TOP / file, self.top / file)
 
@@ -67,7 +67,7 @@ class Statuses(Repository):
                 (self.top / file).write_text(text)
 
     def test_a_missing_source_or_page(self):
-        for file in (STATUS, HELP, COUNT, ANSWER, SERVE, PAGE, "facet-read", "solve", "sweep/run"):
+        for file in (STATUS, HELP, COUNT, REPLY, PAGE, "facet-read", "solve", "sweep/run"):
             with self.subTest(file=file):
                 (self.top / file).rename(self.top / "aside")
                 self.expect_told(CALL, file.split("/")[-1])

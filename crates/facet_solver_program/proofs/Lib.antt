@@ -1,3 +1,4 @@
 pub mod Each
 pub mod Telling
 pub mod Endings
+pub mod Replies

@@ -8,4 +8,5 @@ pub mod Fits
 pub mod Document
 pub mod Tell
 pub mod Answer
+pub mod Reply
 pub mod Serve

@@ -1,5 +1,5 @@
-//! What the program answers to an input, step by step.
-ghost use Rattle.std.specs.Prelude.{◌≡◌, ◌<◌, IfErr, IfOk, length, nat_lt, string_bytes};
+//! What is replied to the bytes of an input, step by step.
+ghost use Rattle.std.specs.Prelude.{◌≡◌, ◌<◌, IfErr, IfOk, length, nat_lt};
 ghost use Rattle.serde_json.specs.View.{members_view, view};
 ghost use Rattle.facet_solver.specs.build.Choice.{IsRefusal};
 ghost use Rattle.facet_solver.specs.build.Count.{count_of_root};
@@ -12,15 +12,16 @@ ghost use Rattle.facet_solver_program.specs.Answer as answer;
 ghost use Rattle.facet_solver_program.specs.Answer.{Ending, IsAnswer, IsEndOfDocument, IsEndOfInput, IsEndOfRoot, IsReport, Says};
 ghost use Rattle.facet_solver_program.specs.Input as input;
 ghost use Rattle.facet_solver_program.specs.Input.{input_view};
+ghost use Rattle.facet_solver_program.specs.Reply as replies;
 
 use crate::decode::error::DecodeError;
 use crate::decode::input::{Input, decode};
 use crate::decode::word::Builder;
 use crate::reading::read;
+use crate::reply::Reply;
 use crate::tell::tell;
 use facet_solver::{
-    CatalogueError, EnumRepr, ResolutionHandle, Schema, SchemaError, ShapeId, Shapes, Solver,
-    SolverError,
+    EnumRepr, ResolutionHandle, Schema, SchemaError, ShapeId, Shapes, Solver, SolverError,
 };
 use serde_json::{Map, Value};
 use std::alloc::{AllocError, Global};
@@ -28,54 +29,48 @@ use std::alloc::{AllocError, Global};
 /// The most resolutions that are built.
 const MOST_RESOLUTIONS: u64 = 4096;
 
-/// The answer to the bytes of an input: a status from 0 to 4, and a text without the line feed at
-/// its end.
+/// The reply to the bytes of an input.
 ///
 /// The only error is out of memory.
-pub fn answer(alloc: Global, bytes: &[u8]) -> Result<(u8, String), AllocError>
-    ensures { IfOk result (λ a. IsAnswer bytes.now a.0 (string_bytes a.1)) }
+pub fn answer(alloc: Global, bytes: &[u8]) -> Result<Reply, AllocError>
+    ensures { IfOk result (λ a.
+        IsAnswer bytes.now (replies.status a) (replies.text a)) }
 {
     match read(alloc, bytes) {
         Ok(value) => answer_value(alloc, &value),
-        Err(error) => no_input(alloc, error),
+        Err(error) => no_input(error),
     }
 }
 
-/// The answer to a value.
-fn answer_value(alloc: Global, value: &Value) -> Result<(u8, String), AllocError>
+/// The reply to a value.
+fn answer_value(alloc: Global, value: &Value) -> Result<Reply, AllocError>
     ensures { IfOk result (λ a. (ending : Ending)
         × IsEndOfInput (input.decode (view value.now)) ending
-        × Says a.0 (string_bytes a.1) ending) }
+        × Says (replies.status a) (replies.text a) ending) }
 {
     match decode(alloc, value) {
         Ok(input) => answer_input(alloc, input),
-        Err(error) => no_input(alloc, error),
+        Err(error) => no_input(error),
     }
 }
 
-/// The answer where there is no input.
-fn no_input(alloc: Global, error: DecodeError) -> Result<(u8, String), AllocError>
-    ensures { IfOk result (λ a. (error ≡ DecodeError.BadInput)
-        × Says a.0 (string_bytes a.1) answer.bad_input) }
+/// The reply where there is no input.
+fn no_input(error: DecodeError) -> Result<Reply, AllocError>
+    ensures bad { IfOk result (λ a. (error ≡ DecodeError.BadInput)
+        × Says (replies.status a) (replies.text a) answer.bad_input) }
+    ensures memory { IfErr result (λ _. error ≡ DecodeError.OutOfMemory) }
 {
     match error {
-        DecodeError::BadInput => bad_input(alloc),
+        DecodeError::BadInput => Ok(Reply::BadInput),
         DecodeError::OutOfMemory => Err(AllocError),
     }
 }
 
-/// The answer to a bad input.
-fn bad_input(alloc: Global) -> Result<(u8, String), AllocError>
-    ensures { IfOk result (λ a. Says a.0 (string_bytes a.1) answer.bad_input) }
-{
-    Ok((4, String::from_str(alloc, "bad input")?))
-}
-
-/// The answer to an input: its shapes are checked, and then the root.
-fn answer_input(alloc: Global, input: Input<'_>) -> Result<(u8, String), AllocError>
+/// The reply to an input: its shapes are checked, and then the root.
+fn answer_input(alloc: Global, input: Input<'_>) -> Result<Reply, AllocError>
     ensures { IfOk result (λ a. (ending : Ending)
         × IsEndOfInput (Some (input_view input.entry)) ending
-        × Says a.0 (string_bytes a.1) ending) }
+        × Says (replies.status a) (replies.text a) ending) }
 {
     let Input {
         shapes,
@@ -85,35 +80,27 @@ fn answer_input(alloc: Global, input: Input<'_>) -> Result<(u8, String), AllocEr
     } = input;
     match Shapes::new(shapes) {
         Ok(shapes) if shapes.has(root) => answer_root(alloc, &shapes, root, builder, document),
-        Ok(_) => bad_input(alloc),
-        Err(fault) => bad_catalogue(alloc, fault),
+        Ok(_) => Ok(Reply::BadInput),
+        Err(fault) => Ok(Reply::BadCatalogue(fault)),
     }
 }
 
-/// The answer that names a fault of the shapes.
-fn bad_catalogue(alloc: Global, fault: CatalogueError) -> Result<(u8, String), AllocError>
-    ensures { IfOk result (λ a. Says a.0 (string_bytes a.1) (answer.bad_catalogue fault)) }
-{
-    let number = fault.number();
-    Ok((3, format!(in alloc; "bad catalogue {number}")?))
-}
-
-/// The answer for a root: its resolutions are counted, and then built.
+/// The reply for a root: its resolutions are counted, and then built.
 fn answer_root(
     alloc: Global,
     shapes: &Shapes,
     root: ShapeId,
     builder: Builder,
     document: &Map<String, Value>,
-) -> Result<(u8, String), AllocError>
+) -> Result<Reply, AllocError>
     requires { root < length shapes.now }
     ensures { IfOk result (λ a. (ending : Ending)
         × IsEndOfRoot (answer.build shapes.now builder) root
         (members_view document.now.entries) ending
-        × Says a.0 (string_bytes a.1) ending) }
+        × Says (replies.status a) (replies.text a) ending) }
 {
     if has_too_many(alloc, shapes, root, builder)? {
-        return Ok((2, String::from_str(alloc, "too many resolutions")?));
+        return Ok(Reply::TooManyResolutions);
     }
     match build(alloc, shapes, root, builder) {
         Ok(schema) => answer_document(alloc, &schema, document),
@@ -121,15 +108,15 @@ fn answer_root(
     }
 }
 
-/// The answer where there is no schema.
-fn no_schema(alloc: Global, error: SchemaError<'_>) -> Result<(u8, String), AllocError>
+/// The reply where there is no schema.
+fn no_schema(alloc: Global, error: SchemaError<'_>) -> Result<Reply, AllocError>
     ensures { IfOk result (λ a. (duplicate : DuplicateFieldError)
         × (error.entry ≡ SchemaError.DuplicateField duplicate)
-        × Says a.0 (string_bytes a.1) (answer.duplicate_field duplicate)) }
+        × Says (replies.status a) (replies.text a) (answer.duplicate_field duplicate)) }
 {
     let text = error.to_string(alloc)?;
     match error {
-        SchemaError::DuplicateField(_) => Ok((2, text)),
+        SchemaError::DuplicateField(_) => Ok(Reply::DuplicateField(text)),
         SchemaError::OutOfMemory => Err(AllocError),
     }
 }
@@ -178,15 +165,15 @@ fn build<'c>(
     }
 }
 
-/// The answer to a document: a new solver is told it, and says what it means.
+/// The reply to a document: a new solver is told it, and says what it means.
 fn answer_document(
     alloc: Global,
     schema: &Schema<'_>,
     document: &Map<String, Value>,
-) -> Result<(u8, String), AllocError>
+) -> Result<Reply, AllocError>
     ensures { IfOk result (λ a. (ending : Ending)
         × IsEndOfDocument schema.now (members_view document.now.entries) ending
-        × Says a.0 (string_bytes a.1) ending) }
+        × Says (replies.status a) (replies.text a) ending) }
 {
     let mut solver = Solver::new(alloc, schema)?;
     tell(alloc, schema.shapes(), &mut solver, document)?;
@@ -196,25 +183,26 @@ fn answer_document(
     }
 }
 
-/// The answer that tells why not one resolution alone is left.
-fn unresolved(alloc: Global, error: SolverError<'_>) -> Result<(u8, String), AllocError>
+/// The reply that tells why not one resolution alone is left.
+fn unresolved(alloc: Global, error: SolverError<'_>) -> Result<Reply, AllocError>
     ensures { IfOk result (λ a. IsReport error.entry
-        × Says a.0 (string_bytes a.1) (answer.reported (error_view error.entry))) }
+        × Says (replies.status a) (replies.text a) (answer.reported (error_view error.entry))) }
 {
     let text = error.to_string(alloc)?;
     match error {
-        SolverError::NoMatch { .. } => Ok((1, text)),
-        SolverError::Ambiguous { .. } => Ok((1, text)),
+        SolverError::NoMatch { .. } => Ok(Reply::Reported(text)),
+        SolverError::Ambiguous { .. } => Ok(Reply::Reported(text)),
         SolverError::OutOfMemory => Err(AllocError),
     }
 }
 
-/// The answer that names a resolution.
-fn resolved(alloc: Global, handle: ResolutionHandle<'_, '_>) -> Result<(u8, String), AllocError>
-    ensures { IfOk result (λ a. Says a.0 (string_bytes a.1)
+/// The reply that names a resolution.
+fn resolved(alloc: Global, handle: ResolutionHandle<'_, '_>) -> Result<Reply, AllocError>
+    ensures { IfOk result (λ a. Says (replies.status a) (replies.text a)
         (answer.resolved (index_of handle.entry) (resolution_of handle.entry))) }
 {
-    let index = handle.index();
-    let description = handle.resolution().describe(alloc)?;
-    Ok((0, format!(in alloc; "resolved {index}: {description}")?))
+    Ok(Reply::Resolved {
+        index: handle.index(),
+        description: handle.resolution().describe(alloc)?,
+    })
 }

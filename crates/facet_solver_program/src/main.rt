@@ -7,6 +7,7 @@ mod decode;
 mod document;
 mod fits;
 mod reading;
+mod reply;
 mod serve;
 mod tell;
 

@@ -1,13 +1,18 @@
 //! The program over any input and output.
-ghost use Rattle.std.specs.Prelude.{◌≡◌, ◌≢◌, ℕ, List, IfOk, IfSome, OnOk};
-ghost use Rattle.facet_solver_program.specs.Serve.{IsReply, WritesLine};
+ghost use Rattle.std.specs.Prelude.{◌≡◌, ◌≢◌, ◌⊎◌, ℕ, List, IfErr, IfOk, IfSome};
+ghost use Rattle.facet_solver_program.specs.Answer.{IsAnswer};
+ghost use Rattle.facet_solver_program.specs.Reply as replies;
+ghost use Rattle.facet_solver_program.specs.Serve.{IsReply, WritesLine, reply_to_error};
 
 use crate::answer::answer;
+use crate::reply::Reply;
 use std::alloc::{AllocError, Global};
-use std::io::{self, Read, Write};
+use std::io::{Read, Write};
 
 /// How many bytes of the input are read at once.
 const CHUNK: usize = 4096;
+/// The status where a write fails.
+const UNWRITTEN: u8 = 4;
 
 /// Why an input has no bytes.
 #[derive(Clone, Copy, Debug, PartialEq, Eq)]
@@ -24,24 +29,17 @@ impl From<AllocError> for InputError {
     }
 }
 
-/// Reads an input to its end, writes the text of the answer to it and a line feed, and gives the
+/// Reads an input to its end, writes the text of the reply to it and a line feed, and gives the
 /// status, from 0 to 5.
 ///
-/// A read that fails is answered by `bad input` and 4, and out of memory by `out of memory` and 5.
 /// Where a write fails the status is 4, and part of the line may have been written.
 pub fn serve<R: Read, W: Write>(alloc: Global, input: &mut R, output: &mut W) -> u8
     ensures { result ≢ 4 → (text : List ℕ) × IsReply (R.remaining input.old) result text
         × WritesLine (W.contents output.old) (W.contents output.new) text }
 {
-    let bytes = match read_all(alloc, input) {
-        Ok(bytes) => bytes,
-        Err(InputError::Unread) => return reply(output, 4, "bad input"),
-        Err(InputError::OutOfMemory) => return reply(output, 5, "out of memory"),
-    };
-    match answer(alloc, &bytes) {
-        Ok((status, text)) => reply(output, status, text.as_str()),
-        Err(AllocError) => reply(output, 5, "out of memory"),
-    }
+    let bytes = read_all(alloc, input);
+    let reply = reply_to(alloc, bytes);
+    write_reply(output, &reply)
 }
 
 /// All bytes of an input. They are read here, and not by `read_to_end`, to tell out of memory from
@@ -64,22 +62,28 @@ fn read_all<R: Read>(alloc: Global, input: &mut R) -> Result<Vec<u8>, InputError
     Err(InputError::Unread)
 }
 
-/// Writes a text and a line feed, and gives the status that goes with the text, or 4 where a write
-/// fails.
-fn reply<W: Write>(output: &mut W, status: u8, text: &str) -> u8
-    ensures { result ≢ 4 → (result ≡ status)
-        × WritesLine (W.contents output.old) (W.contents output.new) text.now }
+/// The reply to what was read of an input: to its bytes the answer. A read that failed is a bad
+/// input, and only out of memory is told as that.
+fn reply_to(alloc: Global, read: Result<Vec<u8>, InputError>) -> Reply
+    ensures answer { IfOk read (λ bytes.
+        IsAnswer bytes.items (replies.status result) (replies.text result)
+        ⊎ (result ≡ Reply.OutOfMemory)) }
+    ensures error { IfErr read (λ error. result ≡ reply_to_error error) }
 {
-    match write_line(output, text) {
-        Ok(()) => status,
-        Err(_failed) => 4,
+    match read {
+        Ok(bytes) => answer(alloc, &bytes).unwrap_or(Reply::OutOfMemory),
+        Err(InputError::Unread) => Reply::BadInput,
+        Err(InputError::OutOfMemory) => Reply::OutOfMemory,
     }
 }
 
-/// Writes a text and a line feed.
-fn write_line<W: Write>(output: &mut W, text: &str) -> io::Result<()>
-    ensures { OnOk result (WritesLine (W.contents output.old) (W.contents output.new) text.now) }
+/// Writes the text of a reply and a line feed, and gives its status, or 4 where a write fails.
+fn write_reply<W: Write>(output: &mut W, reply: &Reply) -> u8
+    ensures { result ≢ 4 → (result ≡ replies.status reply.now)
+        × WritesLine (W.contents output.old) (W.contents output.new) (replies.text reply.now) }
 {
-    output.write_all(text.as_bytes())?;
-    output.write_all(b"\n")
+    match writeln!(output, "{reply}") {
+        Ok(()) => reply.status(),
+        Err(_failed) => UNWRITTEN,
+    }
 }

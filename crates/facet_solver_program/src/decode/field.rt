@@ -1,11 +1,11 @@
 //! Fields and variants.
-ghost use Rattle.std.specs.Prelude.{◌≡◌, IfOk, IsErrOf, None, Some, map};
+ghost use Rattle.std.specs.Prelude.{◌≡◌, IfErr, IfOk, IsErrOf, None, Some, map};
 ghost use Rattle.serde_json.specs.View.{items_view, view};
 ghost use Rattle.facet_solver_program.specs.ShapeView.{field_view, variant_view};
 ghost use Rattle.facet_solver_program.specs.Catalogue as catalogue;
 ghost use Rattle.facet_solver_program.specs.Members.{each};
 
-use crate::decode::error::DecodeError;
+use crate::decode::error::{BadInput, DecodeError};
 use crate::decode::member::{flag_at, index_at, items_at, optional_text_at, text_at};
 use crate::decode::word;
 use facet_solver::{DomMark, Field, StructKind, Variant};
@@ -68,32 +68,25 @@ pub fn variant(alloc: Global, value: &Value) -> Result<Variant, DecodeError>
 }
 
 /// The mark of a field.
-fn mark_at(value: &Value) -> Result<DomMark, DecodeError>
+fn mark_at(value: &Value) -> Result<DomMark, BadInput>
     ensures ok { IfOk result (λ mark. catalogue.mark_at (view value.now) ≡ Some mark) }
-    ensures bad { IsErrOf result DecodeError.BadInput → catalogue.mark_at (view value.now) ≡ None }
+    ensures bad { IfErr result (λ _. catalogue.mark_at (view value.now) ≡ None) }
 {
     match value.get("dom") {
         None => Ok(DomMark::None),
-        Some(mark) => mark
-            .as_str()
-            .and_then(word::dom_mark)
-            .ok_or(DecodeError::BadInput),
+        Some(mark) => mark.as_str().and_then(word::dom_mark).ok_or(BadInput),
     }
 }
 
 /// How fields are written, by the word under a key; by name where the key is absent. The only error
 /// is `BadInput`, where the word is not in its list.
-pub fn struct_kind_at(value: &Value, key: &str) -> Result<StructKind, DecodeError>
+pub fn struct_kind_at(value: &Value, key: &str) -> Result<StructKind, BadInput>
     ensures ok { IfOk result (λ kind.
         catalogue.struct_kind_at key.now (view value.now) ≡ Some kind) }
-    ensures bad { IsErrOf result DecodeError.BadInput
-        → catalogue.struct_kind_at key.now (view value.now) ≡ None }
+    ensures bad { IfErr result (λ _. catalogue.struct_kind_at key.now (view value.now) ≡ None) }
 {
     match value.get(key) {
         None => Ok(StructKind::Struct),
-        Some(kind) => kind
-            .as_str()
-            .and_then(word::struct_kind)
-            .ok_or(DecodeError::BadInput),
+        Some(kind) => kind.as_str().and_then(word::struct_kind).ok_or(BadInput),
     }
 }

@@ -1,11 +1,11 @@
 //! The input: the shapes, the root, the builder and the document.
-ghost use Rattle.std.specs.Prelude.{◌≡◌, IfOk, IsErrOf, None, Some, map};
+ghost use Rattle.std.specs.Prelude.{◌≡◌, IfErr, IfOk, IsErrOf, None, Some, map};
 ghost use Rattle.serde_json.specs.View.{members_view, view};
 ghost use Rattle.facet_solver_program.specs.ShapeView.{shape_view};
 ghost use Rattle.facet_solver_program.specs.Input as input;
 ghost use Rattle.facet_solver_program.specs.Input.{input_view};
 
-use crate::decode::error::DecodeError;
+use crate::decode::error::{BadInput, DecodeError};
 use crate::decode::member::index_at;
 use crate::decode::shape::shapes;
 use crate::decode::word::{self, Builder};
@@ -52,28 +52,27 @@ fn shapes_at(alloc: Global, value: &Value) -> Result<Vec<Shape>, DecodeError>
 }
 
 /// The builder that an input asks for.
-fn builder_at(value: &Value) -> Result<Builder, DecodeError>
+fn builder_at(value: &Value) -> Result<Builder, BadInput>
     ensures ok { IfOk result (λ builder. input.builder_at (view value.now) ≡ Some builder) }
-    ensures bad { IsErrOf result DecodeError.BadInput → input.builder_at (view value.now) ≡ None }
+    ensures bad { IfErr result (λ _. input.builder_at (view value.now) ≡ None) }
 {
     match value.get("build") {
         None => Ok(Builder::Flattened),
         Some(builder) => builder
             .as_str()
             .and_then(word::named_builder)
-            .ok_or(DecodeError::BadInput),
+            .ok_or(BadInput),
     }
 }
 
 /// The members of an input's document.
-fn document_at(value: &Value) -> Result<&Map<String, Value>, DecodeError>
+fn document_at(value: &Value) -> Result<&Map<String, Value>, BadInput>
     ensures ok { IfOk result (λ document.
         input.document_at (view value.now) ≡ Some (members_view document.now.entries)) }
-    ensures bad { IsErrOf result DecodeError.BadInput
-        → input.document_at (view value.now) ≡ None }
+    ensures bad { IfErr result (λ _. input.document_at (view value.now) ≡ None) }
 {
     value
         .get("document")
         .and_then(Value::as_object)
-        .ok_or(DecodeError::BadInput)
+        .ok_or(BadInput)
 }

@@ -1,11 +1,11 @@
 //! Shapes.
-ghost use Rattle.std.specs.Prelude.{◌≡◌, IfOk, IsErrOf, None, Some, map};
+ghost use Rattle.std.specs.Prelude.{◌≡◌, IfErr, IfOk, IsErrOf, None, Some, map};
 ghost use Rattle.serde_json.specs.View.{items_view, view};
 ghost use Rattle.facet_solver_program.specs.ShapeView.{kind_view, shape_view, variant_view};
 ghost use Rattle.facet_solver_program.specs.Catalogue as catalogue;
 ghost use Rattle.facet_solver_program.specs.Members.{each};
 
-use crate::decode::error::DecodeError;
+use crate::decode::error::{BadInput, DecodeError};
 use crate::decode::field::{fields_at, struct_kind_at, variant};
 use crate::decode::member::{
     flag_at, index_at, items_at, optional_index_at, optional_text_at, text_at, word_at,
@@ -89,11 +89,10 @@ fn variants(alloc: Global, items: &[Value]) -> Result<Vec<Variant>, DecodeError>
 }
 
 /// The basic type of a scalar.
-fn scalar_at(value: &Value) -> Result<ScalarType, DecodeError>
+fn scalar_at(value: &Value) -> Result<ScalarType, BadInput>
     ensures ok { IfOk result (λ scalar. catalogue.scalar_at (view value.now) ≡ Some scalar) }
-    ensures bad { IsErrOf result DecodeError.BadInput
-        → catalogue.scalar_at (view value.now) ≡ None }
+    ensures bad { IfErr result (λ _. catalogue.scalar_at (view value.now) ≡ None) }
 {
     let scalar = word_at(value, "scalar")?;
-    word::scalar_type(scalar).ok_or(DecodeError::BadInput)
+    word::scalar_type(scalar).ok_or(BadInput)
 }

@@ -26,4 +26,4 @@ returns-in-Err c =
       is = (bad.0, bad.1, subst (λ w. IsEndOfInput (given w decode) bad_input) (sym bad.2) refl);
       said = said.1;
     })
-    c.no_input.ensures
+    c.no_input.ensures.bad

@@ -23,6 +23,4 @@ returns-in-Ok c =
 
 pub returns-in-Err : goal.returns-in-Err
 returns-in-Err c =
-    IfOk-weaker c.bad_catalogue.result _ _
-    (λ a said. (bad_catalogue c.in-Err.fault, (c.args.input.shapes.items, refl, c.in-Err.ensures.refused), said))
-    c.bad_catalogue.ensures
+    (bad_catalogue c.in-Err.fault, (c.args.input.shapes.items, refl, c.in-Err.ensures.refused), (refl, refl))

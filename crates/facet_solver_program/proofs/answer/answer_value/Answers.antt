@@ -13,4 +13,4 @@ pub returns-in-Err : goal.returns-in-Err
 returns-in-Err c =
     IfOk-weaker c.no_input.result _ _
     (λ a said. (bad_input, subst (λ o. IsEndOfInput o bad_input) (sym (c.in-Err.ensures.bad (ap Err said.0))) refl, said.1))
-    c.no_input.ensures
+    c.no_input.ensures.bad
