@@ -174,6 +174,24 @@ abbrev pub array_of_two : Token → List Passage → Result Layer Fault
 array_of_two name (item ∷ len ∷ []) = Ok (around (array len.tokens) item)
 array_of_two name types = Err (wrong name.offset (Takes 2))
 
+-- whether a path leads nowhere else
+abbrev pub is_here : Origin → Bool
+is_here here = true
+is_here origin = false
+
+-- whether a path leads into a crate whose types are known
+abbrev pub is_to_known : Origin → Bool
+is_to_known to_known = true
+is_to_known origin = false
+
+-- a type of std, unless its path leads elsewhere, where another type may have its name
+abbrev pub standard_layer : NamedType → Standard → Result Layer Fault
+standard_layer n kind =
+    if is_here n.origin || is_to_known n.origin
+    then and_then (taken (count_of kind) n)
+    (λ types. Ok (around_all (standard n.name.text kind) types))
+    else Err (wrong n.name.offset Unknown)
+
 -- a type that needs no declaration
 abbrev pub known_as : NamedType → Known → Result Layer Fault
 known_as n (known.Scalar kind) =
@@ -189,9 +207,7 @@ known_as n known.ArrayVec = array_of_two n.name n.types
 known_as n known.Wrapper = and_then (taken 1 n) (λ types. Ok (around_all same types))
 known_as n (known.Hashed kind) = made_of kind (without_hasher (arity_of kind) n)
 known_as n (known.Applied kind) = made_of kind n
-known_as n (known.Standard kind) =
-    and_then (taken (count_of kind) n)
-    (λ types. Ok (around_all (standard n.name.text kind) types))
+known_as n (known.Standard kind) = standard_layer n kind
 
 -- a type by a name that is known, or not
 abbrev pub known_or_not : NamedType → Option Known → Result Layer Fault
@@ -219,11 +235,6 @@ abbrev pub is_to_stand_ins : Origin → Bool
 is_to_stand_ins (beside module_name) = is_of_stand_ins module_name
 is_to_stand_ins origin = false
 
--- whether a path leads into a crate whose types are known
-abbrev pub is_to_known : Origin → Bool
-is_to_known to_known = true
-is_to_known origin = false
-
 -- the fault where nothing stands in for code
 abbrev pub unsaid : ℕ → Fault
 unsaid offset = At offset (Attribute (Misused Unsupported))
@@ -244,11 +255,6 @@ layer_by scope n namesakes (index ∷ []) =
 layer_by scope n namesakes (index ∷ other ∷ others) =
     Err (wrong (offset_at scope.declarations other) Twice)
 
--- whether a path leads nowhere else
-abbrev pub is_here : Origin → Bool
-is_here here = true
-is_here origin = false
-
 -- whether nothing is declared, but the name is taken from elsewhere
 abbrev pub is_elsewhere : Declared → Bool
 is_elsewhere elsewhere = true
@@ -257,7 +263,8 @@ is_elsewhere what = false
 -- whether the declaration at an index says that its name is taken from elsewhere
 abbrev pub is_taken : List Declaration → ℕ → Bool
 is_taken declarations index =
-    option_map_or (λ (d : Declaration). is_elsewhere d.declared) (slice_get declarations index) false
+    option_map_or (λ (d : Declaration). is_elsewhere d.declared) (slice_get declarations index)
+    false
 
 -- whether the first of some declarations, by their indices, says so: then all do
 abbrev pub are_taken : List Declaration → List ℕ → Bool

@@ -316,6 +316,23 @@ fn array_of_two<'d, 't>(
     }
 }
 
+/// A type of std, unless its path leads elsewhere, where another type may have its name.
+fn standard_layer<'d, 't>(
+    alloc: Global,
+    named: NamedType<'d, 't>,
+    kind: Standard,
+) -> Result<Layer<'d, 't>, Fault>
+    ensures { Gives layer_view
+        (layers.standard_layer (named_view named.entry) kind) result }
+{
+    let name = named.name;
+    if !is_here(named.origin) && !is_to_known(named.origin) {
+        return Err(wrong(name, TypeProblem::Unknown));
+    }
+    let types = taken(count_of(kind), named)?;
+    Ok(around_all(alloc, Head::Standard(name.text, kind), &types)?)
+}
+
 /// A type that needs no declaration.
 fn known_as<'d, 't>(
     alloc: Global,
@@ -352,10 +369,7 @@ fn known_as<'d, 't>(
         }
         Known::Hashed(kind) => made_of(alloc, kind, without_hasher(arity_of(kind), named)),
         Known::Applied(kind) => made_of(alloc, kind, named),
-        Known::Standard(kind) => {
-            let types = taken(count_of(kind), named)?;
-            Ok(around_all(alloc, Head::Standard(name.text, kind), &types)?)
-        }
+        Known::Standard(kind) => standard_layer(alloc, named, kind),
     }
 }
 
