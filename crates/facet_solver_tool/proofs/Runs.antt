@@ -1,26 +1,14 @@
 -- Answers to runs.
-use Rattle.std.proofs.Common.{◌≡◌, ◌≢◌, ◌⊎◌, ℕ, List, Option, Some, None, Ok, IfSome, inl, inr, refl, subst, sym}
+use Rattle.std.proofs.Common.{◌≡◌, ◌⊎◌, ℕ, List, Option, Some, None, Ok, IfSome, inl, inr, subst, sym}
 use Rattle.facet_solver_shape.specs.Names.{Name}
-use Rattle.facet_solver_tool.specs.declared.arguments.ArgumentError.{ArgumentError}
-use Rattle.facet_solver_tool.specs.declared.arguments.ArgumentError.TheVariants as errors
 use Rattle.facet_solver_tool.specs.declared.status.Status.TheVariants.{Misused}
 use Rattle.facet_solver_tool.specs.Answer.{Answer, refused, says}
 use Rattle.facet_solver_tool.specs.Answers.{IsAnswer}
-use Rattle.facet_solver_tool.specs.Misuses.{TellsMisuse, error_text}
+use Rattle.facet_solver_tool.specs.Misuses.{TellsMisuse}
 use Rattle.facet_solver_tool.specs.Questions.{Question}
-use Rattle.facet_solver_tool.specs.Requests.{IsMisuse, Misuse, Outcome, ask_lines, misuse_view, requested}
+use Rattle.facet_solver_tool.specs.Requests.{IsMisuse, Misuse, Outcome, ask_lines, requested}
 use Rattle.facet_solver_tool.specs.Runs.{AnswersOutcome, AnswersWords, EndsLines, EndsRun, EndsWords, IsRun}
 use Rattle.facet_solver_tool.specs.Streams.{Ran}
-
--- an error's text tells its misuse
-pub tells_misuse : (error : ArgumentError) (a : Answer) → error ≢ errors.OutOfMemory
-    → a ≡ says Misused (error_text error) → TellsMisuse (misuse_view error) a
-tells_misuse errors.NoCommand a more told = told
-tells_misuse (errors.NoSuchCommand word) a more told = told
-tells_misuse (errors.NoSuchOption word) a more told = told
-tells_misuse errors.NoTypes a more told = told
-tells_misuse (errors.TooMany word) a more told = told
-tells_misuse errors.OutOfMemory a more told = absurd (more refl)
 
 -- what tells a misuse answers words that ask nothing
 pub answers_misuse : (outcome : Outcome) (misuse : Option Misuse) (input : Option (List ℕ)) (a : Answer)

@@ -102,9 +102,9 @@ fn misused(alloc: Global, error: &ArgumentError<'_>) -> Result<Answer, AllocErro
 {
     match error {
         ArgumentError::OutOfMemory => Err(AllocError),
-        _ => Ok(Answer {
+        ArgumentError::Misuse(misuse) => Ok(Answer {
             status: Status::Misused,
-            text: error.to_string(alloc)?,
+            text: misuse.to_string(alloc)?,
         }),
     }
 }
