@@ -16,7 +16,6 @@ use crate::count::{Count, Memo, count_target};
 use crate::document::Document;
 use crate::nodes::{DocumentError, Nodes};
 use crate::part::Target;
-use crate::plan::Plan;
 use crate::read::{NotOne, read_target};
 use crate::read_error::ReadError;
 use crate::reading::Reading;
@@ -25,7 +24,7 @@ use crate::why::why_not_one;
 pub use error::TypeError;
 use error::type_error_of;
 use facet_solver_shape::{ShapeId, Shapes};
-use std::alloc::{AllocError, Global};
+use std::alloc::Global;
 use std::marker::Model;
 
 /// What a reader does with members of an object that no choice has and no catch-all takes.
@@ -157,10 +156,5 @@ impl<'c> Reader<'c> {
         let root = Target::Shape(self.root);
         let steps = self.tables.steps;
         Ok(count_target(&self.tables, &nodes, &mut memo, 0, &root, steps)?)
-    }
-
-    /// The plan of the type: what it reads, as data.
-    pub fn plan(&self, alloc: Global) -> Result<Plan<'c>, AllocError> {
-        Plan::new(alloc, &self.tables, self.root)
     }
 }
