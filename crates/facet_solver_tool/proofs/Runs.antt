@@ -1,26 +1,17 @@
 -- Answers to runs.
-use Rattle.std.proofs.Common.{◌≡◌, ◌≢◌, ◌⊎◌, ℕ, List, Option, Some, None, Ok, IfSome, inl, inr, refl, subst, sym}
+use Rattle.std.proofs.Common.{◌≡◌, ◌⊎◌, ℕ, List, Option, Some, None, Result, Ok, Err, IfErr, IfOk, IfSome, inl, inr, subst, sym}
+use Rattle.std.proofs.lemmas.Result.{IfOk-weaker}
+use Rattle.std.specs.declared.alloc.AllocError.{AllocError}
 use Rattle.facet_solver_shape.specs.Names.{Name}
-use Rattle.facet_solver_tool.specs.declared.arguments.ArgumentError.{ArgumentError}
-use Rattle.facet_solver_tool.specs.declared.arguments.ArgumentError.TheVariants as errors
+use Rattle.facet_solver_tool.specs.declared.answer.Answer as answer
 use Rattle.facet_solver_tool.specs.declared.status.Status.TheVariants.{Misused}
-use Rattle.facet_solver_tool.specs.Answer.{Answer, refused, says}
+use Rattle.facet_solver_tool.specs.Answer.{Answer, answer_view, refused, says}
 use Rattle.facet_solver_tool.specs.Answers.{IsAnswer}
-use Rattle.facet_solver_tool.specs.Misuses.{TellsMisuse, error_text}
+use Rattle.facet_solver_tool.specs.Misuses.{TellsMisuse}
 use Rattle.facet_solver_tool.specs.Questions.{Question}
-use Rattle.facet_solver_tool.specs.Requests.{IsMisuse, Misuse, Outcome, ask_lines, misuse_view, requested}
-use Rattle.facet_solver_tool.specs.Runs.{AnswersOutcome, AnswersWords, EndsLines, EndsRun, EndsWords, IsRun}
+use Rattle.facet_solver_tool.specs.Requests.{IsMisuse, Misuse, Outcome, ask_lines, requested}
+use Rattle.facet_solver_tool.specs.Runs.{AnswersFile, AnswersOutcome, AnswersWords, EndsLines, EndsRun, EndsWords, IsRun, document_of}
 use Rattle.facet_solver_tool.specs.Streams.{Ran}
-
--- an error's text tells its misuse
-pub tells_misuse : (error : ArgumentError) (a : Answer) → error ≢ errors.OutOfMemory
-    → a ≡ says Misused (error_text error) → TellsMisuse (misuse_view error) a
-tells_misuse errors.NoCommand a more told = told
-tells_misuse (errors.NoSuchCommand word) a more told = told
-tells_misuse (errors.NoSuchOption word) a more told = told
-tells_misuse errors.NoTypes a more told = told
-tells_misuse (errors.TooMany word) a more told = told
-tells_misuse errors.OutOfMemory a more told = absurd (more refl)
 
 -- what tells a misuse answers words that ask nothing
 pub answers_misuse : (outcome : Outcome) (misuse : Option Misuse) (input : Option (List ℕ)) (a : Answer)
@@ -33,6 +24,17 @@ pub about_document : (q : Question) (types : List ℕ) (input : Option (List ℕ
     → IfSome input (λ d. document ≡ d) → IsAnswer q types document a → IfSome input (λ d. IsAnswer q types d a)
 about_document q types None document a is answer = tt
 about_document q types (Some d) document a is answer = subst (λ d. IsAnswer q types d a) is answer
+
+-- the answer about what was read as a document is one to the question
+pub answers_file : {B E : Type 0} (q : Question) (types : List ℕ) (input : Option (List ℕ)) (items : B → List ℕ)
+    → (read : Result B E) (made : Result answer.Answer AllocError)
+    → IfOk read (λ d. IfSome (document_of q.task input) (λ document. items d ≡ document))
+    → IfOk read (λ d. IfOk made (λ a. IsAnswer q types (items d) (answer_view a)))
+    → IfErr read (λ e. IfOk made (λ a. a.status ≡ Misused))
+    → IfOk made (λ a. AnswersFile q types input (answer_view a))
+answers_file q types input items (Ok d) made same answered unread =
+    IfOk-weaker made _ _ (λ a said. inr (about_document q types (document_of q.task input) (items d) (answer_view a) same said)) answered
+answers_file q types input items (Err e) made same answered unread = IfOk-weaker made _ _ (λ a status. inl status) unread
 
 -- that the file of types cannot be read answers words which ask about each line
 unread_words : (words : List Name) (q : Question) (input : Option (List ℕ)) (a : Answer)

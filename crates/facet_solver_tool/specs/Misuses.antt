@@ -1,9 +1,8 @@
 -- The texts of misuses.
 use Rattle.std.specs.Prelude.{◌≡◌, ◌++◌, List, ℕ, Option, Some, None, codes}
-use Rattle.facet_solver_tool.specs.declared.arguments.ArgumentError.{ArgumentError}
 use Rattle.facet_solver_tool.specs.declared.status.Status.TheVariants.{Misused}
 use Rattle.facet_solver_tool.specs.Answer.{Answer, says}
-use Rattle.facet_solver_tool.specs.Requests.{Misuse, misuse_view, no_command, no_such_command, no_such_option, no_types, too_many}
+use Rattle.facet_solver_tool.specs.Requests.{Misuse, no_command, no_such_command, no_such_option, no_types, too_many}
 
 -- the text of a misuse
 abbrev pub misuse_text : Misuse → List ℕ
@@ -13,15 +12,6 @@ misuse_text (no_such_command word) =
 misuse_text (no_such_option word) = codes "no option '" ++ (word ++ codes "' here")
 misuse_text no_types = codes "no file of types is named"
 misuse_text (too_many word) = codes "'" ++ (word ++ codes "' is a word too many")
-
--- the text of a misuse, or that memory was refused
-abbrev pub text_or_refused : Option Misuse → List ℕ
-text_or_refused None = codes "out of memory"
-text_or_refused (Some misuse) = misuse_text misuse
-
--- the text of an error
-abbrev pub error_text : ArgumentError → List ℕ
-error_text error = text_or_refused (misuse_view error)
 
 -- the answer that tells a misuse, where memory was not refused
 abbrev pub TellsMisuse : Option Misuse → Answer → Type 0

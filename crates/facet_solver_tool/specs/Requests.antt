@@ -7,6 +7,8 @@ use Rattle.facet_solver_reader.specs.declared.reader.Unknown.{Unknown}
 use Rattle.facet_solver_reader.specs.declared.reader.Unknown.TheVariants.{Ignored, Refused}
 use Rattle.facet_solver_tool.specs.declared.arguments.ArgumentError.{ArgumentError}
 use Rattle.facet_solver_tool.specs.declared.arguments.ArgumentError.TheVariants as errors
+use Rattle.facet_solver_tool.specs.declared.arguments.Misuse as misuse
+use Rattle.facet_solver_tool.specs.declared.arguments.Misuse.TheVariants as misuses
 use Rattle.facet_solver_tool.specs.declared.arguments.Request as request
 use Rattle.facet_solver_tool.specs.declared.arguments.Request.TheVariants as requests
 use Rattle.facet_solver_tool.specs.declared.question.Form.{Form}
@@ -111,11 +113,15 @@ form words = if list_any is_json words then Json else Text
 abbrev pub manner : List Name → Manner
 manner words = record { unknown = unknown words; form = form words }
 
+-- what the words behind 'read' ask, of which these don't say how documents are read
+abbrev pub read_operands : List Name → List Name → Outcome
+read_operands words operands =
+    if list_any is_lines words then question_of_lines (unknown words) operands
+    else question (Read (manner words)) operands
+
 -- what the words behind 'read' ask
 abbrev pub read : List Name → Outcome
-read words =
-    if list_any is_lines words then question_of_lines (unknown words) (filter is_operand words)
-    else question (Read (manner words)) (filter is_operand words)
+read words = read_operands words (filter is_operand words)
 
 -- a request that has no other words
 abbrev pub alone : Request → List Name → Outcome
@@ -144,13 +150,17 @@ request_view requests.Version = version
 request_view (requests.Ask question) = ask (question_view question)
 request_view (requests.Lines question) = ask_lines (lines_view question)
 
+-- what is seen of a misuse
+abbrev pub misuse_of : misuse.Misuse → Misuse
+misuse_of misuses.NoCommand = no_command
+misuse_of (misuses.NoSuchCommand word) = no_such_command word.now
+misuse_of (misuses.NoSuchOption word) = no_such_option word.now
+misuse_of misuses.NoTypes = no_types
+misuse_of (misuses.TooMany word) = too_many word.now
+
 -- what is seen of an error: a misuse, unless memory was refused
 abbrev pub misuse_view : ArgumentError → Option Misuse
-misuse_view errors.NoCommand = Some no_command
-misuse_view (errors.NoSuchCommand word) = Some (no_such_command word.now)
-misuse_view (errors.NoSuchOption word) = Some (no_such_option word.now)
-misuse_view errors.NoTypes = Some no_types
-misuse_view (errors.TooMany word) = Some (too_many word.now)
+misuse_view (errors.Misuse misuse) = Some (misuse_of misuse)
 misuse_view errors.OutOfMemory = None
 
 -- an error tells a misuse, unless memory was refused
@@ -158,7 +168,12 @@ abbrev pub IsMisuse : {A : Type 0} → Result A Misuse → Option Misuse → Typ
 IsMisuse outcome None = ⊤
 IsMisuse outcome (Some misuse) = outcome ≡ Err misuse
 
--- a result tells what is asked, unless memory was refused
+-- a result tells what is asked
+abbrev pub IsAsked : Outcome → Result request.Request misuse.Misuse → Type 0
+IsAsked outcome (Ok made) = outcome ≡ Ok (request_view made)
+IsAsked outcome (Err misuse) = outcome ≡ Err (misuse_of misuse)
+
+-- the same, unless memory was refused
 abbrev pub Asks : Outcome → Result request.Request ArgumentError → Type 0
 Asks outcome (Ok made) = outcome ≡ Ok (request_view made)
 Asks outcome (Err error) = IsMisuse outcome (misuse_view error)
@@ -167,7 +182,7 @@ Asks outcome (Err error) = IsMisuse outcome (misuse_view error)
 abbrev pub subject_view : Bor Name × Option (Bor Name) → Subject
 subject_view s = record { types = s.0.now; root = option_map (λ name. name.now) s.1 }
 
--- a result tells what words name, unless memory was refused
-abbrev pub Names : Result Subject Misuse → Result (Bor Name × Option (Bor Name)) ArgumentError → Type 0
+-- a result tells what words name
+abbrev pub Names : Result Subject Misuse → Result (Bor Name × Option (Bor Name)) misuse.Misuse → Type 0
 Names outcome (Ok made) = outcome ≡ Ok (subject_view made)
-Names outcome (Err error) = IsMisuse outcome (misuse_view error)
+Names outcome (Err misuse) = outcome ≡ Err (misuse_of misuse)

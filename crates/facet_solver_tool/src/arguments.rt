@@ -3,8 +3,8 @@ ghost use Rattle.std.specs.Prelude.{◌≡◌, IfOk, Some, filter, find};
 ghost use Rattle.std.specs.List.{list_any};
 ghost use Rattle.facet_solver_shape.specs.Names.{names_of};
 ghost use Rattle.facet_solver_tool.specs.Requests as requests;
-ghost use Rattle.facet_solver_tool.specs.Requests.{Asks, Names, request_view};
-ghost use Rattle.facet_solver_tool.specs.Misuses.{error_text};
+ghost use Rattle.facet_solver_tool.specs.Requests.{Asks, IsAsked, Names, misuse_of, request_view};
+ghost use Rattle.facet_solver_tool.specs.Misuses.{misuse_text};
 
 use crate::question::{Form, LinesQuestion, Manner, Question, Task};
 use facet_solver_reader::Unknown;
@@ -37,7 +37,7 @@ type Subject<'w> = (&'w str, Option<&'w str>);
 
 /// Why words ask nothing.
 #[derive(Clone, Copy, Debug, Drop, PartialEq, Eq)]
-pub enum ArgumentError<'w> {
+pub enum Misuse<'w> {
     /// There is no word.
     NoCommand,
     /// The first word is no command.
@@ -48,8 +48,41 @@ pub enum ArgumentError<'w> {
     NoTypes,
     /// There is a word too many.
     TooMany(&'w str),
+}
+
+impl fmt::Display for Misuse<'_> {
+    ghost output = { λ misuse. Some (misuse_text (misuse_of misuse)) };
+
+    fn fmt<W: fmt::Write>(&self, f: &mut fmt::Formatter<W>) -> fmt::Result {
+        match self {
+            Misuse::NoCommand => write!(f, "no command; --help lists them"),
+            Misuse::NoSuchCommand(word) => { write!(f, "no command '{word}'; --help lists them") }
+            Misuse::NoSuchOption(word) => write!(f, "no option '{word}' here"),
+            Misuse::NoTypes => write!(f, "no file of types is named"),
+            Misuse::TooMany(word) => write!(f, "'{word}' is a word too many"),
+        }
+    }
+}
+
+impl Error for Misuse<'_> {}
+
+/// Why it is not told what words ask.
+#[derive(Clone, Copy, Debug, Drop, PartialEq, Eq)]
+pub enum ArgumentError<'w> {
+    /// They ask nothing.
+    Misuse(Misuse<'w>),
     /// Out of memory.
     OutOfMemory,
+}
+
+impl<'w> From<Misuse<'w>> for ArgumentError<'w> {
+    ghost use Rattle.facet_solver_tool.specs.declared.arguments.ArgumentError.TheVariants as errors;
+
+    ghost from_gives = { λ misuse e. e ≡ errors.Misuse misuse };
+
+    fn from(misuse: Misuse<'w>) -> ArgumentError<'w> {
+        ArgumentError::Misuse(misuse)
+    }
 }
 
 impl<'w> From<AllocError> for ArgumentError<'w> {
@@ -62,25 +95,6 @@ impl<'w> From<AllocError> for ArgumentError<'w> {
     }
 }
 
-impl fmt::Display for ArgumentError<'_> {
-    ghost output = { λ e. Some (error_text e) };
-
-    fn fmt<W: fmt::Write>(&self, f: &mut fmt::Formatter<W>) -> fmt::Result {
-        match self {
-            ArgumentError::NoCommand => write!(f, "no command; --help lists them"),
-            ArgumentError::NoSuchCommand(word) => {
-                write!(f, "no command '{word}'; --help lists them")
-            }
-            ArgumentError::NoSuchOption(word) => write!(f, "no option '{word}' here"),
-            ArgumentError::NoTypes => write!(f, "no file of types is named"),
-            ArgumentError::TooMany(word) => write!(f, "'{word}' is a word too many"),
-            ArgumentError::OutOfMemory => write!(f, "out of memory"),
-        }
-    }
-}
-
-impl Error for ArgumentError<'_> {}
-
 /// What is asked by the words behind the program's name.
 ///
 /// Errors: why they ask nothing; out of memory.
@@ -88,25 +102,25 @@ pub fn requested<'w>(alloc: Global, words: &[&'w str]) -> Result<Request<'w>, Ar
     ensures { Asks (requests.requested (names_of words.now)) result }
 {
     let Some((command, others)) = words.split_first() else {
-        return Err(ArgumentError::NoCommand);
+        return Err(ArgumentError::Misuse(Misuse::NoCommand));
     };
     match *command {
-        "--help" => alone(Request::Help, others),
-        "--version" => alone(Request::Version, others),
+        "--help" => Ok(alone(Request::Help, others)?),
+        "--version" => Ok(alone(Request::Version, others)?),
         "read" => read(alloc, others),
-        "check" => question(Task::Check, others),
-        "catalogue" => question(Task::Catalogue, others),
-        word => Err(ArgumentError::NoSuchCommand(word)),
+        "check" => Ok(question(Task::Check, others)?),
+        "catalogue" => Ok(question(Task::Catalogue, others)?),
+        word => Err(ArgumentError::Misuse(Misuse::NoSuchCommand(word))),
     }
 }
 
 /// A request that has no other words.
-fn alone<'w>(request: Request<'w>, words: &[&'w str]) -> Result<Request<'w>, ArgumentError<'w>>
-    ensures { Asks (requests.alone (request_view request.entry) (names_of words.now)) result }
+fn alone<'w>(request: Request<'w>, words: &[&'w str]) -> Result<Request<'w>, Misuse<'w>>
+    ensures { IsAsked (requests.alone (request_view request.entry) (names_of words.now)) result }
 {
     match words.first() {
         None => Ok(request),
-        Some(word) => Err(ArgumentError::TooMany(word)),
+        Some(word) => Err(Misuse::TooMany(word)),
     }
 }
 
@@ -114,12 +128,19 @@ fn alone<'w>(request: Request<'w>, words: &[&'w str]) -> Result<Request<'w>, Arg
 fn read<'w>(alloc: Global, words: &[&'w str]) -> Result<Request<'w>, ArgumentError<'w>>
     ensures { Asks (requests.read (names_of words.now)) result }
 {
-    let manner = manner(words);
     let operands = operands(alloc, words)?;
+    Ok(read_operands(words, &operands)?)
+}
+
+/// What is asked by the words behind `read`, of which these don't say how a document is read.
+fn read_operands<'w>(words: &[&'w str], operands: &[&'w str]) -> Result<Request<'w>, Misuse<'w>>
+    ensures { IsAsked (requests.read_operands (names_of words.now) (names_of operands.now)) result }
+{
+    let manner = manner(words);
     if has_lines(words) {
-        lines(manner.unknown, &operands)
+        lines(manner.unknown, operands)
     } else {
-        question(Task::Read(manner), &operands)
+        question(Task::Read(manner), operands)
     }
 }
 
@@ -196,16 +217,16 @@ fn has_json(words: &[&str]) -> bool
 }
 
 /// The question of a task, about the types and the root that words name.
-fn question<'w>(task: Task, words: &[&'w str]) -> Result<Request<'w>, ArgumentError<'w>>
-    ensures { Asks (requests.question task (names_of words.now)) result }
+fn question<'w>(task: Task, words: &[&'w str]) -> Result<Request<'w>, Misuse<'w>>
+    ensures { IsAsked (requests.question task (names_of words.now)) result }
 {
     let (types, root) = subject(words)?;
     Ok(Request::Ask(Question { task, types, root }))
 }
 
 /// The question about each line, and about the types and the root that words name.
-fn lines<'w>(unknown: Unknown, words: &[&'w str]) -> Result<Request<'w>, ArgumentError<'w>>
-    ensures { Asks (requests.question_of_lines unknown (names_of words.now)) result }
+fn lines<'w>(unknown: Unknown, words: &[&'w str]) -> Result<Request<'w>, Misuse<'w>>
+    ensures { IsAsked (requests.question_of_lines unknown (names_of words.now)) result }
 {
     let (types, root) = subject(words)?;
     Ok(Request::Lines(LinesQuestion {
@@ -216,11 +237,11 @@ fn lines<'w>(unknown: Unknown, words: &[&'w str]) -> Result<Request<'w>, Argumen
 }
 
 /// The file of types and the root that words name.
-fn subject<'w>(words: &[&'w str]) -> Result<Subject<'w>, ArgumentError<'w>>
+fn subject<'w>(words: &[&'w str]) -> Result<Subject<'w>, Misuse<'w>>
     ensures { Names (requests.subject (names_of words.now)) result }
 {
     match first_option(words) {
-        Some(word) => Err(ArgumentError::NoSuchOption(word)),
+        Some(word) => Err(Misuse::NoSuchOption(word)),
         None => named(words),
     }
 }
@@ -240,13 +261,13 @@ fn is_option(word: &str) -> bool
 }
 
 /// The file of types and the root that words name, of which none is an option.
-fn named<'w>(words: &[&'w str]) -> Result<Subject<'w>, ArgumentError<'w>>
+fn named<'w>(words: &[&'w str]) -> Result<Subject<'w>, Misuse<'w>>
     ensures { Names (requests.named (names_of words.now)) result }
 {
     match *words {
-        [] => Err(ArgumentError::NoTypes),
+        [] => Err(Misuse::NoTypes),
         [types] => Ok((types, None)),
         [types, root] => Ok((types, Some(root))),
-        [_, _, word, ..] => Err(ArgumentError::TooMany(word)),
+        [_, _, word, ..] => Err(Misuse::TooMany(word)),
     }
 }

@@ -1,8 +1,9 @@
 //! A run of the program.
-ghost use Rattle.std.specs.Prelude.{◌≡◌, ◌≢◌, IfOk, IfSome};
+ghost use Rattle.std.specs.Prelude.{◌≡◌, ◌≢◌, IfErr, IfOk, IfSome};
 ghost use Rattle.facet_solver_shape.specs.Names.{names_of};
-ghost use Rattle.facet_solver_tool.specs.declared.status.Status.TheVariants.{Unwritten};
+ghost use Rattle.facet_solver_tool.specs.declared.status.Status.TheVariants.{Misused, Unwritten};
 ghost use Rattle.facet_solver_tool.specs.Answer.{answer_view};
+ghost use Rattle.facet_solver_tool.specs.Answers.{IsAnswer};
 ghost use Rattle.facet_solver_tool.specs.Misuses.{TellsMisuse};
 ghost use Rattle.facet_solver_tool.specs.Questions.{lines_view, question_view};
 ghost use Rattle.facet_solver_tool.specs.Requests.{misuse_view};
@@ -102,9 +103,9 @@ fn misused(alloc: Global, error: &ArgumentError<'_>) -> Result<Answer, AllocErro
 {
     match error {
         ArgumentError::OutOfMemory => Err(AllocError),
-        _ => Ok(Answer {
+        ArgumentError::Misuse(misuse) => Ok(Answer {
             status: Status::Misused,
-            text: error.to_string(alloc)?,
+            text: misuse.to_string(alloc)?,
         }),
     }
 }
@@ -156,7 +157,22 @@ fn answer_file<I: Read>(
     ensures { IfOk result (λ a. AnswersFile (question_view question.now) types.now
         (I.remaining input.old) (answer_view a)) }
 {
-    match document(alloc, input, question.task) {
+    let document = document(alloc, input, question.task);
+    answer_read(alloc, question, types, document)
+}
+
+/// The answer about what was read as the document of a question, or that it cannot be read.
+fn answer_read(
+    alloc: Global,
+    question: &Question<'_>,
+    types: &[u8],
+    document: io::Result<Vec<u8>>,
+) -> Result<Answer, AllocError>
+    ensures read { IfOk document (λ document. IfOk result (λ a.
+        IsAnswer (question_view question.now) types.now document.items (answer_view a))) }
+    ensures unread { IfErr document (λ _. IfOk result (λ a. a.status ≡ Misused)) }
+{
+    match document {
         Ok(document) => types::answer(alloc, question, types, &document),
         Err(error) => unread(alloc, "standard input", error),
     }
