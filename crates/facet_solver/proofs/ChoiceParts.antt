@@ -361,13 +361,13 @@ module _ (build : Build) (root : ℕ) (k : ℕ) (rank : IsRank k (count_of_root 
 
 -- ---- a choice is put together from the end: what the parts stand for, and then the indices that
 -- came out, last first
-pub record IsUnderWay (build : Build) (parts : List Part) (out choice : List ℕ) : Type 0 where
+pub record IsPutTogether (build : Build) (parts : List Part) (out choice : List ℕ) : Type 0 where
   pub rest : List ℕ
   pub stand : StandFor build parts rest
   pub all : rest ++ reverse out ≡ choice
 
 module _ (build : Build) where
-  pub under_way : (parts : List Part) (out choice : List ℕ) → out ≡ [] → StandFor build parts choice → IsUnderWay build parts out choice
+  pub under_way : (parts : List Part) (out choice : List ℕ) → out ≡ [] → StandFor build parts choice → IsPutTogether build parts out choice
   under_way parts out choice e h = record {
     rest = choice;
     stand = h;
@@ -381,7 +381,7 @@ module _ (build : Build) where
     pub stand : StandFor build parts before
     pub all : before ++ (indices_of build p ++ reverse out) ≡ choice
 
-  pub last_part : (old new : List Part) (p : Part) (out choice : List ℕ) → old ≡ new ++ p ∷ [] → IsUnderWay build old out choice → IsLast new p out choice
+  pub last_part : (old new : List Part) (p : Part) (out choice : List ℕ) → old ≡ new ++ p ∷ [] → IsPutTogether build old out choice → IsLast new p out choice
   last_part old new p out choice e h =
       let stand = subst (λ (ps : List Part). StandFor build ps h.rest) e h.stand in
       let are = before_part build new (p ∷ []) stand.are in
@@ -398,6 +398,6 @@ module _ (build : Build) where
       }
 
   -- nothing is left
-  pub all_out : (parts : List Part) (out choice : List ℕ) → length parts ≡ 0 → IsUnderWay build parts out choice → reverse out ≡ choice
+  pub all_out : (parts : List Part) (out choice : List ℕ) → length parts ≡ 0 → IsPutTogether build parts out choice → reverse out ≡ choice
   all_out [] out choice e h = ap (λ (c : List ℕ). c ++ reverse out) h.stand.stand ∙ h.all
   all_out (p ∷ parts) out choice e h = absurd (omega (arith, e))

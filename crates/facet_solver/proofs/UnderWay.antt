@@ -39,22 +39,22 @@ each_more (r ∷ resolutions) (suc i) within =
 
 -- some of the fields of a resolution were added after those of the resolutions before it, and the
 -- others are still to come
-pub record IsUnderWay (bound : ℕ) (before : List (List FieldView)) (fields : List FieldView) (rest : List (FieldKey × FieldView)) (index : Index) : Type 0 where
+pub record IsAddedInPart (bound : ℕ) (before : List (List FieldView)) (fields : List FieldView) (rest : List (FieldKey × FieldView)) (index : Index) : Type 0 where
   pub seen : List FieldView
   pub parts : seen ++ fields_of rest ≡ fields
   pub indexed : IsIndexOf bound (before ++ seen ∷ []) index
 
 -- none yet
 pub way_start : (bound : ℕ) (before : List (List FieldView)) (fields : List FieldView) (rest : List (FieldKey × FieldView)) (index : Index) → fields_of rest ≡ fields → IsIndexOf bound before index
-    → IsUnderWay bound before fields rest index
+    → IsAddedInPart bound before fields rest index
 way_start bound before fields rest index all is = record { seen = []; parts = all; indexed = index_same bound before index is }
 
 -- one more
 pub way_more : (bound : ℕ) (before : List (List FieldView)) (fields : List FieldView) (key : FieldKey) (f : FieldView) (variant : Option (Bor Name)) → option_map (λ (v : Bor Name). v.now) variant ≡ last_variant f.path
     → (rest : List (FieldKey × FieldView)) (old new : Index) (i : ℕ) → length before ≡ i → i < bound
-    → IsUnderWay bound before fields ((key, f) ∷ rest) old
+    → IsAddedInPart bound before fields ((key, f) ∷ rest) old
     → ((slot : Slot) → IsSlotAfter (is_at slot f) (record { index = i; bound = bound; shape = f.shape; variant = variant }) (entry_at old slot) (entry_at new slot))
-    → IsUnderWay bound before fields rest new
+    → IsAddedInPart bound before fields rest new
 way_more bound before fields key f variant named rest old new i count within way step = record {
   seen = way.seen ++ f ∷ [];
   parts = append_assoc way.seen (f ∷ []) (fields_of rest) ∙ way.parts;
@@ -62,7 +62,7 @@ way_more bound before fields key f variant named rest old new i count within way
 }
 
 -- all
-pub way_end : (bound : ℕ) (before : List (List FieldView)) (fields : List FieldView) (index : Index) → IsUnderWay bound before fields [] index → IsIndexOf bound (before ++ fields ∷ []) index
+pub way_end : (bound : ℕ) (before : List (List FieldView)) (fields : List FieldView) (index : Index) → IsAddedInPart bound before fields [] index → IsIndexOf bound (before ++ fields ∷ []) index
 way_end bound before fields index way =
     let all : way.seen ≡ fields = sym (append-nil way.seen) ∙ way.parts in
     subst (λ fs. IsIndexOf bound (before ++ fs ∷ []) index) all way.indexed

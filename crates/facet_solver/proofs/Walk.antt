@@ -98,8 +98,8 @@ module _ (build : Build) (f : Field) (place : Path) (ns : List ℕ) where
       go (leaf target) h = refl
 
 -- what is told of a field's presence: whether it is present, and the indices that are left
-abbrev pub Tells : Bool → List ℕ → Bool → List ℕ → Type 0
-Tells may_be_absent ns is_present rest = (w : Walking) → walk_optional may_be_absent w ns ≡ (if is_present then w rest else emit [] rest)
+abbrev pub IsPresence : Bool → List ℕ → Bool → List ℕ → Type 0
+IsPresence may_be_absent ns is_present rest = (w : Walking) → walk_optional may_be_absent w ns ≡ (if is_present then w rest else emit [] rest)
 
 -- the walk of a field whose presence is told
 module _ (build : Build) (f : Field) (place : Path) (ns : List ℕ) (b : Bool) (is : b ≡ may_be_absent (role_of build.catalogue f)) where
@@ -107,7 +107,7 @@ module _ (build : Build) (f : Field) (place : Path) (ns : List ℕ) (b : Bool) (
   unfolding walk_field walk_present_field
   by_presence = ap (λ (b : Bool). walk_optional b (walk_present (walk_fields build) build f place (role_of build.catalogue f)) ns) (sym is)
 
-  module _ (is_present : Bool) (rest : List ℕ) (told : Tells b ns is_present rest) where
+  module _ (is_present : Bool) (rest : List ℕ) (told : IsPresence b ns is_present rest) where
     pub when-present : is_present ≡ true → walk_field build f place ns ≡ walk_present_field build f place rest
     when-present e =
         by_presence ∙ told (walk_present_field build f place)

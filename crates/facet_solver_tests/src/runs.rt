@@ -7,7 +7,7 @@ use std::mem;
 
 /// A call of a run, with what it borrows while a solver lives.
 #[derive(Drop)]
-pub struct Step<'t> {
+pub struct RunCall<'t> {
     /// The number of the line of the run.
     line: usize,
     /// How often it is made.
@@ -19,28 +19,32 @@ pub struct Step<'t> {
     shapes: Vec<ShapeId>,
 }
 
-/// The steps of all runs. A solver keeps what it is given in a run, so they are read before there
+/// The calls of all runs. A solver keeps what it is given in a run, so they are read before there
 /// is one.
-pub fn steps<'t>(
+pub fn run_calls<'t>(
     catalogue: Catalogue<'_>,
     calls: &[Line<'t>],
     answer: &mut Answer<'t>,
-) -> Vec<Step<'t>> {
-    let mut steps = Vec::new(answer.alloc);
+) -> Vec<RunCall<'t>> {
+    let mut run_calls = Vec::new(answer.alloc);
     for line in calls {
         answer.begin(*line);
         if answer.next_word() == "run" {
-            add_steps(catalogue, &mut steps, answer);
+            add_run_calls(catalogue, &mut run_calls, answer);
         }
         if !answer.holds() {
             break;
         }
     }
-    steps
+    run_calls
 }
 
-/// Adds the steps of a line, between two of which `then` stands.
-fn add_steps<'t>(catalogue: Catalogue<'_>, steps: &mut Vec<Step<'t>>, answer: &mut Answer<'t>) {
+/// Adds the calls of a line, between two of which `then` stands.
+fn add_run_calls<'t>(
+    catalogue: Catalogue<'_>,
+    run_calls: &mut Vec<RunCall<'t>>,
+    answer: &mut Answer<'t>,
+) {
     let line = answer.line;
     let Some((_, run)) = answer.call.split_once(' ') else {
         return;
@@ -50,16 +54,16 @@ fn add_steps<'t>(catalogue: Catalogue<'_>, steps: &mut Vec<Step<'t>>, answer: &m
             number: line.number,
             text,
         });
-        let step = Step::read(catalogue, answer);
-        answer.push(steps, step);
+        let run_call = RunCall::read(catalogue, answer);
+        answer.push(run_calls, run_call);
         if !answer.holds() {
             return;
         }
     }
 }
 
-impl<'t> Step<'t> {
-    /// The step of a text: `times=600 see x`, or `see x` alone.
+impl<'t> RunCall<'t> {
+    /// The call of a text: `times=600 see x`, or `see x` alone.
     fn read(catalogue: Catalogue<'_>, answer: &mut Answer<'t>) -> Self {
         let mut times = 1;
         let mut call = answer.word();
@@ -76,7 +80,7 @@ impl<'t> Step<'t> {
             _ => "",
         };
         catalogue.read_shapes(answer);
-        Step {
+        RunCall {
             line: answer.line.number,
             times,
             call,
@@ -116,12 +120,16 @@ impl<'t> Step<'t> {
 }
 
 /// The calls of the run in the line of a number.
-pub fn calls<'r>(steps: &'r [Step<'_>], line: usize, answer: &mut Answer<'_>) -> Vec<Call<'r>> {
+pub fn calls<'r>(
+    run_calls: &'r [RunCall<'_>],
+    line: usize,
+    answer: &mut Answer<'_>,
+) -> Vec<Call<'r>> {
     let mut calls = Vec::new(answer.alloc);
-    for step in steps {
-        if step.line == line {
-            for _ in 0..step.times {
-                let call = step.call(answer);
+    for run_call in run_calls {
+        if run_call.line == line {
+            for _ in 0..run_call.times {
+                let call = run_call.call(answer);
                 answer.push(&mut calls, call);
             }
         }

@@ -4,7 +4,7 @@ use crate::answer::{Answer, BAR, Line};
 use crate::catalogue::Catalogue;
 use crate::probing::Probing;
 use crate::resolution::{add_key, of_schema};
-use crate::runs::{Step, calls};
+use crate::runs::{RunCall, calls};
 use crate::{errors, marks};
 use facet_solver::{
     Call, FieldInfo, KeyResult, ResolutionHandle, SatisfyResult, Schema, Solver, SolverError, Steps,
@@ -20,18 +20,18 @@ pub struct Session<'s, 'c, 't> {
     solver: Solver<'s, 'c, 's>,
     probing: Probing<'s, 'c>,
     calls: &'s [Line<'t>],
-    steps: &'s [Step<'t>],
+    run_calls: &'s [RunCall<'t>],
     /// The number of the line behind which the solver was new.
     begun: usize,
     error: Option<SolverError<'c>>,
 }
 
 impl<'s, 'c, 't: 's> Session<'s, 'c, 't> {
-    /// Solvers that were told nothing. The steps are those of the runs among the calls.
+    /// Solvers that were told nothing. The calls are those of the runs among the calls.
     pub fn new(
         catalogue: Catalogue<'c>,
         schema: &'s Schema<'c>,
-        steps: &'s [Step<'t>],
+        run_calls: &'s [RunCall<'t>],
         calls: &'s [Line<'t>],
         alloc: Global,
     ) -> Result<Self, AllocError> {
@@ -43,7 +43,7 @@ impl<'s, 'c, 't: 's> Session<'s, 'c, 't> {
             solver,
             probing,
             calls,
-            steps,
+            run_calls,
             begun: 0,
             error: None,
         })
@@ -378,7 +378,7 @@ impl<'s, 'c, 't: 's> Session<'s, 'c, 't> {
     }
 
     fn run(&mut self, answer: &mut Answer<'t>) {
-        let calls = calls(self.steps, answer.line.number, answer);
+        let calls = calls(self.run_calls, answer.line.number, answer);
         if answer.holds() {
             if let Err(made) = self.solver.run(answer.alloc, &calls) {
                 marks::out_of_memory(answer.alloc);
@@ -431,7 +431,7 @@ impl<'s, 'c, 't: 's> Session<'s, 'c, 't> {
     fn tell(&mut self, answer: &mut Answer<'t>) {
         match answer.word() {
             "run" => {
-                let calls = calls(self.steps, answer.line.number, answer);
+                let calls = calls(self.run_calls, answer.line.number, answer);
                 self.run_calls(&calls, answer);
             }
             call => self.call(call, answer),

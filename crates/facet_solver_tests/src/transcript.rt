@@ -4,7 +4,7 @@ use crate::answer::{Answer, BAR, Line};
 use crate::by_hand::Hand;
 use crate::catalogue::Catalogue;
 use crate::resolution::add_refusal;
-use crate::runs::{Step, steps};
+use crate::runs::{RunCall, run_calls};
 use crate::solving::Session;
 use crate::types::{Types, declares};
 use facet_solver::{CatalogueError, Field, Schema, Shapes};
@@ -167,20 +167,20 @@ fn on_schema<'c, 't>(
     answer: &mut Answer<'t>,
 ) {
     if answer.holds() {
-        let steps = steps(catalogue, calls, answer);
-        on_steps(catalogue, schema, &steps, calls, answer);
+        let run_calls = run_calls(catalogue, calls, answer);
+        on_run_calls(catalogue, schema, &run_calls, calls, answer);
     }
 }
 
-fn on_steps<'s, 'c, 't: 's>(
+fn on_run_calls<'s, 'c, 't: 's>(
     catalogue: Catalogue<'c>,
     schema: &'s Schema<'c>,
-    steps: &'s [Step<'t>],
+    run_calls: &'s [RunCall<'t>],
     calls: &'s [Line<'t>],
     answer: &mut Answer<'t>,
 ) {
     if answer.holds() {
-        match Session::new(catalogue, schema, steps, calls, answer.alloc) {
+        match Session::new(catalogue, schema, run_calls, calls, answer.alloc) {
             Ok(mut session) => session.make_all(answer),
             Err(AllocError) => answer.refused(),
         }

@@ -5,7 +5,7 @@ use Rattle.std.specs.Io.KnownBytes.{Appends}
 use Rattle.facet_solver_tool.specs.declared.status.Status.TheVariants.{Misused}
 use Rattle.facet_solver_tool.specs.Answer.{Answer, refused}
 use Rattle.facet_solver_tool.specs.Lines.{Shows, WritesAnswers, answer_line}
-use Rattle.facet_solver_tool.specs.Streams.{Ran, Streams, Tells, WritesLine}
+use Rattle.facet_solver_tool.specs.Streams.{Ran, Streams, EndsWith, WritesLine}
 
 appends_none : (a : Option (List ℕ)) → Appends a a []
 appends_none None = tt
@@ -40,7 +40,7 @@ written_more is_shown before between after answers a p line shown = (
 )
 
 -- what tells no answer is a line on the errors, and nothing on the output
-pub tells_error : (r : Ran) (a : Answer) → (a.status ≡ Misused) ⊎ (a ≡ refused) → Tells r a
+pub tells_error : (r : Ran) (a : Answer) → (a.status ≡ Misused) ⊎ (a ≡ refused) → EndsWith r a
     → Appends r.before.errors r.after.errors (a.text ++ 10 ∷ []) × (r.after.output ≡ r.before.output)
 tells_error r a (inl status) tells =
     subst (λ s. WritesLine s r.before r.after (a.text ++ 10 ∷ [])) status tells.1

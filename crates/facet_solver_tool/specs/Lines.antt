@@ -9,7 +9,7 @@ use Rattle.facet_solver_tool.specs.Answer.{Answer, refused}
 use Rattle.facet_solver_tool.specs.Counts.{Counts, count_text, worst}
 use Rattle.facet_solver_tool.specs.QuotedText.{quoted}
 use Rattle.facet_solver_tool.specs.Status.{code}
-use Rattle.facet_solver_tool.specs.Streams.{Ran, Streams, Tells}
+use Rattle.facet_solver_tool.specs.Streams.{Ran, Streams, EndsWith}
 
 -- lines with a byte before the first, or the byte alone where there are none
 abbrev pub before_first : ℕ → List (List ℕ) → List (List ℕ)
@@ -84,5 +84,5 @@ pub data AnswersLines (P : List ℕ → Answer → Type 0) (is_shown : Bool) (r 
       → EndsBy is_shown r answers (a.text ++ 10 ∷ []) → r.status ≡ a.status
       → AnswersLines P is_shown r
   for_all : (a : Answer)
-      → ((document : List ℕ) → P document a) ⊎ (a ≡ refused) → Tells r a
+      → ((document : List ℕ) → P document a) ⊎ (a ≡ refused) → EndsWith r a
       → AnswersLines P is_shown r

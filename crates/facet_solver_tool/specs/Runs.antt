@@ -10,7 +10,7 @@ use Rattle.facet_solver_tool.specs.Lines.{AnswersLines}
 use Rattle.facet_solver_tool.specs.Misuses.{misuse_text}
 use Rattle.facet_solver_tool.specs.Questions.{Question}
 use Rattle.facet_solver_tool.specs.Requests.{Outcome, help, version, ask, ask_lines, requested}
-use Rattle.facet_solver_tool.specs.Streams.{Ran, Tells}
+use Rattle.facet_solver_tool.specs.Streams.{Ran, EndsWith}
 
 -- the document of a question: what an input has left, where it is to be read, and else nothing
 abbrev pub document_of : Task → Option (List ℕ) → Option (List ℕ)
@@ -64,16 +64,16 @@ AnswersEachLine outcome r =
 -- a run that answers a question about each line, or tells why it cannot
 abbrev pub EndsLines : Question → Ran → Type 0
 EndsLines q r =
-    ((a : Answer) × ((a.status ≡ Misused) ⊎ (a ≡ refused)) × Tells r a) ⊎ AnswersFileLines q r
+    ((a : Answer) × ((a.status ≡ Misused) ⊎ (a ≡ refused)) × EndsWith r a) ⊎ AnswersFileLines q r
 
 -- how the words of a command line are answered: by one answer to them, or about each line
 abbrev pub EndsWords : List Name → Ran → Type 0
 EndsWords words r =
-    ((a : Answer) × (AnswersWords words r.input a ⊎ (a ≡ refused)) × Tells r a)
+    ((a : Answer) × (AnswersWords words r.input a ⊎ (a ≡ refused)) × EndsWith r a)
     ⊎ AnswersEachLine (requested words) r
 
 -- how a run is answered: by one answer to it, or about each line
 abbrev pub EndsRun : Ran → Type 0
 EndsRun r =
-    ((a : Answer) × IsRun r.input a × Tells r a)
+    ((a : Answer) × IsRun r.input a × EndsWith r a)
     ⊎ ((words : List Name) × AnswersEachLine (requested words) r)

@@ -40,8 +40,8 @@ ran input before after status =
     record { input = input; before = before; after = after; status = status }
 
 -- an answer is all that a run writes, and tells how it ends
-abbrev pub Tells : Ran → Answer → Type 0
-Tells r a = (a.status ≡ r.status) × Writes r.before r.after a
+abbrev pub EndsWith : Ran → Answer → Type 0
+EndsWith r a = (a.status ≡ r.status) × Writes r.before r.after a
 
 -- what is told for an answer that is made, or for which memory was refused
 abbrev pub told : Result answer.Answer AllocError → Answer

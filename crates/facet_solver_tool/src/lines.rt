@@ -10,7 +10,7 @@ ghost use Rattle.facet_solver_tool.specs.Lines.{AnswersLines};
 ghost use Rattle.facet_solver_tool.specs.Questions.{lines_view};
 ghost use Rattle.facet_solver_tool.specs.ReadAnswers.{AnswersBytes};
 ghost use Rattle.facet_solver_tool.specs.RootAnswers.{AnswersRead, root_at};
-ghost use Rattle.facet_solver_tool.specs.Streams.{Tells, ran, streams};
+ghost use Rattle.facet_solver_tool.specs.Streams.{EndsWith, ran, streams};
 
 mod each;
 mod progress;
@@ -174,7 +174,7 @@ fn tell_stop<O: Write, E: Write>(
     stop: Stop,
 ) -> Status
     ensures { result ≢ Unwritten → (stop ≢ stops.Unwritten) × (a : Answer)
-        × ((a.status ≡ Misused) ⊎ (a ≡ refused)) × Tells (ran None
+        × ((a.status ≡ Misused) ⊎ (a ≡ refused)) × EndsWith (ran None
         (streams (O.contents output.old) (E.contents errors.old))
         (streams (O.contents output.new) (E.contents errors.new)) result) a }
 {

@@ -2,7 +2,7 @@
 ghost use Rattle.std.specs.Prelude.{◌≡◌, ◌≢◌, ◌++◌, [], ◌∷◌, None, OnOk};
 ghost use Rattle.std.specs.Io.KnownBytes.{Appends};
 ghost use Rattle.facet_solver_tool.specs.declared.status.Status.TheVariants.{Unwritten};
-ghost use Rattle.facet_solver_tool.specs.Streams.{Tells, WritesLine, ran, streams, told};
+ghost use Rattle.facet_solver_tool.specs.Streams.{EndsWith, WritesLine, ran, streams, told};
 
 use crate::answer::Answer;
 use crate::status::Status;
@@ -18,7 +18,7 @@ pub fn tell<O: Write, E: Write>(
     errors: &mut E,
     answer: Result<Answer, AllocError>,
 ) -> Status
-    ensures { result ≢ Unwritten → Tells (ran None
+    ensures { result ≢ Unwritten → EndsWith (ran None
         (streams (O.contents output.old) (E.contents errors.old))
         (streams (O.contents output.new) (E.contents errors.new)) result) (told answer) }
 {

@@ -84,33 +84,33 @@ abbrev pub RootReached : Reach → Catalogue → ℕ → Type 0
 RootReached m cat root = KindReached m cat ⊤ true (kind_at cat root)
 
 -- marks of what walks go through, and of the enums whose content is written apart
-pub record Asked : Type 0 where
+pub record Marked : Type 0 where
   pub reach : Reach
   pub apart : List Bool
 
 -- these marks
-abbrev pub asked : List Bool → List Bool → List Bool → Asked
-asked walked structs apart = record { reach = reach walked structs; apart = apart }
+abbrev pub marked : List Bool → List Bool → List Bool → Marked
+marked walked structs apart = record { reach = reach walked structs; apart = apart }
 
 -- all that is marked is marked in others too
-pub record AskedAmong (m n : Asked) : Type 0 where
+pub record AskedAmong (m n : Marked) : Type 0 where
   pub reach : ReachAmong m.reach n.reach
   pub apart : MarksAmong m.apart n.apart
 
 -- what the walked shapes lead to is marked
-abbrev pub AreReached : Build → Asked → Type 0
+abbrev pub AreReached : Build → Marked → Type 0
 AreReached build m =
     (id : ℕ) → IsMarked m.reach.walked id → IsReachedAt m.reach m.apart build id
 
 -- what the walks of a root lead to is marked, and what the key paths of its structs are made from
-pub record HoldReached (build : Build) (root : ℕ) (m : Asked) : Type 0 where
+pub record HoldReached (build : Build) (root : ℕ) (m : Marked) : Type 0 where
   pub reached : RootReached m.reach build.catalogue root
   pub walked : AreReached build m
   pub structs : IsClosed structs_alone build.catalogue m.reach.structs
 
 -- all that the walks of a root ask for is marked, and what the key paths of content are made from
 -- that is written apart
-pub record HoldAsked (build : Build) (root : ℕ) (m : Asked) (contents : List Bool) : Type 0 where
+pub record HoldAsked (build : Build) (root : ℕ) (m : Marked) (contents : List Bool) : Type 0 where
   pub reached : HoldReached build root m
   pub by_apart : AskedBy every_kind build.catalogue m.apart contents
   pub closed : IsClosed every_kind build.catalogue contents
@@ -130,7 +130,7 @@ pub record Follows (build : Build) (tables : NestedTables) (m : Reach) : Type 0 
   pub structs : (id : ℕ) → IsMarked m.structs id → IsFilled tables.structs.by_index.items id
 
 -- tables have only what is marked: the fields under a shape, and those under variants
-pub record HaveOnly (m : Asked) (contents : List Bool) (tables : NestedTables) : Type 0 where
+pub record HaveOnly (m : Marked) (contents : List Bool) (tables : NestedTables) : Type 0 where
   pub under_structs : (id : ℕ) → IsFilled tables.structs.by_index.items id
       → IsMarked m.reach.structs id
   pub no_variants : (id : ℕ) → HasVariants tables.structs.by_index.items id → ⊥

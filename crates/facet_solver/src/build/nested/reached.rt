@@ -7,7 +7,7 @@ ghost use Rattle.facet_solver.specs.build.Build.{build_of, kind_at};
 ghost use Rattle.facet_solver.specs.build.FieldCount.{fields_of_kind};
 ghost use Rattle.facet_solver.specs.build.Nested.{structs_alone};
 ghost use Rattle.facet_solver.specs.build.NestedTable.{IsMarked, IsMarkedMore, MarksAmong};
-ghost use Rattle.facet_solver.specs.build.Reached.{AreReached, Asked, AskedAmong, ContentReached, FieldReached, HoldReached, IsReachedAt, IsReachedMore, Reach, ReachAmong, RootReached, VariantReached, asked, reach};
+ghost use Rattle.facet_solver.specs.build.Reached.{AreReached, Marked, AskedAmong, ContentReached, FieldReached, HoldReached, IsReachedAt, IsReachedMore, Reach, ReachAmong, RootReached, VariantReached, marked, reach};
 
 use crate::build::Build;
 use crate::build::content::newtype_of;
@@ -37,10 +37,10 @@ pub(crate) fn mark_reached(
         ≡ steps.old.visits + fields_of_kind (kind_at build.entry.shapes.now root) }
     ensures no_fall { NoCountFalls steps.old steps.new }
     ensures asked { HoldReached (build_of build.entry) root
-        (asked walked.new structs.new apart.new) }
-    ensures least { (others : Asked) → AskedAmong (asked walked.old structs.old apart.old) others
+        (marked walked.new structs.new apart.new) }
+    ensures least { (others : Marked) → AskedAmong (marked walked.old structs.old apart.old) others
         → HoldReached (build_of build.entry) root others
-        → AskedAmong (asked walked.new structs.new apart.new) others }
+        → AskedAmong (marked walked.new structs.new apart.new) others }
 {
     mark_root(build, root, walked, structs, steps);
     mark_walked(build, walked, structs, apart);
@@ -91,10 +91,10 @@ fn mark_walked(build: Build, walked: &mut [bool], structs: &mut [bool], apart: &
         (reach walked.new structs.new) }
     ensures apart { length apart.new ≡ length apart.old }
     ensures closed { AreReached (build_of build.entry)
-        (asked walked.new structs.new apart.new) }
-    ensures least { (others : Asked) → AskedAmong (asked walked.old structs.old apart.old) others
+        (marked walked.new structs.new apart.new) }
+    ensures least { (others : Marked) → AskedAmong (marked walked.old structs.old apart.old) others
         → AreReached (build_of build.entry) others
-        → AskedAmong (asked walked.new structs.new apart.new) others }
+        → AskedAmong (marked walked.new structs.new apart.new) others }
 {
     let mut left = walked.len();
     while left > 0 {
@@ -124,9 +124,9 @@ fn mark_shape(
     ensures apart { IsMarkedMore (index + 1) apart.old apart.new }
     ensures reached { IsReachedAt (reach walked.new structs.new) apart.new
         (build_of build.entry) index }
-    ensures least { (others : Asked) → AskedAmong (asked walked.old structs.old apart.old) others
+    ensures least { (others : Marked) → AskedAmong (marked walked.old structs.old apart.old) others
         → IsReachedAt others.reach others.apart (build_of build.entry) index
-        → AskedAmong (asked walked.new structs.new apart.new) others }
+        → AskedAmong (marked walked.new structs.new apart.new) others }
 {
     let Some(shape) = build.shapes.get(ShapeId::new(index)) else {
         return;

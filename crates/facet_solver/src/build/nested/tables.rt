@@ -6,7 +6,7 @@ ghost use Rattle.facet_solver.specs.build.Build.{build_of, kind_at};
 ghost use Rattle.facet_solver.specs.build.Nested.{content_paths, nested_paths, with_paths_behind};
 ghost use Rattle.facet_solver.specs.build.FieldCount.{field_count, fields_of_kind};
 ghost use Rattle.facet_solver.specs.build.NestedTable.{HasVariants, variant_at};
-ghost use Rattle.facet_solver.specs.build.Reached.{AreTables, Asked, HaveOnly, HoldAsked, ServesRegular, ServesRoot};
+ghost use Rattle.facet_solver.specs.build.Reached.{AreTables, Marked, HaveOnly, HoldAsked, ServesRegular, ServesRoot};
 
 use crate::build::Build;
 use crate::build::draft::Draft;
@@ -38,7 +38,7 @@ impl<'c> NestedTables<'c> {
         ensures entries { IfOk result (AreTables (build_of build.entry)) }
         ensures root { IfOk result (λ tables. ServesRoot (build_of build.entry) tables root) }
         ensures asked { IfOk result (λ tables.
-            (marks : Asked) (contents : List Bool)
+            (marks : Marked) (contents : List Bool)
             → HoldAsked (build_of build.entry) root marks contents
             → HaveOnly marks contents tables) }
         ensures visits { steps.new.visits

@@ -2,7 +2,7 @@ use Rattle.std.proofs.Common.{◌≡◌, ◌++◌, ◌+◌, ◌*◌, ◌<◌, �
 use Rattle.facet_solver.specs.build.Build.{Catalogue, build_of, kind_at}
 use Rattle.facet_solver.specs.build.FieldCount.{field_count, fields_of_kind}
 use Rattle.facet_solver.specs.build.NestedTable.{HasVariants, IsMarked}
-use Rattle.facet_solver.specs.build.Reached.{AskedAmong, asked, reach}
+use Rattle.facet_solver.specs.build.Reached.{AskedAmong, marked, reach}
 use Rattle.facet_solver.proofs.Marks.{NoMark, among-none, none_before, none_behind, none_marked}
 use Rattle.facet_solver.proofs.NestedTable.{fields_with_earlier, no_marks}
 use Rattle.facet_solver.proofs.Reached.{shape_kept}
@@ -64,7 +64,7 @@ returns-clause-asked c = λ marks contents holds.
     subst NoMark c.split_at_mut-walked.ensures.value (none_marked _ _ (c.deref_mut.ensures.value ∙ c.in_ok-marks.ensures.items_if_clones_equal (λ b is. is))) in
     let more : NoMark (structs ++ but_structs) = subst NoMark c.split_at_mut-structs.ensures.value (none_behind walked but_walked all) in
     let most : NoMark (apart ++ last) = subst NoMark c.split_at_mut-apart.ensures.value (none_behind structs but_structs more) in
-    let none : AskedAmong (asked walked structs apart) marks = record {
+    let none : AskedAmong (marked walked structs apart) marks = record {
       reach = record {
         walked = among-none walked marks.reach.walked (none_before walked but_walked all);
         structs = among-none structs marks.reach.structs (none_before structs but_structs more);
