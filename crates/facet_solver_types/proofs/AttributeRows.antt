@@ -191,6 +191,8 @@ pub refused_rows :
     × (meanings on.OtherStruct (codes "#[serde(tag = \"t\")]")
     ≡ Err (At 8 (problem.Attribute (refusal.Misused misuse.Misplaced))))
     × (meanings on.Variant (codes "#[serde(untagged)]")
+    ≡ Err (At 8 (problem.Attribute (refusal.Misused misuse.Unsupported))))
+    × (meanings on.NamedField (codes "#[serde(untagged)]")
     ≡ Err (At 8 (problem.Attribute (refusal.Misused misuse.Misplaced))))
     × (meanings on.Variant (codes "#[facet(xml::text)]")
     ≡ Err (At 8 (problem.Attribute (refusal.Misused misuse.Misplaced))))
@@ -199,7 +201,7 @@ pub refused_rows :
     × (meanings on.NamedField (codes "#[flatten]")
     ≡ Err (At 2 (problem.Attribute (refusal.Misused misuse.Unsupported))))
 unfolding tokens_from first_part first_token gap_len blank_len continues_name is_keyword mark opening_of text_token begins_character character same_bracket entries_from begins_attribute run_from nest_after pieces_from chars encode
-refused_rows = (refl, refl, refl, refl, refl, refl, refl, refl, refl)
+refused_rows = (refl, refl, refl, refl, refl, refl, refl, refl, refl, refl)
 
 -- values that are not taken
 pub value_rows :

@@ -75,9 +75,9 @@ pub outside_rows :
     × (told on.NamedField (codes "#[flatten]")
     ≡ codes "'flatten' cannot be said: write it in #[serde(..)]")
     × (told on.Enum (codes "#[serde(tag = \"t\")] #[untagged]")
-    ≡ codes "'untagged' cannot be said: write it in #[serde(..)]")
+    ≡ codes "'untagged' cannot be said: write it in #[serde(..)], on an enum")
     × (told on.Enum (codes "#[cfg_attr(x, untagged)]")
-    ≡ codes "'untagged' cannot be said: write it in #[serde(..)]")
+    ≡ codes "'untagged' cannot be said: write it in #[serde(..)], on an enum")
 unfolding tokens_from first_part first_token gap_len blank_len continues_name is_keyword mark opening_of text_token begins_character character same_bracket entries_from parts_from begins_attribute run_from nest_after pieces_from is_same chars encode
 outside_rows = (refl, refl, refl, refl)
 

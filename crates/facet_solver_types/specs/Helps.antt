@@ -21,5 +21,5 @@ help_for word =
     ∷ (codes "is_numeric", codes "write each variant by its name")
     ∷ (codes "opaque", codes "write proxy = T beside it")
     ∷ (codes "flatten", codes "write it in #[serde(..)]")
-    ∷ (codes "untagged", codes "write it in #[serde(..)]")
+    ∷ (codes "untagged", codes "write it in #[serde(..)], on an enum")
     ∷ []) (bare word)

@@ -33,6 +33,11 @@ is_unsupported =
     ∷ codes "remote" ∷ codes "is_numeric" ∷ codes "field_identifier"
     ∷ codes "variant_identifier" ∷ [])
 
+-- nor what else stands on a variant alone: to be read where no other variant is
+abbrev pub is_unsupported_on : Subject → Name → Bool
+is_unsupported_on Variant name = is_unsupported name || name_eq name (codes "untagged")
+is_unsupported_on subject name = is_unsupported name
+
 -- the marks of a field in a tree of elements
 abbrev pub dom_mark : Name → Option DomMark
 dom_mark =
@@ -115,13 +120,13 @@ has_meaning name =
     || is_some (on_named_field name)
 
 -- an attribute that means nothing on its subject
-abbrev pub misuse : Name → Misuse
-misuse name =
-    if is_unsupported name then Unsupported
+abbrev pub misuse : Subject → Name → Misuse
+misuse subject name =
+    if is_unsupported_on subject name then Unsupported
     else (if has_meaning name then Misplaced else Unknown)
 
 -- what an attribute means on a subject, by its name
 abbrev pub means : Subject → Name → Result Meaning Misuse
 means subject name =
     if is_passed_over name then Ok Nothing
-    else ok_or (meaning_on subject name) (misuse name)
+    else ok_or (meaning_on subject name) (misuse subject name)

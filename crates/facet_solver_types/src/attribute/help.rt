@@ -23,7 +23,8 @@ pub(super) fn help_for(word: &str) -> Option<&'static str>
         "field_identifier" | "variant_identifier" => Some("write an enum of unit variants"),
         "is_numeric" => Some("write each variant by its name"),
         "opaque" => Some("write proxy = T beside it"),
-        "flatten" | "untagged" => Some("write it in #[serde(..)]"),
+        "flatten" => Some("write it in #[serde(..)]"),
+        "untagged" => Some("write it in #[serde(..)], on an enum"),
         _ => None,
     }
 }

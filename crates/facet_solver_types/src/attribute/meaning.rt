@@ -84,7 +84,7 @@ pub(crate) fn means(subject: Subject, name: &str) -> Result<Meaning, Misuse>
     }
     match meaning_on(subject, name) {
         Some(meaning) => Ok(meaning),
-        None if is_unsupported(name) => Err(Misuse::Unsupported),
+        None if is_unsupported_on(subject, name) => Err(Misuse::Unsupported),
         None if has_meaning(name) => Err(Misuse::Misplaced),
         None => Err(Misuse::Unknown),
     }
@@ -241,7 +241,18 @@ fn is_passed_over(name: &str) -> bool
     }
 }
 
-/// Whether no catalogue says what it asks, where it has no meaning.
+/// Whether no catalogue says what it asks on a subject, where it has no meaning: on a variant also
+/// to be read where no other one is.
+fn is_unsupported_on(subject: Subject, name: &str) -> bool
+    ensures { result ≡ meanings.is_unsupported_on subject name.now }
+{
+    match subject {
+        Subject::Variant => is_unsupported(name) || name == "untagged",
+        _ => is_unsupported(name),
+    }
+}
+
+/// Whether no catalogue says what it asks on any subject, where it has no meaning.
 fn is_unsupported(name: &str) -> bool
     ensures { result ≡ meanings.is_unsupported name.now }
 {
