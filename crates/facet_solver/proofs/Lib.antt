@@ -66,3 +66,14 @@ pub mod Reported
 pub mod Missing
 pub mod Probe
 pub mod FirstPassing
+pub mod SampleBuilds
+pub mod WalkRows
+pub mod ChoiceRows
+pub mod DuplicateRows
+pub mod ResolutionRows
+pub mod SampleResolutions
+pub mod StateRows
+pub mod ReportRows
+pub mod ToldRows
+pub mod PairRows
+pub mod SchemaRows
