@@ -36,7 +36,13 @@ pub mod FreeNames
 pub mod ApartNames
 pub mod PrintedAttributes
 pub mod Walks
+pub mod DeclaredPlaces
 pub mod Ranges
+pub mod NamePlaces
+pub mod DeclaredNames
+pub mod NamesBefore
+pub mod SiftedEntries
+pub mod UseIds
 pub mod ZippedLists
 pub mod InPlace
 pub mod Absences

@@ -24,7 +24,10 @@ pub mod Understood
 pub mod Stated
 pub mod TypeEntries
 pub mod Links
+pub mod NamePlaces
+pub mod PlacedNames
 pub mod Walks
+pub mod Marks
 pub mod TypeTables
 pub mod ShapeFaults
 pub mod Paired
@@ -90,6 +93,8 @@ pub mod TypeProblems
 pub mod KnownTypes
 pub mod Scopes
 pub mod Meant
+pub mod DeclaredNames
+pub mod AllDeclarations
 pub mod Called
 pub mod Layers
 pub mod TypeIds
@@ -98,11 +103,14 @@ pub mod Flattened
 pub mod Failures
 pub mod Faults
 pub mod Named
+pub mod NamedTexts
 pub mod FieldTypes
 pub mod Uses
 pub mod UsedTypes
+pub mod UseIds
 pub mod UseFaults
 pub mod DeclaredEntries
+pub mod FirstEntries
 pub mod Roots
 pub mod NamedRoots
 pub mod WrittenTypes

@@ -36,7 +36,7 @@ declared_view declaration = declaration_view declaration.now
 -- what is seen of where a type stands
 abbrev pub scope_view : declared.Scope → Scope
 scope_view scope = record {
-  declarations = declarations_view scope.declarations.now;
+  declarations = declarations_view scope.declarations.list.now;
   site = site_view scope.site;
   this = option_map str_view scope.this;
   parameters = parameters_view scope.parameters.now;

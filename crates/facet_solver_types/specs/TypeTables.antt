@@ -1,11 +1,12 @@
 -- Types with their declarations, of which shapes are made.
 use Rattle.std.specs.Prelude.{ℕ, Bool, true, false, ◌&&◌, not, List, Option, slice_get, option_map}
 use Rattle.std.specs.Option.{option_map_or}
-use Rattle.facet_solver_shape.specs.Names.{Name, names_of}
+use Rattle.facet_solver_shape.specs.Names.{Name}
 use Rattle.facet_solver_shape.specs.declared.shape.StructKind.{StructKind}
 use Rattle.facet_solver_shape.specs.declared.shape.StructKind.TheVariants.{Struct}
 use Rattle.facet_solver_types.specs.declared.catalogue.table.TypeTable as table
 use Rattle.facet_solver_types.specs.Links.{place_in}
+use Rattle.facet_solver_types.specs.PlacedNames.{names_in}
 use Rattle.facet_solver_types.specs.TypeEntries.{Form, TypeEntry, declared, dynamic, entries_view, mapping, option, standard}
 use Rattle.facet_solver_types.specs.Understood.{Declaration, Declared, declarations_view, enum, struct}
 
@@ -20,7 +21,7 @@ abbrev pub table_view : table.TypeTable → TypeTable
 table_view k = record {
   declarations = declarations_view k.declarations.now;
   entries = entries_view k.entries.now;
-  ids = names_of k.ids.now;
+  ids = names_in k.ids.now;
 }
 
 -- what the type of an id is made of, if there is one

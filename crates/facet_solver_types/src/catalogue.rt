@@ -22,6 +22,7 @@ mod walks;
 use crate::declaration::Declaration;
 use crate::failure::Failure;
 use crate::faults::told;
+use crate::name_places::NamePlaces;
 use crate::parsed::Types;
 use crate::type_entry::TypeEntry;
 use faults::shape_faults;
@@ -33,7 +34,7 @@ use table::TypeTable;
 /// The types of a table, which need others so, where they have shapes.
 fn shaped(
     alloc: Global,
-    table: TypeTable<'_, '_, '_>,
+    table: TypeTable<'_, '_, '_, '_>,
     needs: &[Vec<usize>],
     root: &str,
 ) -> Result<Types, Failure>
@@ -48,7 +49,11 @@ fn shaped(
 }
 
 /// The types of a table.
-fn table_types(alloc: Global, table: TypeTable<'_, '_, '_>, root: &str) -> Result<Types, Failure>
+fn table_types(
+    alloc: Global,
+    table: TypeTable<'_, '_, '_, '_>,
+    root: &str,
+) -> Result<Types, Failure>
     ensures { GivesTypes (table_types (table_view table.entry) root.now) result }
 {
     let needs = needs(alloc, table.ids, table.entries)?;
@@ -68,7 +73,8 @@ pub(crate) fn catalogue_of(
     ensures { GivesTypes
         (catalogue_of (declarations_view declarations.now) (entries_view entries.now) root.now) result }
 {
-    let ids = ids(alloc, entries)?;
+    let found = ids(alloc, entries)?;
+    let ids = NamePlaces::new(alloc, found)?;
     let table = TypeTable {
         declarations,
         entries,

@@ -23,6 +23,8 @@ pub mod laws;
 mod literal;
 mod located;
 mod modules;
+mod name_places;
+mod named_declarations;
 mod parsed;
 mod passage;
 mod place;

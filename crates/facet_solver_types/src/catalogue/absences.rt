@@ -1,15 +1,15 @@
 //! What types do with a member that is absent: an option takes it, others pass it on or refuse it.
 ghost use Rattle.std.specs.Prelude.{◌≡◌, IfOk, map, option_map};
 ghost use Rattle.std.specs.String.{string_bytes};
-ghost use Rattle.facet_solver_shape.specs.Names.{names_of};
 ghost use Rattle.facet_solver_types.specs.Absences.{absence_at, absence_of, absences_of, declared_absence, found_absence, is_taken, leads_to_option, passed_to_first, passes_to_option};
 ghost use Rattle.facet_solver_types.specs.Links.{names_view};
+ghost use Rattle.facet_solver_types.specs.PlacedNames.{names_in};
 ghost use Rattle.facet_solver_types.specs.TypeEntries.{entry_view, form_view};
 ghost use Rattle.facet_solver_types.specs.Understood.{declaration_view, declarations_view, declared_view};
 
-use super::links::place_in;
 use super::shapes::{declaration_at, first_types};
 use crate::declaration::{Declaration, Declared};
+use crate::name_places::NamePlaces;
 use crate::type_entry::{Form, TypeEntry};
 use std::alloc::{AllocError, Global};
 
@@ -25,19 +25,23 @@ pub(super) enum Absence {
 }
 
 /// It is passed on to the first of some types, and refused where there is none.
-fn passed_to_first(ids: &[&str], types: &[String]) -> Absence
-    ensures { result ≡ passed_to_first (names_of ids.now) (map string_bytes types.now) }
+fn passed_to_first(ids: &NamePlaces<'_>, types: &[String]) -> Absence
+    ensures { result ≡ passed_to_first (names_in ids.now) (map string_bytes types.now) }
 {
     match types.first() {
-        Some(id) => Absence::Passed(place_in(ids, id.as_str())),
+        Some(id) => Absence::Passed(ids.place_in(id.as_str())),
         None => Absence::Refused,
     }
 }
 
 /// What is declared, with these types, does so with it.
-fn declared_absence(ids: &[&str], declared: &Declared<'_, '_>, types: &[Vec<String>]) -> Absence
+fn declared_absence(
+    ids: &NamePlaces<'_>,
+    declared: &Declared<'_, '_>,
+    types: &[Vec<String>],
+) -> Absence
     ensures { result
-        ≡ declared_absence (names_of ids.now) (declared_view declared.now) (names_view types.now) }
+        ≡ declared_absence (names_in ids.now) (declared_view declared.now) (names_view types.now) }
 {
     match declared {
         Declared::Struct {
@@ -51,11 +55,11 @@ fn declared_absence(ids: &[&str], declared: &Declared<'_, '_>, types: &[Vec<Stri
 
 /// What a declaration declares, with these types, does so with it.
 fn found_absence(
-    ids: &[&str],
+    ids: &NamePlaces<'_>,
     found: Option<&Declaration<'_, '_>>,
     types: &[Vec<String>],
 ) -> Absence
-    ensures { result ≡ found_absence (names_of ids.now)
+    ensures { result ≡ found_absence (names_in ids.now)
         (option_map (λ d. declaration_view d.now) found.entry) (names_view types.now) }
 {
     match found {
@@ -65,13 +69,13 @@ fn found_absence(
 }
 
 /// A type of this form does so with it.
-fn absence_of(declarations: &[Declaration<'_, '_>], ids: &[&str], form: &Form) -> Absence
+fn absence_of(declarations: &[Declaration<'_, '_>], ids: &NamePlaces<'_>, form: &Form) -> Absence
     ensures { result
-        ≡ absence_of (declarations_view declarations.now) (names_of ids.now) (form_view form.now) }
+        ≡ absence_of (declarations_view declarations.now) (names_in ids.now) (form_view form.now) }
 {
     match form {
         Form::Option(_) => Absence::Taken,
-        Form::Pointer(inside) => Absence::Passed(place_in(ids, inside.as_str())),
+        Form::Pointer(inside) => Absence::Passed(ids.place_in(inside.as_str())),
         Form::Declared { index, types } => {
             let found = declaration_at(declarations, *index);
             found_absence(ids, found, types)
@@ -84,11 +88,11 @@ fn absence_of(declarations: &[Declaration<'_, '_>], ids: &[&str], form: &Form) -
 pub(super) fn absences_of(
     alloc: Global,
     declarations: &[Declaration<'_, '_>],
-    ids: &[&str],
+    ids: &NamePlaces<'_>,
     entries: &[&TypeEntry],
 ) -> Result<Vec<Absence>, AllocError>
     ensures { IfOk result (λ absences. absences.items
-        ≡ absences_of (declarations_view declarations.now) (names_of ids.now)
+        ≡ absences_of (declarations_view declarations.now) (names_in ids.now)
         (map (λ e. entry_view e.now) entries.now)) }
 {
     let mut absences = Vec::new(alloc);

@@ -1,13 +1,13 @@
 //! Structs and enums, with the places of their shapes.
 ghost use Rattle.std.specs.Prelude.{◌≡◌, ◌++◌, IfOk, OnOk, map};
-ghost use Rattle.facet_solver_shape.specs.Names.{names_of};
 ghost use Rattle.facet_solver_types.specs.CataloguedTypes.{declared_type, declared_types, denies_at, has_forms_at};
+ghost use Rattle.facet_solver_types.specs.PlacedNames.{names_in};
 ghost use Rattle.facet_solver_types.specs.TypeEntries.{entries_view, entry_view};
 ghost use Rattle.facet_solver_types.specs.TypesViews.{declared_type_view};
 ghost use Rattle.facet_solver_types.specs.Understood.{declarations_view};
 
-use super::links::place_in;
 use crate::declaration::Declaration;
+use crate::name_places::NamePlaces;
 use crate::parsed::DeclaredType;
 use crate::type_entry::{Form, TypeEntry};
 use facet_solver_shape::ShapeId;
@@ -37,18 +37,18 @@ fn has_forms_at(declarations: &[Declaration<'_, '_>], index: usize) -> bool
 fn add_type(
     types: &mut Vec<DeclaredType>,
     declarations: &[Declaration<'_, '_>],
-    order: &[&str],
+    order: &NamePlaces<'_>,
     entry: &TypeEntry,
 ) -> Result<(), AllocError>
     ensures { OnOk result (map declared_type_view types.new.items
         ≡ map declared_type_view types.old.items
-        ++ declared_type (declarations_view declarations.now) (names_of order.now)
+        ++ declared_type (declarations_view declarations.now) (names_in order.now)
         (entry_view entry.now)) }
 {
     if let Form::Declared { index, .. } = &entry.form {
         types.push(DeclaredType {
             name: entry.id.clone()?,
-            shape: ShapeId::new(place_in(order, entry.id())),
+            shape: ShapeId::new(order.place_in(entry.id())),
             has_other_forms: has_forms_at(declarations, *index),
             denies_unknown: denies_at(declarations, *index),
         })?;
@@ -60,11 +60,11 @@ fn add_type(
 pub(super) fn declared_types(
     alloc: Global,
     declarations: &[Declaration<'_, '_>],
-    order: &[&str],
+    order: &NamePlaces<'_>,
     entries: &[TypeEntry],
 ) -> Result<Vec<DeclaredType>, AllocError>
     ensures { IfOk result (λ types. map declared_type_view types.items
-        ≡ declared_types (declarations_view declarations.now) (names_of order.now)
+        ≡ declared_types (declarations_view declarations.now) (names_in order.now)
         (entries_view entries.now)) }
 {
     let mut types = Vec::new(alloc);

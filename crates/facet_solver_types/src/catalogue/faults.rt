@@ -20,7 +20,7 @@ use std::alloc::{AllocError, Global};
 /// Adds the fault of a field of this type that is flattened, if it may not be.
 fn add_field_fault(
     faults: &mut Vec<Fault>,
-    table: TypeTable<'_, '_, '_>,
+    table: TypeTable<'_, '_, '_, '_>,
     field: &DeclaredField<'_, '_>,
     id: &str,
 ) -> Result<(), AllocError>
@@ -42,7 +42,7 @@ fn add_field_fault(
 /// Adds the faults of fields of these types that are flattened, and may not be.
 fn add_fields_faults(
     faults: &mut Vec<Fault>,
-    table: TypeTable<'_, '_, '_>,
+    table: TypeTable<'_, '_, '_, '_>,
     fields: &[DeclaredField<'_, '_>],
     types: &[String],
 ) -> Result<(), AllocError>
@@ -59,7 +59,7 @@ fn add_fields_faults(
 /// Adds the faults of the fields of variants, which have these types.
 fn add_variants_faults(
     faults: &mut Vec<Fault>,
-    table: TypeTable<'_, '_, '_>,
+    table: TypeTable<'_, '_, '_, '_>,
     variants: &[DeclaredVariant<'_, '_>],
     types: &[Vec<String>],
 ) -> Result<(), AllocError>
@@ -76,7 +76,7 @@ fn add_variants_faults(
 /// Adds the faults of the fields of what is declared, which have these types.
 fn add_members_faults(
     faults: &mut Vec<Fault>,
-    table: TypeTable<'_, '_, '_>,
+    table: TypeTable<'_, '_, '_, '_>,
     declared: &Declared<'_, '_>,
     types: &[Vec<String>],
 ) -> Result<(), AllocError>
@@ -119,7 +119,7 @@ fn add_itself_fault(
 fn add_declaration_faults(
     alloc: Global,
     faults: &mut Vec<Fault>,
-    table: TypeTable<'_, '_, '_>,
+    table: TypeTable<'_, '_, '_, '_>,
     needs: &[Vec<usize>],
     place: usize,
     declaration: &Declaration<'_, '_>,
@@ -138,7 +138,7 @@ fn add_declaration_faults(
 fn add_found_faults(
     alloc: Global,
     faults: &mut Vec<Fault>,
-    table: TypeTable<'_, '_, '_>,
+    table: TypeTable<'_, '_, '_, '_>,
     needs: &[Vec<usize>],
     place: usize,
     found: Option<&Declaration<'_, '_>>,
@@ -161,7 +161,7 @@ fn add_found_faults(
 fn add_type_faults(
     alloc: Global,
     faults: &mut Vec<Fault>,
-    table: TypeTable<'_, '_, '_>,
+    table: TypeTable<'_, '_, '_, '_>,
     needs: &[Vec<usize>],
     place: usize,
     form: &Form,
@@ -183,7 +183,7 @@ fn add_type_faults(
 /// type has no members.
 pub(super) fn shape_faults(
     alloc: Global,
-    table: TypeTable<'_, '_, '_>,
+    table: TypeTable<'_, '_, '_, '_>,
     needs: &[Vec<usize>],
 ) -> Result<Vec<Fault>, AllocError>
     ensures { IfOk result (λ faults. faults.items

@@ -4,8 +4,10 @@ ghost use Rattle.std.specs.List.{flat_map};
 ghost use Rattle.std.specs.String.{string_bytes};
 ghost use Rattle.facet_solver_shape.specs.Names.{names_of};
 ghost use Rattle.facet_solver_types.specs.Links.{ids, links_view, needed, needs, place_in, places_in};
+ghost use Rattle.facet_solver_types.specs.PlacedNames.{names_in};
 ghost use Rattle.facet_solver_types.specs.TypeEntries.{entries_view, form_view};
 
+use crate::name_places::NamePlaces;
 use crate::type_entry::{Form, TypeEntry};
 use std::alloc::{AllocError, Global};
 
@@ -20,25 +22,17 @@ pub(super) fn ids<'e>(alloc: Global, entries: &'e [TypeEntry]) -> Result<Vec<&'e
     Ok(found)
 }
 
-/// The place of a name among names, or their number where it is none of them.
-pub(super) fn place_in(names: &[&str], name: &str) -> usize
-    ensures { result ≡ place_in (names_of names.now) name.now }
-{
-    for (place, other) in names.iter().enumerate() {
-        if *other == name {
-            return place;
-        }
-    }
-    names.len()
-}
-
 /// Adds the places of names.
-fn add_places(found: &mut Vec<usize>, names: &[&str], wanted: &[String]) -> Result<(), AllocError>
+fn add_places(
+    found: &mut Vec<usize>,
+    names: &NamePlaces<'_>,
+    wanted: &[String],
+) -> Result<(), AllocError>
     ensures { OnOk result (found.new.items ≡ found.old.items
-        ++ places_in (names_of names.now) (map string_bytes wanted.now)) }
+        ++ places_in (names_in names.now) (map string_bytes wanted.now)) }
 {
     for name in wanted {
-        found.push(place_in(names, name.as_str()))?;
+        found.push(names.place_in(name.as_str()))?;
     }
     Ok(())
 }
@@ -46,10 +40,10 @@ fn add_places(found: &mut Vec<usize>, names: &[&str], wanted: &[String]) -> Resu
 /// The places of names in lists.
 fn all_places(
     alloc: Global,
-    names: &[&str],
+    names: &NamePlaces<'_>,
     lists: &[Vec<String>],
 ) -> Result<Vec<usize>, AllocError>
-    ensures { IfOk result (λ found. found.items ≡ places_in (names_of names.now)
+    ensures { IfOk result (λ found. found.items ≡ places_in (names_in names.now)
         (flat_map (λ names. names) (map (λ list. map string_bytes list.items) lists.now))) }
 {
     let mut found = Vec::new(alloc);
@@ -60,18 +54,18 @@ fn all_places(
 }
 
 /// The place of a name, alone.
-fn one_place(alloc: Global, names: &[&str], name: &str) -> Result<Vec<usize>, AllocError>
-    ensures { IfOk result (λ found. found.items ≡ place_in (names_of names.now) name.now ∷ []) }
+fn one_place(alloc: Global, names: &NamePlaces<'_>, name: &str) -> Result<Vec<usize>, AllocError>
+    ensures { IfOk result (λ found. found.items ≡ place_in (names_in names.now) name.now ∷ []) }
 {
     let mut found = Vec::new(alloc);
-    found.push(place_in(names, name))?;
+    found.push(names.place_in(name))?;
     Ok(found)
 }
 
 /// The places of the types that a type needs.
-fn needed(alloc: Global, names: &[&str], form: &Form) -> Result<Vec<usize>, AllocError>
+fn needed(alloc: Global, names: &NamePlaces<'_>, form: &Form) -> Result<Vec<usize>, AllocError>
     ensures { IfOk result (λ found. found.items
-        ≡ places_in (names_of names.now) (needed (form_view form.now))) }
+        ≡ places_in (names_in names.now) (needed (form_view form.now))) }
 {
     match form {
         Form::Option(inside) | Form::Array(inside) => one_place(alloc, names, inside.as_str()),
@@ -88,11 +82,11 @@ fn needed(alloc: Global, names: &[&str], form: &Form) -> Result<Vec<usize>, Allo
 /// The places of the types that each of some types needs.
 pub(super) fn needs(
     alloc: Global,
-    names: &[&str],
+    names: &NamePlaces<'_>,
     entries: &[TypeEntry],
 ) -> Result<Vec<Vec<usize>>, AllocError>
     ensures { IfOk result (λ links. links_view links.items
-        ≡ needs (names_of names.now) (entries_view entries.now)) }
+        ≡ needs (names_in names.now) (entries_view entries.now)) }
 {
     let mut links = Vec::new(alloc);
     for entry in entries {

@@ -2,13 +2,14 @@
 ghost use Rattle.std.specs.Prelude.{◌≡◌, ◌++◌, IfOk, OnOk, flat_map, length, map, option_map, slice_get};
 ghost use Rattle.std.specs.List.{range_with_len};
 ghost use Rattle.facet_solver_shape.specs.Names.{names_of};
-ghost use Rattle.facet_solver_types.specs.CataloguedTypes.{declared_in_order, declared_places, entry_at, is_declared, ordered};
+ghost use Rattle.facet_solver_types.specs.CataloguedTypes.{declared_from, declared_in_order, declared_places, entry_at, is_declared, ordered};
 ghost use Rattle.facet_solver_types.specs.TypeTables.{table_view};
 ghost use Rattle.facet_solver_types.specs.Links.{ids, links_view};
 ghost use Rattle.facet_solver_types.specs.TypeEntries.{entries_view, entry_view, form_view};
+ghost use Rattle.facet_solver_types.specs.Walks.{is_placed};
 
 use super::table::TypeTable;
-use super::walks::{in_order, is_placed};
+use super::walks::in_order;
 use crate::type_entry::{Form, TypeEntry};
 use std::alloc::{AllocError, Global};
 
@@ -22,8 +23,21 @@ fn is_declared(form: &Form) -> bool
     }
 }
 
+/// Whether the type at a place is declared: its place is one of those that are.
+fn is_declared_at(entries: &[TypeEntry], place: usize) -> bool
+    ensures { result ≡ is_placed (declared_from 0 (entries_view entries.now)) place }
+{
+    match entry_at(entries, place) {
+        Some(entry) => is_declared(&entry.form),
+        None => false,
+    }
+}
+
 /// The places of the types of a table that are declared.
-fn declared_places(alloc: Global, table: TypeTable<'_, '_, '_>) -> Result<Vec<usize>, AllocError>
+fn declared_places(
+    alloc: Global,
+    table: TypeTable<'_, '_, '_, '_>,
+) -> Result<Vec<usize>, AllocError>
     ensures { IfOk result (λ places. places.items ≡ declared_places (table_view table.entry)) }
 {
     let mut places = Vec::new(alloc);
@@ -38,7 +52,7 @@ fn declared_places(alloc: Global, table: TypeTable<'_, '_, '_>) -> Result<Vec<us
 /// The same, each after those of them that it needs, itself or over others.
 fn declared_in_order(
     alloc: Global,
-    table: TypeTable<'_, '_, '_>,
+    table: TypeTable<'_, '_, '_, '_>,
     needs: &[Vec<usize>],
 ) -> Result<Vec<usize>, AllocError>
     ensures { IfOk result (λ places. places.items
@@ -49,14 +63,14 @@ fn declared_in_order(
     order
         .iter()
         .copied()
-        .filter(|place| is_placed(&declared, *place))
+        .filter(|place| is_declared_at(table.entries, *place))
         .collect(alloc)
 }
 
 /// The places of what declarations declare, in order, and then those of all types.
 fn all_places(
     alloc: Global,
-    table: TypeTable<'_, '_, '_>,
+    table: TypeTable<'_, '_, '_, '_>,
     needs: &[Vec<usize>],
 ) -> Result<Vec<usize>, AllocError>
     ensures { IfOk result (λ places. places.items
@@ -120,7 +134,7 @@ fn entries_at<'e>(
 /// others.
 pub(super) fn ordered<'k>(
     alloc: Global,
-    table: TypeTable<'k, '_, '_>,
+    table: TypeTable<'k, '_, '_, '_>,
     needs: &[Vec<usize>],
 ) -> Result<Vec<&'k TypeEntry>, AllocError>
     ensures { IfOk result (λ found. map (λ e. entry_view e.now) found.items

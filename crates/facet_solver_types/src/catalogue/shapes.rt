@@ -1,26 +1,26 @@
 //! The shapes of types. Other types stand in them by the places of their ids.
 ghost use Rattle.std.specs.Prelude.{◌≡◌, IfOk, map, option_map, slice_get};
 ghost use Rattle.std.specs.String.{string_bytes};
-ghost use Rattle.facet_solver_shape.specs.Names.{names_of};
 ghost use Rattle.facet_solver_types.specs.Links.{names_view, place_in};
 ghost use Rattle.facet_solver_types.specs.MadeShapes.{declared_shape, first_place, first_types, found_shape, kind_of, plain, shape_of};
+ghost use Rattle.facet_solver_types.specs.PlacedNames.{names_in};
 ghost use Rattle.facet_solver_types.specs.ShapeViews as shapes;
 ghost use Rattle.facet_solver_types.specs.TypeEntries.{entry_view, form_view};
 ghost use Rattle.facet_solver_types.specs.Understood.{declaration_view, declarations_view, declared_view};
 
-use super::links::place_in;
 use super::members::{copied, fields_of, tuple_fields, variants_of};
 use super::standards::standard_kind;
 use crate::declaration::{Declaration, Declared};
+use crate::name_places::NamePlaces;
 use crate::type_entry::{Form, TypeEntry};
 use facet_solver_shape::{Shape, ShapeId, ShapeKind, StructKind};
 use std::alloc::{AllocError, Global};
 
 /// The shape at the place of an id.
-fn at(ids: &[&str], id: &str) -> ShapeId
-    ensures { result ≡ place_in (names_of ids.now) id.now }
+fn at(ids: &NamePlaces<'_>, id: &str) -> ShapeId
+    ensures { result ≡ place_in (names_in ids.now) id.now }
 {
-    ShapeId::new(place_in(ids, id))
+    ShapeId::new(ids.place_in(id))
 }
 
 /// The first of some lists of types.
@@ -34,8 +34,8 @@ pub(super) fn first_types(types: &[Vec<String>]) -> &[String]
 }
 
 /// The shape of the first of some types.
-fn first_place(ids: &[&str], types: &[String]) -> Option<ShapeId>
-    ensures { result ≡ first_place (names_of ids.now) (map string_bytes types.now) }
+fn first_place(ids: &NamePlaces<'_>, types: &[String]) -> Option<ShapeId>
+    ensures { result ≡ first_place (names_in ids.now) (map string_bytes types.now) }
 {
     match types.first() {
         Some(id) => Some(at(ids, id.as_str())),
@@ -46,13 +46,13 @@ fn first_place(ids: &[&str], types: &[String]) -> Option<ShapeId>
 /// The shape of what is declared under an id, with these types.
 fn declared_shape(
     alloc: Global,
-    ids: &[&str],
+    ids: &NamePlaces<'_>,
     id: &str,
     declared: &Declared<'_, '_>,
     types: &[Vec<String>],
 ) -> Result<Shape, AllocError>
     ensures { IfOk result (λ made. shapes.shape_view made
-        ≡ declared_shape (names_of ids.now) id.now (declared_view declared.now)
+        ≡ declared_shape (names_in ids.now) id.now (declared_view declared.now)
         (names_view types.now)) }
 {
     let name = String::from_str(alloc, id)?;
@@ -104,9 +104,9 @@ fn declared_shape(
 }
 
 /// The kind of a type that no declaration declares.
-fn kind_of(alloc: Global, ids: &[&str], form: &Form) -> Result<ShapeKind, AllocError>
+fn kind_of(alloc: Global, ids: &NamePlaces<'_>, form: &Form) -> Result<ShapeKind, AllocError>
     ensures { IfOk result (λ kind. shapes.kind_view kind
-        ≡ kind_of (names_of ids.now) (form_view form.now)) }
+        ≡ kind_of (names_in ids.now) (form_view form.now)) }
 {
     match form {
         Form::Scalar(kind) => Ok(ShapeKind::Scalar(*kind)),
@@ -144,13 +144,13 @@ pub(super) fn declaration_at<'d, 's, 't>(
 /// The shape of what a declaration declares under an id, with these types.
 fn found_shape(
     alloc: Global,
-    ids: &[&str],
+    ids: &NamePlaces<'_>,
     id: &str,
     found: Option<&Declaration<'_, '_>>,
     types: &[Vec<String>],
 ) -> Result<Shape, AllocError>
     ensures { IfOk result (λ made. shapes.shape_view made
-        ≡ found_shape (names_of ids.now) id.now
+        ≡ found_shape (names_in ids.now) id.now
         (option_map (λ d. declaration_view d.now) found.entry) (names_view types.now)) }
 {
     match found {
@@ -160,9 +160,14 @@ fn found_shape(
 }
 
 /// The shape of a type of this id that no declaration declares.
-fn other_shape(alloc: Global, ids: &[&str], id: &str, form: &Form) -> Result<Shape, AllocError>
+fn other_shape(
+    alloc: Global,
+    ids: &NamePlaces<'_>,
+    id: &str,
+    form: &Form,
+) -> Result<Shape, AllocError>
     ensures { IfOk result (λ made. shapes.shape_view made
-        ≡ plain id.now (kind_of (names_of ids.now) (form_view form.now))) }
+        ≡ plain id.now (kind_of (names_in ids.now) (form_view form.now))) }
 {
     let kind = kind_of(alloc, ids, form)?;
     Ok(Shape::new(String::from_str(alloc, id)?, kind))
@@ -172,11 +177,11 @@ fn other_shape(alloc: Global, ids: &[&str], id: &str, form: &Form) -> Result<Sha
 pub(super) fn shape_of(
     alloc: Global,
     declarations: &[Declaration<'_, '_>],
-    ids: &[&str],
+    ids: &NamePlaces<'_>,
     entry: &TypeEntry,
 ) -> Result<Shape, AllocError>
     ensures { IfOk result (λ made. shapes.shape_view made
-        ≡ shape_of (declarations_view declarations.now) (names_of ids.now)
+        ≡ shape_of (declarations_view declarations.now) (names_in ids.now)
         (entry_view entry.now)) }
 {
     match &entry.form {

@@ -1,12 +1,12 @@
 //! The kinds of shapes that types of std have.
 ghost use Rattle.std.specs.Prelude.{◌≡◌, ◌∷◌, [], IfOk, map};
 ghost use Rattle.std.specs.String.{string_bytes};
-ghost use Rattle.facet_solver_shape.specs.Names.{names_of};
+ghost use Rattle.facet_solver_types.specs.PlacedNames.{names_in};
 ghost use Rattle.facet_solver_types.specs.ShapeViews as shapes;
 ghost use Rattle.facet_solver_types.specs.StandardShapes as of;
 ghost use Rattle.facet_solver_types.specs.StandardShapes.{member_view};
 
-use super::links::place_in;
+use crate::name_places::NamePlaces;
 use crate::standard::Standard;
 use crate::typing::{first, second};
 use facet_solver_shape::{Field, ShapeId, ShapeKind, StructKind, Variant};
@@ -27,18 +27,22 @@ fn named<'k>(name: &'k str, id: &'k str) -> Member<'k>
 }
 
 /// The field that a member is.
-fn field_of(alloc: Global, ids: &[&str], one: Member<'_>) -> Result<Field, AllocError>
+fn field_of(alloc: Global, ids: &NamePlaces<'_>, one: Member<'_>) -> Result<Field, AllocError>
     ensures { IfOk result (λ made. shapes.field_view made
-        ≡ of.field_of (names_of ids.now) (member_view one.entry)) }
+        ≡ of.field_of (names_in ids.now) (member_view one.entry)) }
 {
     let name = String::from_str(alloc, one.name)?;
-    Ok(Field::new(name, ShapeId::new(place_in(ids, one.id))))
+    Ok(Field::new(name, ShapeId::new(ids.place_in(one.id))))
 }
 
 /// A struct of one member.
-fn struct_of_one(alloc: Global, ids: &[&str], one: Member<'_>) -> Result<ShapeKind, AllocError>
+fn struct_of_one(
+    alloc: Global,
+    ids: &NamePlaces<'_>,
+    one: Member<'_>,
+) -> Result<ShapeKind, AllocError>
     ensures { IfOk result (λ kind. shapes.kind_view kind
-        ≡ of.struct_of_one (names_of ids.now) (member_view one.entry)) }
+        ≡ of.struct_of_one (names_in ids.now) (member_view one.entry)) }
 {
     let mut fields = Vec::new(alloc);
     fields.push(field_of(alloc, ids, one)?)?;
@@ -51,12 +55,12 @@ fn struct_of_one(alloc: Global, ids: &[&str], one: Member<'_>) -> Result<ShapeKi
 /// A struct of two members.
 fn struct_of(
     alloc: Global,
-    ids: &[&str],
+    ids: &NamePlaces<'_>,
     one: Member<'_>,
     other: Member<'_>,
 ) -> Result<ShapeKind, AllocError>
     ensures { IfOk result (λ kind. shapes.kind_view kind
-        ≡ of.struct_of (names_of ids.now) (member_view one.entry) (member_view other.entry)) }
+        ≡ of.struct_of (names_in ids.now) (member_view one.entry) (member_view other.entry)) }
 {
     let mut fields = Vec::new(alloc);
     fields.push(field_of(alloc, ids, one)?)?;
@@ -68,9 +72,9 @@ fn struct_of(
 }
 
 /// The variant with a value that a member is.
-fn variant_of(alloc: Global, ids: &[&str], one: Member<'_>) -> Result<Variant, AllocError>
+fn variant_of(alloc: Global, ids: &NamePlaces<'_>, one: Member<'_>) -> Result<Variant, AllocError>
     ensures { IfOk result (λ made. shapes.variant_view made
-        ≡ of.variant_of (names_of ids.now) (member_view one.entry)) }
+        ≡ of.variant_of (names_in ids.now) (member_view one.entry)) }
 {
     let name = String::from_str(alloc, one.name)?;
     let mut fields = Vec::new(alloc);
@@ -89,13 +93,13 @@ fn unit(alloc: Global, name: &str) -> Result<Variant, AllocError>
 /// An enum of two variants with a value, behind these.
 fn enum_of(
     alloc: Global,
-    ids: &[&str],
+    ids: &NamePlaces<'_>,
     before: Vec<Variant>,
     one: Member<'_>,
     other: Member<'_>,
 ) -> Result<ShapeKind, AllocError>
     ensures { IfOk result (λ kind. shapes.kind_view kind
-        ≡ of.enum_of (names_of ids.now) (map shapes.variant_view before.items)
+        ≡ of.enum_of (names_in ids.now) (map shapes.variant_view before.items)
         (member_view one.entry) (member_view other.entry)) }
 {
     let mut variants = before;
@@ -116,12 +120,12 @@ fn alone(alloc: Global, name: &str) -> Result<Vec<Variant>, AllocError>
 /// The kind of a type of std in which these types stand.
 pub(super) fn standard_kind(
     alloc: Global,
-    ids: &[&str],
+    ids: &NamePlaces<'_>,
     kind: Standard,
     types: &[String],
 ) -> Result<ShapeKind, AllocError>
     ensures { IfOk result (λ made. shapes.kind_view made
-        ≡ of.standard_kind (names_of ids.now) kind (map string_bytes types.now)) }
+        ≡ of.standard_kind (names_in ids.now) kind (map string_bytes types.now)) }
 {
     let (one, other) = (first(types), second(types));
     match kind {

@@ -4,20 +4,20 @@ ghost use Rattle.facet_solver_types.specs.TypeTables.{has_members, has_names};
 ghost use Rattle.facet_solver_types.specs.TypeEntries.{form_view};
 ghost use Rattle.facet_solver_types.specs.Understood.{declared_view};
 
-use super::links::place_in;
 use crate::declaration::{Declaration, Declared};
+use crate::name_places::NamePlaces;
 use crate::type_entry::{Form, TypeEntry};
 use facet_solver_shape::StructKind;
 
 /// Types with their declarations: the declarations of a text, the types, and their ids.
 #[derive(Clone, Copy)]
-pub(super) struct TypeTable<'k, 's, 't> {
+pub(super) struct TypeTable<'k, 'n, 's, 't> {
     pub(super) declarations: &'k [Declaration<'s, 't>],
     pub(super) entries: &'k [TypeEntry],
-    pub(super) ids: &'k [&'k str],
+    pub(super) ids: &'k NamePlaces<'n>,
 }
 
-impl<'k, 's, 't> TypeTable<'k, 's, 't> {
+impl<'k, 'n, 's, 't> TypeTable<'k, 'n, 's, 't> {
     ghost use Rattle.facet_solver_types.specs.TypeTables.{declares_members, flattens, form_of, is_spread, may_flatten, table_view};
 
     /// What the type of an id is made of, if there is one.
@@ -25,7 +25,7 @@ impl<'k, 's, 't> TypeTable<'k, 's, 't> {
         ensures { option_map (λ f. form_view f.now) result
             ≡ form_of (table_view self.entry) id.now }
     {
-        match self.entries.get(place_in(self.ids, id)) {
+        match self.entries.get(self.ids.place_in(id)) {
             Some(entry) => Some(&entry.form),
             None => None,
         }

@@ -1,6 +1,7 @@
 //! Walks from type to type.
-ghost use Rattle.std.specs.Prelude.{◌≡◌, IfOk, OnOk, slice_set, true};
+ghost use Rattle.std.specs.Prelude.{◌≡◌, ◌++◌, ◌∷◌, [], IfOk, OnOk, slice_set, true};
 ghost use Rattle.facet_solver_types.specs.Links.{links_view};
+ghost use Rattle.facet_solver_types.specs.Marks.{AreMarked};
 ghost use Rattle.facet_solver_types.specs.Walks.{in_order, is_marked, is_placed, links_at, reach, reached, with_type};
 
 use std::alloc::{AllocError, Global};
@@ -64,10 +65,49 @@ pub(super) fn reached(
 }
 
 /// Whether a place stands in an order.
-pub(super) fn is_placed(order: &[usize], place: usize) -> bool
+fn is_placed(order: &[usize], place: usize) -> bool
     ensures { result ≡ is_placed order.now place }
 {
     order.iter().any(|other| *other == place)
+}
+
+/// Types in an order, where those that stand in it are marked.
+#[derive(Drop)]
+struct Order {
+    places: Vec<usize>,
+    marks: Vec<bool>,
+    ghost marked: { AreMarked places.items marks.items },
+}
+
+impl Order {
+    /// No types, where there are so many.
+    fn new(alloc: Global, count: usize) -> Result<Self, AllocError>
+        ensures { IfOk result (λ order. order.places.items ≡ []) }
+    {
+        Ok(Order {
+            places: Vec::new(alloc),
+            marks: vec![in alloc; false; count]?,
+        })
+    }
+
+    /// Whether a place stands in it. Only of places where there is no type none is marked.
+    fn is_placed(&self, place: usize) -> bool
+        ensures { result ≡ is_placed self.now.places.items place }
+    {
+        match self.marks.get(place) {
+            Some(mark) => *mark,
+            None => is_placed(&self.places, place),
+        }
+    }
+
+    /// Adds a place.
+    fn push(&mut self, place: usize) -> Result<(), AllocError>
+        ensures { OnOk result (self.new.places.items ≡ self.old.places.items ++ place ∷ []) }
+    {
+        self.places.push(place)?;
+        mark(&mut self.marks, place);
+        Ok(())
+    }
 }
 
 /// Adds a type to an order, after its needs, where it isn't there yet. These are added first, each
@@ -75,13 +115,13 @@ pub(super) fn is_placed(order: &[usize], place: usize) -> bool
 fn add_type(
     needs: &[Vec<usize>],
     over: usize,
-    order: &mut Vec<usize>,
+    order: &mut Order,
     place: usize,
 ) -> Result<(), AllocError>
-    ensures { OnOk result
-        (order.new.items ≡ with_type (links_view needs.now) over order.old.items place) }
+    ensures { OnOk result (order.new.places.items
+        ≡ with_type (links_view needs.now) over order.old.places.items place) }
 {
-    if over == 0 || is_placed(order, place) {
+    if over == 0 || order.is_placed(place) {
         return Ok(());
     }
     for need in links_at(needs, place) {
@@ -99,9 +139,13 @@ pub(super) fn in_order(
 ) -> Result<Vec<usize>, AllocError>
     ensures { IfOk result (λ order. order.items ≡ in_order (links_view needs.now) places.now) }
 {
-    let mut order = Vec::new(alloc);
+    let mut order = Order::new(alloc, needs.len())?;
     for place in places {
         add_type(needs, needs.len(), &mut order, *place)?;
     }
-    Ok(order)
+    let Order {
+        places: found,
+        marks: _,
+    } = order;
+    Ok(found)
 }

@@ -1,5 +1,6 @@
 //! From a text to types with their shapes.
 ghost use Rattle.std.specs.Prelude.{◌≡◌, option_map};
+ghost use Rattle.facet_solver_types.specs.AllDeclarations.{all_view};
 ghost use Rattle.facet_solver_types.specs.Declarations.{items_view};
 ghost use Rattle.facet_solver_types.specs.GivenTypes.{GivesTypes};
 ghost use Rattle.facet_solver_types.specs.Mentions.{mention_view};
@@ -15,6 +16,7 @@ use crate::declare::declarations;
 use crate::failure::Failure;
 use crate::grammar::items;
 use crate::item::ModuleItem;
+use crate::named_declarations::{NamedDeclarations, name_places};
 use crate::passage::Passage;
 use crate::tokens::tokens;
 use crate::typing::{Mention, root_type, type_entries};
@@ -23,29 +25,44 @@ use std::alloc::Global;
 /// The types that a root needs among declarations.
 fn rooted_types(
     alloc: Global,
-    declarations: &[Declaration<'_, '_>],
+    declarations: NamedDeclarations<'_, '_>,
     root: Mention,
 ) -> Result<Types, Failure>
-    ensures { GivesTypes (parsed.rooted_types (declarations_view declarations.now)
+    ensures { GivesTypes (parsed.rooted_types (all_view declarations.entry)
         (mention_view root)) result }
 {
     let Mention { id, entries, uses } = root;
     let entries = type_entries(alloc, declarations, uses, entries)?;
-    catalogue_of(alloc, declarations, &entries, id.as_str())
+    catalogue_of(alloc, declarations.list, &entries, id.as_str())
 }
 
 /// The types that a root needs, which is one of declarations or is named behind so many bytes.
-fn declared_types(
+fn types_among<'t>(
     alloc: Global,
-    declarations: &[Declaration<'_, '_>],
+    declarations: NamedDeclarations<'_, 't>,
     base: usize,
-    root: Option<&str>,
+    root: Option<&'t str>,
+) -> Result<Types, Failure>
+    ensures { GivesTypes (parsed.declared_types base (option_map str_view root.entry)
+        (all_view declarations.entry)) result }
+{
+    let root = root_type(alloc, declarations, base, root)?;
+    rooted_types(alloc, declarations, root)
+}
+
+/// The types that a root needs, where the names of declarations get their places.
+fn declared_types<'t>(
+    alloc: Global,
+    declarations: &[Declaration<'_, 't>],
+    base: usize,
+    root: Option<&'t str>,
 ) -> Result<Types, Failure>
     ensures { GivesTypes (parsed.declared_types base (option_map str_view root.entry)
         (declarations_view declarations.now)) result }
 {
-    let root = root_type(alloc, declarations, base, root)?;
-    rooted_types(alloc, declarations, root)
+    let names = name_places(alloc, declarations)?;
+    let named = NamedDeclarations::new(declarations, &names);
+    types_among(alloc, named, base, root)
 }
 
 /// The types that a root needs of those that items declare.

@@ -13,7 +13,7 @@ ghost use Rattle.facet_solver_types.specs.WrittenTypes.{named_view, passages_vie
 
 use super::called::{Called, called_among};
 use super::known::{Applied, Known, arity_of, known_type};
-use super::meant::{meant, namesakes, those_in};
+use super::meant::{meant, those_in};
 use super::scope::Scope;
 use crate::attribute::{Misuse, Refusal};
 use crate::declaration::{Declaration, Declared};
@@ -450,13 +450,13 @@ fn layer_by<'d, 't>(
         [] => none_meant(alloc, named, namesakes),
         [index] => match scope.at(*index) {
             Some(declaration) => {
-                let declarations = scope.declarations;
+                let declarations = scope.declarations.list;
                 declared_layer(alloc, declarations, named, namesakes, *index, declaration)
             }
             None => undeclared(alloc, named),
         },
         [_, other, ..] => Err(Fault::At {
-            offset: offset_at(scope.declarations, *other),
+            offset: offset_at(scope.declarations.list, *other),
             problem: Problem::OfType(TypeProblem::Twice),
         }),
     }
@@ -503,7 +503,12 @@ fn taken_layer<'d, 't>(
         (layers.taken_layer (scope_view scope.entry) (named_view named.entry) namesakes.now)
         result }
 {
-    let here = those_in(alloc, scope.declarations, scope.site.module_name, namesakes)?;
+    let here = those_in(
+        alloc,
+        scope.declarations.list,
+        scope.site.module_name,
+        namesakes,
+    )?;
     if is_here(named.origin) && !here.is_empty() {
         return Err(wrong(named.name, TypeProblem::Unknown));
     }
@@ -519,8 +524,8 @@ fn free_layer<'d, 't>(
     ensures { Gives layer_view
         (layers.free_layer (scope_view scope.entry) (named_view named.entry)) result }
 {
-    let namesakes = namesakes(alloc, named.name.text, scope.declarations)?;
-    if are_taken(scope.declarations, &namesakes) {
+    let namesakes = scope.declarations.namesakes(alloc, named.name.text)?;
+    if are_taken(scope.declarations.list, &namesakes) {
         return taken_layer(alloc, scope, named, &namesakes);
     }
     let meant = meant(alloc, scope, named.origin, &namesakes)?;

@@ -11,24 +11,6 @@ use crate::grammar::Origin;
 use crate::modules::STAND_INS;
 use std::alloc::{AllocError, Global};
 
-/// Those of a name.
-pub(super) fn namesakes(
-    alloc: Global,
-    name: &str,
-    declarations: &[Declaration<'_, '_>],
-) -> Result<Vec<usize>, AllocError>
-    ensures { IfOk result (λ found. found.items
-        ≡ of.namesakes name.now (declarations_view declarations.now)) }
-{
-    let mut found = Vec::new(alloc);
-    for (index, declaration) in declarations.iter().enumerate() {
-        if declaration.name.text == name {
-            found.push(index)?;
-        }
-    }
-    Ok(found)
-}
-
 /// Whether the declaration at an index stands in a module.
 pub(super) fn is_in(declarations: &[Declaration<'_, '_>], module_name: &str, index: usize) -> bool
     ensures { result ≡ of.is_in (declarations_view declarations.now) module_name.now index }
@@ -193,10 +175,30 @@ fn led_to(
         ≡ of.led_to (scope_view scope.entry) (origin_view origin.entry) indices.now) }
 {
     match origin {
-        Origin::Here => in_or_all(alloc, scope.declarations, scope.site.module_name, indices),
-        Origin::Above => out_or_all(alloc, scope.declarations, scope.site.module_name, indices),
-        Origin::Within(module_name) => in_or_all(alloc, scope.declarations, module_name, indices),
-        Origin::Beside(module_name) => those_in(alloc, scope.declarations, module_name, indices),
+        Origin::Here => in_or_all(
+            alloc,
+            scope.declarations.list,
+            scope.site.module_name,
+            indices,
+        ),
+        Origin::Above => out_or_all(
+            alloc,
+            scope.declarations.list,
+            scope.site.module_name,
+            indices,
+        ),
+        Origin::Within(module_name) => in_or_all(
+            alloc,
+            scope.declarations.list,
+            module_name,
+            indices,
+        ),
+        Origin::Beside(module_name) => those_in(
+            alloc,
+            scope.declarations.list,
+            module_name,
+            indices,
+        ),
         Origin::Known | Origin::Elsewhere => Ok(Vec::new(alloc)),
     }
 }
@@ -211,7 +213,7 @@ fn led_outside(
     ensures { IfOk result (λ found. found.items
         ≡ of.led_outside (scope_view scope.entry) (origin_view origin.entry) indices.now) }
 {
-    let outside = those_outside(alloc, scope.declarations, indices)?;
+    let outside = those_outside(alloc, scope.declarations.list, indices)?;
     let found = led_to(alloc, scope, origin, &outside)?;
     if found.is_empty() {
         return led_to(alloc, scope, origin, indices);
@@ -230,7 +232,7 @@ fn those_beside(
         ≡ of.those_beside (scope_view scope.entry) (origin_view origin.entry) indices.now) }
 {
     match origin {
-        Origin::Here => those_in_block(alloc, scope.declarations, scope.site.block, indices),
+        Origin::Here => those_in_block(alloc, scope.declarations.list, scope.site.block, indices),
         _ => Ok(Vec::new(alloc)),
     }
 }
@@ -264,7 +266,7 @@ pub(super) fn meant(
     ensures { IfOk result (λ found. found.items
         ≡ of.meant (scope_view scope.entry) (origin_view origin.entry) indices.now) }
 {
-    let found = those_in(alloc, scope.declarations, STAND_INS, indices)?;
+    let found = those_in(alloc, scope.declarations.list, STAND_INS, indices)?;
     if found.is_empty() {
         return meant_there(alloc, scope, origin, indices);
     }

@@ -1,11 +1,15 @@
 //! Names that are declared, of which no two may be the same.
-ghost use Rattle.std.specs.Prelude.{◌≡◌, ◌++◌, IfOk, OnOk, map};
+ghost use Rattle.std.specs.Prelude.{◌≡◌, ◌≤◌, ◌++◌, IfOk, OnOk, length, map, take};
+ghost use Rattle.facet_solver_shape.specs.Names.{names_of};
 ghost use Rattle.facet_solver_types.specs.Named as of;
 ghost use Rattle.facet_solver_types.specs.Named.{named_view, names_view};
+ghost use Rattle.facet_solver_types.specs.NamedTexts.{texts};
+ghost use Rattle.facet_solver_types.specs.PlacedNames.{names_in};
 ghost use Rattle.facet_solver_types.specs.Understood.{declared_view, field_view, variant_view};
 
 use crate::declaration::{Declared, DeclaredField, DeclaredVariant};
 use crate::fault::Fault;
+use crate::name_places::{FEW_NAMES, NamePlaces};
 use crate::problem::Problem;
 use crate::type_problem::TypeProblem;
 use std::alloc::{AllocError, Global};
@@ -39,8 +43,8 @@ fn name_fault(problem: TypeProblem, one: Named<'_>) -> Fault
     }
 }
 
-/// Adds the faults of names that are those of others before them.
-fn add_repeats(
+/// Adds the faults of few names that are those of others before them.
+fn add_few_repeats(
     faults: &mut Vec<Fault>,
     problem: TypeProblem,
     names: &[Named<'_>],
@@ -54,6 +58,63 @@ fn add_repeats(
         }
     }
     Ok(())
+}
+
+/// What names say.
+fn texts<'d>(alloc: Global, names: &[Named<'d>]) -> Result<Vec<&'d str>, AllocError>
+    ensures { IfOk result (λ found. names_of found.items ≡ texts (names_view names.now)) }
+{
+    let mut found = Vec::with_capacity(alloc, names.len())?;
+    for one in names {
+        found.push(one.name)?;
+    }
+    Ok(found)
+}
+
+/// Whether a name is one of those before an index, where all have these places.
+fn is_before(places: &NamePlaces<'_>, names: &[Named<'_>], at: usize, name: &str) -> bool
+    requires within { at ≤ length names.now }
+    requires placed { names_in places.now ≡ texts (names_view names.now) }
+    ensures { result ≡ of.is_among name.now (names_view (take at names.now)) }
+{
+    places.place_in(name) < at
+}
+
+/// Adds the faults of many names that are those of others before them.
+fn add_many_repeats(
+    alloc: Global,
+    faults: &mut Vec<Fault>,
+    problem: TypeProblem,
+    names: &[Named<'_>],
+) -> Result<(), AllocError>
+    ensures { OnOk result
+        (faults.new.items ≡ faults.old.items ++ of.repeats problem (names_view names.now)) }
+{
+    let found = texts(alloc, names)?;
+    let places = NamePlaces::new(alloc, found)?;
+    for (at, one) in names.iter().enumerate() {
+        if is_before(&places, names, at, one.name) {
+            faults.push(name_fault(problem, *one))?;
+        }
+    }
+    Ok(())
+}
+
+/// Adds the faults of names that are those of others before them.
+fn add_repeats(
+    alloc: Global,
+    faults: &mut Vec<Fault>,
+    problem: TypeProblem,
+    names: &[Named<'_>],
+) -> Result<(), AllocError>
+    ensures { OnOk result
+        (faults.new.items ≡ faults.old.items ++ of.repeats problem (names_view names.now)) }
+{
+    if names.len() <= FEW_NAMES {
+        add_few_repeats(faults, problem, names)
+    } else {
+        add_many_repeats(alloc, faults, problem, names)
+    }
 }
 
 /// The names of fields.
@@ -120,7 +181,7 @@ fn add_field_repeats(
         ≡ faults.old.items ++ of.field_repeats (map field_view fields.now)) }
 {
     let names = field_names(alloc, fields)?;
-    add_repeats(faults, TypeProblem::Twice, &names)
+    add_repeats(alloc, faults, TypeProblem::Twice, &names)
 }
 
 /// Adds the faults of variants that have the name of another before them, as it is written.
@@ -133,7 +194,7 @@ fn add_written_repeats(
         ≡ faults.old.items ++ of.written_repeats (map variant_view variants.now)) }
 {
     let names = variant_names(alloc, variants)?;
-    add_repeats(faults, TypeProblem::Twice, &names)
+    add_repeats(alloc, faults, TypeProblem::Twice, &names)
 }
 
 /// Adds the faults of variants that go by the name of another before them in a document.
@@ -146,7 +207,7 @@ fn add_read_repeats(
         ≡ faults.old.items ++ of.read_repeats (map variant_view variants.now)) }
 {
     let names = read_names(alloc, variants)?;
-    add_repeats(faults, TypeProblem::ReadTwice, &names)
+    add_repeats(alloc, faults, TypeProblem::ReadTwice, &names)
 }
 
 /// Adds the faults of variants, and of the fields of each, that have the name of another.

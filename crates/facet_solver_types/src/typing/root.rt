@@ -1,5 +1,6 @@
 //! The type as which documents are read.
 ghost use Rattle.std.specs.Prelude.{◌≡◌, ◌+◌, IfOk, option_map};
+ghost use Rattle.facet_solver_types.specs.AllDeclarations.{all_view};
 ghost use Rattle.facet_solver_types.specs.Failures.{Leads};
 ghost use Rattle.facet_solver_types.specs.Mentions.{mention_view};
 ghost use Rattle.facet_solver_types.specs.NamedRoots as of;
@@ -7,14 +8,13 @@ ghost use Rattle.facet_solver_types.specs.Outcomes.{Gives};
 ghost use Rattle.facet_solver_types.specs.Passages.{passage_view};
 ghost use Rattle.facet_solver_types.specs.Scopes.{scope_view, str_view};
 ghost use Rattle.facet_solver_types.specs.Tokens.{token_view, tokens_view};
-ghost use Rattle.facet_solver_types.specs.Understood.{declarations_view};
 
 use super::mention::{Mention, whole_type};
 use super::roots::only_root;
 use super::scope::Scope;
-use crate::declaration::Declaration;
 use crate::failure::Failure;
 use crate::fault::Fault;
+use crate::named_declarations::NamedDeclarations;
 use crate::passage::Passage;
 use crate::site::top;
 use crate::token::Token;
@@ -76,12 +76,12 @@ fn root_tokens<'t>(alloc: Global, base: usize, root: &'t str) -> Result<Vec<Toke
 }
 
 /// The type that a passage names among declarations.
-fn passage_type(
+fn passage_type<'t>(
     alloc: Global,
-    declarations: &[Declaration<'_, '_>],
-    passage: Passage<'_, '_>,
+    declarations: NamedDeclarations<'_, 't>,
+    passage: Passage<'_, 't>,
 ) -> Result<Mention, Fault>
-    ensures { Gives mention_view (of.passage_type (declarations_view declarations.now)
+    ensures { Gives mention_view (of.passage_type (all_view declarations.entry)
         (passage_view passage.entry)) result }
 {
     let scope = Scope {
@@ -96,14 +96,14 @@ fn passage_type(
 }
 
 /// The type that a root names among declarations, whose tokens stand behind so many bytes.
-fn named_root(
+fn named_root<'t>(
     alloc: Global,
-    declarations: &[Declaration<'_, '_>],
+    declarations: NamedDeclarations<'_, 't>,
     base: usize,
-    root: &str,
+    root: &'t str,
 ) -> Result<Mention, Fault>
     ensures { Gives mention_view
-        (of.named_root (declarations_view declarations.now) base root.now) result }
+        (of.named_root (all_view declarations.entry) base root.now) result }
 {
     let tokens = root_tokens(alloc, base, root)?;
     let passage = Passage {
@@ -118,13 +118,13 @@ fn named_root(
 ///
 /// Errors: why the root names none; those that stand by themselves, if there is not just one; out
 /// of memory.
-pub(crate) fn root_type(
+pub(crate) fn root_type<'t>(
     alloc: Global,
-    declarations: &[Declaration<'_, '_>],
+    declarations: NamedDeclarations<'_, 't>,
     base: usize,
-    root: Option<&str>,
+    root: Option<&'t str>,
 ) -> Result<Mention, Failure>
-    ensures { Leads mention_view (of.root_type (declarations_view declarations.now) base
+    ensures { Leads mention_view (of.root_type (all_view declarations.entry) base
         (option_map str_view root.entry)) result }
 {
     match root {

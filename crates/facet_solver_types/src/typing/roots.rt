@@ -1,6 +1,7 @@
 //! The type as which documents are read.
 ghost use Rattle.std.specs.Prelude.{◌≡◌, ◌++◌, IfOk, OnOk, map, option_map};
 ghost use Rattle.std.specs.String.{string_bytes};
+ghost use Rattle.facet_solver_types.specs.AllDeclarations.{all_view};
 ghost use Rattle.facet_solver_types.specs.Declarations.{parameters_view};
 ghost use Rattle.facet_solver_types.specs.Failures.{Leads};
 ghost use Rattle.facet_solver_types.specs.Links.{links_view};
@@ -13,7 +14,7 @@ ghost use Rattle.facet_solver_types.specs.Uses.{use_view, uses_view};
 use super::called::{by_name, called_among};
 use super::field_types::Groups;
 use super::id::used_id;
-use super::meant::{is_outside, namesakes};
+use super::meant::is_outside;
 use super::mention::{Mention, copied_ids};
 use super::type_use::Use;
 use super::uses::use_types;
@@ -22,6 +23,7 @@ use crate::failure::Failure;
 use crate::fault::Fault;
 use crate::item::Parameter;
 use crate::modules::is_of_stand_ins;
+use crate::named_declarations::NamedDeclarations;
 use crate::problem::Problem;
 use crate::type_problem::TypeProblem;
 use std::alloc::{AllocError, Global};
@@ -117,11 +119,11 @@ fn counted(
 /// fault.
 fn mentioned(
     alloc: Global,
-    declarations: &[Declaration<'_, '_>],
+    declarations: NamedDeclarations<'_, '_>,
     used: &Use,
 ) -> Result<Vec<usize>, AllocError>
     ensures { IfOk result (λ found. found.items
-        ≡ of.mentioned (declarations_view declarations.now) (use_view used.now)) }
+        ≡ of.mentioned (all_view declarations.entry) (use_view used.now)) }
 {
     let groups = use_types(alloc, declarations, used)?;
     let Groups {
@@ -131,17 +133,17 @@ fn mentioned(
         faults: _,
     } = groups;
     let found = indices(alloc, &uses)?;
-    counted(alloc, declarations, used.index, found)
+    counted(alloc, declarations.list, used.index, found)
 }
 
 /// The indices of the declarations that each of some uses mentions.
 fn links(
     alloc: Global,
-    declarations: &[Declaration<'_, '_>],
+    declarations: NamedDeclarations<'_, '_>,
     uses: &[Use],
 ) -> Result<Vec<Vec<usize>>, AllocError>
     ensures { IfOk result (λ links. links_view links.items
-        ≡ of.links (declarations_view declarations.now) (uses_view uses.now)) }
+        ≡ of.links (all_view declarations.entry) (uses_view uses.now)) }
 {
     let mut links = Vec::new(alloc);
     for used in uses {
@@ -333,29 +335,29 @@ fn ids(alloc: Global, uses: &[Use]) -> Result<Vec<String>, AllocError>
 /// The id of a use of a declaration, as that is called among all.
 fn id_among(
     alloc: Global,
-    declarations: &[Declaration<'_, '_>],
+    declarations: NamedDeclarations<'_, '_>,
     used: &Use,
     declaration: &Declaration<'_, '_>,
 ) -> Result<String, AllocError>
     ensures { IfOk result (λ id. string_bytes id
-        ≡ of.id_among (declarations_view declarations.now) (use_view used.now)
+        ≡ of.id_among (all_view declarations.entry) (use_view used.now)
         (declaration_view declaration.now)) }
 {
-    let namesakes = namesakes(alloc, declaration.name.text, declarations)?;
-    let called = called_among(declarations, &namesakes, used.index, declaration);
+    let namesakes = declarations.namesakes(alloc, declaration.name.text)?;
+    let called = called_among(declarations.list, &namesakes, used.index, declaration);
     used_id(alloc, called, &used.arguments)
 }
 
 /// The id of a use, as its declaration is called among all.
 fn called_id(
     alloc: Global,
-    declarations: &[Declaration<'_, '_>],
+    declarations: NamedDeclarations<'_, '_>,
     used: &Use,
 ) -> Result<String, AllocError>
     ensures { IfOk result (λ id. string_bytes id
-        ≡ of.called_id (declarations_view declarations.now) (use_view used.now)) }
+        ≡ of.called_id (all_view declarations.entry) (use_view used.now)) }
 {
-    match declarations.get(used.index) {
+    match declarations.list.get(used.index) {
         Some(declaration) => id_among(alloc, declarations, used, declaration),
         None => Ok(String::new(alloc)),
     }
@@ -364,11 +366,11 @@ fn called_id(
 /// A use as a type, as its declaration is called among all.
 fn root_mention(
     alloc: Global,
-    declarations: &[Declaration<'_, '_>],
+    declarations: NamedDeclarations<'_, '_>,
     used: &Use,
 ) -> Result<Mention, AllocError>
     ensures { IfOk result (λ mention. mention_view mention
-        ≡ of.root_mention (declarations_view declarations.now) (use_view used.now)) }
+        ≡ of.root_mention (all_view declarations.entry) (use_view used.now)) }
 {
     let id = called_id(alloc, declarations, used)?;
     let mut uses = Vec::new(alloc);
@@ -387,11 +389,11 @@ fn root_mention(
 /// The only one of some uses, as the type that it is.
 fn only(
     alloc: Global,
-    declarations: &[Declaration<'_, '_>],
+    declarations: NamedDeclarations<'_, '_>,
     uses: &[Use],
 ) -> Result<Mention, Failure>
     ensures { Leads mention_view
-        (of.only (declarations_view declarations.now) (uses_view uses.now)) result }
+        (of.only (all_view declarations.entry) (uses_view uses.now)) result }
 {
     match uses {
         [used] => Ok(root_mention(alloc, declarations, used)?),
@@ -405,13 +407,13 @@ fn only(
 /// Errors: the ids of those that there are, if there is not just one; out of memory.
 pub(super) fn only_root(
     alloc: Global,
-    declarations: &[Declaration<'_, '_>],
+    declarations: NamedDeclarations<'_, '_>,
 ) -> Result<Mention, Failure>
-    ensures { Leads mention_view (of.only_root (declarations_view declarations.now)) result }
+    ensures { Leads mention_view (of.only_root (all_view declarations.entry)) result }
 {
-    let uses = own_uses(alloc, declarations)?;
-    let names = stand_in_names(alloc, declarations)?;
+    let uses = own_uses(alloc, declarations.list)?;
+    let names = stand_in_names(alloc, declarations.list)?;
     let links = links(alloc, declarations, &uses)?;
-    let roots = likely_roots(alloc, declarations, &names, &links, uses)?;
+    let roots = likely_roots(alloc, declarations.list, &names, &links, uses)?;
     only(alloc, declarations, &roots)
 }

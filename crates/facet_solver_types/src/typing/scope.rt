@@ -6,6 +6,7 @@ ghost use Rattle.facet_solver_types.specs.Scopes.{binds, bound_id, declared_view
 use crate::declaration::Declaration;
 use crate::fault::Fault;
 use crate::item::Parameter;
+use crate::named_declarations::NamedDeclarations;
 use crate::problem::Problem;
 use crate::site::Site;
 use crate::type_problem::TypeProblem;
@@ -14,7 +15,7 @@ use crate::type_problem::TypeProblem;
 #[derive(Clone, Copy)]
 pub(super) struct Scope<'d, 't> {
     /// All declarations.
-    pub(super) declarations: &'d [Declaration<'d, 't>],
+    pub(super) declarations: NamedDeclarations<'d, 't>,
     /// In which module and in which block.
     pub(super) site: Site<'t>,
     /// The id for which `Self` stands, if it does for any.
@@ -32,9 +33,9 @@ impl<'d, 't> Scope<'d, 't> {
     pub(super) fn at(self, index: usize) -> Option<&'d Declaration<'d, 't>>
         ensures value { option_map declared_view result
             ≡ slice_get (scope_view self.entry).declarations index }
-        ensures within { OnSome result (index < length self.entry.declarations.now) }
+        ensures within { OnSome result (index < length self.entry.declarations.list.now) }
     {
-        match self.declarations.get(index) {
+        match self.declarations.list.get(index) {
             Some(declaration) => Some(declaration),
             None => None,
         }

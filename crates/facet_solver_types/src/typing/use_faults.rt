@@ -1,5 +1,6 @@
 //! The faults of what a root needs.
 ghost use Rattle.std.specs.Prelude.{◌≡◌, ◌++◌, IfOk, OnOk, map};
+ghost use Rattle.facet_solver_types.specs.AllDeclarations.{all_view};
 ghost use Rattle.facet_solver_types.specs.Understood.{declaration_view, declarations_view};
 ghost use Rattle.facet_solver_types.specs.UseFaults as of;
 ghost use Rattle.facet_solver_types.specs.Uses.{use_view};
@@ -10,17 +11,18 @@ use super::type_use::Use;
 use super::uses::use_types;
 use crate::declaration::Declaration;
 use crate::fault::Fault;
+use crate::named_declarations::NamedDeclarations;
 use std::alloc::{AllocError, Global};
 
 /// Adds the faults of the types that a use mentions.
 fn add_type_faults(
     alloc: Global,
     faults: &mut Vec<Fault>,
-    declarations: &[Declaration<'_, '_>],
+    declarations: NamedDeclarations<'_, '_>,
     used: &Use,
 ) -> Result<(), AllocError>
     ensures { OnOk result (faults.new.items ≡ faults.old.items
-        ++ of.type_faults (declarations_view declarations.now) (use_view used.now)) }
+        ++ of.type_faults (all_view declarations.entry) (use_view used.now)) }
 {
     let groups = use_types(alloc, declarations, used)?;
     let Groups {
@@ -67,24 +69,24 @@ fn add_faults_at(
 fn add_use_faults(
     alloc: Global,
     faults: &mut Vec<Fault>,
-    declarations: &[Declaration<'_, '_>],
+    declarations: NamedDeclarations<'_, '_>,
     used: &Use,
 ) -> Result<(), AllocError>
     ensures { OnOk result (faults.new.items ≡ faults.old.items
-        ++ of.use_faults (declarations_view declarations.now) (use_view used.now)) }
+        ++ of.use_faults (all_view declarations.entry) (use_view used.now)) }
 {
-    add_faults_at(alloc, faults, declarations, used.index)?;
+    add_faults_at(alloc, faults, declarations.list, used.index)?;
     add_type_faults(alloc, faults, declarations, used)
 }
 
 /// The faults of uses.
 pub(super) fn all_faults(
     alloc: Global,
-    declarations: &[Declaration<'_, '_>],
+    declarations: NamedDeclarations<'_, '_>,
     uses: &[&Use],
 ) -> Result<Vec<Fault>, AllocError>
     ensures { IfOk result (λ faults. faults.items
-        ≡ of.all_faults (declarations_view declarations.now) (map (λ u. use_view u.now) uses.now)) }
+        ≡ of.all_faults (all_view declarations.entry) (map (λ u. use_view u.now) uses.now)) }
 {
     let mut faults = Vec::new(alloc);
     for used in uses {

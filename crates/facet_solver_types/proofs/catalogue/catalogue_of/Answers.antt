@@ -16,5 +16,5 @@ returns c =
       declarations = declarations;
       entries = entries;
       ids = names;
-    }) c.args.root.now) (ap names_of c.deref.ensures.value ∙ c.in_ok-ids.ensures) in
+    }) c.args.root.now) (ap names_of c.in_ok-ids.ensures ∙ c.in_ok-found.ensures) in
     subst (λ (o : Result Types Failure). GivesTypes o c.table_types.result) same c.table_types.ensures

@@ -1,6 +1,6 @@
 use Rattle.std.proofs.Common.{◌≡◌, map, take}
-use Rattle.facet_solver_shape.specs.Names.{names_of}
 use Rattle.facet_solver_types.specs.CataloguedTypes.{declared_types}
+use Rattle.facet_solver_types.specs.PlacedNames.{names_in}
 use Rattle.facet_solver_types.specs.TypeEntries.{entries_view}
 use Rattle.facet_solver_types.specs.TypesViews.{declared_type_view}
 use Rattle.facet_solver_types.specs.Understood.{declarations_view}
@@ -10,5 +10,5 @@ use Rattle.facet_solver_types.proofs.catalogue.declared.declared_types.Given as 
 abbrev pub invariant-loop-entry : goal.invariant-loop-entry
 invariant-loop-entry l =
     map declared_type_view l.types.items
-    ≡ declared_types (declarations_view l.declarations) (names_of l.order)
+    ≡ declared_types (declarations_view l.declarations) (names_in l.order)
     (entries_view (take l.entry-index l.entries))

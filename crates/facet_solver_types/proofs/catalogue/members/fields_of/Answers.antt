@@ -1,8 +1,8 @@
 use Rattle.std.proofs.Common.{◌∙◌, ◌++◌, ◌∷◌, [], length, map, sym, ap, rules, length-append, append-nil}
 use Rattle.std.specs.String.{string_bytes}
 use Rattle.std.proofs.lemmas.Slice.Zip.{zip_end, zip_turn}
-use Rattle.facet_solver_shape.specs.Names.{names_of}
 use Rattle.facet_solver_types.specs.MadeShapes.{field_of}
+use Rattle.facet_solver_types.specs.PlacedNames.{names_in}
 use Rattle.facet_solver_types.specs.ShapeViews as shapes
 use Rattle.facet_solver_types.specs.Understood.{field_view}
 use Rattle.facet_solver_types.proofs.ZippedLists.{paired_over, paired_step}
@@ -13,7 +13,7 @@ loop-field-preserved c =
     let l = c.loop-field in
     let fs = c.args.fields.now in
     let ts = c.args.types.now in
-    let rule = field_of (names_of c.args.ids.now) in
+    let rule = field_of (names_in c.args.ids.now) in
     let turn = zip_turn fs ts l.yielded c.into_iter-field-iterator.result l.field-iterator
     c.next.new.self c.next.result (search rules) (search rules) l.yielded_by
     (c.in-Some.field, c.in-Some.id) c.in-Some.is c.next.ensures.steps in
@@ -32,7 +32,7 @@ returns c =
     let l = c.loop-field in
     let fs = c.args.fields.now in
     let ts = c.args.types.now in
-    let rule = field_of (names_of c.args.ids.now) in
+    let rule = field_of (names_in c.args.ids.now) in
     let made = map shapes.field_view l.made.items in
     let end = zip_end fs ts l.yielded c.into_iter-field-iterator.result l.field-iterator
     c.next.new.self c.next.result (search rules) (search rules) l.yielded_by c.in-None.is

@@ -4,8 +4,9 @@ use Rattle.std.specs.declared.string.String.{String}
 use Rattle.std.specs.declared.vec.Vec.{Vec}
 use Rattle.std.specs.String.{string_bytes}
 use Rattle.std.proofs.lemmas.Slice.Zip.{zip_end, zip_turn}
-use Rattle.facet_solver_shape.specs.Names.{Name, names_of}
+use Rattle.facet_solver_shape.specs.Names.{Name}
 use Rattle.facet_solver_types.specs.MadeShapes.{variant_of}
+use Rattle.facet_solver_types.specs.PlacedNames.{names_in}
 use Rattle.facet_solver_types.specs.ShapeViews as shapes
 use Rattle.facet_solver_types.specs.Understood.{variant_view}
 use Rattle.facet_solver_types.proofs.ZippedLists.{paired_over, paired_step}
@@ -20,7 +21,7 @@ loop-variant-preserved c =
     let l = c.loop-variant in
     let vs = c.args.variants.now in
     let ts = c.args.types.now in
-    let rule = variant_of (names_of c.args.ids.now) in
+    let rule = variant_of (names_in c.args.ids.now) in
     let turn = zip_turn vs ts l.yielded c.into_iter-variant-iterator.result l.variant-iterator
     c.next.new.self c.next.result (search rules) (search rules) l.yielded_by
     (c.in-Some.variant, c.in-Some.own) c.in-Some.is c.next.ensures.steps in
@@ -41,7 +42,7 @@ returns c =
     let l = c.loop-variant in
     let vs = c.args.variants.now in
     let ts = c.args.types.now in
-    let rule = variant_of (names_of c.args.ids.now) in
+    let rule = variant_of (names_in c.args.ids.now) in
     let made = map shapes.variant_view l.made.items in
     let end = zip_end vs ts l.yielded c.into_iter-variant-iterator.result l.variant-iterator
     c.next.new.self c.next.result (search rules) (search rules) l.yielded_by c.in-None.is

@@ -1,6 +1,6 @@
 use Rattle.std.proofs.Common.{◌≡◌, map, take}
-use Rattle.facet_solver_shape.specs.Names.{names_of}
 use Rattle.facet_solver_types.specs.MadeShapes.{shape_of}
+use Rattle.facet_solver_types.specs.PlacedNames.{names_in}
 use Rattle.facet_solver_types.specs.ShapeViews.{shapes_view}
 use Rattle.facet_solver_types.specs.TypeEntries.{entry_view}
 use Rattle.facet_solver_types.specs.Understood.{declarations_view}
@@ -10,5 +10,5 @@ use Rattle.facet_solver_types.proofs.catalogue.parts.shapes_of.Given as goal
 abbrev pub invariant-loop-entry : goal.invariant-loop-entry
 invariant-loop-entry l =
     shapes_view l.made.items
-    ≡ map (shape_of (declarations_view l.declarations) (names_of l.ids))
+    ≡ map (shape_of (declarations_view l.declarations) (names_in l.ids))
     (map (λ e. entry_view e.now) (take l.entry-index l.entries))

@@ -11,5 +11,5 @@ returns c =
     let table = table_view c.args.table in
     let entries = map (λ e. entry_view e.now) c.args.entries.now in
     let same = ap (λ order. types_by table order entries c.args.root.now)
-    (ap names_of c.deref.ensures.value ∙ c.in_ok-order.ensures) in
+    (ap names_of c.in_ok-order.ensures ∙ c.in_ok-ids.ensures) in
     subst (λ (t : Types). IfOk c.types_by.result (λ parts. parts_view parts ≡ t)) same c.types_by.ensures

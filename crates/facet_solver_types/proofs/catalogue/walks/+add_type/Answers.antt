@@ -10,7 +10,7 @@ pub returns-then-over-eq0 : goal.returns-then-over-eq0
 returns-then-over-eq0 t c =
     let needs = links_view c.args.needs.now in
     let over = c.args.over in
-    let order = c.args.order.now.items in
+    let order = c.args.order.now.places.items in
     elim c.then-over-eq0.branch [
       | then-over-eq0-via-then-over-eq0 w ↦
           sym (placed_over needs over order c.args.place w.if-over-eq0.true)
@@ -21,7 +21,7 @@ returns-then-over-eq0 t c =
 pub returns : goal.returns
 returns t c =
     let needs = links_view c.args.needs.now in
-    let order = c.args.order.now.items in
+    let order = c.args.order.now.places.items in
     let free : is_placed order c.args.place ≡ false = grind (arith, common_steps) in
     let more = placed_more needs c.args.over order c.args.place c.if-over-eq0.false free in
     grind (arith, common_steps, more)

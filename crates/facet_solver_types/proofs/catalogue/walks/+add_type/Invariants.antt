@@ -9,6 +9,6 @@ decreases-add_type l = l.over
 -- those so far are added
 abbrev pub invariant-loop-need : goal.invariant-loop-need
 invariant-loop-need l =
-    l.order.items
-    ≡ fold (with_type (links_view l.needs) (l.over - 1)) l.initial.order.items
+    l.order.places.items
+    ≡ fold (with_type (links_view l.needs) (l.over - 1)) l.initial.order.places.items
     (take l.need-index l.need-items)

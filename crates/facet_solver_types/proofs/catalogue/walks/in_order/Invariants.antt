@@ -6,5 +6,5 @@ use Rattle.facet_solver_types.proofs.catalogue.walks.in_order.Given as goal
 -- those so far are added
 abbrev pub invariant-loop-place : goal.invariant-loop-place
 invariant-loop-place l =
-    l.order.items
+    l.order.places.items
     ≡ fold (with_type (links_view l.needs) (length l.needs)) [] (take l.place-index l.places)

@@ -10,7 +10,7 @@ use Rattle.facet_solver_types.proofs.parsed.stages.rooted_types.Goals as goal
 
 pub returns : goal.returns
 returns c =
-    let declarations = declarations_view c.args.declarations.now in
+    let declarations = declarations_view c.args.declarations.list.now in
     let root = mention_view c.args.root in
     let entries = entries_view c.deref.result.now in
     passed_whole (type_entries declarations root.uses root.entries)

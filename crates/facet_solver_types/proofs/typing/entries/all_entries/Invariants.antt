@@ -9,5 +9,5 @@ use Rattle.facet_solver_types.proofs.typing.entries.all_entries.Given as goal
 abbrev pub invariant-loop-used : goal.invariant-loop-used
 invariant-loop-used l =
     entries_view l.found.items
-    ≡ all_entries (declarations_view l.declarations)
+    ≡ all_entries (declarations_view l.declarations.list.now)
     (map (λ u. use_view u.now) (take l.used-index l.uses))

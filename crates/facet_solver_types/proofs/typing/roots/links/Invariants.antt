@@ -9,4 +9,4 @@ use Rattle.facet_solver_types.proofs.typing.roots.links.Given as goal
 abbrev pub invariant-loop-used : goal.invariant-loop-used
 invariant-loop-used l =
     links_view l.links.items
-    ≡ links (declarations_view l.declarations) (uses_view (take l.used-index l.uses))
+    ≡ links (declarations_view l.declarations.list.now) (uses_view (take l.used-index l.uses))

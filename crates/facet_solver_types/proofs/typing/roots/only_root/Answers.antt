@@ -10,7 +10,7 @@ use Rattle.facet_solver_types.proofs.typing.roots.only_root.Goals as goal
 
 pub returns : goal.returns
 returns c =
-    let ds = declarations_view c.args.declarations.now in
+    let ds = declarations_view c.args.declarations.list.now in
     let uses = uses_view c.in_ok-uses.uses.items in
     let names = map str_view c.deref-2.result.now in
     leads_same mention_view (only_root ds) (only ds (uses_view c.deref-4.result.now)) c.only.result

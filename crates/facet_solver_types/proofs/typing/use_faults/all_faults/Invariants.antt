@@ -8,5 +8,5 @@ use Rattle.facet_solver_types.proofs.typing.use_faults.all_faults.Given as goal
 abbrev pub invariant-loop-used : goal.invariant-loop-used
 invariant-loop-used l =
     l.faults.items
-    ≡ all_faults (declarations_view l.declarations)
+    ≡ all_faults (declarations_view l.declarations.list.now)
     (map (λ u. use_view u.now) (take l.used-index l.uses))

@@ -1,6 +1,6 @@
 use Rattle.std.proofs.Common.{◌≡◌, ◌++◌, drop, take, []}
 use Rattle.facet_solver_types.specs.Named.{names_view, repeats_behind}
-use Rattle.facet_solver_types.proofs.typing.named.add_repeats.Given as goal
+use Rattle.facet_solver_types.proofs.typing.named.add_many_repeats.Given as goal
 
 -- all faults are those so far, and those of the rest behind these
 abbrev pub invariant-loop-at : goal.invariant-loop-at
