@@ -15,6 +15,7 @@ pub mod ListedParameters
 pub mod Paths
 pub mod Qualifiers
 pub mod ConditionTurns
+pub mod PlacedItems
 pub mod TakenTurns
 pub mod Listed
 pub mod Views

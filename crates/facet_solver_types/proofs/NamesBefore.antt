@@ -1,13 +1,15 @@
 -- Names before a place, by the first place of each.
-use Rattle.std.proofs.Common.{◌≡◌, ℕ, zero, suc, ◌+◌, ◌<◌, ◌≤◌, Bool, true, false, ◌||◌, cond, not, List, [], ◌∷◌, length, ltb, map, take, refl, sym, ap, ◌∙◌, arith}
+use Rattle.std.proofs.Common.{◌≡◌, ℕ, zero, suc, ◌+◌, ◌<◌, ◌≤◌, Bool, true, false, ◌||◌, cond, not, List, [], ◌∷◌, Bor, length, ltb, map, take, refl, sym, ap, ◌∙◌, arith}
 use Rattle.std.specs.List.{list_any, position_or_len}
+use Rattle.std.proofs.lemmas.List.{length-map, take_all}
 use Rattle.std.proofs.lemmas.Bool.Decides.{Decides-like, Decides-ltb, same_from_decides}
-use Rattle.facet_solver_shape.specs.Names.{Name, name_eq}
+use Rattle.facet_solver_shape.specs.Names.{Name, name_eq, names_of}
 use Rattle.facet_solver_shape.proofs.Lists.{list_any-map}
 use Rattle.facet_solver_types.specs.DeclaredEntries.{has_id}
 use Rattle.facet_solver_types.specs.Links.{ids, place_in}
 use Rattle.facet_solver_types.specs.Named.{Named, is_among}
 use Rattle.facet_solver_types.specs.NamedTexts.{texts}
+use Rattle.facet_solver_types.specs.NamePlaces.{has_name}
 use Rattle.facet_solver_types.specs.TypeEntries.{TypeEntry}
 
 -- two numbers are in the order of two others
@@ -41,6 +43,14 @@ position-map : {X Y : Type 0} (p : Y → Bool) (f : X → Y) (xs : List X)
     → position_or_len p (map f xs) ≡ position_or_len (λ x. p (f x)) xs
 position-map p f [] = refl
 position-map p f (x ∷ xs) = ap (λ n. cond (not (p (f x))) (1 + n) 0) (position-map p f xs)
+
+-- a name is one of some if its place stands before their number
+pub has_by_place : (names : List (Bor Name)) (name : Name)
+    → ltb (place_in (names_of names) name) (length names) ≡ has_name (names_of names) name
+has_by_place names name =
+    ap (ltb (place_in (names_of names) name)) (sym (length-map names (λ n. n.now)))
+    ∙ sym (any_before (λ one. name_eq one name) (names_of names) (length (names_of names)) (omega arith))
+    ∙ ap (list_any (λ one. name_eq one name)) (take_all (length (names_of names)) (names_of names) (omega arith))
 
 -- a name is among those before a place
 pub among_before : {X : Type 0} (view : X → Named) (xs : List X) (name : Name) (at : ℕ)

@@ -78,6 +78,7 @@ pub mod ReadStructs
 pub mod ReadEnums
 pub mod Derives
 pub mod Conditions
+pub mod PlacedItems
 pub mod ReadItems
 pub mod Helps
 pub mod Refusals

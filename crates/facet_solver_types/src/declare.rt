@@ -19,6 +19,7 @@ mod enums;
 mod fields;
 mod gather;
 mod names;
+mod placed_items;
 mod proxy;
 mod said;
 mod sought;
@@ -43,6 +44,7 @@ use derived::{has_derives, own_reading};
 use elsewhere::elsewhere;
 use enums::read_enum;
 use gather::add;
+use placed_items::PlacedItems;
 use proxy::proxies;
 use said::said_on;
 use sought::is_said;
@@ -252,13 +254,13 @@ fn alias_declaration<'s, 't>(
 /// items of which some derive how they are read, or none.
 fn declaration_of_item<'s, 't>(
     alloc: Global,
-    items: &[ModuleItem<'s, 't>],
+    items: &PlacedItems<'_, 's, 't>,
     has_derives: bool,
     module_name: &str,
     item: &Item<'s, 't>,
 ) -> Result<Option<Declaration<'s, 't>>, AllocError>
     ensures { IfOk result (λ made. option_map declaration_view made
-        ≡ read.declaration_of_item (written.items_view items.now) has_derives module_name.now
+        ≡ read.declaration_of_item (written.items_view items.now.list.now) has_derives module_name.now
         (written.item_view item.now)) }
 {
     match item {
@@ -298,16 +300,16 @@ fn at_site<'s, 't>(
 /// The declaration of an item where it stands, if it declares something.
 fn declaration<'s, 't>(
     alloc: Global,
-    items: &[ModuleItem<'s, 't>],
+    items: &PlacedItems<'_, 's, 't>,
     has_derives: bool,
     item: &ModuleItem<'s, 't>,
 ) -> Result<Option<Declaration<'s, 't>>, AllocError>
     ensures { IfOk result (λ made. option_map declaration_view made
-        ≡ read.declaration (written.items_view items.now) has_derives
+        ≡ read.declaration (written.items_view items.now.list.now) has_derives
         (written.module_item_view item.now)) }
 {
     match declaration_of_item(alloc, items, has_derives, item.site.module_name, &item.item)? {
-        Some(made) => Ok(Some(at_site(item.site, has_forms(items, item), made))),
+        Some(made) => Ok(Some(at_site(item.site, has_forms(alloc, items, item)?, made))),
         None => Ok(None),
     }
 }
@@ -315,17 +317,17 @@ fn declaration<'s, 't>(
 /// The same of an item at an index, unless one before it is what it is under another condition.
 fn declaration_at<'s, 't>(
     alloc: Global,
-    items: &[ModuleItem<'s, 't>],
+    items: &PlacedItems<'_, 's, 't>,
     has_derives: bool,
     index: usize,
     item: &ModuleItem<'s, 't>,
 ) -> Result<Option<Declaration<'s, 't>>, AllocError>
-    requires { index ≤ length items.now }
+    requires { index ≤ length items.now.list.now }
     ensures { IfOk result (λ made. option_map declaration_view made
-        ≡ read.declaration_at (written.items_view items.now) has_derives index
+        ≡ read.declaration_at (written.items_view items.now.list.now) has_derives index
         (written.module_item_view item.now)) }
 {
-    if has_other_form(items, index, item) {
+    if has_other_form(alloc, items, index, item)? {
         return Ok(None);
     }
     declaration(alloc, items, has_derives, item)
@@ -334,14 +336,14 @@ fn declaration_at<'s, 't>(
 /// What items declare, in order. Of what is one under different conditions the first is taken.
 fn own_declarations<'s, 't>(
     alloc: Global,
-    items: &[ModuleItem<'s, 't>],
+    items: &PlacedItems<'_, 's, 't>,
 ) -> Result<Vec<Declaration<'s, 't>>, AllocError>
     ensures { IfOk result (λ found. declarations_view found.items
-        ≡ read.own_declarations (written.items_view items.now)) }
+        ≡ read.own_declarations (written.items_view items.now.list.now)) }
 {
-    let has_derives = has_derives(items);
+    let has_derives = has_derives(items.list);
     let mut found = Vec::new(alloc);
-    for (index, item) in items.iter().enumerate() {
+    for (index, item) in items.list.iter().enumerate() {
         add(
             &mut found,
             declaration_at(alloc, items, has_derives, index, item)?,
@@ -364,7 +366,8 @@ pub(crate) fn declarations<'s, 't>(
     ensures { IfOk result (λ found. declarations_view found.items
         ≡ read.declarations (written.items_view items.now)) }
 {
-    let mut found = own_declarations(alloc, items)?;
+    let placed = PlacedItems::new(alloc, items)?;
+    let mut found = own_declarations(alloc, &placed)?;
     let mut others = elsewhere(alloc, items, &found)?;
     found.append(&mut others)?;
     Ok(found)

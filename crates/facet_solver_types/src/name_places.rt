@@ -2,7 +2,7 @@
 ghost use Rattle.std.specs.Prelude.{◌≡◌, ◌<◌, IfOk, length};
 ghost use Rattle.facet_solver_shape.specs.Names.{names_of};
 ghost use Rattle.facet_solver_types.specs.Links.{place_in};
-ghost use Rattle.facet_solver_types.specs.NamePlaces.{HasFirst, HasNext, places_of};
+ghost use Rattle.facet_solver_types.specs.NamePlaces.{HasFirst, HasNext, has_name, places_of};
 
 use std::alloc::{AllocError, Global};
 use std::collections::BTreeMap;
@@ -78,6 +78,13 @@ impl<'n> NamePlaces<'n> {
             Some(place) => *place,
             None => self.names.len(),
         }
+    }
+
+    /// Whether a name is one of them.
+    pub(crate) fn contains(&self, name: &str) -> bool
+        ensures { result ≡ has_name (names_of self.now.names.items) name.now }
+    {
+        self.place_in(name) < self.names.len()
     }
 
     /// The places of a name.

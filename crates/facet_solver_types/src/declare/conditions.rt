@@ -1,13 +1,16 @@
 //! Items that are declared under different conditions, of which one is taken.
-ghost use Rattle.std.specs.Prelude.{◌≡◌, ◌<◌, ◌≤◌, IsTrue, length, take};
+ghost use Rattle.std.specs.Prelude.{◌≡◌, ◌<◌, ◌≤◌, IfOk, IsTrue, length, take};
 ghost use Rattle.facet_solver_types.specs.Conditions as of;
 ghost use Rattle.facet_solver_types.specs.Declarations.{item_view, items_view, module_item_view};
+ghost use Rattle.facet_solver_types.specs.PlacedItems as placed;
 ghost use Rattle.facet_solver_types.specs.Tokens.{tokens_view};
 
+use super::placed_items::PlacedItems;
 use crate::grammar::{group_len, is_mark, is_named, is_open};
 use crate::item::{Item, ModuleItem};
 use crate::site::same_site;
 use crate::token::{Bracket, Token};
+use std::alloc::{AllocError, Global};
 
 /// Whether a `cfg` stands first.
 fn sees_condition(tokens: &[Token<'_>]) -> bool
@@ -52,7 +55,7 @@ fn attributes_of<'s, 't>(item: &Item<'s, 't>) -> &'s [Token<'t>]
 }
 
 /// The name of a declaration, or nothing of another item.
-fn name_of<'t>(item: &Item<'_, 't>) -> &'t str
+pub(super) fn name_of<'t>(item: &Item<'_, 't>) -> &'t str
     ensures { result.now ≡ of.name_of (item_view item.now) }
 {
     match item {
@@ -65,7 +68,7 @@ fn name_of<'t>(item: &Item<'_, 't>) -> &'t str
 }
 
 /// The condition of a declaration, or nothing.
-fn condition_of<'s, 't>(item: &Item<'s, 't>) -> &'s [Token<'t>]
+pub(super) fn condition_of<'s, 't>(item: &Item<'s, 't>) -> &'s [Token<'t>]
     ensures { tokens_view result.now ≡ of.condition_of (item_view item.now) }
 {
     condition(attributes_of(item))
@@ -118,17 +121,35 @@ fn is_other_form(
         && differs(condition, condition_of(&other.item))
 }
 
-/// Whether one of some items is what another, with this condition, is under another condition.
-fn has_form_in(
+/// Whether the item at a place, if there is one, is what another, with this condition, is under
+/// another condition.
+fn is_form_at(
     condition: &[Token<'_>],
     item: &ModuleItem<'_, '_>,
     others: &[ModuleItem<'_, '_>],
+    place: usize,
 ) -> bool
-    ensures { result ≡ of.has_form_in (tokens_view condition.now) (module_item_view item.now)
-        (items_view others.now) }
+    ensures { result ≡ placed.is_form_at (tokens_view condition.now) (module_item_view item.now)
+        (items_view others.now) place }
 {
-    for other in others {
-        if is_other_form(condition, item, other) {
+    match others.get(place) {
+        Some(other) => is_other_form(condition, item, other),
+        None => false,
+    }
+}
+
+/// Whether one of the items at some places is.
+fn has_form_at(
+    condition: &[Token<'_>],
+    item: &ModuleItem<'_, '_>,
+    others: &[ModuleItem<'_, '_>],
+    places: &[usize],
+) -> bool
+    ensures { result ≡ placed.has_form_at (tokens_view condition.now) (module_item_view item.now)
+        (items_view others.now) places.now }
+{
+    for place in places {
+        if is_form_at(condition, item, others, *place) {
             return true;
         }
     }
@@ -136,24 +157,36 @@ fn has_form_in(
 }
 
 /// Whether one of the items before an index is what an item is under another condition.
-#[tactic(auto, using(crate::proofs::Views::front_seen))]
+///
+/// The only error is out of memory.
 pub(super) fn has_other_form(
-    items: &[ModuleItem<'_, '_>],
+    alloc: Global,
+    items: &PlacedItems<'_, '_, '_>,
     index: usize,
     item: &ModuleItem<'_, '_>,
-) -> bool
-    requires { index ≤ length items.now }
-    ensures { result
-        ≡ of.has_other_form (take index (items_view items.now)) (module_item_view item.now) }
+) -> Result<bool, AllocError>
+    requires { index ≤ length items.now.list.now }
+    ensures { IfOk result (λ found. found ≡ of.has_other_form
+        (take index (items_view items.now.list.now)) (module_item_view item.now)) }
 {
     let condition = condition_of(&item.item);
-    !condition.is_empty() && has_form_in(condition, item, &items[..index])
+    if condition.is_empty() {
+        return Ok(false);
+    }
+    let places = items.forms(alloc, name_of(&item.item))?;
+    Ok(has_form_at(condition, item, &items.list[..index], &places))
 }
 
 /// Whether one of some items is what an item is under another condition.
-pub(super) fn has_forms(items: &[ModuleItem<'_, '_>], item: &ModuleItem<'_, '_>) -> bool
-    ensures { result ≡ of.has_other_form (items_view items.now) (module_item_view item.now) }
+///
+/// The only error is out of memory.
+pub(super) fn has_forms(
+    alloc: Global,
+    items: &PlacedItems<'_, '_, '_>,
+    item: &ModuleItem<'_, '_>,
+) -> Result<bool, AllocError>
+    ensures { IfOk result (λ found. found ≡ of.has_other_form (items_view items.now.list.now)
+        (module_item_view item.now)) }
 {
-    let condition = condition_of(&item.item);
-    !condition.is_empty() && has_form_in(condition, item, items)
+    has_other_form(alloc, items, items.list.len(), item)
 }

@@ -4,6 +4,7 @@ ghost use Rattle.facet_solver_types.specs.Declarations as written;
 ghost use Rattle.facet_solver_types.specs.Derives as derives;
 ghost use Rattle.facet_solver_types.specs.Tokens.{token_view, tokens_view};
 
+use super::placed_items::PlacedItems;
 use crate::grammar::{is_close, is_mark, is_name, is_named, sees_path};
 use crate::item::{Item, ModuleItem};
 use crate::modules::is_of_stand_ins;
@@ -154,44 +155,22 @@ pub(super) fn has_derives(items: &[ModuleItem<'_, '_>]) -> bool
     false
 }
 
-/// Whether an item is the impl that reads the type of a name.
-fn is_impl(name: &str, item: &Item<'_, '_>) -> bool
-    ensures { result ≡ derives.is_impl name.now (written.item_view item.now) }
-{
-    match item {
-        Item::Impl(of) => of.text == name,
-        _ => false,
-    }
-}
-
-/// Whether one of some items is such an impl.
-fn has_impl(name: &str, items: &[ModuleItem<'_, '_>]) -> bool
-    ensures { result ≡ derives.has_impl name.now (written.items_view items.now) }
-{
-    for item in items {
-        if is_impl(name, &item.item) {
-            return true;
-        }
-    }
-    false
-}
-
 /// Why a struct or an enum of a module, with attributes and a name, isn't read as it is declared,
 /// among items of which some derive that, or none.
 pub(super) fn own_reading(
-    items: &[ModuleItem<'_, '_>],
+    items: &PlacedItems<'_, '_, '_>,
     has_derives: bool,
     module_name: &str,
     attributes: &[Token<'_>],
     name: &str,
 ) -> Option<TypeProblem>
-    ensures { result ≡ derives.own_reading (written.items_view items.now) has_derives
+    ensures { result ≡ derives.own_reading (written.items_view items.now.list.now) has_derives
         module_name.now (tokens_view attributes.now) name.now }
 {
     if is_of_stand_ins(module_name) || derives(Derive::Reading, attributes) {
         return None;
     }
-    if derives(Derive::OtherReading, attributes) || has_impl(name, items) {
+    if derives(Derive::OtherReading, attributes) || items.has_impl(name) {
         return Some(TypeProblem::OwnImpl);
     }
     if has_derives {

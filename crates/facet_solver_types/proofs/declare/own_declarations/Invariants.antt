@@ -8,7 +8,8 @@ use Rattle.facet_solver_types.proofs.declare.own_declarations.Given as goal
 -- those that were read, and then the others
 abbrev pub invariant-loop-index : goal.invariant-loop-index
 invariant-loop-index l =
-    own_declarations (items_view l.items)
+    let items = l.items.list.now in
+    own_declarations (items_view items)
     ≡ declarations_view l.found.items
-    ++ kept (declaration_at (items_view l.items) l.has_derives) l.index
-    (items_view (drop l.index l.items))
+    ++ kept (declaration_at (items_view items) l.has_derives) l.index
+    (items_view (drop l.index items))
