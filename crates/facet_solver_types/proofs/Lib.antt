@@ -39,11 +39,13 @@ pub mod PrintedAttributes
 pub mod Walks
 pub mod DeclaredPlaces
 pub mod Ranges
+pub mod TextOrder
 pub mod NamePlaces
 pub mod DeclaredNames
 pub mod NamesBefore
 pub mod SiftedEntries
 pub mod UseIds
+pub mod Mentioned
 pub mod ZippedLists
 pub mod InPlace
 pub mod Absences

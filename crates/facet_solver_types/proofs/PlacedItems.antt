@@ -71,36 +71,42 @@ module _ (condition : List Token) (m : ModuleItem) where
   named_form : (one : ModuleItem)
       → (name_eq (form_name one) (name_of m.item) && is_other_form condition m one)
       ≡ is_other_form condition m one
-  named_form one = go (length (condition_of one.item) == 0)
+  named_form one = go (length (condition_of one.item) == 0) refl
     where
-      name : Name
-      name = name_of one.item
+      there : Bool → Bool
+      there none =
+          name_eq (name_of one.item) (name_of m.item) && same_site m.site one.site
+          && (not none && not (same_texts condition (condition_of one.item)))
 
-      named : Bool
-      named = name_eq name (name_of m.item)
+      never : (a b c : Bool) → ((a && b) && (false && c)) ≡ false
+      never true true c = refl
+      never true false c = refl
+      never false b c = refl
 
-      there : Bool
-      there = same_site m.site one.site
+      and_none : (a : Bool) → (a && false) ≡ false
+      and_none true = refl
+      and_none false = refl
 
-      same : Bool
-      same = same_texts condition (condition_of one.item)
+      twice : (a b c : Bool) → (a && ((a && b) && c)) ≡ ((a && b) && c)
+      twice true b c = refl
+      twice false b c = refl
 
-      never : (a b c : Bool) → (a && (b && (c && false))) ≡ (b && (c && false))
-      never true b c = refl
-      never false true true = refl
-      never false true false = refl
-      never false false c = refl
-
-      twice : (a b : Bool) → (a && (a && b)) ≡ (a && b)
-      twice true b = refl
-      twice false b = refl
-
-      go : (none : Bool)
-          → (name_eq (if none then [] else name) (name_of m.item)
-          && (named && (there && (not none && not same))))
-          ≡ (named && (there && (not none && not same)))
-      go true = never (name_eq [] (name_of m.item)) named there
-      go false = twice named (there && not same)
+      go : (none : Bool) → (length (condition_of one.item) == 0) ≡ none
+          → (name_eq (form_name one) (name_of m.item) && is_other_form condition m one)
+          ≡ is_other_form condition m one
+      go true e =
+          let is : is_other_form condition m one ≡ false =
+          ap there e
+          ∙ never (name_eq (name_of one.item) (name_of m.item)) (same_site m.site one.site)
+          (not (same_texts condition (condition_of one.item))) in
+          ap (λ b. name_eq (form_name one) (name_of m.item) && b) is
+          ∙ and_none (name_eq (form_name one) (name_of m.item))
+          ∙ sym is
+      go false e =
+          let named : form_name one ≡ name_of one.item = ap (λ b. if b then [] else name_of one.item) e in
+          ap (λ n. name_eq n (name_of m.item) && is_other_form condition m one) named
+          ∙ twice (name_eq (name_of one.item) (name_of m.item)) (same_site m.site one.site)
+          (differs condition (condition_of one.item))
 
   -- one of the first so many items is a form if one at the places of its name is, where the first
   -- item has a place

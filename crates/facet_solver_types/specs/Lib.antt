@@ -113,5 +113,6 @@ pub mod UseFaults
 pub mod DeclaredEntries
 pub mod FirstEntries
 pub mod Roots
+pub mod Mentioned
 pub mod NamedRoots
 pub mod WrittenTypes

@@ -9,6 +9,7 @@ mod known;
 mod layer;
 mod meant;
 mod mention;
+mod mentioned;
 mod named;
 mod root;
 mod roots;

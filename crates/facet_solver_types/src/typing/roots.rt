@@ -6,6 +6,7 @@ ghost use Rattle.facet_solver_types.specs.Declarations.{parameters_view};
 ghost use Rattle.facet_solver_types.specs.Failures.{Leads};
 ghost use Rattle.facet_solver_types.specs.Links.{links_view};
 ghost use Rattle.facet_solver_types.specs.Mentions.{mention_view};
+ghost use Rattle.facet_solver_types.specs.PlacedNames.{names_in};
 ghost use Rattle.facet_solver_types.specs.Roots as of;
 ghost use Rattle.facet_solver_types.specs.Scopes.{str_view};
 ghost use Rattle.facet_solver_types.specs.Understood.{declaration_view, declarations_view, declared_view};
@@ -16,6 +17,7 @@ use super::field_types::Groups;
 use super::id::used_id;
 use super::meant::is_outside;
 use super::mention::{Mention, copied_ids};
+use super::mentioned::Mentioned;
 use super::type_use::Use;
 use super::uses::use_types;
 use crate::declaration::{Declaration, Declared};
@@ -23,6 +25,7 @@ use crate::failure::Failure;
 use crate::fault::Fault;
 use crate::item::Parameter;
 use crate::modules::is_of_stand_ins;
+use crate::name_places::NamePlaces;
 use crate::named_declarations::NamedDeclarations;
 use crate::problem::Problem;
 use crate::type_problem::TypeProblem;
@@ -152,25 +155,6 @@ fn links(
     Ok(links)
 }
 
-/// Whether an index is among some.
-fn is_among(indices: &[usize], index: usize) -> bool
-    ensures { result ≡ of.is_among indices.now index }
-{
-    indices.iter().any(|other| *other == index)
-}
-
-/// Whether the declaration at an index is mentioned by another.
-fn is_mentioned(links: &[Vec<usize>], index: usize) -> bool
-    ensures { result ≡ of.is_mentioned (links_view links.now) index }
-{
-    for (other, found) in links.iter().enumerate() {
-        if other != index && is_among(found, index) {
-            return true;
-        }
-    }
-    false
-}
-
 /// Whether a declaration is passed over where no root is named: it is of a type that is not read.
 fn is_passed_over(faults: &[Fault]) -> bool
     ensures { result ≡ of.is_passed_over faults.now }
@@ -212,41 +196,31 @@ fn stand_in_names<'t>(
     Ok(names)
 }
 
-/// Whether a name is one of some.
-fn is_one(names: &[&str], name: &str) -> bool
-    ensures { result ≡ of.is_one (map str_view names.now) name.now }
-{
-    for one in names {
-        if *one == name {
-            return true;
-        }
-    }
-    false
-}
-
 /// Whether a declaration may be a root, where stand-ins have these names: none of these names.
-fn may_be_root(names: &[&str], declaration: &Declaration<'_, '_>) -> bool
+fn may_be_root(names: &NamePlaces<'_>, declaration: &Declaration<'_, '_>) -> bool
     ensures { result
-        ≡ of.may_be_root (map str_view names.now) (declaration_view declaration.now) }
+        ≡ of.may_be_root (names_in names.now) (declaration_view declaration.now) }
 {
     declares_type(&declaration.declared)
         && declaration.parameters.is_empty()
-        && !(is_passed_over(&declaration.faults) || is_one(names, declaration.name.text))
+        && !(is_passed_over(&declaration.faults) || names.contains(declaration.name.text))
 }
 
 /// Whether a use stands by itself, where stand-ins have these names: its declaration may be a root,
 /// and no other mentions it.
 fn stands_alone(
     declarations: &[Declaration<'_, '_>],
-    names: &[&str],
-    links: &[Vec<usize>],
+    names: &NamePlaces<'_>,
+    mentioned: &Mentioned,
     used: &Use,
 ) -> bool
     ensures { result ≡ of.stands_alone (declarations_view declarations.now)
-        (map str_view names.now) (links_view links.now) (use_view used.now) }
+        (names_in names.now) (links_view mentioned.now.links.items) (use_view used.now) }
 {
     match declarations.get(used.index) {
-        Some(declaration) => { may_be_root(names, declaration) && !is_mentioned(links, used.index) }
+        Some(declaration) => {
+            may_be_root(names, declaration) && !mentioned.is_mentioned(used.index)
+        }
         None => false,
     }
 }
@@ -255,17 +229,17 @@ fn stands_alone(
 fn roots(
     alloc: Global,
     declarations: &[Declaration<'_, '_>],
-    names: &[&str],
-    links: &[Vec<usize>],
+    names: &NamePlaces<'_>,
+    mentioned: &Mentioned,
     uses: Vec<Use>,
 ) -> Result<Vec<Use>, AllocError>
     ensures { IfOk result (λ found. uses_view found.items
-        ≡ of.roots (declarations_view declarations.now) (map str_view names.now)
-        (links_view links.now) (uses_view uses.items)) }
+        ≡ of.roots (declarations_view declarations.now) (names_in names.now)
+        (links_view mentioned.now.links.items) (uses_view uses.items)) }
 {
     let mut found = Vec::new(alloc);
     for used in uses {
-        if stands_alone(declarations, names, links, &used) {
+        if stands_alone(declarations, names, mentioned, &used) {
             found.push(used)?;
         }
     }
@@ -309,15 +283,15 @@ fn outside_or_all(
 fn likely_roots(
     alloc: Global,
     declarations: &[Declaration<'_, '_>],
-    names: &[&str],
-    links: &[Vec<usize>],
+    names: &NamePlaces<'_>,
+    mentioned: &Mentioned,
     uses: Vec<Use>,
 ) -> Result<Vec<Use>, AllocError>
     ensures { IfOk result (λ found. uses_view found.items
-        ≡ of.likely_roots (declarations_view declarations.now) (map str_view names.now)
-        (links_view links.now) (uses_view uses.items)) }
+        ≡ of.likely_roots (declarations_view declarations.now) (names_in names.now)
+        (links_view mentioned.now.links.items) (uses_view uses.items)) }
 {
-    let found = roots(alloc, declarations, names, links, uses)?;
+    let found = roots(alloc, declarations, names, mentioned, uses)?;
     outside_or_all(alloc, declarations, found)
 }
 
@@ -412,8 +386,10 @@ pub(super) fn only_root(
     ensures { Leads mention_view (of.only_root (all_view declarations.entry)) result }
 {
     let uses = own_uses(alloc, declarations.list)?;
-    let names = stand_in_names(alloc, declarations.list)?;
+    let stand_ins = stand_in_names(alloc, declarations.list)?;
+    let names = NamePlaces::new(alloc, stand_ins)?;
     let links = links(alloc, declarations, &uses)?;
-    let roots = likely_roots(alloc, declarations.list, &names, &links, uses)?;
+    let mentioned = Mentioned::new(alloc, links)?;
+    let roots = likely_roots(alloc, declarations.list, &names, &mentioned, uses)?;
     only(alloc, declarations, &roots)
 }

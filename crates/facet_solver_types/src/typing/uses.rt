@@ -1,5 +1,5 @@
 //! The uses of declarations that a root needs.
-ghost use Rattle.std.specs.Prelude.{◌≡◌, ◌++◌, IfOk, OnOk, map};
+ghost use Rattle.std.specs.Prelude.{◌≡◌, IfOk, OnOk, map};
 ghost use Rattle.facet_solver_types.specs.AllDeclarations.{all_view};
 ghost use Rattle.facet_solver_types.specs.FieldTypes.{groups_view};
 ghost use Rattle.facet_solver_types.specs.Outcomes.{Gives};
@@ -156,21 +156,16 @@ pub(super) fn all_uses(
     reached(alloc, declarations, found, ids)
 }
 
-/// Adds the uses of the declaration at an index.
-fn add_uses_of<'u>(
-    found: &mut Vec<&'u Use>,
-    uses: &'u [Use],
-    index: usize,
-) -> Result<(), AllocError>
-    ensures { OnOk result (map (λ u. use_view u.now) found.new.items
-        ≡ map (λ u. use_view u.now) found.old.items ++ of.uses_of (uses_view uses.now) index) }
+/// Uses, as they stand.
+fn references<'u>(alloc: Global, uses: &'u [Use]) -> Result<Vec<&'u Use>, AllocError>
+    ensures { IfOk result (λ found. map (λ u. use_view u.now) found.items
+        ≡ uses_view uses.now) }
 {
+    let mut found = Vec::with_capacity(alloc, uses.len())?;
     for used in uses {
-        if used.index == index {
-            found.push(used)?;
-        }
+        found.push(used)?;
     }
-    Ok(())
+    Ok(found)
 }
 
 /// Uses of so many declarations in the order of the text, those of one as they stand.
@@ -182,9 +177,8 @@ pub(super) fn text_order<'u>(
     ensures { IfOk result (λ found. map (λ u. use_view u.now) found.items
         ≡ of.text_order count (uses_view uses.now)) }
 {
-    let mut found = Vec::new(alloc);
-    for index in 0..count {
-        add_uses_of(&mut found, uses, index)?;
-    }
+    let mut found = references(alloc, uses)?;
+    found.sort_by_key(|used| used.index)?;
+    found.retain(|used| used.index < count);
     Ok(found)
 }
