@@ -1,8 +1,8 @@
-use Rattle.std.proofs.Common.{rules, ◌≡◌, ℕ, ◌+◌, ◌∷◌, [], ◌++◌, Bool, List, ap, drop, length, subst, sym, take, ◌∙◌, arith}
+use Rattle.std.proofs.Common.{◌≡◌, ℕ, ◌+◌, ◌∷◌, [], ◌++◌, Bool, List, ap, drop, length, subst, sym, take, ◌∙◌, arith}
 use Rattle.std.proofs.lemmas.List.{length-map, length-take-le, map-append, take_at, take_more}
 use Rattle.facet_solver_types.specs.Links.{links_view}
 use Rattle.facet_solver_types.specs.Mentioned.{AddsMarks, AreMentioned}
-use Rattle.facet_solver_types.proofs.Mentioned.{mentioned_by, none_mentioned}
+use Rattle.facet_solver_types.proofs.Mentioned.{mentioned_by}
 use Rattle.facet_solver_types.proofs.typing.mentioned.marks.Goals as goal
 
 pub loop-by-preserved : goal.loop-by-preserved

@@ -1,4 +1,4 @@
-use Rattle.std.proofs.Common.{◌≡◌, ◌∙◌, ap}
+use Rattle.std.proofs.Common.{◌∙◌, ap}
 use Rattle.facet_solver_types.specs.Declarations.{items_view}
 use Rattle.facet_solver_types.specs.NamePlaces.{has_name}
 use Rattle.facet_solver_types.proofs.PlacedItems.{impl_by_name}
