@@ -260,8 +260,8 @@ fn declaration_of_item<'s, 't>(
     item: &Item<'s, 't>,
 ) -> Result<Option<Declaration<'s, 't>>, AllocError>
     ensures { IfOk result (λ made. option_map declaration_view made
-        ≡ read.declaration_of_item (written.items_view items.now.list.now) has_derives module_name.now
-        (written.item_view item.now)) }
+        ≡ read.declaration_of_item (written.items_view items.now.list.now) has_derives
+        module_name.now (written.item_view item.now)) }
 {
     match item {
         Item::Struct(item) => {
