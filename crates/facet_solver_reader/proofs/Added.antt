@@ -11,7 +11,7 @@ use Rattle.facet_solver_reader.specs.declared.tables.every.EveryList.{EveryList}
 use Rattle.facet_solver_reader.specs.declared.tables.every.Listed.{Listed}
 use Rattle.facet_solver_reader.specs.EveryList.{IsChosen, IsNumbered}
 use Rattle.facet_solver_reader.specs.Known.{ChoosesAt, HasChoice}
-use Rattle.facet_solver_reader.specs.Listing.{AreAdded, AreFound, AreListed, IsEntry}
+use Rattle.facet_solver_reader.specs.Listing.{AreListsAdded, AreFound, AreListed, IsEntry}
 use Rattle.facet_solver_reader.specs.ListShapes.{shape_of}
 use Rattle.facet_solver_reader.specs.Parts.{ListId, Part, of_struct, of_enum, of_joined}
 use Rattle.facet_solver_reader.specs.Parts.{of_branch, of_fields}
@@ -36,8 +36,8 @@ lt_or_ge (suc a) (suc b) =
 module _ (shapes : Catalogue) where
   -- lists that are added, and then others
   pub added_more : (a b c : EveryList) (D E : ListId → Type 0)
-      → AreAdded shapes a b D → AreAdded shapes b c E → ((q : ListId) → D q → E q → ⊥)
-      → AreAdded shapes a c (λ q. D q ⊎ E q)
+      → AreListsAdded shapes a b D → AreListsAdded shapes b c E → ((q : ListId) → D q → E q → ⊥)
+      → AreListsAdded shapes a c (λ q. D q ⊎ E q)
   added_more a b c D E first second apart = record {
     listed = second.listed;
     done = λ q e free.
@@ -50,10 +50,10 @@ module _ (shapes : Catalogue) where
   }
 
   -- the same lists, or others without parts
-  pub added_as : (a b : EveryList) (D E : ListId → Type 0) → AreAdded shapes a b D
+  pub added_as : (a b : EveryList) (D E : ListId → Type 0) → AreListsAdded shapes a b D
       → ((q : ListId) → D q → E q)
       → ((q : ListId) → E q → D q ⊎ (parts_of shapes q ≡ None))
-      → AreAdded shapes a b E
+      → AreListsAdded shapes a b E
   added_as a b D E added on back = record {
     listed = added.listed;
     done = λ q e free.
@@ -62,7 +62,7 @@ module _ (shapes : Catalogue) where
   }
 
   -- a list that is not added is free if it was
-  pub still_free : (a b : EveryList) (D : ListId → Type 0) (q : ListId) → AreAdded shapes a b D
+  pub still_free : (a b : EveryList) (D : ListId → Type 0) (q : ListId) → AreListsAdded shapes a b D
       → (D q → ⊥) → index_of a.numbers q ≡ None → index_of b.numbers q ≡ None
   still_free a b D q added ne free = added.others q ne ∙ free
 
@@ -144,7 +144,7 @@ module _ (shapes : Catalogue) where
         (same_list q id)
 
     -- a list with parts is added
-    pub one_added : AreAdded shapes old new (λ q. q ≡ id)
+    pub one_added : AreListsAdded shapes old new (λ q. q ≡ id)
     one_added = record {
       listed = record {
         entries = entry_of;
@@ -247,10 +247,10 @@ module _ (shapes : Catalogue) where
     FirstOf v (of_fields s k) = (s ≡ shape) × (k < v)
 
     -- last are added the enum, and those that join
-    pub shape_added : (a b c d : EveryList) (n : ℕ) → AreAdded shapes a b (FirstOf n)
-        → AreAdded shapes b c (λ q. q ≡ of_enum shape)
-        → AreAdded shapes c d (λ q. q ≡ of_joined shape)
-        → length (variants_at shapes shape) ≤ n → AreAdded shapes a d (λ q. shape_of q ≡ shape)
+    pub shape_added : (a b c d : EveryList) (n : ℕ) → AreListsAdded shapes a b (FirstOf n)
+        → AreListsAdded shapes b c (λ q. q ≡ of_enum shape)
+        → AreListsAdded shapes c d (λ q. q ≡ of_joined shape)
+        → length (variants_at shapes shape) ≤ n → AreListsAdded shapes a d (λ q. shape_of q ≡ shape)
     shape_added a b c d n first second third past =
         added_as a d
         (λ q. (FirstOf n q ⊎ (q ≡ of_enum shape)) ⊎ (q ≡ of_joined shape)) (λ q. shape_of q ≡ shape)

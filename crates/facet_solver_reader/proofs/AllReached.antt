@@ -17,12 +17,12 @@ use Rattle.facet_solver_reader.specs.Parts.{ListId, Part, a_member, a_selection,
 use Rattle.facet_solver_reader.specs.Slots.{index_of}
 use Rattle.facet_solver_reader.specs.Types.{content_at}
 use Rattle.facet_solver_reader.specs.Views.{end_view, list_view, parts_view}
-use Rattle.facet_solver_reader.specs.WorkList.{AreReached, HasEnd, IsDone, IsUnderWay}
+use Rattle.facet_solver_reader.specs.WorkList.{AreReached, HasEnd, IsDone, IsReachedSoFar}
 use Rattle.facet_solver_reader.specs.WorkList.{PartIsReached}
 use Rattle.facet_solver_reader.proofs.InRange.{end_within, parts_within}
 use Rattle.facet_solver_reader.proofs.Leads.{end_has, part_has}
 
-module _ (shapes : Catalogue) (every : EveryList) (root p : ℕ) (r : Reached) (checked : IsChecked shapes) (are : AreEveryList shapes every) (u : IsUnderWay shapes every root p r) (past : length r.marks.order.items ≤ p) where
+module _ (shapes : Catalogue) (every : EveryList) (root p : ℕ) (r : Reached) (checked : IsChecked shapes) (are : AreEveryList shapes every) (u : IsReachedSoFar shapes every root p r) (past : length r.marks.order.items ≤ p) where
   -- what is marked is done
   done : (q : ℕ) (x : Marked) → slice_get r.marks.order.items q ≡ Some x
       → IsDone shapes every r x

@@ -26,7 +26,7 @@ use Rattle.facet_solver_reader.specs.declared.tables.fault.Fault.TheVariants.{No
 use Rattle.facet_solver_reader.specs.Parts.{of_map, of_anything, ListId, Part, a_member}
 use Rattle.facet_solver_reader.specs.Parts.{a_selection, a_catch_all, Target, of_shape, of_content}
 use Rattle.facet_solver_reader.specs.Parts.{of_tag}
-use Rattle.facet_solver_reader.specs.Ranked.{AreRanked, AreSound}
+use Rattle.facet_solver_reader.specs.Ranked.{AreRanked, AreEnds}
 use Rattle.facet_solver_reader.specs.Reached.{IsRanked}
 use Rattle.facet_solver_reader.specs.Rules.{Content, End, no_content, as_shape, as_tuple, as_object}
 use Rattle.facet_solver_reader.specs.Rules.{an_option, a_list, a_tuple, a_map, an_object}
@@ -45,7 +45,7 @@ use Rattle.facet_solver_reader.proofs.Ranks.{ranked_more}
 
 -- what is reached is sound
 pub reached_sound : (shapes : Catalogue) (every : EveryList) (root : ℕ) (r : Reached)
-    → AreReached shapes every root r → AreSound shapes r.ends.items
+    → AreReached shapes every root r → AreEnds shapes r.ends.items
 reached_sound shapes every root r reached = record {
   each = λ id e is.
       let here = reached.ends id e is in

@@ -25,7 +25,7 @@ use Rattle.facet_solver_reader.specs.declared.read_error.NoReading.{NoReading}
 use Rattle.facet_solver_reader.specs.declared.read_error.Unread.{Unread}
 use Rattle.facet_solver_reader.specs.Documents.{Tree}
 use Rattle.facet_solver_reader.specs.Parts.{Target}
-use Rattle.facet_solver_reader.specs.Places.{Step, at}
+use Rattle.facet_solver_reader.specs.Places.{PlaceStep, at}
 use Rattle.facet_solver_reader.specs.Rules.{Rules}
 use Rattle.facet_solver_reader.specs.Blaming.{IsUnreadAs, IsUnreadAt}
 use Rattle.facet_solver_reader.specs.Why.{IsObstacle, IsToldUnread, IsUnread, IsWhyNone}
@@ -160,13 +160,13 @@ told_unread rules v t u unread h =
     }
 
 -- a value at a place that is not what a target reads is why there is no reading
-pub why_unread : (rules : Rules) (document v : Tree) (t : Target) (place : List Step)
+pub why_unread : (rules : Rules) (document v : Tree) (t : Target) (place : List PlaceStep)
     (n : NoReading) → at document place ≡ Some v → IsUnread rules t v → IsUnreadAt t v place n
     → IsWhyNone rules document n
 why_unread rules document v t place n leads unread h =
     record {
       value = v;
-      leads = subst (λ (p : List Step). at document p ≡ Some v) (sym h.same) leads;
+      leads = subst (λ (p : List PlaceStep). at document p ≡ Some v) (sym h.same) leads;
       why =
           subst (IsObstacle rules v) (sym h.unread.1)
           (told_unread rules v t h.unread.0 unread h.unread.2);

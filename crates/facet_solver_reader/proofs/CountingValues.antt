@@ -14,7 +14,7 @@ use Rattle.facet_solver_reader.specs.Counted.{Counted, once, plus, times}
 use Rattle.facet_solver_reader.specs.Documents.{Tree, null, truth, number, text, list, object}
 use Rattle.facet_solver_reader.specs.Documents.{items, members_view}
 use Rattle.facet_solver_reader.specs.Kinds.{is_list, is_null, is_object}
-use Rattle.facet_solver_reader.specs.Memo.{IsAdded, IsNoted}
+use Rattle.facet_solver_reader.specs.Memo.{IsEntryAdded, IsNoted}
 use Rattle.facet_solver_reader.specs.Nodes.{children, members_in}
 use Rattle.facet_solver_reader.specs.Objects.{Reads, ReadsObject}
 use Rattle.facet_solver_reader.specs.Parts.{ListId, Target, of_shape}
@@ -38,7 +38,7 @@ use Rattle.facet_solver_reader.proofs.UntaggedVariants.{count_of_null_alone}
 
 -- one more count that is right
 pub sound_added : (t : Tables) (nodes : Nodes) (old new : List MemoEntry) (node : ℕ)
-    (target : Target) (count : Count) → AreSound t nodes old → IsAdded node target count old new
+    (target : Target) (count : Count) → AreSound t nodes old → IsEntryAdded node target count old new
     → IsCount t nodes node target count → AreSound t nodes new
 sound_added t nodes old new node target count sound added is = record {
   tables = sound.tables;

@@ -16,7 +16,7 @@ use Rattle.facet_solver_reader.specs.declared.tables.order.Ordered.{Ordered}
 use Rattle.facet_solver_reader.specs.EveryList.{IsChosen}
 use Rattle.facet_solver_reader.specs.OrderedLists.{ArePartsBefore, IsBefore}
 use Rattle.facet_solver_reader.specs.Parts.{ListId, Part, a_member, a_selection, a_catch_all}
-use Rattle.facet_solver_reader.specs.Placing.{AreBelow, AreGathered, AreKept, BranchIsReady, IsPlacing, ListIsAmong, PartIsAmong, PartIsReady, entry_of}
+use Rattle.facet_solver_reader.specs.Placing.{AreBelow, AreGathered, AreStillAmong, BranchIsReady, IsPlacing, ListIsAmong, PartIsAmong, PartIsReady, entry_of}
 use Rattle.facet_solver_reader.specs.Slots.{index_of}
 use Rattle.facet_solver_reader.specs.Views.{part_view, parts_view}
 use Rattle.facet_solver_reader.proofs.Quantifiers.{all_at, all_from}
@@ -33,7 +33,7 @@ index_at xs k m = (m.0, m.1, slice_get_read xs (length xs) m.0 k refl m.1 (sym m
 -- ---- what stays among indices
 
 -- a list
-pub list_kept : (o : Ordered) (old new : List ℕ) → AreKept old new → (b : ListId)
+pub list_kept : (o : Ordered) (old new : List ℕ) → AreStillAmong old new → (b : ListId)
     → ListIsAmong o old b → ListIsAmong o new b
 list_kept o old new kept b m = go (index_of o.slots b) m
   where
@@ -42,7 +42,7 @@ list_kept o old new kept b m = go (index_of o.slots b) m
     go (Some j) m = kept j m
 
 -- a part
-pub part_kept : (o : Ordered) (old new : List ℕ) → AreKept old new → (p : Part)
+pub part_kept : (o : Ordered) (old new : List ℕ) → AreStillAmong old new → (p : Part)
     → PartIsAmong o old p → PartIsAmong o new p
 part_kept o old new kept (a_member m) h = h
 part_kept o old new kept (a_catch_all c) h = h
@@ -51,7 +51,7 @@ part_kept o old new kept (a_selection s) h =
     (λ k b at. list_kept o old new kept b (all_at (ListIsAmong o old) s.branches k b h at))
 
 -- the parts of each list
-parts_kept : (o : Ordered) (old new : List ℕ) → AreKept old new → (ps : List Part)
+parts_kept : (o : Ordered) (old new : List ℕ) → AreStillAmong old new → (ps : List Part)
     → All (PartIsAmong o old) ps → All (PartIsAmong o new) ps
 parts_kept o old new kept ps h =
     all_from (PartIsAmong o new) ps
@@ -61,7 +61,7 @@ parts_kept o old new kept ps h =
 
 module _ (shapes : Catalogue) (o : Ordered) (h : IsPlacing shapes o) (old new : List ℕ) (closed : AreGathered o old) (j : ℕ) (l : ListEntry) (there : slice_get o.lists.items j ≡ Some l) (is : new ≡ old ++ l.below.items) where
   -- what was gathered stays so
-  pub kept_more : AreKept old new
+  pub kept_more : AreStillAmong old new
   kept_more k m = subst (λ xs. Contains xs k) (sym is) (Contains-append_left old l.below.items k m)
 
   -- what is below the list is gathered
@@ -193,7 +193,7 @@ module _ (shapes : Catalogue) (o : Ordered) (h : IsPlacing shapes o) (front : Li
       there q d inside = slice_get-get_or front q d inside
 
 -- the same indices, each once
-pub gathered_same : (o : Ordered) (old new : List ℕ) → AreKept old new → AreKept new old
+pub gathered_same : (o : Ordered) (old new : List ℕ) → AreStillAmong old new → AreStillAmong new old
     → AreGathered o old → AreGathered o new
 gathered_same o old new kept back closed index m =
     let c = closed index (back index m) in

@@ -14,7 +14,7 @@ use Rattle.facet_solver_reader.specs.declared.tables.order.Ordered.{Ordered}
 use Rattle.facet_solver_reader.specs.EveryList.{AreEveryList, IsChosen, IsNumbered}
 use Rattle.facet_solver_reader.specs.OrderedLists.{AreMarksClosed, AreOrdered, BranchIsMarked, BranchesAreMarked, ComesIn, IsBranchOf, IsMarked, IsPlacedAt}
 use Rattle.facet_solver_reader.specs.Parts.{ListId, Part, a_member, a_selection, a_catch_all}
-use Rattle.facet_solver_reader.specs.Placing.{IsLeft, IsOneMore, IsPlacing, IsStuck, IsUnderWay, IsUnplaced, IsNext, PartIsPlaced, PartIsStuck, unplaced}
+use Rattle.facet_solver_reader.specs.Placing.{IsLeft, IsOneMore, IsPlacing, IsStuck, IsPlacedSoFar, IsUnplaced, IsNext, PartIsPlaced, PartIsStuck, unplaced}
 use Rattle.facet_solver_reader.specs.Slots.{AreFree, HasSlot, index_of}
 use Rattle.facet_solver_reader.specs.Views.{list_view, parts_view}
 use Rattle.facet_solver_reader.proofs.ChosenLists.{chosen_of_catalogue}
@@ -92,9 +92,9 @@ module _ (shapes : Catalogue) (every : EveryList) (marks : List Bool) (old new :
         (ap (λ q. is_none (index_of new.slots q)) is_of ∙ ap is_none (more.set.given slot))
 
     -- so the order is under way still
-    pub under_way_more : IsUnderWay shapes every marks old → IsPlacing shapes new
+    pub under_way_more : IsPlacedSoFar shapes every marks old → IsPlacing shapes new
         → (number : ℕ) → index_of every.numbers id ≡ Some number → IsMarked marks number
-        → IsUnderWay shapes every marks new
+        → IsPlacedSoFar shapes every marks new
     under_way_more h placing number own marked = record {
       placing = placing;
       slots_are = λ q c. (more.set.same_slots q).0 (h.slots_are q c);
@@ -117,7 +117,7 @@ module _ (shapes : Catalogue) (every : EveryList) (marks : List Bool) (old new :
 
 module _ (shapes : Catalogue) (every : EveryList) (marks : List Bool) (o : Ordered) (listed : AreEveryList shapes every) where
   -- where none is left, all are ordered
-  pub ordered_all : IsUnderWay shapes every marks o → ((number : ℕ) → ¬ IsLeft every marks o number)
+  pub ordered_all : IsPlacedSoFar shapes every marks o → ((number : ℕ) → ¬ IsLeft every marks o number)
       → AreOrdered shapes every marks o
   ordered_all h none = record {
     placed = h.placing.placed;
@@ -187,13 +187,13 @@ module _ (shapes : Catalogue) (every : EveryList) (marks : List Bool) (o : Order
 
 -- lists before a number are placed, or stuck where none was placed
 pub record AreMoreUpto (shapes : Catalogue) (every : EveryList) (marks : List Bool) (first now : Ordered) (has_more : Bool) (n : ℕ) : Type 0 where
-  pub under_way : IsUnderWay shapes every marks now
+  pub under_way : IsPlacedSoFar shapes every marks now
   pub no_more : unplaced every now ≤ unplaced every first
   pub fewer : IsTrue has_more → unplaced every now < unplaced every first
   pub stuck : has_more ≡ false → (k : ℕ) → k < n → IsStuck shapes every marks now k
 
 module _ (shapes : Catalogue) (every : EveryList) (marks : List Bool) (first : Ordered) where
-  pub upto_none : IsUnderWay shapes every marks first → AreMoreUpto shapes every marks first first false 0
+  pub upto_none : IsPlacedSoFar shapes every marks first → AreMoreUpto shapes every marks first first false 0
   upto_none h = record {
     under_way = h;
     no_more = omega arith;
@@ -257,7 +257,7 @@ module _ (shapes : Catalogue) (every : EveryList) (marks : List Bool) (o : Order
   pub next_at : All (PartIsPlaced shapes o) (parts_view x.parts.items) → IsNext shapes o (list_view x.id)
   next_at ready ps e = subst (All (PartIsPlaced shapes o)) (same_Some (parts_view x.parts.items) ps (sym (listed.listed number x there).same ∙ e)) ready
 
-  pub slot_at : IsUnderWay shapes every marks o → HasSlot o.slots (list_view x.id)
+  pub slot_at : IsPlacedSoFar shapes every marks o → HasSlot o.slots (list_view x.id)
   slot_at h = h.slots_are (list_view x.id) (chosen_of_catalogue shapes (list_view x.id) unplaced_at.0)
 
 -- a list that is stuck
@@ -272,7 +272,7 @@ stuck_at shapes every marks o number x there some left =
 
 -- where no list is placed the order is under way
 pub none_placed : (shapes : Catalogue) (every : EveryList) (marks : List Bool) (o : Ordered)
-    → o.lists.items ≡ [] → AreFree shapes o.slots → IsUnderWay shapes every marks o
+    → o.lists.items ≡ [] → AreFree shapes o.slots → IsPlacedSoFar shapes every marks o
 none_placed shapes every marks o empty free = record {
   placing = record {
     placed = λ index l at. absurd (no_entry index l at);

@@ -108,6 +108,8 @@ pub mod ToldRests
 pub mod FirstRest
 pub mod Lacking
 pub mod Blaming
+pub mod TakenLists
+pub mod TakenObjects
 pub mod Quoted
 pub mod PathTexts
 pub mod LookUps

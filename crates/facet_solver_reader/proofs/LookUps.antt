@@ -51,8 +51,8 @@ abbrev pub Pair : Type 0
 Pair = Bor FieldPlace × Bor Reading
 
 -- the pair that is found says the first field that passes a test, and its value
-abbrev pub IsFound : (FieldPlace → Bool) → List FieldPlace → List Reading → Option Pair → Type 0
-IsFound test fields values found =
+abbrev pub IsPairFound : (FieldPlace → Bool) → List FieldPlace → List Reading → Option Pair → Type 0
+IsPairFound test fields values found =
     option_map (λ (p : Pair). (p.0.now, p.1.now)) found ≡ find (λ f. test f.0) (zip fields values)
 
 value_found : (found : Option Pair) → option_map (λ (p : Pair). p.1.now) found
@@ -63,7 +63,7 @@ value_found (Some p) = refl
 
 -- so its value is that of the first
 pub is_first : (test : FieldPlace → Bool) (fields : List FieldPlace) (values : List Reading)
-    (found : Option Pair) → IsFound test fields values found
+    (found : Option Pair) → IsPairFound test fields values found
     → option_map (λ (p : Pair). p.1.now) found ≡ first_among test fields values
 is_first test fields values found h =
     value_found found ∙ ap (option_map (λ (f : FieldPlace × Reading). f.1)) h

@@ -10,8 +10,8 @@ use Rattle.facet_solver_reader.specs.declared.nodes.Opening.{Opening}
 use Rattle.facet_solver_reader.specs.declared.nodes.Nodes.{Nodes}
 use Rattle.facet_solver_reader.specs.Documents.{Tree, null, object, Members, members, Member, view}
 use Rattle.facet_solver_reader.specs.Objects.{find}
-use Rattle.facet_solver_reader.specs.Places.{Step, to_member, inside, at, names_in, NamesStandOnce}
-use Rattle.facet_solver_reader.specs.Nodes.{AreNamesOf, IsInside, IsNumbering, IsOpened, IsUnderWay, Named, Node, children, count, entries, first_in, members_in, nodes_of, numbered, opened, parent_of, value_of, values_in}
+use Rattle.facet_solver_reader.specs.Places.{PlaceStep, to_member, inside, at, names_in, NamesStandOnce}
+use Rattle.facet_solver_reader.specs.Nodes.{AreNamesOf, IsInside, IsNumbering, IsOpened, IsNumberedSoFar, Named, Node, children, count, entries, first_in, members_in, nodes_of, numbered, opened, parent_of, value_of, values_in}
 use Rattle.facet_solver_reader.proofs.Trees.{child_inside, child_of_member, find-at, found_at, repeats_sorted, entry_of_member, member_of_entry}
 
 -- ---- the value of a number
@@ -151,7 +151,7 @@ module _ (nodes : Nodes) (numbering : IsNumbering nodes) (node : ℕ) (o : Openi
         )
 
 -- ---- the value around a value
-module _ (nodes : Nodes) (under_way : IsUnderWay nodes) (node : ℕ) (n : code_node.Node) (some : 0 < node) (within : node < count nodes) (is : n ≡ get_or nodes.nodes.items node n) where
+module _ (nodes : Nodes) (under_way : IsNumberedSoFar nodes) (node : ℕ) (n : code_node.Node) (some : 0 < node) (within : node < count nodes) (is : n ≡ get_or nodes.nodes.items node n) where
   pub stands_inside : IsInside (nodes_of nodes) nodes.openings.items node (node_view n)
   stands_inside = under_way.inside node (node_view n) (node_read nodes node n within is) some
 
@@ -215,7 +215,7 @@ module _ (nodes : Nodes) (numbering : IsNumbering nodes) where
   opening_of : (i : ℕ) → i < count nodes → (o : Opening) × (slice_get nodes.openings.items i ≡ Some o)
   opening_of i within = (get_or nodes.openings.items i no_opening, slice_get-get_or nodes.openings.items i no_opening (omega (arith, within, numbering.all_opened)))
 
-  number_at : (place : List Step) (i : ℕ) (v w : Tree) → slice_get (values_in (nodes_of nodes)) i ≡ Some v → at v place ≡ Some w → (j : ℕ) × (slice_get (values_in (nodes_of nodes)) j ≡ Some w)
+  number_at : (place : List PlaceStep) (i : ℕ) (v w : Tree) → slice_get (values_in (nodes_of nodes)) i ≡ Some v → at v place ≡ Some w → (j : ℕ) × (slice_get (values_in (nodes_of nodes)) j ≡ Some w)
   number_at [] i v w v_at e = (i, v_at ∙ e)
   number_at (s ∷ rest) i v w v_at e =
       option_and_then_some (λ u. at u rest) (inside v s) w e
@@ -248,7 +248,7 @@ module _ (nodes : Nodes) (numbering : IsNumbering nodes) where
       member_found nodes numbering node o.0 within opening_is
 
 -- where all values are opened
-pub numbering_from : (nodes : Nodes) (document : Tree) → IsUnderWay nodes → count nodes ≤ opened nodes → slice_get (values_in (nodes_of nodes)) 0 ≡ Some document → IsNumbering nodes
+pub numbering_from : (nodes : Nodes) (document : Tree) → IsNumberedSoFar nodes → count nodes ≤ opened nodes → slice_get (values_in (nodes_of nodes)) 0 ≡ Some document → IsNumbering nodes
 numbering_from nodes document under_way past root = record {
   under_way = under_way;
   all_opened = omega (arith, past, under_way.upto, long_nodes nodes);

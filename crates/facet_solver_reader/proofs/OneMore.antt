@@ -11,7 +11,7 @@ use Rattle.facet_solver_reader.specs.EveryList.{IsChosen}
 use Rattle.facet_solver_reader.specs.Known.{Chooses, IsDistinct, IsKnown}
 use Rattle.facet_solver_reader.specs.OrderedLists.{AreIndicesInOrder, ArePartsBefore, IsBefore, IsPlaced, IsPlacedAt}
 use Rattle.facet_solver_reader.specs.Parts.{ListId, Part, a_member, a_selection, a_catch_all}
-use Rattle.facet_solver_reader.specs.Placing.{BranchIsReady, IsNextList, IsOneMore, IsPlacing, IsUnplaced, PartIsPlaced, PartIsReady}
+use Rattle.facet_solver_reader.specs.Placing.{BranchIsReady, IsPlaceable, IsOneMore, IsPlacing, IsUnplaced, PartIsPlaced, PartIsReady}
 use Rattle.facet_solver_reader.specs.Slots.{HasSlot, index_of}
 use Rattle.facet_solver_reader.specs.Tables.{knows}
 use Rattle.facet_solver_reader.specs.Types.{parts_of}
@@ -98,7 +98,7 @@ module _ (shapes : Catalogue) (old new : Ordered) (id : ListId) (unplaced : IsUn
         );
   }
 
-  module _ (next : IsNextList shapes old id more.entry) (placed : All (PartIsPlaced shapes old) (parts_view more.entry.parts.items)) where
+  module _ (next : IsPlaceable shapes old id more.entry) (placed : All (PartIsPlaced shapes old) (parts_view more.entry.parts.items)) where
     -- its branches are ready
     part_next : (p : Part) → PartIsPlaced shapes old p → PartIsReady shapes old (length old.lists.items) p
     part_next (a_member m) r = r

@@ -30,7 +30,7 @@ module _ (rules : Rules) (reads : Reads) (members : List Member) (list : ListId)
       }
 
   -- where all is read, the readings are those by the list
-  taking_reads : (d : Choice) → ReadsAll rules reads members list d → (c : Choice)
+  pub taking_reads : (d : Choice) → ReadsAll rules reads members list d → (c : Choice)
       → ReadsList rules reads (taking members list) list c
       ↔ ReadsObject rules reads list members c
   taking_reads d a c =

@@ -12,7 +12,7 @@ use Rattle.facet_solver_reader.specs.declared.nodes.Nodes.{Nodes}
 use Rattle.facet_solver_reader.specs.declared.nodes.Opening.{Opening}
 use Rattle.facet_solver_reader.specs.Documents.{Tree, Member, object, list, view, items_view, members_view}
 use Rattle.facet_solver_reader.specs.Places.{IsLeastRepeated, names_in}
-use Rattle.facet_solver_reader.specs.Nodes.{AreByName, AreNamesOf, AreNumbered, IsAdded, IsAppended, IsInside, IsNamed, IsOpened, Named, Node, IsUnderWay, children, count, entries, nodes_of, opened, value_of, members_in, names_among, numbered, under, values_in}
+use Rattle.facet_solver_reader.specs.Nodes.{AreByName, AreNamesOf, AreNumbered, IsAdded, IsAppended, IsInside, AreAddedByName, IsOpened, Named, Node, IsNumberedSoFar, children, count, entries, nodes_of, opened, value_of, members_in, names_among, numbered, under, values_in}
 use Rattle.facet_solver_reader.proofs.Trees.{items-view, same_names, values-view}
 use Rattle.facet_solver_reader.proofs.Adding.{long_numbered}
 use Rattle.facet_solver_reader.proofs.Numbering.{long_nodes, value_there}
@@ -219,7 +219,7 @@ list_added old new number ds nodes openings names = record {
   names_are = no_names (count old);
 }
 
-pub object_added : (old mid new : Nodes) (number : ℕ) (ms : List (Bor Name × Document)) → IsNamed old mid (members_view ms) → nodes_of new ≡ nodes_of mid ++ under number (map (λ m. view m.1) ms) → new.openings.items ≡ mid.openings.items → new.by_name.items ≡ mid.by_name.items → IsAdded old new number (object (members_view ms))
+pub object_added : (old mid new : Nodes) (number : ℕ) (ms : List (Bor Name × Document)) → AreAddedByName old mid (members_view ms) → nodes_of new ≡ nodes_of mid ++ under number (map (λ m. view m.1) ms) → new.openings.items ≡ mid.openings.items → new.by_name.items ≡ mid.by_name.items → IsAdded old new number (object (members_view ms))
 object_added old mid new number ms named nodes openings names = record {
   nodes_are = nodes ∙ (λ i. named.nodes_are i ++ under number (sym (values-view ms) i));
   openings_are = openings ∙ named.openings_are;
@@ -238,7 +238,7 @@ nothing_added old number v nothing = record {
 }
 
 -- ---- one more value is opened
-pub next_numbered : (old added : Nodes) (openings : Vec Opening Global) (number : ℕ) (o : Opening) (v : Tree) → IsUnderWay old → opened old < count old → number ≡ opened old → o.first ≡ count old → o.names ≡ length old.by_name.items → v ≡ value_of old number → IsAdded old added number v → openings.items ≡ added.openings.items ++ o ∷ [] → AreNumbered (nodes_of added) openings.items added.by_name.items
+pub next_numbered : (old added : Nodes) (openings : Vec Opening Global) (number : ℕ) (o : Opening) (v : Tree) → IsNumberedSoFar old → opened old < count old → number ≡ opened old → o.first ≡ count old → o.names ≡ length old.by_name.items → v ≡ value_of old number → IsAdded old added number v → openings.items ≡ added.openings.items ++ o ∷ [] → AreNumbered (nodes_of added) openings.items added.by_name.items
 next_numbered old added openings number o v under_way left number_is first_is names_from v_is adds pushed =
     let here : v ≡ value_of old (opened old) = v_is ∙ ap (value_of old) number_is in
     let v_at : slice_get (values_in (nodes_of old)) (opened old) ≡ Some v = value_there old (opened old) left ∙ ap Some (sym here) in

@@ -30,7 +30,7 @@ use Rattle.facet_solver_reader.specs.Known.{Key, named}
 use Rattle.facet_solver_reader.specs.Parts as Parts
 use Rattle.facet_solver_reader.specs.Parts.{Part, a_member, a_selection}
 use Rattle.facet_solver_reader.specs.Places.{IsRepeated}
-use Rattle.facet_solver_reader.specs.Placing.{AreAdded, AreNamesOf, ArePartNames, AreThose, IsShared, entry_of, list_knows, part_knows}
+use Rattle.facet_solver_reader.specs.Placing.{AreNamesAdded, AreNamesOf, ArePartNames, AreThose, IsShared, entry_of, list_knows, part_knows}
 use Rattle.facet_solver_reader.specs.Tables.{knows}
 use Rattle.facet_solver_reader.specs.Views.{list_view, member_view, part_view, parts_view, selection_view}
 use Rattle.facet_solver_reader.proofs.NodeNames.{at_contained, contains_at, name_ref_total}
@@ -199,7 +199,7 @@ module _ (o : Ordered) where
 
   -- the names of one part more
   pub names_of_more : (ps : List Part) (p : Part) (old new : List Name)
-      → AreNamesOf o ps old → AreAdded o p old new → AreNamesOf o (ps ++ p ∷ []) new
+      → AreNamesOf o ps old → AreNamesAdded o p old new → AreNamesOf o (ps ++ p ∷ []) new
   names_of_more ps p old new h a = record {
     has = λ x. (
       λ c.
@@ -475,7 +475,7 @@ names_of_branches o s n names sorted all h moved x =
 -- a member adds its name
 pub member_added : (o : Ordered) (m : code_member.MemberPart) (old new : List (Bor Name))
     → new ≡ old ++ m.name ∷ []
-    → AreAdded o (a_member (member_view m)) (names_of old) (names_of new)
+    → AreNamesAdded o (a_member (member_view m)) (names_of old) (names_of new)
 member_added o m old new is = record {
   more = m.name.now ∷ [];
   new_is = ap names_of is ∙ map-append (λ (n : Bor Name). n.now) old (m.name ∷ []);
@@ -489,7 +489,7 @@ member_added o m old new is = record {
 pub selection_added : (o : Ordered) (s : code_selection.Selection) (old more new : List (Bor Name))
     → new ≡ old ++ more
     → AreThose (λ x. IsTrue (part_knows o (named x) (a_selection (selection_view s)))) (names_of more)
-    → AreAdded o (a_selection (selection_view s)) (names_of old) (names_of new)
+    → AreNamesAdded o (a_selection (selection_view s)) (names_of old) (names_of new)
 selection_added o s old more new is those = record {
   more = names_of more;
   new_is = ap names_of is ∙ map-append (λ (n : Bor Name). n.now) old more;

@@ -15,7 +15,7 @@ use Rattle.facet_solver_shape.specs.Catalogues.{Catalogue}
 use Rattle.facet_solver_reader.specs.declared.end.End as code
 use Rattle.facet_solver_reader.specs.Marks.{marked_of}
 use Rattle.facet_solver_reader.specs.OrderedLists.{IsMarked}
-use Rattle.facet_solver_reader.specs.Ranked.{AreNext, AreRanked, AreSound, ShapeIsRanked, asks_marked, is_marked}
+use Rattle.facet_solver_reader.specs.Ranked.{AreNext, AreRanked, AreEnds, ShapeIsRanked, asks_marked, is_marked}
 use Rattle.facet_solver_reader.specs.Ranked.{marked_next}
 use Rattle.facet_solver_reader.specs.Types.{end_of, rules_of}
 use Rattle.facet_solver_reader.specs.Parts.{of_shape}
@@ -87,7 +87,7 @@ pub record AreRankedSoFar (shapes : Catalogue) (ends : Ends) (marks : List Bool)
   pub some : 1 ≤ steps
   pub bounded : steps ≤ 2 * marked_of marks + 1
 
-module _ (shapes : Catalogue) (ends : Ends) (marks next : List Bool) (steps : ℕ) (sound : AreSound shapes ends) (so_far : AreRankedSoFar shapes ends marks steps) (round : AreNext shapes ends marks next) where
+module _ (shapes : Catalogue) (ends : Ends) (marks next : List Bool) (steps : ℕ) (sound : AreEnds shapes ends) (so_far : AreRankedSoFar shapes ends marks steps) (round : AreNext shapes ends marks next) where
   -- a shape that is marked stays so
   more : (id : ℕ) → IsMarked marks id → IsMarked next id
   more id m =
@@ -247,7 +247,7 @@ module _ (ends : Ends) (marks : List Bool) (long : length marks ≡ length ends)
       ]
 
 -- the end: no more are marked
-pub all_ranked : (shapes : Catalogue) (ends : Ends) (r : Ranks) → AreSound shapes ends
+pub all_ranked : (shapes : Catalogue) (ends : Ends) (r : Ranks) → AreEnds shapes ends
     → AreRankedSoFar shapes ends r.is_ranked.items r.steps
     → AreNext shapes ends r.is_ranked.items r.is_ranked.items → AreRanked shapes ends r
 all_ranked shapes ends r sound so_far round = record {

@@ -15,7 +15,7 @@ use Rattle.facet_solver_reader.specs.Leads.{Contents, ContentHas, EndHas, Target
 use Rattle.facet_solver_reader.specs.Marks.{marked_of}
 use Rattle.facet_solver_reader.specs.OrderedLists.{IsMarked}
 use Rattle.facet_solver_reader.specs.Parts.{ListId, Target, of_shape, of_content, of_tag}
-use Rattle.facet_solver_reader.specs.Ranked.{AreNext, AreSound, ShapeIsRanked}
+use Rattle.facet_solver_reader.specs.Ranked.{AreNext, AreEnds, ShapeIsRanked}
 use Rattle.facet_solver_reader.specs.Ranked.{asks_marked, content_asks_marked, is_alternative_marked}
 use Rattle.facet_solver_reader.specs.Ranked.{is_marked, is_marked_by_kind, is_target_marked}
 use Rattle.facet_solver_reader.specs.Reached.{IsRanked, asked_by_end, asked_by_kind}
@@ -171,7 +171,7 @@ module _ (P : ℕ → Type 0) (L : ListId → Type 0) (content : Contents) where
   asked_has _ h = all_of_none (λ u. TargetHas P L content u)
 
 -- where no more are marked, what is not marked asks without end
-module _ (shapes : Catalogue) (ends : Ends) (marks : List Bool) (sound : AreSound shapes ends) (next : AreNext shapes ends marks marks) (strict : Bool) where
+module _ (shapes : Catalogue) (ends : Ends) (marks : List Bool) (sound : AreEnds shapes ends) (next : AreNext shapes ends marks marks) (strict : Bool) where
   abbrev On : ℕ → Target → Type 0
   On n t = (u : Target) × ComesTo (rules_of shapes strict) n t u
 

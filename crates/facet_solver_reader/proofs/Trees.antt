@@ -18,7 +18,7 @@ use Rattle.facet_solver_reader.specs.declared.document.Document.TheViews.{roll-D
 use Rattle.facet_solver_reader.specs.declared.document.Document.TheFolds.{fold-roll-Document, ind-Document, map-Document}
 use Rattle.facet_solver_reader.specs.Documents.{Tree, null, truth, number, text, list, object, Member, items, members, items_of, view, view_step, items_view, members_view}
 use Rattle.facet_solver_reader.specs.Objects.{find}
-use Rattle.facet_solver_reader.specs.Places.{Step, to_member, to_item, inside, at, names_in}
+use Rattle.facet_solver_reader.specs.Places.{PlaceStep, to_member, to_item, inside, at, names_in}
 use Rattle.facet_solver_reader.specs.Nodes.{children, members_in, numbered, entries, names_among, Named}
 use Rattle.facet_solver_reader.proofs.NodeNames.{at_contained, contains_at}
 
@@ -99,17 +99,17 @@ find-at (n ∷ ms) (suc k) m apart there =
     find_later n m ms (λ same. apart (repeats_first n m ms k there same)) (find-at ms k m (λ twice. apart (later_repeats n.name (names_in ms) twice)) there)
 
 -- a member that is found stands at an index
-abbrev pub IsFound : List Member → Name → Tree → Type 0
-IsFound ms x v = (k : ℕ) × (m : Member) × (slice_get ms k ≡ Some m) × (m.name ≡ x) × (m.value ≡ v)
+abbrev pub IsNamedMember : List Member → Name → Tree → Type 0
+IsNamedMember ms x v = (k : ℕ) × (m : Member) × (slice_get ms k ≡ Some m) × (m.name ≡ x) × (m.value ≡ v)
 
-found_first : (n : Member) (ms : List Member) (x : Name) (v : Tree) → find (n ∷ ms) x ≡ Some v → (find ms x ≡ Some v → IsFound ms x v) → IsFound (n ∷ ms) x v
+found_first : (n : Member) (ms : List Member) (x : Name) (v : Tree) → find (n ∷ ms) x ≡ Some v → (find ms x ≡ Some v → IsNamedMember ms x v) → IsNamedMember (n ∷ ms) x v
 found_first n ms x v found more = go (bytes_eq n.name x) refl found
   where
-    go : (b : Bool) → bytes_eq n.name x ≡ b → cond b (Some n.value) (find ms x) ≡ Some v → IsFound (n ∷ ms) x v
+    go : (b : Bool) → bytes_eq n.name x ≡ b → cond b (Some n.value) (find ms x) ≡ Some v → IsNamedMember (n ∷ ms) x v
     go true e here = (0, n, refl, (bytes_eq-Decides n.name x).0 e, same_Some n.value v here)
     go false e later = let deep = more later in (suc deep.0, deep.1, deep.2, deep.3, deep.4)
 
-pub found_at : (ms : List Member) (x : Name) (v : Tree) → find ms x ≡ Some v → IsFound ms x v
+pub found_at : (ms : List Member) (x : Name) (v : Tree) → find ms x ≡ Some v → IsNamedMember ms x v
 found_at [] x v found = absurd (cc)
 found_at (n ∷ ms) x v found = found_first n ms x v found (found_at ms x v)
 
@@ -162,7 +162,7 @@ module _ (ms : List Member) (first : ℕ) (es : Named) (same : IsPermutation (nu
 -- ---- places
 
 -- where a step leads, a child stands
-pub child_inside : (v : Tree) (s : Step) (c : Tree) → inside v s ≡ Some c → (k : ℕ) × (slice_get (children v) k ≡ Some c)
+pub child_inside : (v : Tree) (s : PlaceStep) (c : Tree) → inside v s ≡ Some c → (k : ℕ) × (slice_get (children v) k ≡ Some c)
 child_inside (object ms) (to_member x) c e =
     let one = found_at (members ms) x c e in
     (one.0, slice_get-map (λ (m : Member). m.value) (members ms) one.0 ∙ ap (option_map (λ (m : Member). m.value)) one.2 ∙ ap Some one.4)
@@ -187,7 +187,7 @@ child_of_member (text x) k m at = absurd (cc)
 child_of_member (list ts) k m at = absurd (cc)
 
 -- one step more, before others
-pub at-step : (v w : Tree) (s : Step) (rest : List Step) → inside v s ≡ Some w → at v (s ∷ rest) ≡ at w rest
+pub at-step : (v w : Tree) (s : PlaceStep) (rest : List PlaceStep) → inside v s ≡ Some w → at v (s ∷ rest) ≡ at w rest
 at-step v w s rest e = ap (option_and_then (λ u. at u rest)) e
 
 -- as many members as in memory

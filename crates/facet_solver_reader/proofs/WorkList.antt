@@ -21,7 +21,7 @@ use Rattle.facet_solver_reader.specs.Marks.{PartIsMarked, ShapeIsMarked, marked_
 use Rattle.facet_solver_reader.specs.OrderedLists.{IsMarked}
 use Rattle.facet_solver_reader.specs.Types.{end_of}
 use Rattle.facet_solver_reader.specs.Views.{end_view, parts_view}
-use Rattle.facet_solver_reader.specs.WorkList.{HasEnd, IsDone, IsGoneThrough, IsUnderWay}
+use Rattle.facet_solver_reader.specs.WorkList.{HasEnd, IsDone, IsGoneThrough, IsReachedSoFar}
 use Rattle.facet_solver_reader.proofs.AllMet.{root_met}
 use Rattle.facet_solver_reader.proofs.Marks.{end_still, part_still, shape_still}
 
@@ -71,7 +71,7 @@ pub first_under_way : (shapes : Catalogue) (every : EveryList) (root e n m : ℕ
     → r.ends.items ≡ replicate e None → AreNoMarks n m before → AreKept before r.marks
     → r.marks.lists ≡ before.lists → ShapeIsMarked r.marks root → AreEveryList shapes every
     → StayMet shapes every before r.marks (λ strict first. ShapeIsMet shapes strict first root)
-    → IsUnderWay shapes every root 0 r
+    → IsReachedSoFar shapes every root 0 r
 first_under_way shapes every root e n m before r of_e of_n of_m ends none kept same marked are met = record {
   of_ends = ap length ends ∙ length-replicate e None ∙ of_e;
   of_shapes = kept.shapes ∙ ap length none.of_shapes ∙ length-replicate n false ∙ of_n;
@@ -136,7 +136,7 @@ done_still shapes every old new kept has (Shape id) h = has id h
 done_still shapes every old new kept has (AList k) h =
     λ l is i d within. part_still shapes every old.marks new.marks kept _ (h l is i d within)
 
-module _ (shapes : Catalogue) (every : EveryList) (root p : ℕ) (old new : Reached) (u : IsUnderWay shapes every root p old) where
+module _ (shapes : Catalogue) (every : EveryList) (root p : ℕ) (old new : Reached) (u : IsReachedSoFar shapes every root p old) where
   -- what is to be done is in range
   pub shape_within : (id : ℕ) → slice_get old.marks.order.items p ≡ Some (Shape id)
       → id < length old.ends.items
@@ -175,7 +175,7 @@ module _ (shapes : Catalogue) (every : EveryList) (root p : ℕ) (old new : Reac
   -- a shape is gone through
   pub shape_done : (id : ℕ) → slice_get old.marks.order.items p ≡ Some (Shape id)
       → IsGoneThrough shapes every id old new → AreEveryList shapes every
-      → IsUnderWay shapes every root (p + 1) new
+      → IsReachedSoFar shapes every root (p + 1) new
   shape_done id at g are = record {
     of_ends = ap length g.ends ∙ length-set old.ends.items id (Some g.end) ∙ u.of_ends;
     of_shapes = kept.shapes ∙ u.of_shapes;
@@ -227,7 +227,7 @@ module _ (shapes : Catalogue) (every : EveryList) (root p : ℕ) (old new : Reac
       → All (PartIsMarked shapes every new.marks) (parts_view l.parts.items))
       → AreEveryList shapes every
       → StayMet shapes every old.marks new.marks (λ strict first. NumberIsMet shapes every strict first k)
-      → IsUnderWay shapes every root (p + 1) new
+      → IsReachedSoFar shapes every root (p + 1) new
   list_done k at added same here are met = record {
     of_ends = ap (λ v. length v.items) same ∙ u.of_ends;
     of_shapes = added.kept.shapes ∙ u.of_shapes;

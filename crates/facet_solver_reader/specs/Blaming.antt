@@ -1,5 +1,5 @@
 -- What is known on the way to a place that has no reading, or several.
-use Rattle.std.specs.Prelude.{◌≡◌, ◌<◌, ⊤, ℕ, true, false, All, IfSome, List, Option, Some, None}
+use Rattle.std.specs.Prelude.{◌≡◌, ◌<◌, ⊤, ℕ, Bool, true, false, All, IfSome, List, Option, Some, None}
 use Rattle.std.specs.Prelude.{length, slice_get}
 use Rattle.std.specs.Borrow.{Bor}
 use Rattle.facet_solver_shape.specs.Names.{Name}
@@ -7,14 +7,15 @@ use Rattle.facet_solver_reader.specs.declared.count.Count.{Count}
 use Rattle.facet_solver_reader.specs.declared.count.Count.TheVariants.{None as NoCount}
 use Rattle.facet_solver_reader.specs.declared.nodes.Nodes.{Nodes}
 use Rattle.facet_solver_reader.specs.declared.count.object.Object as code
+use Rattle.facet_solver_reader.specs.declared.read_error.Branch.{Branch}
 use Rattle.facet_solver_reader.specs.declared.read_error.NoReading.{NoReading}
 use Rattle.facet_solver_reader.specs.declared.read_error.Obstacle.TheVariants as obstacle
 use Rattle.facet_solver_reader.specs.declared.read_error.Unread.{Unread}
 use Rattle.facet_solver_reader.specs.declared.tables.List.{List as ListEntry}
 use Rattle.facet_solver_reader.specs.declared.tables.Tables.{Tables}
-use Rattle.facet_solver_reader.specs.declared.why.asked.Asked.{Asked}
-use Rattle.facet_solver_reader.specs.declared.why.object.Found.{Found}
-use Rattle.facet_solver_reader.specs.declared.why.object.Found.TheVariants as found
+use Rattle.facet_solver_reader.specs.declared.why.asked.AskedObject.{AskedObject}
+use Rattle.facet_solver_reader.specs.declared.why.object.InPart.{InPart}
+use Rattle.facet_solver_reader.specs.declared.why.object.InPart.TheVariants as in_part
 use Rattle.facet_solver_reader.specs.declared.why.several.Tallied.{Tallied}
 use Rattle.facet_solver_reader.specs.declared.why.stop.Inner.{Inner}
 use Rattle.facet_solver_reader.specs.declared.why.stop.Inner.TheVariants as inner
@@ -25,21 +26,25 @@ use Rattle.facet_solver_reader.specs.declared.why.walk.Here.{Here}
 use Rattle.facet_solver_reader.specs.declared.why.walk.Here.TheVariants.{Stops, Splits}
 use Rattle.facet_solver_reader.specs.declared.why.walk.Next.{Next}
 use Rattle.facet_solver_reader.specs.declared.why.walk.Next.TheVariants as next
-use Rattle.facet_solver_reader.specs.Choices.{ChoiceAt, Item}
+use Rattle.facet_solver_reader.specs.Branches.{ReadsList}
+use Rattle.facet_solver_reader.specs.Choices.{Choice, ChoiceAt, Item}
 use Rattle.facet_solver_reader.specs.Documents.{Tree, Member}
 use Rattle.facet_solver_reader.specs.Given.{IsGiven}
 use Rattle.facet_solver_reader.specs.Known.{ChoosesAt, named}
 use Rattle.facet_solver_reader.specs.Nodes.{IsNumbering, count, members_in, value_of}
 use Rattle.facet_solver_reader.specs.Objects.{find, HasNamed}
 use Rattle.facet_solver_reader.specs.Parts.{ListId, MemberPart, Part, Selection, Target, a_member}
-use Rattle.facet_solver_reader.specs.Places.{Step}
+use Rattle.facet_solver_reader.specs.Places.{PlaceStep}
 use Rattle.facet_solver_reader.specs.Reading.{AreListCounts, IsCount, IsListed, IsNextList}
-use Rattle.facet_solver_reader.specs.Reading.{IsObject}
+use Rattle.facet_solver_reader.specs.Reading.{IsObject, object_view}
+use Rattle.facet_solver_reader.specs.Readings.{ReadsValue}
 use Rattle.facet_solver_reader.specs.Rules.{Rules}
 use Rattle.facet_solver_reader.specs.Slots.{index_of}
-use Rattle.facet_solver_reader.specs.Tables.{IsServed, knows, rules_at}
+use Rattle.facet_solver_reader.specs.Tables.{IsServed, ListIsServed, knows, rules_at}
+use Rattle.facet_solver_reader.specs.TakenBranches.{TakesBranch, parts_in}
 use Rattle.facet_solver_reader.specs.Views.{list_view, parts_view, target_view}
-use Rattle.facet_solver_reader.specs.Why.{IsOfName, IsRequiredIn, Lacks, IsStop, IsObstacle, IsReadBy}
+use Rattle.facet_solver_reader.specs.Why.{IsOfName, IsRequiredIn, Lacks, IsStop, IsObstacle}
+use Rattle.facet_solver_reader.specs.Why.{IsReadBy, IsReadByBranch}
 
 -- each choice at a part requires the name, and it is no name of the members
 pub record PartLacks (rules : Rules) (members : List Member) (p : Part) (x : Name) : Type 0 where
@@ -60,9 +65,9 @@ IsNext t nodes blame v (next.Into n target) =
 IsNext t nodes blame v (next.Here here) = IsHere (rules_at t) v here
 
 -- what is found of a part that has no reading is so
-abbrev pub IsFound : Tables → Nodes → Tree → Found → Type 0
-IsFound t nodes v (found.Next n) = IsNext t nodes NoCount v n
-IsFound t nodes v (found.Branch position optional) = ⊤
+abbrev pub IsInPart : Tables → Nodes → Tree → InPart → Type 0
+IsInPart t nodes v (in_part.Next n) = IsNext t nodes NoCount v n
+IsInPart t nodes v (in_part.Branch position optional) = ⊤
 
 -- what is found of a part of a branch is so
 abbrev pub IsInner : Rules → Tree → Inner → Type 0
@@ -81,7 +86,7 @@ pub record IsUnreadAs (t : Target) (v : Tree) (u : Unread) : Type 0 where
   pub given : IsGiven v u.given
 
 -- what is told is a place, and that its value is not what a target reads
-pub record IsUnreadAt (t : Target) (v : Tree) (place : List Step) (n : NoReading) : Type 0 where
+pub record IsUnreadAt (t : Target) (v : Tree) (place : List PlaceStep) (n : NoReading) : Type 0 where
   pub same : n.place ≡ place
   pub unread : (u : Unread) × (n.why ≡ obstacle.Unread u) × IsUnreadAs t v u
 
@@ -129,21 +134,52 @@ pub record AreMissing (t : Tables) (nodes : Nodes) (o : code.Object)
       → slice_get t.lists.items index ≡ Some l
       → Lacks (rules_at t) (members_in (value_of nodes o.node)) (list_view l.id) name.now
 
+-- an object has a reading by a list, and each branch that such a reading takes reads its value
+pub record IsTakenList (t : Tables) (nodes : Nodes) (o : code.Object) (id : ListId) : Type 0 where
+  pub choice : Choice
+  pub reads : ReadsList (rules_at t) (ReadsValue (rules_at t)) (object_view nodes o) id choice
+  pub within : (c : Choice) (branch : ListId)
+      → ReadsList (rules_at t) (ReadsValue (rules_at t)) (object_view nodes o) id c
+      → TakesBranch (rules_at t).lists c (parts_in (rules_at t).lists id) branch
+      → IsReadByBranch (rules_at t) (value_of nodes o.node) branch
+
+-- a part is one of a list by which an object is read
+pub record IsTakenPart (t : Tables) (nodes : Nodes) (o : code.Object) (p : Part) : Type 0 where
+  pub list : ListEntry
+  pub listed : IsListed t list
+  pub taken : IsTakenList t nodes o (list_view list.id)
+  pub part : IsPartOf list p
+
+-- a branch reads an object, and so does its list
+pub record IsTakenBranch (t : Tables) (nodes : Nodes) (o : code.Object) (b : Branch) : Type 0 where
+  pub served : ListIsServed t (list_view b.list)
+  pub taken : IsTakenList t nodes o (list_view b.list)
+  pub reads : IsReadByBranch (rules_at t) (value_of nodes o.node) (list_view b.list)
+
+-- an object is read by each list whose position is marked
+pub record AreTakenLists (t : Tables) (nodes : Nodes) (o : code.Object) (marks : List Bool)
+    : Type 0 where
+  pub are : (position index : ℕ) (l : ListEntry) → slice_get marks position ≡ Some true
+      → slice_get o.list.now.below.items position ≡ Some index
+      → slice_get t.lists.items index ≡ Some l → IsTakenList t nodes o (list_view l.id)
+
 -- what is known of an object and its lists is so
-pub record IsAsked (t : Tables) (nodes : Nodes) (a : Asked) : Type 0 where
+pub record IsAsked (t : Tables) (nodes : Nodes) (a : AskedObject) : Type 0 where
   pub numbering : IsNumbering nodes
   pub object : IsObject t nodes a.object
   pub counts : AreListCounts t nodes a.object a.counts.items
   pub each : length a.counts.items ≡ length a.object.list.now.below.items
   pub missing : AreMissing t nodes a.object a.missing.items
 
--- an object of a value, and the counts of the lists that the choices of its own go through
+-- an object of a value, as it is read by its list, and the counts of the lists that the choices of
+-- that go through
 pub record IsTallied (t : Tables) (nodes : Nodes) (node : ℕ) (o : Tallied) : Type 0 where
   pub numbering : IsNumbering nodes
   pub object : IsObject t nodes o.object
   pub same : o.object.node ≡ node
   pub counts : AreListCounts t nodes o.object o.counts.items
   pub each : length o.counts.items ≡ length o.object.list.now.below.items
+  pub taken : IsTakenList t nodes o.object (list_view o.object.list.now.id)
 
 -- the one index that is told is below a number
 abbrev pub IsWithin : ℕ → Readers → Type 0

@@ -14,7 +14,7 @@ abbrev pub IsChosen : Catalogue → ListId → Type 0
 IsChosen shapes id = HasChoice (Chooses (parts_of shapes) id)
 
 -- a list has the parts of its name, and is told to have a choice exactly if it has one
-pub record IsListed (shapes : Catalogue) (l : Listed) : Type 0 where
+pub record IsAsNamed (shapes : Catalogue) (l : Listed) : Type 0 where
   pub same : parts_of shapes (list_view l.id) ≡ Some (parts_view l.parts.items)
   pub chosen : IsTrue l.has_choice ↔ IsChosen shapes (list_view l.id)
 
@@ -27,7 +27,7 @@ pub record IsNumbered (every : EveryList) (id : ListId) (number : ℕ) : Type 0 
 -- every list of a catalogue that has a choice is there, under the number of its name
 pub record AreEveryList (shapes : Catalogue) (every : EveryList) : Type 0 where
   pub listed : (number : ℕ) (l : Listed) → slice_get every.lists.items number ≡ Some l
-      → IsListed shapes l
+      → IsAsNamed shapes l
   pub numbered : (id : ListId)
       → MatchOption (index_of every.numbers id) (IsChosen shapes id → ⊥) (IsNumbered every id)
   pub own : (number : ℕ) (l : Listed) → slice_get every.lists.items number ≡ Some l

@@ -58,6 +58,7 @@ pub mod ToldObjects
 pub mod Found
 pub mod UnderWay
 pub mod Tells
+pub mod TakenBranches
 pub mod Why
 pub mod Blaming
 pub mod Quoted

@@ -97,8 +97,8 @@ abbrev pub nodes_of : Nodes → List Node
 nodes_of nodes = nodes_view nodes.nodes.items
 
 -- nodes are numbered, of which the first ones are opened
-abbrev pub IsUnderWay : Nodes → Type 0
-IsUnderWay nodes = AreNumbered (nodes_of nodes) nodes.openings.items nodes.by_name.items
+abbrev pub IsNumberedSoFar : Nodes → Type 0
+IsNumberedSoFar nodes = AreNumbered (nodes_of nodes) nodes.openings.items nodes.by_name.items
 
 -- how many values there are
 abbrev pub count : Nodes → ℕ
@@ -127,7 +127,7 @@ pub record IsAppended (old new : Named) (es : List (Name × ℕ)) : Type 0 where
   pub entries_are : entries names ≡ es
 
 -- the members of an object are added by name
-pub record IsNamed (old new : Nodes) (ms : Members) : Type 0 where
+pub record AreAddedByName (old new : Nodes) (ms : Members) : Type 0 where
   pub nodes_are : nodes_of new ≡ nodes_of old
   pub openings_are : new.openings.items ≡ old.openings.items
   pub names : Named
@@ -144,7 +144,7 @@ pub record IsAdded (old new : Nodes) (number : ℕ) (v : Tree) : Type 0 where
 
 -- all values of a document are numbered, each is opened, and the root has the number 0
 pub record IsNumbering (nodes : Nodes) : Type 0 where
-  pub under_way : IsUnderWay nodes
+  pub under_way : IsNumberedSoFar nodes
   pub all_opened : opened nodes ≡ count nodes
   pub root : 0 < count nodes
 

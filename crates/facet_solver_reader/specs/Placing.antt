@@ -71,7 +71,7 @@ PartHasBranchNamesIn o (code_part.TheVariants.Selection s) = HasBranchNamesIn o 
 PartHasBranchNamesIn o _ = ⊤
 
 -- the names that a part knows are added behind others
-pub record AreAdded (o : Ordered) (p : Part) (old new : List Name) : Type 0 where
+pub record AreNamesAdded (o : Ordered) (p : Part) (old new : List Name) : Type 0 where
   pub more : List Name
   pub new_is : new ≡ old ++ more
   pub those : AreThose (λ x. IsTrue (part_knows o (named x) p)) more
@@ -169,7 +169,7 @@ pub record AreBelow (o : Ordered) (ps : List Part) (below : List ℕ) : Type 0 w
   pub rising : IsStrictlyIncreasing below
 
 -- a list is as its type says, and its parts are placed, if they have a choice
-pub record IsNextList (shapes : Catalogue) (o : Ordered) (id : ListId) (l : ListEntry) : Type 0
+pub record IsPlaceable (shapes : Catalogue) (o : Ordered) (id : ListId) (l : ListEntry) : Type 0
   where
     pub is_of : list_view l.id ≡ id
     pub same : parts_of shapes id ≡ Some (parts_view l.parts.items)
@@ -201,7 +201,7 @@ IsStuck shapes every marks o number =
     → Any (PartIsStuck shapes o) (parts_view left.list.parts.items)
 
 -- what is placed is as its type says and marked, and what is not can be placed
-pub record IsUnderWay (shapes : Catalogue) (every : EveryList) (marks : List Bool) (o : Ordered)
+pub record IsPlacedSoFar (shapes : Catalogue) (every : EveryList) (marks : List Bool) (o : Ordered)
     : Type 0 where
   pub placing : IsPlacing shapes o
   pub from_marked : (index : ℕ) (l : ListEntry) → slice_get o.lists.items index ≡ Some l
@@ -223,8 +223,8 @@ PartIsAmong o indices (a_selection s) = All (ListIsAmong o indices) s.branches
 PartIsAmong o indices _ = ⊤
 
 -- what is among some indices is among others
-abbrev pub AreKept : List ℕ → List ℕ → Type 0
-AreKept old new = (k : ℕ) → Contains old k → Contains new k
+abbrev pub AreStillAmong : List ℕ → List ℕ → Type 0
+AreStillAmong old new = (k : ℕ) → Contains old k → Contains new k
 
 -- indices of lists, with those of their branches
 abbrev pub AreGathered : Ordered → List ℕ → Type 0

@@ -27,7 +27,7 @@ AsksWithoutEnd shapes id =
     (strict : Bool) (n : ℕ) → (u : Target) × ComesTo (rules_of shapes strict) n (of_shape id) u
 
 -- each end is as its type says, and what it leads to has its end
-pub record AreSound (shapes : Catalogue) (ends : Ends) : Type 0 where
+pub record AreEnds (shapes : Catalogue) (ends : Ends) : Type 0 where
   pub each : (id : ℕ) (e : code.End) → slice_get ends id ≡ Some (Some e)
       → (end_view e ≡ end_of shapes id)
       × EndHas (HasEnd ends) AnyList (content_at shapes) (end_view e)

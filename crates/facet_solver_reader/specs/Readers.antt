@@ -50,8 +50,8 @@ IsReaderOf shapes root unknown r =
     r ≡ record { shapes = shapes; root = root; strict = is_strict unknown }
 
 -- a shape is that of a list, and a name is its name
-abbrev pub IsNamed : Catalogue → ListId → ℕ → Name → Type 0
-IsNamed shapes id shape name = (shape ≡ shape_of id) × (name ≡ shape_name shapes shape)
+abbrev pub IsShapeOf : Catalogue → ListId → ℕ → Name → Type 0
+IsShapeOf shapes id shape name = (shape ≡ shape_of id) × (name ≡ shape_name shapes shape)
 
 -- where in the type that a list is of two of its parts stand
 abbrev pub AreAt : Catalogue → ListId → List ℕ → List Path → Type 0
@@ -63,12 +63,12 @@ IsSaidOf shapes (faults.NoShape s) (types.NoShape shape) = shape ≡ s
 IsSaidOf shapes (faults.ReadsItself s) (types.ReadsItself shape type_name) =
     (shape ≡ s) × (type_name.now ≡ shape_name shapes s)
 IsSaidOf shapes (faults.ContainsItself id) (types.ContainsItself shape type_name) =
-    IsNamed shapes (list_view id) shape type_name.now
+    IsShapeOf shapes (list_view id) shape type_name.now
 IsSaidOf shapes (faults.NameTwice id n i j) (types.DuplicateName shape type_name name one two) =
-    IsNamed shapes (list_view id) shape type_name.now × (name.now ≡ n.now)
+    IsShapeOf shapes (list_view id) shape type_name.now × (name.now ≡ n.now)
     × AreAt shapes (list_view id) (i ∷ j ∷ []) (one ∷ two ∷ [])
 IsSaidOf shapes (faults.TwoCatchAlls id i j) (types.TwoCatchAlls shape type_name one two) =
-    IsNamed shapes (list_view id) shape type_name.now
+    IsShapeOf shapes (list_view id) shape type_name.now
     × AreAt shapes (list_view id) (i ∷ j ∷ []) (one ∷ two ∷ [])
 IsSaidOf shapes faults.OutOfMemory types.OutOfMemory = ⊤
 IsSaidOf shapes _ _ = ⊥

@@ -18,22 +18,24 @@ use Rattle.facet_solver_reader.specs.declared.read_error.Stop.TheVariants.{Nothi
 use Rattle.facet_solver_reader.specs.declared.read_error.Stop.TheVariants.{Member as AtMember}
 use Rattle.facet_solver_reader.specs.declared.read_error.Stop.TheVariants.{OneOf, Itself}
 use Rattle.facet_solver_reader.specs.declared.read_error.Unread.{Unread}
-use Rattle.facet_solver_reader.specs.Branches.{Misfits, ReadsAt, ReadsPart}
-use Rattle.facet_solver_reader.specs.Choices.{Choice, ChoiceAt, Item, member_of, catch_all_of}
+use Rattle.facet_solver_reader.specs.Branches.{Misfits}
+use Rattle.facet_solver_reader.specs.Choices.{Choice, Item, member_of, catch_all_of}
 use Rattle.facet_solver_reader.specs.Choices.{presence_of, Reading}
 use Rattle.facet_solver_reader.specs.Counted.{AreTwo, Counted}
 use Rattle.facet_solver_reader.specs.Documents.{Tree, Member, text}
 use Rattle.facet_solver_reader.specs.declared.read_error.given.Given.{Given}
 use Rattle.facet_solver_reader.specs.Given.{IsGiven}
+use Rattle.facet_solver_reader.specs.Kinds.{is_object}
 use Rattle.facet_solver_reader.specs.Known.{Chooses, IsKnown, Key, named, rest}
 use Rattle.facet_solver_reader.specs.Nodes.{members_in}
-use Rattle.facet_solver_reader.specs.Objects.{find, HasNamed, IsUnknown, Object}
-use Rattle.facet_solver_reader.specs.Parts.{ListId, a_selection, Selection, Target, of_shape}
+use Rattle.facet_solver_reader.specs.Objects.{find, HasNamed, IsUnknown, Object, ReadsObject}
+use Rattle.facet_solver_reader.specs.Parts.{ListId, Selection, Target, of_shape}
 use Rattle.facet_solver_reader.specs.Parts.{of_content, of_struct, of_enum, of_joined, of_branch}
 use Rattle.facet_solver_reader.specs.Parts.{MemberPart, of_fields, of_tag}
 use Rattle.facet_solver_reader.specs.Places.{IsNameTwice, at}
 use Rattle.facet_solver_reader.specs.Readings.{ReadsValue}
 use Rattle.facet_solver_reader.specs.Rules.{Rules}
+use Rattle.facet_solver_reader.specs.TakenBranches.{TakesBranch, parts_in}
 use Rattle.facet_solver_reader.specs.Views.{list_view, target_view}
 
 -- some item is a required member with a property
@@ -134,16 +136,13 @@ IsObstacle rules v (obstacle.NoTag x given branches) =
     × All (λ b. LacksTag rules (members_in v) (list_view b.list) x.now) branches.items
 IsObstacle rules v _ = ⊤
 
--- a branch of a selection reads an object
-pub record IsReadByBranch (rules : Rules) (members : List Member) (id : ListId) : Type 0 where
-  pub object : Object
-  pub same : object.members ≡ members
-  pub selection : Selection
-  pub index : ℕ
-  pub branch : slice_get selection.branches index ≡ Some id
-  pub choice : ChoiceAt
-  pub reads :
-      ReadsAt (ReadsPart rules (ReadsValue rules) object (a_selection selection)) index choice
+-- a value is an object that has a reading by a list, and that takes the branch
+pub record IsReadByBranch (rules : Rules) (v : Tree) (id : ListId) : Type 0 where
+  pub is_object : IsTrue (is_object v)
+  pub list : ListId
+  pub choice : Choice
+  pub reads : ReadsObject rules (ReadsValue rules) list (members_in v) choice
+  pub takes : TakesBranch rules.lists choice (parts_in rules.lists list) id
 
 -- what a variant reads by itself
 abbrev pub content_of : ListId → Target
@@ -156,7 +155,7 @@ content_of (of_fields id k) = of_content id k
 -- a variant reads a value: an object by its parts, or the value as its content
 abbrev pub IsReadBy : Rules → Tree → Branch → Type 0
 IsReadBy rules v b =
-    IsReadByBranch rules (members_in v) (list_view b.list)
+    IsReadByBranch rules v (list_view b.list)
     ⊎ ((r : Reading) × ReadsValue rules (content_of (list_view b.list)) v r)
 
 -- a document has no reading for what is told of the value at a place of it

@@ -59,7 +59,7 @@ IsDone shapes every r (AList k) =
     → All (PartIsMarked shapes every r.marks) (parts_view l.parts.items)
 
 -- the root is marked, and what is marked is done up to a position
-pub record IsUnderWay (shapes : Catalogue) (every : EveryList) (root position : ℕ) (r : Reached)
+pub record IsReachedSoFar (shapes : Catalogue) (every : EveryList) (root position : ℕ) (r : Reached)
     : Type 0 where
   pub of_ends : length r.ends.items ≡ length shapes
   pub of_shapes : length r.marks.shapes.items ≡ length shapes

@@ -3,7 +3,7 @@ ghost use Rattle.std.specs.Prelude.{◌≡◌, ◌<◌, IfErr, IfOk, IsTrue, Mat
 ghost use Rattle.facet_solver_reader.specs.Documents.{view};
 ghost use Rattle.facet_solver_reader.specs.Objects.{find};
 ghost use Rattle.facet_solver_reader.specs.Places.{at, inside, step_of, NamesStandOnce};
-ghost use Rattle.facet_solver_reader.specs.Nodes.{children, members_in, count, first_in, parent_of, value_of, AreNamesOf, IsNumbering, IsUnderWay, IsWhy};
+ghost use Rattle.facet_solver_reader.specs.Nodes.{children, members_in, count, first_in, parent_of, value_of, AreNamesOf, IsNumbering, IsNumberedSoFar, IsWhy};
 
 mod by_name;
 mod numbering;
@@ -202,7 +202,7 @@ impl<'t, 'd> Nodes<'t, 'd> {
 
     /// Where a value stands in the document.
     pub(crate) fn place(&self, alloc: Global, node: usize) -> Result<Place<'d>, AllocError>
-        requires under_way { IsUnderWay self.now }
+        requires under_way { IsNumberedSoFar self.now }
         requires in_range { node < count self.now }
         ensures { IfOk result
             (λ place. at (value_of self.now 0) place ≡ Some (value_of self.now node)) }
@@ -218,7 +218,7 @@ impl<'t, 'd> Nodes<'t, 'd> {
 
     /// The segment that leads to a value from the one around it.
     fn last_segment(&self, node: usize) -> PlaceSegment<'d>
-        requires under_way { IsUnderWay self.now }
+        requires under_way { IsNumberedSoFar self.now }
         requires in_range { (0 < node) × (node < count self.now) }
         ensures { inside (value_of self.now (parent_of self.now node)) (step_of result)
             ≡ Some (value_of self.now node) }

@@ -27,9 +27,9 @@ pub struct Place<'d> {
 
 impl<'d> Model for Place<'d> {
     ghost use Rattle.std.specs.Prelude.{List, map};
-    ghost use Rattle.facet_solver_reader.specs.Places.{Step, step_of};
+    ghost use Rattle.facet_solver_reader.specs.Places.{PlaceStep, step_of};
 
-    ghost Value = { List Step };
+    ghost Value = { List PlaceStep };
 
     ghost view = { λ p. map step_of p.segments.items };
 }

@@ -1,6 +1,6 @@
 //! Counts that are known: how often a value is read as a shape, or as the content of a variant.
 ghost use Rattle.std.specs.Prelude.{◌≡◌, [], IfSome, OnOk, OnErr};
-ghost use Rattle.facet_solver_reader.specs.Memo.{IsAdded, IsNoted, asked_view};
+ghost use Rattle.facet_solver_reader.specs.Memo.{IsEntryAdded, IsNoted, asked_view};
 
 use crate::count::Count;
 use facet_solver_shape::ShapeId;
@@ -111,7 +111,7 @@ impl Memo {
 
     /// Keeps how often a value is read as what was asked.
     pub(crate) fn put(&mut self, node: usize, asked: &Asked, count: Count) -> Result<(), AllocError>
-        ensures ok { OnOk result (IsAdded node (asked_view asked.now) count self.old.entries.items
+        ensures ok { OnOk result (IsEntryAdded node (asked_view asked.now) count self.old.entries.items
             self.new.entries.items) }
         ensures err { OnErr result (self.new.entries.items ≡ self.old.entries.items) }
     {

@@ -1,7 +1,7 @@
 //! How a document's values are numbered: each value that was added is opened in its turn.
 ghost use Rattle.std.specs.Prelude.{◌≡◌, ◌+◌, ◌<◌, ◌≤◌, ◌^◌, ◌∷◌, ◌++◌, [], IfErr, IfOk, OnOk, Some, length, map, slice_get};
 ghost use Rattle.facet_solver_reader.specs.Documents.{members_view, object, view};
-ghost use Rattle.facet_solver_reader.specs.Nodes.{children, count, entries, nodes_of, nodes_view, numbered, opened, under, value_of, members_in, IsAdded, IsAppended, IsNamed, IsUnderWay, IsWhy};
+ghost use Rattle.facet_solver_reader.specs.Nodes.{children, count, entries, nodes_of, nodes_view, numbered, opened, under, value_of, members_in, IsAdded, IsAppended, AreAddedByName, IsNumberedSoFar, IsWhy};
 
 use super::by_name::{NamedNode, sort_from};
 use super::{DocumentError, Node, Nodes, Opening};
@@ -17,7 +17,7 @@ impl<'t, 'd> Nodes<'t, 'd> {
         alloc: Global,
         document: &'t Document<'d>,
     ) -> Result<Nodes<'t, 'd>, AllocError>
-        ensures { IfOk result (λ nodes. IsUnderWay nodes
+        ensures { IfOk result (λ nodes. IsNumberedSoFar nodes
             × (nodes_of nodes ≡ under 0 (view document.now ∷ []))) }
     {
         let mut nodes = Vec::with_capacity(alloc, FEW_VALUES)?;
@@ -34,9 +34,9 @@ impl<'t, 'd> Nodes<'t, 'd> {
 
     /// Opens the first value that is not opened: its children are added.
     pub(super) fn open_next(&mut self, alloc: Global) -> Result<(), DocumentError<'d>>
-        requires under_way { IsUnderWay self.old }
+        requires under_way { IsNumberedSoFar self.old }
         requires left { opened self.old < count self.old }
-        ensures under_way { OnOk result (IsUnderWay self.new) }
+        ensures under_way { OnOk result (IsNumberedSoFar self.new) }
         ensures added { OnOk result (nodes_of self.new ≡ nodes_of self.old
             ++ under (opened self.old) (children (value_of self.old (opened self.old)))) }
         ensures opened { OnOk result (opened self.new ≡ opened self.old + 1) }
@@ -60,7 +60,7 @@ impl<'t, 'd> Nodes<'t, 'd> {
         document: &'t Document<'d>,
         number: usize,
     ) -> Result<(), DocumentError<'d>>
-        requires under_way { IsUnderWay self.old }
+        requires under_way { IsNumberedSoFar self.old }
         requires in_range { number < count self.old }
         requires value { view document.now ≡ value_of self.old number }
         ensures added { OnOk result (IsAdded self.old self.new number (view document.now)) }
@@ -84,10 +84,10 @@ impl<'t, 'd> Nodes<'t, 'd> {
         members: &[(&'d str, Document<'d>)],
         number: usize,
     ) -> Result<(), DocumentError<'d>>
-        requires under_way { IsUnderWay self.old }
+        requires under_way { IsNumberedSoFar self.old }
         requires in_range { number < count self.old }
         requires value { value_of self.old number ≡ object (members_view members.now) }
-        ensures named { OnOk result (IsNamed self.old self.new (members_view members.now)) }
+        ensures named { OnOk result (AreAddedByName self.old self.new (members_view members.now)) }
         ensures err { IfErr result (IsWhy (value_of self.old 0)) }
     {
         let start = self.by_name.len();

@@ -1,7 +1,7 @@
 //! The indices of the lists that choices of parts go through.
 ghost use Rattle.std.specs.Prelude.{◌≡◌, IfOk, OnOk};
 ghost use Rattle.facet_solver_shape.specs.Catalogues.{Catalogue};
-ghost use Rattle.facet_solver_reader.specs.Placing.{AreBelow, AreGathered, AreKept, IsPlacing, ListIsAmong, PartIsAmong};
+ghost use Rattle.facet_solver_reader.specs.Placing.{AreBelow, AreGathered, AreStillAmong, IsPlacing, ListIsAmong, PartIsAmong};
 ghost use Rattle.facet_solver_reader.specs.Views.{list_view, part_view, parts_view};
 
 use super::order::Ordered;
@@ -33,7 +33,7 @@ impl<'c> Ordered<'c> {
         requires placing { (shapes : Catalogue) × IsPlacing shapes self.now }
         requires closed { AreGathered self.now gathered.old.items }
         ensures closed { OnOk result (AreGathered self.now gathered.new.items) }
-        ensures kept { OnOk result (AreKept gathered.old.items gathered.new.items) }
+        ensures kept { OnOk result (AreStillAmong gathered.old.items gathered.new.items) }
         ensures among { OnOk result
             (PartIsAmong self.now gathered.new.items (part_view part.now)) }
     {
@@ -51,7 +51,7 @@ impl<'c> Ordered<'c> {
         requires placing { (shapes : Catalogue) × IsPlacing shapes self.now }
         requires closed { AreGathered self.now gathered.old.items }
         ensures closed { OnOk result (AreGathered self.now gathered.new.items) }
-        ensures kept { OnOk result (AreKept gathered.old.items gathered.new.items) }
+        ensures kept { OnOk result (AreStillAmong gathered.old.items gathered.new.items) }
         ensures among { OnOk result
             (ListIsAmong self.now gathered.new.items (list_view id.now)) }
     {

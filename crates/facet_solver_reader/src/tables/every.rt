@@ -3,7 +3,7 @@ ghost use Rattle.std.specs.Prelude.{◌≡◌, ◌↔◌, ◌<◌, None, IfOk, I
 ghost use Rattle.std.specs.List.{list_any};
 ghost use Rattle.facet_solver_shape.specs.Catalogues.{Catalogue};
 ghost use Rattle.facet_solver_reader.specs.EveryList.{AreEveryList, IsChosen};
-ghost use Rattle.facet_solver_reader.specs.Listing.{AreAdded, AreFound, AreListed};
+ghost use Rattle.facet_solver_reader.specs.Listing.{AreListsAdded, AreFound, AreListed};
 ghost use Rattle.facet_solver_reader.specs.Listing.{AreTried, IsTried, has_choice};
 ghost use Rattle.facet_solver_reader.specs.Listing.{part_has_choice, parts_have_choices};
 ghost use Rattle.facet_solver_reader.specs.ListShapes.{shape_of};
@@ -73,7 +73,7 @@ impl<'c> EveryList<'c> {
             → index_of self.old.numbers q ≡ None }
         requires known { shape < length types.now }
         ensures { IfOk result (λ u.
-            AreAdded types.now self.old self.new (λ q. shape_of q ≡ shape)) }
+            AreListsAdded types.now self.old self.new (λ q. shape_of q ≡ shape)) }
     {
         self.add(alloc, types, &ListId::Struct(shape))?;
         for variant in 0..variants_at(types.shapes(), shape).len() {
@@ -90,7 +90,7 @@ impl<'c> EveryList<'c> {
         requires free { index_of self.old.numbers (list_view id.now) ≡ None }
         requires known { IsOfCatalogue types.now (list_view id.now) }
         ensures { IfOk result (λ u.
-            AreAdded types.now self.old self.new (λ q. q ≡ list_view id.now)) }
+            AreListsAdded types.now self.old self.new (λ q. q ≡ list_view id.now)) }
     {
         if let Some(parts) = parts_of(alloc, types, *id)? {
             let number = self.lists.len();

@@ -7,7 +7,7 @@ ghost use Rattle.facet_solver_reader.specs.declared.tables.order.Ordered as plac
 ghost use Rattle.facet_solver_reader.specs.Known.{named, rest};
 ghost use Rattle.facet_solver_reader.specs.Parts.{a_selection};
 ghost use Rattle.facet_solver_reader.specs.Places.{IsRepeated};
-ghost use Rattle.facet_solver_reader.specs.Placing.{AreAdded, AreNamesOf, ArePartNames, AreThose, IsRestOf, IsShared, IsWhyShared, PartHasBranchNamesIn, list_knows, part_knows};
+ghost use Rattle.facet_solver_reader.specs.Placing.{AreNamesAdded, AreNamesOf, ArePartNames, AreThose, IsRestOf, IsShared, IsWhyShared, PartHasBranchNamesIn, list_knows, part_knows};
 ghost use Rattle.facet_solver_reader.specs.Views.{list_view, part_view, parts_view, selection_view};
 
 use super::fault::Fault;
@@ -95,7 +95,7 @@ fn names_len(parts: &[Part<'_>]) -> usize {
 /// Adds the names of the members of a part, each once.
 fn push_names<'c>(part: &Part<'c>, names: &mut Vec<&'c str>) -> Result<(), AllocError>
     ensures { (o : placed.Ordered) → PartHasBranchNamesIn o part.now → OnOk result
-        (AreAdded o (part_view part.now)
+        (AreNamesAdded o (part_view part.now)
         (names_of names.old.items) (names_of names.new.items)) }
 {
     match part {

@@ -5,7 +5,7 @@ ghost use Rattle.facet_solver_shape.specs.Catalogues.{Catalogue};
 ghost use Rattle.facet_solver_reader.specs.EveryList.{AreEveryList, IsChosen};
 ghost use Rattle.facet_solver_reader.specs.OrderedLists.{AreMarksClosed, AreOrdered, IsAbout, IsMarkedList, IsWhyUnordered};
 ghost use Rattle.facet_solver_reader.specs.declared.tables.every.EveryList as all;
-ghost use Rattle.facet_solver_reader.specs.Placing.{Marks, IsLeft, IsNext, IsNextList, IsOneMore, IsPlacing, IsStuck, IsUnderWay, IsUnplaced, PartIsPlaced, PartIsStuck, entry_of, unplaced};
+ghost use Rattle.facet_solver_reader.specs.Placing.{Marks, IsLeft, IsNext, IsPlaceable, IsOneMore, IsPlacing, IsStuck, IsPlacedSoFar, IsUnplaced, PartIsPlaced, PartIsStuck, entry_of, unplaced};
 ghost use Rattle.facet_solver_reader.specs.Slots.{HasSlot};
 ghost use Rattle.facet_solver_reader.specs.Views.{list_view, part_view, parts_view};
 
@@ -59,7 +59,7 @@ impl<'c> Ordered<'c> {
     /// No lists, with room for so many.
     fn new(alloc: Global, types: &Types<'c>, room: usize) -> Result<Ordered<'c>, AllocError>
         ensures { IfOk result (λ ordered. (every : all.EveryList) (marks : Marks)
-            → IsUnderWay types.now every marks ordered) }
+            → IsPlacedSoFar types.now every marks ordered) }
     {
         let slots = Slots::new(alloc, types.shapes())?;
         let lists = Vec::with_capacity(alloc, room)?;
@@ -108,8 +108,8 @@ impl<'c> Ordered<'c> {
     ) -> Result<(), Fault<'c>>
         requires listed { AreEveryList types.now every.now }
         requires closed { AreMarksClosed types.now every.now marks.now }
-        requires under_way { IsUnderWay types.now every.now marks.now self.old }
-        ensures under_way { OnOk result (IsUnderWay types.now every.now marks.now self.new) }
+        requires under_way { IsPlacedSoFar types.now every.now marks.now self.old }
+        ensures under_way { OnOk result (IsPlacedSoFar types.now every.now marks.now self.new) }
         ensures stuck { OnOk result
             ((number : ℕ) → IsStuck types.now every.now marks.now self.new number) }
         ensures err { IfErr result (IsWhyUnordered types.now) }
@@ -134,8 +134,8 @@ impl<'c> Ordered<'c> {
     ) -> Result<bool, Fault<'c>>
         requires listed { AreEveryList types.now every.now }
         requires closed { AreMarksClosed types.now every.now marks.now }
-        requires under_way { IsUnderWay types.now every.now marks.now self.old }
-        ensures under_way { OnOk result (IsUnderWay types.now every.now marks.now self.new) }
+        requires under_way { IsPlacedSoFar types.now every.now marks.now self.old }
+        ensures under_way { OnOk result (IsPlacedSoFar types.now every.now marks.now self.new) }
         ensures fewer { IfOk result (λ more. IsTrue more
             → unplaced every.now self.new < unplaced every.now self.old) }
         ensures stuck { IfOk result (λ more. more ≡ false
@@ -228,7 +228,7 @@ impl<'c> Ordered<'c> {
         requires placing { IsPlacing types.now self.now }
         requires chosen { IsChosen types.now (list_view id.now) }
         requires next { IsNext types.now self.now (list_view id.now) }
-        ensures ok { IfOk result (IsNextList types.now self.now (list_view id.now)) }
+        ensures ok { IfOk result (IsPlaceable types.now self.now (list_view id.now)) }
         ensures err { IfErr result (IsWhyUnordered types.now) }
         ensures about { IfErr result (IsAbout (λ q. q ≡ list_view id.now)) }
     {

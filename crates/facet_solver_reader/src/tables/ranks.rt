@@ -2,7 +2,7 @@
 ghost use Rattle.std.specs.Prelude.{◌≡◌, length, map, IfOk, MatchOption, Some, false, slice_get, ℕ};
 ghost use Rattle.std.specs.List.{list_all};
 ghost use Rattle.facet_solver_reader.specs.OrderedLists.{IsMarked};
-ghost use Rattle.facet_solver_reader.specs.Ranked.{AreNext, AreRanked, AreSound, asks_marked, content_asks_marked, is_alternative_marked, is_marked, is_target_marked};
+ghost use Rattle.facet_solver_reader.specs.Ranked.{AreNext, AreRanked, AreEnds, asks_marked, content_asks_marked, is_alternative_marked, is_marked, is_target_marked};
 ghost use Rattle.facet_solver_reader.specs.Views.{alternative_view, content_view, end_view, target_view};
 ghost use Rattle.facet_solver_reader.specs.WorkList.{HasEnd};
 
@@ -29,7 +29,7 @@ impl Ranks {
         types: &Types<'c>,
         ends: &Vec<Option<End<'c>>>,
     ) -> Result<Ranks, AllocError>
-        requires { AreSound types.now ends.now.items }
+        requires { AreEnds types.now ends.now.items }
         ensures { IfOk result (AreRanked types.now ends.now.items) }
     {
         let mut is_ranked = vec![in alloc; false; ends.len()]?;

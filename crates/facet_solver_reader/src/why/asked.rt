@@ -16,7 +16,7 @@ use std::alloc::AllocError;
 /// An object, and what is known of each list that the choices of its own go through, by the lists'
 /// positions among them.
 #[derive(Drop)]
-pub(super) struct Asked<'r, 'c> {
+pub(super) struct AskedObject<'r, 'c> {
     pub(super) object: Object<'r, 'c>,
     /// How often it is read by the list.
     pub(super) counts: Vec<Count>,
@@ -34,7 +34,7 @@ pub(super) fn ask<'r, 'c>(
     nodes: &Nodes<'_, '_>,
     memo: &mut Memo,
     object: &Object<'r, 'c>,
-) -> Result<Asked<'r, 'c>, AllocError>
+) -> Result<AskedObject<'r, 'c>, AllocError>
     requires sound { AreSound tables.now nodes.now memo.old.entries.items }
     requires object { IsObject tables.now nodes.now object.now }
     ensures sound { AreSound tables.now nodes.now memo.new.entries.items }
@@ -45,7 +45,7 @@ pub(super) fn ask<'r, 'c>(
     let left = left_by_names(tables, nodes, object)?;
     let missing = missing_names(tables, nodes, object)?;
     let namings = namings(tables, nodes, memo, object)?;
-    Ok(Asked {
+    Ok(AskedObject {
         object: *object,
         counts,
         left,

@@ -8,14 +8,14 @@ ghost use Rattle.facet_solver_reader.specs.Reading.{AreSound, IsObject};
 ghost use Rattle.facet_solver_reader.specs.SelectionNames.{HasBranchNames};
 ghost use Rattle.facet_solver_reader.specs.Tables.{AreTables, ListIsServed, PartIsBefore, rules_at};
 ghost use Rattle.facet_solver_reader.specs.Views.{list_view, selection_view};
-ghost use Rattle.facet_solver_reader.specs.Blaming.{IsAsked, IsAmong, IsBranchOf, IsFound};
+ghost use Rattle.facet_solver_reader.specs.Blaming.{IsAsked, IsAmong, IsBranchOf, IsInPart};
 ghost use Rattle.facet_solver_reader.specs.Why.{IsMisfit, IsNoKey, Lacks};
 
-use super::asked::{Asked, position_of};
+use super::asked::{AskedObject, position_of};
 use super::left::only_left;
 use super::name::{branch_of, selection_name};
 use super::naming::{names_some, told_at};
-use super::object::Found;
+use super::object::InPart;
 use super::stop::stop_of;
 use super::tag::none_by_tag;
 use super::walk::{Here, Next};
@@ -31,9 +31,9 @@ pub(super) fn none_in_selection<'c, 'd>(
     tables: &Tables<'c>,
     nodes: &Nodes<'_, 'd>,
     memo: &mut Memo,
-    asked: &Asked<'_, 'c>,
+    asked: &AskedObject<'_, 'c>,
     selection: &Selection<'_>,
-) -> Result<Option<Found<'c, 'd>>, AllocError>
+) -> Result<Option<InPart<'c, 'd>>, AllocError>
     requires sound { AreSound tables.now nodes.now memo.old.entries.items }
     requires asked { IsAsked tables.now nodes.now asked.now }
     requires served { All (ListIsServed tables.now) (selection_view selection.now).branches }
@@ -42,7 +42,7 @@ pub(super) fn none_in_selection<'c, 'd>(
         (length asked.now.counts.items) (a_selection (selection_view selection.now)) }
     ensures sound { AreSound tables.now nodes.now memo.new.entries.items }
     ensures found { IfOk result (λ found. IfSome found
-        (IsFound tables.now nodes.now (value_of nodes.now asked.now.object.node))) }
+        (IsInPart tables.now nodes.now (value_of nodes.now asked.now.object.node))) }
 {
     let object = &asked.object;
     if !count_selection(tables, nodes, object, selection, &asked.counts).is_none() {
@@ -50,17 +50,17 @@ pub(super) fn none_in_selection<'c, 'd>(
     }
     let by_name = names_some(tables, asked, selection);
     if let Some(position) = one_branch(tables, nodes, asked, selection, by_name) {
-        return Ok(Some(Found::Branch(position, selection.optional)));
+        return Ok(Some(InPart::Branch(position, selection.optional)));
     }
     if let Some(here) = none_by_tag(tables, nodes, object, selection)? {
-        return Ok(Some(Found::Next(Next::Here(here))));
+        return Ok(Some(InPart::Next(Next::Here(here))));
     }
     if let Some(position) = one_named(tables, nodes, asked, selection, by_name) {
-        return Ok(Some(Found::Branch(position, selection.optional)));
+        return Ok(Some(InPart::Branch(position, selection.optional)));
     }
     let misfits = misfits_of(tables, nodes, memo, asked, selection, by_name)?;
     let none = Obstacle::NoVariant(selection_name(tables.shapes, selection), misfits);
-    Ok(Some(Found::Next(Next::Here(Here::Stops(none)))))
+    Ok(Some(InPart::Next(Next::Here(Here::Stops(none)))))
 }
 
 /// The position of the branch that a selection has alone, or that names leave alone of those that are
@@ -68,7 +68,7 @@ pub(super) fn none_in_selection<'c, 'd>(
 fn one_branch(
     tables: &Tables<'_>,
     nodes: &Nodes<'_, '_>,
-    asked: &Asked<'_, '_>,
+    asked: &AskedObject<'_, '_>,
     selection: &Selection<'_>,
     by_name: bool,
 ) -> Option<usize>
@@ -89,7 +89,7 @@ fn one_branch(
 fn one_named(
     tables: &Tables<'_>,
     nodes: &Nodes<'_, '_>,
-    asked: &Asked<'_, '_>,
+    asked: &AskedObject<'_, '_>,
     selection: &Selection<'_>,
     by_name: bool,
 ) -> Option<usize>
@@ -123,7 +123,7 @@ pub(super) fn misfits_of<'c, 'd>(
     tables: &Tables<'c>,
     nodes: &Nodes<'_, 'd>,
     memo: &mut Memo,
-    asked: &Asked<'_, 'c>,
+    asked: &AskedObject<'_, 'c>,
     selection: &Selection<'_>,
     by_name: bool,
 ) -> Result<Vec<Misfit<'c, 'd>>, AllocError>
@@ -156,7 +156,7 @@ fn add_misfit<'c, 'd>(
     tables: &Tables<'c>,
     nodes: &Nodes<'_, 'd>,
     memo: &mut Memo,
-    asked: &Asked<'_, 'c>,
+    asked: &AskedObject<'_, 'c>,
     selection: &Selection<'_>,
     by_name: bool,
     branch: &ListId,
@@ -191,7 +191,7 @@ fn misfit_of<'c, 'd>(
     tables: &Tables<'c>,
     nodes: &Nodes<'_, 'd>,
     memo: &mut Memo,
-    asked: &Asked<'_, 'c>,
+    asked: &AskedObject<'_, 'c>,
     selection: &Selection<'_>,
     branch: &ListId,
     position: usize,
@@ -228,7 +228,7 @@ fn misfit_of<'c, 'd>(
 }
 
 /// The first name that a branch requires and the object lacks.
-fn lacks_of<'c>(tables: &Tables<'c>, asked: &Asked<'_, 'c>, branch: ListId) -> Option<&'c str>
+fn lacks_of<'c>(tables: &Tables<'c>, asked: &AskedObject<'_, 'c>, branch: ListId) -> Option<&'c str>
     requires served { ListIsServed tables.now (list_view branch) }
     ensures { (nodes : Nodes) → IsAsked tables.now nodes asked.now → IfSome result
         (λ name. Lacks (rules_at tables.now) (members_in (value_of nodes asked.now.object.node))

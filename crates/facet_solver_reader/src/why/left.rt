@@ -6,7 +6,7 @@ ghost use Rattle.facet_solver_reader.specs.SelectionNames.{HasBranchNames, PartH
 ghost use Rattle.facet_solver_reader.specs.Tables.{AreTables, ListIsServed, PartIsServed, rules_at};
 ghost use Rattle.facet_solver_reader.specs.Views.{list_view, part_view, selection_view};
 
-use super::asked::{Asked, position_of};
+use super::asked::{AskedObject, position_of};
 use super::naming::told_at;
 use crate::count::{Object, fails_at_once, fits, touches};
 use crate::nodes::Nodes;
@@ -133,7 +133,7 @@ fn left_at(
 pub(super) fn only_left(
     tables: &Tables<'_>,
     nodes: &Nodes<'_, '_>,
-    asked: &Asked<'_, '_>,
+    asked: &AskedObject<'_, '_>,
     selection: &Selection<'_>,
     by_name: bool,
 ) -> Option<usize>

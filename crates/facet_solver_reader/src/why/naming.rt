@@ -5,7 +5,7 @@ ghost use Rattle.facet_solver_reader.specs.Tables.{AreTables, IsServed, PartIsSe
 ghost use Rattle.facet_solver_reader.specs.Views.{list_view, member_view, part_view, target_view};
 ghost use Rattle.facet_solver_reader.specs.Blaming.{IsPosition};
 
-use super::asked::{Asked, position_of};
+use super::asked::{AskedObject, position_of};
 use super::walk::count_of;
 use crate::count::{Memo, Object};
 use crate::end::End;
@@ -185,7 +185,7 @@ fn known_naming(
 /// Whether an object names some branch of a selection.
 pub(super) fn names_some(
     tables: &Tables<'_>,
-    asked: &Asked<'_, '_>,
+    asked: &AskedObject<'_, '_>,
     selection: &Selection<'_>,
 ) -> bool {
     for branch in &selection.branches {
@@ -201,7 +201,7 @@ pub(super) fn names_some(
 /// object names otherwise are not.
 pub(super) fn told_at(
     tables: &Tables<'_>,
-    asked: &Asked<'_, '_>,
+    asked: &AskedObject<'_, '_>,
     branch: ListId,
     by_name: bool,
 ) -> Option<usize>

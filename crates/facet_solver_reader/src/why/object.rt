@@ -1,16 +1,16 @@
 //! What stops a reading of an object by a list of parts.
-ghost use Rattle.std.specs.Prelude.{◌≡◌, ◌<◌, IfOk, IfSome};
+ghost use Rattle.std.specs.Prelude.{◌≡◌, ◌<◌, ◌||◌, IfOk, IfSome, not};
 ghost use Rattle.facet_solver_reader.specs.Nodes.{IsNumbering, count, members_in, value_of};
 ghost use Rattle.facet_solver_reader.specs.Parts.{a_catch_all, a_member};
 ghost use Rattle.facet_solver_reader.specs.Reading.{AreSound, IsObject};
 ghost use Rattle.facet_solver_reader.specs.SelectionNames.{PartHasBranchNames};
 ghost use Rattle.facet_solver_reader.specs.Tables.{AreTables, ListIsServed, PartIsServed, rules_at};
 ghost use Rattle.facet_solver_reader.specs.Views.{catch_all_view, list_view, member_view, part_view};
-ghost use Rattle.facet_solver_reader.specs.Blaming.{IsAsked, IsBelow, IsFound, IsNext, IsPartOf};
+ghost use Rattle.facet_solver_reader.specs.Blaming.{IsAsked, IsBelow, IsInPart, IsNext, IsPartOf};
 ghost use Rattle.facet_solver_reader.specs.Why.{IsMemberOf, IsObstacle, Lacks};
 ghost use Rattle.facet_solver_reader.specs.declared.count.Count.TheVariants.{None as NoCount};
 
-use super::asked::{Asked, ask, list_at};
+use super::asked::{AskedObject, ask, list_at};
 use super::branch::none_in_selection;
 use super::entries::{Entries, in_entries};
 use super::name::branch_of;
@@ -25,7 +25,7 @@ use std::alloc::AllocError;
 
 /// What of a part has no reading.
 #[derive(Debug, Drop)]
-pub(super) enum Found<'c, 'd> {
+pub(super) enum InPart<'c, 'd> {
     /// This.
     Next(Next<'c, 'd>),
     /// Something of the one branch that its names leave, by the position of its list, and whether
@@ -47,6 +47,8 @@ pub(super) fn object_by<'r, 'c>(
     requires served { ListIsServed tables.now (list_view id) }
     ensures object { IfSome result (λ object. IsObject tables.now nodes.now object) }
     ensures same { IfSome result (λ object. object.node ≡ node) }
+    ensures takes { IfSome result (λ object.
+        object.takes ≡ (object.list.now.takes_rest || not object.has_unknown)) }
 {
     let list = tables.list(id)?;
     let has_unknown = has_unknown(nodes, node, list);
@@ -96,7 +98,7 @@ fn none_in_lists<'c, 'd>(
     tables: &Tables<'c>,
     nodes: &Nodes<'_, 'd>,
     memo: &mut Memo,
-    asked: &Asked<'_, 'c>,
+    asked: &AskedObject<'_, 'c>,
 ) -> Result<Option<Next<'c, 'd>>, AllocError>
     requires sound { AreSound tables.now nodes.now memo.old.entries.items }
     requires asked { IsAsked tables.now nodes.now asked.now }
@@ -112,8 +114,8 @@ fn none_in_lists<'c, 'd>(
             return Ok(None);
         };
         match none_in_list(tables, nodes, memo, asked, list, is_block)? {
-            Some(Found::Next(next)) => return Ok(Some(next)),
-            Some(Found::Branch(inner, is_optional)) => {
+            Some(InPart::Next(next)) => return Ok(Some(next)),
+            Some(InPart::Branch(inner, is_optional)) => {
                 position = inner;
                 is_block |= is_optional;
             }
@@ -128,16 +130,16 @@ fn none_in_list<'c, 'd>(
     tables: &Tables<'c>,
     nodes: &Nodes<'_, 'd>,
     memo: &mut Memo,
-    asked: &Asked<'_, 'c>,
+    asked: &AskedObject<'_, 'c>,
     list: &List<'c>,
     is_block: bool,
-) -> Result<Option<Found<'c, 'd>>, AllocError>
+) -> Result<Option<InPart<'c, 'd>>, AllocError>
     requires sound { AreSound tables.now nodes.now memo.old.entries.items }
     requires asked { IsAsked tables.now nodes.now asked.now }
     requires below { IsBelow tables.now asked.now.object list.now }
     ensures sound { AreSound tables.now nodes.now memo.new.entries.items }
     ensures found { IfOk result (λ found. IfSome found
-        (IsFound tables.now nodes.now (value_of nodes.now asked.now.object.node))) }
+        (IsInPart tables.now nodes.now (value_of nodes.now asked.now.object.node))) }
 {
     for part in &list.parts {
         let found = none_in_part(tables, nodes, memo, asked, list, is_block, part)?;
@@ -153,11 +155,11 @@ fn none_in_part<'c, 'd>(
     tables: &Tables<'c>,
     nodes: &Nodes<'_, 'd>,
     memo: &mut Memo,
-    asked: &Asked<'_, 'c>,
+    asked: &AskedObject<'_, 'c>,
     list: &List<'c>,
     is_block: bool,
     part: &Part<'c>,
-) -> Result<Option<Found<'c, 'd>>, AllocError>
+) -> Result<Option<InPart<'c, 'd>>, AllocError>
     requires sound { AreSound tables.now nodes.now memo.old.entries.items }
     requires asked { IsAsked tables.now nodes.now asked.now }
     requires below { IsBelow tables.now asked.now.object list.now }
@@ -165,19 +167,19 @@ fn none_in_part<'c, 'd>(
     requires named { PartHasBranchNames (rules_at tables.now).lists part.now }
     ensures sound { AreSound tables.now nodes.now memo.new.entries.items }
     ensures found { IfOk result (λ found. IfSome found
-        (IsFound tables.now nodes.now (value_of nodes.now asked.now.object.node))) }
+        (IsInPart tables.now nodes.now (value_of nodes.now asked.now.object.node))) }
 {
     match part {
         Part::Member(member) => {
             match none_in_member(tables, nodes, memo, &asked.object, list, is_block, member)? {
-                Some(next) => Ok(Some(Found::Next(next))),
+                Some(next) => Ok(Some(InPart::Next(next))),
                 None => Ok(None),
             }
         }
         Part::Selection(selection) => none_in_selection(tables, nodes, memo, asked, selection),
         Part::CatchAll(catch_all) => {
             match none_taken(tables, nodes, memo, &asked.object, catch_all)? {
-                Some(next) => Ok(Some(Found::Next(next))),
+                Some(next) => Ok(Some(InPart::Next(next))),
                 None => Ok(None),
             }
         }

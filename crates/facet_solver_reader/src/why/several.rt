@@ -1,5 +1,6 @@
 //! By which branches an object is read in several ways.
-ghost use Rattle.std.specs.Prelude.{◌≡◌, ◌⊎◌, ◌<◌, All, IfOk, IfSome, OnOk, length};
+ghost use Rattle.std.specs.Prelude.{◌≡◌, ◌⊎◌, ◌<◌, ◌+◌, ◌-◌, ℕ, true, All, IfOk, IfSome, OnOk, Some, length, slice_get};
+ghost use Rattle.std.specs.Option.{unwrap_or};
 ghost use Rattle.facet_solver_reader.specs.Branches.{CanBePresent};
 ghost use Rattle.facet_solver_reader.specs.Documents.{Tree};
 ghost use Rattle.facet_solver_reader.specs.Nodes.{count, value_of};
@@ -8,9 +9,11 @@ ghost use Rattle.facet_solver_reader.specs.Reading.{AreSound, IsObject, object_v
 ghost use Rattle.facet_solver_reader.specs.SelectionNames.{HasBranchNames};
 ghost use Rattle.facet_solver_reader.specs.Tables.{AreTables, ListIsServed, PartIsBefore, PartIsServed, rules_at};
 ghost use Rattle.facet_solver_reader.specs.Views.{list_view, part_view, selection_view};
-ghost use Rattle.facet_solver_reader.specs.Blaming.{IsBelow, IsBranchOf, IsNext, IsTallied};
+ghost use Rattle.facet_solver_reader.specs.Blaming.{AreTakenLists, IsBelow, IsBranchOf, IsNext, IsTakenBranch};
+ghost use Rattle.facet_solver_reader.specs.Blaming.{IsTakenList, IsTakenPart, IsTallied};
 ghost use Rattle.facet_solver_reader.specs.Why.{IsReadBy};
-ghost use Rattle.facet_solver_reader.specs.declared.count.Count.TheVariants.{Several as TwoCount};
+ghost use Rattle.facet_solver_reader.specs.declared.count.Count.TheVariants.{None as NoCount, Several as TwoCount};
+ghost use Rattle.facet_solver_reader.specs.declared.nodes.Nodes as code_nodes;
 
 use super::asked::{counts_of, list_at, position_of};
 use super::entries::{Entries, in_entries};
@@ -32,8 +35,8 @@ pub(super) struct Tallied<'r, 'c> {
     pub(super) counts: Vec<Count>,
 }
 
-/// An object by a list of parts, with its members of no known name or, where it has no reading so,
-/// without them.
+/// An object by a list of parts, if it has a reading by that: with its members of no known name or,
+/// where it has no reading so and the reader is not strict, without them.
 fn tallied_by<'r, 'c>(
     tables: &'r Tables<'c>,
     nodes: &Nodes<'_, '_>,
@@ -54,13 +57,31 @@ fn tallied_by<'r, 'c>(
     let Some(mut object) = object_by(tables, nodes, node, id) else {
         return Ok(None);
     };
-    let counts = counts_of(tables, nodes, memo, &object)?;
-    if tables.strict || !matches!(counts.last(), Some(Count::None)) {
-        return Ok(Some(Tallied { object, counts }));
+    if object.takes {
+        let counts = counts_of(tables, nodes, memo, &object)?;
+        if !own_count(&counts).is_none() {
+            return Ok(Some(Tallied { object, counts }));
+        }
+    }
+    if tables.strict {
+        return Ok(None);
     }
     object.takes = false;
     let counts = counts_of(tables, nodes, memo, &object)?;
+    if own_count(&counts).is_none() {
+        return Ok(None);
+    }
     Ok(Some(Tallied { object, counts }))
+}
+
+/// How often an object is read by its own list: the last of the counts.
+fn own_count(counts: &[Count]) -> Count
+    ensures { result ≡ unwrap_or (slice_get counts.now (length counts.now - 1)) NoCount }
+{
+    match counts.last() {
+        Some(count) => *count,
+        None => Count::None,
+    }
 }
 
 /// What of an object is read in several ways: by a selection, or else a member.
@@ -96,7 +117,9 @@ pub(super) fn several_in_object<'c, 'd>(
 }
 
 /// So many marks, of which the last is set.
-fn only_last(tables: &Tables<'_>, count: usize) -> Result<Vec<bool>, AllocError> {
+fn only_last(tables: &Tables<'_>, count: usize) -> Result<Vec<bool>, AllocError>
+    ensures { IfOk result (λ marks. (i : ℕ) → slice_get marks.items i ≡ Some true → i + 1 ≡ count) }
+{
     let mut marks = Vec::new(tables.alloc);
     for position in 1..=count {
         marks.push(position == count)?;
@@ -105,7 +128,9 @@ fn only_last(tables: &Tables<'_>, count: usize) -> Result<Vec<bool>, AllocError>
 }
 
 /// Whether a mark is set.
-fn is_marked(marks: &[bool], position: usize) -> bool {
+fn is_marked(marks: &[bool], position: usize) -> bool
+    ensures { result ≡ true → slice_get marks.now position ≡ Some true }
+{
     match marks.get(position) {
         Some(mark) => *mark,
         None => false,
@@ -124,8 +149,12 @@ fn split_in_list<'c>(
     requires tables { AreTables tables.now }
     requires tallied { IsTallied tables.now nodes.now tallied.now.object.node tallied.now }
     requires below { IsBelow tables.now tallied.now.object list.now }
-    ensures { IfOk result (λ branches. IfSome branches (λ bs. All (IsReadBy (rules_at tables.now)
-        (value_of nodes.now tallied.now.object.node)) bs.items)) }
+    requires taken { IsTakenList tables.now nodes.now tallied.now.object (list_view list.now.id) }
+    requires chosen { AreTakenLists tables.now nodes.now tallied.now.object chosen.old }
+    ensures branches { IfOk result (λ branches. IfSome branches (λ bs. All
+        (IsReadBy (rules_at tables.now) (value_of nodes.now tallied.now.object.node)) bs.items)) }
+    ensures chosen { IfOk result (λ _. AreTakenLists tables.now nodes.now tallied.now.object
+        chosen.new) }
 {
     for part in &list.parts {
         if let Part::Selection(selection) = part {
@@ -142,7 +171,13 @@ fn split_in_list<'c>(
 }
 
 /// Marks a list as chosen.
-fn choose(tables: &Tables<'_>, object: &Object<'_, '_>, id: ListId, chosen: &mut [bool]) {
+fn choose(tables: &Tables<'_>, object: &Object<'_, '_>, id: ListId, chosen: &mut [bool])
+    requires served { ListIsServed tables.now (list_view id) }
+    ensures { (nodes : code_nodes.Nodes)
+        → IsTakenList tables.now nodes object.now (list_view id)
+        → AreTakenLists tables.now nodes object.now chosen.old
+        → AreTakenLists tables.now nodes object.now chosen.new }
+{
     if let Some(position) = position_of(tables, object, id) {
         if position < chosen.len() {
             chosen[position] = true;
@@ -163,8 +198,10 @@ fn branches_of<'c>(
     requires named { HasBranchNames (rules_at tables.now).lists selection.now }
     requires before { PartIsBefore tables.now tallied.now.object.list.now.below.items
         (length tallied.now.counts.items) (a_selection (selection_view selection.now)) }
-    ensures { IfOk result (λ branches. All (IsReadBy (rules_at tables.now)
-        (value_of nodes.now tallied.now.object.node)) branches.items) }
+    requires part { IsTakenPart tables.now nodes.now tallied.now.object
+        (a_selection (selection_view selection.now)) }
+    ensures { IfOk result (λ branches.
+        All (IsTakenBranch tables.now nodes.now tallied.now.object) branches.items) }
 {
     let object = &tallied.object;
     let mut branches = Vec::new(tables.alloc);
@@ -194,11 +231,13 @@ fn add_branch<'c>(
         (length tallied.now.counts.items) (a_selection (selection_view selection.now)) }
     requires present { CanBePresent (rules_at tables.now)
         (object_view nodes.now tallied.now.object) (selection_view selection.now) }
+    requires part { IsTakenPart tables.now nodes.now tallied.now.object
+        (a_selection (selection_view selection.now)) }
     requires branch { IsBranchOf (selection_view selection.now) (list_view branch.now) }
-    requires branches { All (IsReadBy (rules_at tables.now)
-        (value_of nodes.now tallied.now.object.node)) branches.old.items }
-    ensures { OnOk result (All (IsReadBy (rules_at tables.now)
-        (value_of nodes.now tallied.now.object.node)) branches.new.items) }
+    requires branches { All (IsTakenBranch tables.now nodes.now tallied.now.object)
+        branches.old.items }
+    ensures { OnOk result (All (IsTakenBranch tables.now nodes.now tallied.now.object)
+        branches.new.items) }
 {
     let object = &tallied.object;
     let counts = &tallied.counts;

@@ -9,7 +9,7 @@ ghost use Rattle.facet_solver_reader.specs.Views.{member_view, part_view, select
 ghost use Rattle.facet_solver_reader.specs.Blaming.{IsAsked, IsBelow, IsInner};
 ghost use Rattle.facet_solver_reader.specs.Why.{IsStop};
 
-use super::asked::{Asked, list_at, position_of};
+use super::asked::{AskedObject, list_at, position_of};
 use super::name::{selection_name, unread};
 use super::walk::count_of;
 use crate::count::{Memo, count_selection};
@@ -33,7 +33,7 @@ pub(super) fn stop_of<'c, 'd>(
     tables: &Tables<'c>,
     nodes: &Nodes<'_, 'd>,
     memo: &mut Memo,
-    asked: &Asked<'_, 'c>,
+    asked: &AskedObject<'_, 'c>,
     position: usize,
 ) -> Result<Stop<'c, 'd>, AllocError>
     requires sound { AreSound tables.now nodes.now memo.old.entries.items }
@@ -62,7 +62,7 @@ fn stop_in_list<'c, 'd>(
     tables: &Tables<'c>,
     nodes: &Nodes<'_, 'd>,
     memo: &mut Memo,
-    asked: &Asked<'_, 'c>,
+    asked: &AskedObject<'_, 'c>,
     list: &List<'c>,
 ) -> Result<Option<Inner<'c, 'd>>, AllocError>
     requires sound { AreSound tables.now nodes.now memo.old.entries.items }
@@ -86,7 +86,7 @@ fn stop_in_part<'c, 'd>(
     tables: &Tables<'c>,
     nodes: &Nodes<'_, 'd>,
     memo: &mut Memo,
-    asked: &Asked<'_, 'c>,
+    asked: &AskedObject<'_, 'c>,
     part: &Part<'c>,
 ) -> Result<Option<Inner<'c, 'd>>, AllocError>
     requires sound { AreSound tables.now nodes.now memo.old.entries.items }
@@ -111,7 +111,7 @@ fn stop_at_member<'c, 'd>(
     tables: &Tables<'c>,
     nodes: &Nodes<'_, 'd>,
     memo: &mut Memo,
-    asked: &Asked<'_, 'c>,
+    asked: &AskedObject<'_, 'c>,
     member: &MemberPart<'c>,
 ) -> Result<Option<Inner<'c, 'd>>, AllocError>
     requires sound { AreSound tables.now nodes.now memo.old.entries.items }
@@ -138,7 +138,7 @@ fn stop_at_member<'c, 'd>(
 fn stop_at_selection<'c, 'd>(
     tables: &Tables<'c>,
     nodes: &Nodes<'_, 'd>,
-    asked: &Asked<'_, 'c>,
+    asked: &AskedObject<'_, 'c>,
     selection: &Selection<'_>,
 ) -> Option<Inner<'c, 'd>>
     requires tables { AreTables tables.now }

@@ -8,7 +8,7 @@ ghost use Rattle.facet_solver_reader.specs.Blaming.{IsAsked, IsNext, IsWithin};
 ghost use Rattle.facet_solver_reader.specs.Why.{IsMisfit, IsReadBy};
 ghost use Rattle.facet_solver_reader.specs.declared.count.Count.TheVariants.{None as NoCount, Several as TwoCount};
 
-use super::asked::{Asked, ask};
+use super::asked::{AskedObject, ask};
 use super::branch::misfits_of;
 use super::name::{branch_of, shape_name, unread};
 use super::naming::names_some;
@@ -278,7 +278,7 @@ fn misfits_by<'c, 'd>(
     tables: &Tables<'c>,
     nodes: &Nodes<'_, 'd>,
     memo: &mut Memo,
-    asked: &Asked<'_, 'c>,
+    asked: &AskedObject<'_, 'c>,
 ) -> Result<Vec<Misfit<'c, 'd>>, AllocError>
     requires sound { AreSound tables.now nodes.now memo.old.entries.items }
     requires asked { IsAsked tables.now nodes.now asked.now }

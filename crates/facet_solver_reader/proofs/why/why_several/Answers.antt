@@ -1,7 +1,7 @@
 use Rattle.std.proofs.Common.{◌≡◌, subst, sym, List, Some}
 use Rattle.std.specs.List.{All}
 use Rattle.facet_solver_reader.specs.Nodes.{value_of}
-use Rattle.facet_solver_reader.specs.Places.{Step, at}
+use Rattle.facet_solver_reader.specs.Places.{PlaceStep, at}
 use Rattle.facet_solver_reader.specs.Tables.{rules_at}
 use Rattle.facet_solver_reader.specs.Why.{IsReadBy}
 use Rattle.facet_solver_reader.proofs.Quantifiers.{all_of_none}
@@ -15,7 +15,7 @@ returns-in-Some-Stops c =
     record {
       value = v;
       leads =
-          subst (λ (p : List Step). at document p ≡ Some v) (sym c.nothing_told.ensures.place)
+          subst (λ (p : List PlaceStep). at document p ≡ Some v) (sym c.nothing_told.ensures.place)
           c.in_ok-place.ensures;
       variants = subst (All P) (sym c.nothing_told.ensures.none) (all_of_none P);
     }
@@ -28,7 +28,7 @@ returns-in-None c =
     record {
       value = v;
       leads =
-          subst (λ (p : List Step). at document p ≡ Some v)
+          subst (λ (p : List PlaceStep). at document p ≡ Some v)
           (sym c.nothing_told-in-None.ensures.place) c.in_ok-place.ensures;
       variants = subst (All P) (sym c.nothing_told-in-None.ensures.none) (all_of_none P);
     }

@@ -3,7 +3,7 @@ use Rattle.facet_solver_shape.specs.Names.{Name}
 use Rattle.facet_solver_reader.specs.declared.document.Document.{Document}
 use Rattle.facet_solver_reader.specs.declared.nodes.Nodes.{Nodes}
 use Rattle.facet_solver_reader.specs.Documents.{members_view, view}
-use Rattle.facet_solver_reader.specs.Nodes.{IsAdded, IsNamed, nodes_of, under}
+use Rattle.facet_solver_reader.specs.Nodes.{IsAdded, AreAddedByName, nodes_of, under}
 use Rattle.facet_solver_reader.proofs.Trees.{nothing_inside, view-List, view-Object}
 use Rattle.facet_solver_reader.proofs.Opened.{list_added, nothing_added, object_added}
 use Rattle.facet_solver_reader.proofs.nodes.Nodes.add_children.Goals as goal
@@ -25,7 +25,7 @@ returns-clause-added c =
           let ms = w.in-Object.members.items in
           subst (IsAdded old new number) (sym (ap view w.in-Object.is ∙ view-Object w.in-Object.members))
           (object_added old mid new number ms
-          (subst (λ (ms : List (Bor Name × Document)). IsNamed old mid (members_view ms)) w.deref-in-Object.ensures.value w.in_ok-add_names-in-Object.ensures.named)
+          (subst (λ (ms : List (Bor Name × Document)). AreAddedByName old mid (members_view ms)) w.deref-in-Object.ensures.value w.in_ok-add_names-in-Object.ensures.named)
           (ap nodes_of w.self-is ∙ w.in_ok-add_values-in-Object.ensures ∙ ap (λ (ms : List (Bor Name × Document)). nodes_of mid ++ under number (map (λ m. view m.1) ms)) w.deref-in-Object-2.ensures.value)
           (ap (λ (s : Nodes). s.openings.items) w.self-is) (ap (λ (s : Nodes). s.by_name.items) w.self-is))
       | in_default w ↦

@@ -4,7 +4,7 @@ use Rattle.std.proofs.lemmas.Iterator.{YieldsList-from_slice, YieldsList-from_zi
 use Rattle.std.proofs.lemmas.Iterator.Search.{find_from_yields_List}
 use Rattle.facet_solver_reader.specs.declared.reading.FieldPlace.{FieldPlace}
 use Rattle.facet_solver_reader.specs.PathTexts.{is_text_of}
-use Rattle.facet_solver_reader.proofs.LookUps.{IsFound, Pair, first_of_object, is_first}
+use Rattle.facet_solver_reader.proofs.LookUps.{IsPairFound, Pair, first_of_object, is_first}
 use Rattle.facet_solver_reader.proofs.reading.Reading.value_at.Goals as goal
 
 pub returns : goal.returns
@@ -13,7 +13,7 @@ returns c =
     let object = c.in-Object in
     let fields = object.object.fields.items in
     let values = object.values.items in
-    let found : IsFound test fields values c.find.result =
+    let found : IsPairFound test fields values c.find.result =
     find_from_yields_List {s = c.zip-placed.result} (λ f. test f.0) c.find.new.self _
     c.find.result c.find.ensures.ran
     (YieldsList-from_zip (YieldsList-from_slice fields (search rules))
@@ -29,7 +29,7 @@ returns-in_err-value c =
     let object = c.in-Object in
     let fields = object.object.fields.items in
     let values = object.values.items in
-    let found : IsFound test fields values c.find.result =
+    let found : IsPairFound test fields values c.find.result =
     find_from_yields_List {s = c.zip-placed.result} (λ f. test f.0) c.find.new.self _
     c.find.result c.find.ensures.ran
     (YieldsList-from_zip (YieldsList-from_slice fields (search rules))

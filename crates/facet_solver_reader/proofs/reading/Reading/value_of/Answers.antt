@@ -7,7 +7,7 @@ use Rattle.std.proofs.lemmas.Iterator.Consumers.{count_from_yields_List}
 use Rattle.std.proofs.lemmas.Iterator.Search.{find_from_yields_List}
 use Rattle.std.proofs.lemmas.List.Sums.{length-filter}
 use Rattle.facet_solver_reader.specs.LookUps.{has_name}
-use Rattle.facet_solver_reader.proofs.LookUps.{IsFound, Pair, is_first, only_field}
+use Rattle.facet_solver_reader.proofs.LookUps.{IsPairFound, Pair, is_first, only_field}
 use Rattle.facet_solver_reader.proofs.reading.Reading.value_of.Goals as goal
 
 pub returns : goal.returns
@@ -16,7 +16,7 @@ returns c =
     let object = c.in-Object in
     let fields = object.object.fields.items in
     let values = object.values.items in
-    let found : IsFound (has_name name) fields values c.find.result =
+    let found : IsPairFound (has_name name) fields values c.find.result =
     find_from_yields_List {s = c.zip.result} (λ f. has_name name f.0) c.find.new.self _
     c.find.result c.find.ensures.ran
     (YieldsList-from_zip (YieldsList-from_slice fields (search rules))
@@ -39,7 +39,7 @@ returns-in_err-value c =
     let object = c.in-Object in
     let fields = object.object.fields.items in
     let values = object.values.items in
-    let found : IsFound (has_name name) fields values c.find.result =
+    let found : IsPairFound (has_name name) fields values c.find.result =
     find_from_yields_List {s = c.zip.result} (λ f. has_name name f.0) c.find.new.self _
     c.find.result c.find.ensures.ran
     (YieldsList-from_zip (YieldsList-from_slice fields (search rules))

@@ -1,16 +1,16 @@
-use Rattle.std.proofs.Common.{◌≡◌, inl, length, refl, subst, sym, false, true}
+use Rattle.std.proofs.Common.{◌≡◌, length, subst, sym, false, true}
 use Rattle.std.specs.List.{All}
-use Rattle.facet_solver_reader.specs.Branches.{ReadsAt, ReadsPart}
-use Rattle.facet_solver_reader.specs.Nodes.{members_in, value_of}
-use Rattle.facet_solver_reader.specs.Parts.{a_selection}
+use Rattle.facet_solver_reader.specs.Blaming.{IsTakenBranch, IsTakenList}
+use Rattle.facet_solver_reader.specs.Nodes.{value_of}
 use Rattle.facet_solver_reader.specs.Reading.{AreListCounts, object_view}
 use Rattle.facet_solver_reader.specs.Readings.{ReadsValue}
 use Rattle.facet_solver_reader.specs.Tables.{BranchIsBefore, ListIsServed, rules_at}
 use Rattle.facet_solver_reader.specs.Views.{list_view, selection_view}
-use Rattle.facet_solver_reader.specs.Why.{IsReadBy, IsReadByBranch}
+use Rattle.facet_solver_reader.specs.Why.{IsReadByBranch}
 use Rattle.facet_solver_reader.specs.declared.count.Count.TheVariants as counts
-use Rattle.facet_solver_reader.proofs.Blaming.{some_counted}
+use Rattle.facet_solver_reader.proofs.ChosenBranch.{read_at}
 use Rattle.facet_solver_reader.proofs.Quantifiers.{all_at, all_of_last}
+use Rattle.facet_solver_reader.proofs.TakenLists.{branch_reads, branch_taken}
 use Rattle.facet_solver_reader.proofs.why.several.add_branch.Goals as goal
 
 pub count_one_branch-count-requires-clause-branch : goal.count_one_branch-count-requires-clause-branch
@@ -34,32 +34,34 @@ count_one_branch-count-requires-clause-counts c =
 
 pub returns-in-Ok : goal.returns-in-Ok
 returns-in-Ok c =
-    let rules = rules_at c.args.tables.now in
+    let t = c.args.tables.now in
+    let rules = rules_at t in
     let nodes = c.args.nodes.now in
     let o = c.args.tallied.now.object in
-    let v = value_of nodes o.node in
     let s = selection_view c.args.selection.now in
     let id = list_view c.args.branch.now in
     let k = c.requires.branch.0 in
     let n = c.count_one_branch-count.result in
-    let read = some_counted
-    (ReadsAt (ReadsPart rules (ReadsValue rules) (object_view nodes o) (a_selection s)) k) n
+    let read = read_at rules (ReadsValue rules) (object_view nodes o) s k n
     (λ (e : n ≡ counts.None).
     let is : c.is_none.result ≡ true = c.is_none.ensures.1 e in
     let isnt : c.is_none.result ≡ false = c.if-is_none.false in absurd (cc))
     (c.count_one_branch-count.ensures k c.requires.branch.1) in
     let branch = c.branch_of-branch.result in
-    let by : IsReadByBranch rules (members_in v) id =
+    let same : id ≡ list_view branch.list = sym c.branch_of-branch.ensures in
+    let served = all_at (ListIsServed t) s.branches k id c.requires.served c.requires.branch.1 in
+    let here : IsTakenBranch t nodes o branch =
     record {
-      object = object_view nodes o;
-      same = refl;
-      selection = s;
-      index = k;
-      branch = c.requires.branch.1;
-      choice = read.0;
-      reads = read.1;
+      served = subst (ListIsServed t) same served;
+      taken =
+          subst (IsTakenList t nodes o) same
+          (branch_taken t c.requires.tables nodes o s c.requires.part k read.0 read.1 id
+          c.requires.branch.1);
+      reads =
+          subst (IsReadByBranch rules (value_of nodes o.node)) same
+          (branch_reads t c.requires.tables nodes o s c.requires.part k read.0 read.1 id
+          c.requires.branch.1);
     } in
-    let here : IsReadBy rules v branch =
-    inl (subst (IsReadByBranch rules (members_in v)) (sym c.branch_of-branch.ensures) by) in
-    subst (All (IsReadBy rules v)) (sym c.in-Ok.ensures.items)
-    (all_of_last (IsReadBy rules v) c.args.branches.now.items branch c.requires.branches here)
+    subst (All (IsTakenBranch t nodes o)) (sym c.in-Ok.ensures.items)
+    (all_of_last (IsTakenBranch t nodes o) c.args.branches.now.items branch c.requires.branches
+    here)

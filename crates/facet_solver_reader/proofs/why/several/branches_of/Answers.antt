@@ -1,9 +1,7 @@
 use Rattle.std.proofs.Common.{ap, inl, inr, map, subst, sym}
 use Rattle.std.specs.List.{All}
-use Rattle.facet_solver_reader.specs.Nodes.{value_of}
-use Rattle.facet_solver_reader.specs.Tables.{rules_at}
+use Rattle.facet_solver_reader.specs.Blaming.{IsTakenBranch}
 use Rattle.facet_solver_reader.specs.Views.{list_view, selection_view}
-use Rattle.facet_solver_reader.specs.Why.{IsReadBy}
 use Rattle.facet_solver_reader.proofs.CountingObjects.{seen_read}
 use Rattle.facet_solver_reader.proofs.Quantifiers.{all_of_none}
 use Rattle.facet_solver_reader.proofs.why.several.branches_of.Goals as goal
@@ -11,8 +9,7 @@ use Rattle.facet_solver_reader.proofs.why.several.branches_of.Goals.{else-select
 
 pub loop-branch-init : goal.loop-branch-init
 loop-branch-init c =
-    let P = IsReadBy (rules_at c.args.tables.now)
-    (value_of c.args.nodes.now c.args.tallied.now.object.node) in
+    let P = IsTakenBranch c.args.tables.now c.args.nodes.now c.args.tallied.now.object in
     record {
       present =
           elim c.else-selection.branch [

@@ -1,10 +1,9 @@
 use Rattle.std.specs.List.{All}
+use Rattle.facet_solver_reader.specs.Blaming.{IsTakenBranch}
 use Rattle.facet_solver_reader.specs.Branches.{CanBePresent}
-use Rattle.facet_solver_reader.specs.Nodes.{value_of}
 use Rattle.facet_solver_reader.specs.Reading.{object_view}
 use Rattle.facet_solver_reader.specs.Tables.{rules_at}
 use Rattle.facet_solver_reader.specs.Views.{selection_view}
-use Rattle.facet_solver_reader.specs.Why.{IsReadBy}
 use Rattle.facet_solver_reader.proofs.why.several.branches_of.Given as goal
 
 -- the selection can be present, and the branches so far read the object
@@ -14,7 +13,5 @@ invariant-loop-branch l =
       present :
           CanBePresent (rules_at l.tables) (object_view l.nodes l.tallied.object)
           (selection_view l.selection);
-      each :
-          All (IsReadBy (rules_at l.tables) (value_of l.nodes l.tallied.object.node))
-          l.branches.items;
+      each : All (IsTakenBranch l.tables l.nodes l.tallied.object) l.branches.items;
     }

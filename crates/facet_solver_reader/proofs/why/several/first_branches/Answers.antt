@@ -1,4 +1,5 @@
 use Rattle.std.proofs.Common.{ap, length, map, subst}
+use Rattle.facet_solver_reader.specs.Blaming.{IsTakenPart}
 use Rattle.facet_solver_reader.specs.SelectionNames.{PartHasBranchNames}
 use Rattle.facet_solver_reader.specs.Tables.{PartIsBefore, PartIsServed, rules_at}
 use Rattle.facet_solver_reader.specs.Views.{part_view, parts_view}
@@ -48,3 +49,21 @@ branches_of-requires-clause-named c =
     c.requires.tallied.object))
     c.deref-part-items.result.now c.deref-part-items.ensures.value c.loop-part.part-index
     c.part-item.result c.loop-part-test.true c.part-item.is)
+
+pub branches_of-requires-clause-part : goal.branches_of-requires-clause-part
+branches_of-requires-clause-part c =
+    let t = c.args.tables.now in
+    let o = c.args.tallied.now.object in
+    let l = o.list.now in
+    let i = c.loop-part.part-index in
+    let at = seen_read part_view c.deref-part-items.result.now (parts_view l.parts.items) i
+    c.part-item.result (ap (map part_view) c.deref-part-items.ensures.value) c.loop-part-test.true
+    c.part-item.is in
+    subst (IsTakenPart t c.args.nodes.now o) (ap part_view c.in-Selection.is)
+    (record {
+      list = l;
+      listed = listed_of_below t c.requires.tables o l
+          (own_below t c.requires.tables c.args.nodes.now o c.requires.tallied.object);
+      taken = c.requires.tallied.taken;
+      part = (i, at);
+    })

@@ -17,7 +17,7 @@ returns-in-Some-branches-clause-next c =
     (λ o.
     IfSome o
     (λ bs. All (IsReadBy (rules_at t) (value_of nodes c.in-Some.tallied.object.node)) bs.items))
-    c.in-Some-branches.is c.in_ok-branches.ensures in
+    c.in-Some-branches.is c.in_ok-branches.ensures.branches in
     subst
     (λ (n : ℕ). All (IsReadBy (rules_at t) (value_of nodes n)) c.in-Some-branches.branches.items)
     is.same told

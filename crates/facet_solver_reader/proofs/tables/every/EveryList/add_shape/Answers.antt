@@ -2,7 +2,7 @@ use Rattle.std.proofs.Common.{◌≡◌, ◌∙◌, ℕ, ◌<◌, ◌≤◌, ap,
 use Rattle.std.proofs.lemmas.Result.{IfOk-weaker}
 use Rattle.facet_solver_shape.specs.Catalogues.{Catalogue}
 use Rattle.facet_solver_reader.specs.ListShapes.{shape_of}
-use Rattle.facet_solver_reader.specs.Listing.{AreAdded}
+use Rattle.facet_solver_reader.specs.Listing.{AreListsAdded}
 use Rattle.facet_solver_reader.specs.Parts.{of_branch, of_enum, of_fields, of_joined}
 use Rattle.facet_solver_reader.specs.Types.{variants_at}
 use Rattle.facet_solver_reader.proofs.Added.{FirstOf, shape_added, still_free}
@@ -56,8 +56,8 @@ returns c =
     c.loop-variant-test.false
     in
     IfOk-weaker c.add-3.result
-    (λ u. AreAdded shapes c.add-2.new.self c.add-3.new.self (λ q. q ≡ of_joined shape))
-    (λ u. AreAdded shapes c.args.self.now c.add-3.new.self (λ q. shape_of q ≡ shape))
+    (λ u. AreListsAdded shapes c.add-2.new.self c.add-3.new.self (λ q. q ≡ of_joined shape))
+    (λ u. AreListsAdded shapes c.args.self.now c.add-3.new.self (λ q. shape_of q ≡ shape))
     (λ u added.
     shape_added shapes shape c.args.self.now c.loop-variant.self c.add-2.new.self c.add-3.new.self v
     c.loop-variant.invariant c.in_ok-add-4.ensures added past)

@@ -6,7 +6,7 @@ use Rattle.std.proofs.lemmas.List.Kept.{Contains-dedup_nat, Contains-from_dedup}
 use Rattle.std.proofs.lemmas.List.Sorted.{Contains-permutation, IsPermutation-sym}
 use Rattle.std.proofs.lemmas.Map.Keys.{IsStrictlyIncreasing-dedup}
 use Rattle.facet_solver_reader.specs.declared.part.Part.{Part}
-use Rattle.facet_solver_reader.specs.Placing.{AreGathered, AreKept, PartIsAmong}
+use Rattle.facet_solver_reader.specs.Placing.{AreGathered, AreStillAmong, PartIsAmong}
 use Rattle.facet_solver_reader.specs.Views.{part_view, parts_view}
 use Rattle.facet_solver_reader.proofs.Gathered.{below_of_gathered, gathered_same, part_kept}
 use Rattle.facet_solver_reader.proofs.LeftLists.{all_viewed, each_more}
@@ -35,9 +35,9 @@ returns c =
     let once = c.dedup.new.self.items in
     let same : once ≡ dedup eqb sorted = dedup_is eqb sorted once c.dedup.ensures.filtered in
     let mixed = c.sort_unstable.ensures.permutation in
-    let kept : AreKept all once = λ k m.
+    let kept : AreStillAmong all once = λ k m.
     subst (λ (is : List ℕ). Contains is k) (sym same) (Contains-dedup_nat sorted k (Contains-permutation all sorted k mixed m)) in
-    let back : AreKept once all = λ k m.
+    let back : AreStillAmong once all = λ k m.
     Contains-permutation sorted all k (IsPermutation-sym all sorted mixed) (Contains-from_dedup eqb sorted k (subst (λ (is : List ℕ). Contains is k) same m)) in
     let closed : AreGathered o once = gathered_same o all once kept back c.loop-part.invariant.closed in
     let rising : IsStrictlyIncreasing once = subst IsStrictlyIncreasing (sym same) (IsStrictlyIncreasing-dedup sorted c.sort_unstable.ensures.sorted) in

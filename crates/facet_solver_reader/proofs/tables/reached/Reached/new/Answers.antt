@@ -2,7 +2,7 @@ use Rattle.std.proofs.Common.{◌+◌, ap, ◌∙◌, arith, length, sym, subst}
 use Rattle.facet_solver_reader.specs.declared.tables.marks.Marked.TheVariants.{Shape, List as AList}
 use Rattle.facet_solver_shape.specs.Catalogues.{IsChecked}
 use Rattle.facet_solver_reader.proofs.AllReached.{reached_all}
-use Rattle.facet_solver_reader.specs.WorkList.{IsUnderWay}
+use Rattle.facet_solver_reader.specs.WorkList.{IsReachedSoFar}
 use Rattle.facet_solver_reader.proofs.WorkList.{first_under_way, list_done, list_within, read_order, shape_done, shape_within}
 use Rattle.facet_solver_reader.proofs.tables.reached.Reached.new.Goals as goal
 use Rattle.facet_solver_reader.proofs.tables.reached.Reached.new.Goals.{in-Shape+in_ok-go_through_shape-in-Shape, in-List+in_ok-go_through_list-in-List}
@@ -32,13 +32,13 @@ loop-position-preserved c =
     let p = c.loop-position.position in
     elim c.match-index.branch [
       | in-Shape+in_ok-go_through_shape-in-Shape w ↦
-          subst (IsUnderWay types every c.args.root (p + 1)) (sym w.reached-is)
+          subst (IsReachedSoFar types every c.args.root (p + 1)) (sym w.reached-is)
           (shape_done types every c.args.root p old w.go_through_shape.new.self c.loop-position.invariant w.in-Shape.id
           (read_order old.marks.order.items p c.index.result.now (Shape w.in-Shape.id) (omega (arith, c.loop-position.reached.marks.order.ok.0)) c.index.ensures w.in-Shape.is)
           w.in_ok-go_through_shape-in-Shape.ensures c.requires)
       | in-List+in_ok-go_through_list-in-List w ↦
           let done = w.in_ok-go_through_list-in-List.ensures in
-          subst (IsUnderWay types every c.args.root (p + 1)) (sym w.reached-is)
+          subst (IsReachedSoFar types every c.args.root (p + 1)) (sym w.reached-is)
           (list_done types every c.args.root p old w.go_through_list.new.self c.loop-position.invariant w.in-List.number
           (read_order old.marks.order.items p c.index.result.now (AList w.in-List.number) (omega (arith, c.loop-position.reached.marks.order.ok.0)) c.index.ensures w.in-List.is)
           done.added done.ends done.marked c.requires done.met)
