@@ -116,3 +116,11 @@ pub mod LookUps
 pub mod Alone
 pub mod OneEnum
 pub mod ReadByTag
+pub mod SampleTypes
+pub mod CountRows
+pub mod ItemRows
+pub mod ObjectRows
+pub mod ValueRows
+pub mod PlaceRows
+pub mod ReaderRows
+pub mod ToldRows
