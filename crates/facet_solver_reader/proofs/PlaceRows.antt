@@ -7,7 +7,7 @@ use Rattle.facet_solver_shape.specs.Catalogues.{RepeatsName}
 use Rattle.facet_solver_shape.specs.Names.{Name, name_eq}
 use Rattle.facet_solver_reader.specs.Documents.{Members, Tree, item, list, member, no_items, no_members, null, number, object, truth}
 use Rattle.facet_solver_reader.specs.Nodes.{AreByName}
-use Rattle.facet_solver_reader.specs.Places.{IsLeastRepeated, IsNameTwice, IsRepeated, Step, at, to_item, to_member}
+use Rattle.facet_solver_reader.specs.Places.{IsLeastRepeated, IsNameTwice, IsRepeated, PlaceStep, at, to_item, to_member}
 use Rattle.facet_solver_reader.specs.Readers.{HasNoCount}
 use Rattle.facet_solver_reader.specs.declared.nodes.DocumentError.TheVariants as document
 use Rattle.facet_solver_reader.proofs.SampleTypes.{document_a, five}
@@ -84,10 +84,10 @@ name_twice_holds = (
 )
 
 -- a number has no object with a name
-pub name_twice_fails : (place : List Step) → ¬ (IsNameTwice (number five) place)
+pub name_twice_fails : (place : List PlaceStep) → ¬ (IsNameTwice (number five) place)
 name_twice_fails place h = go h.around h.object_at
   where
-    go : (around : List Step) → ¬ (at (number five) around ≡ Some (object h.inner))
+    go : (around : List PlaceStep) → ¬ (at (number five) around ≡ Some (object h.inner))
     go [] is = cc
     go (to_member x ∷ rest) is = cc
     go (to_item k ∷ rest) is = cc
