@@ -28,6 +28,8 @@ use Rattle.facet_solver_reader.specs.Parts.{Target}
 use Rattle.facet_solver_reader.specs.Places.{PlaceStep, at}
 use Rattle.facet_solver_reader.specs.Rules.{Rules}
 use Rattle.facet_solver_reader.specs.Blaming.{IsUnreadAs, IsUnreadAt}
+use Rattle.facet_solver_reader.specs.TypeNames.{called_view, target_name}
+use Rattle.facet_solver_reader.specs.Wanted.{IsSaidToRead}
 use Rattle.facet_solver_reader.specs.Why.{IsObstacle, IsToldUnread, IsUnread, IsWhyNone}
 use Rattle.std.proofs.Common.{Err, IfOk, Ok, Result}
 use Rattle.facet_solver_reader.specs.Blaming.{AreMissing, IsBelow, IsPartOf, IsPosition}
@@ -152,16 +154,19 @@ ok_then P Q (Err e) f h = tt
 
 -- a value is not read as a target that is told of
 pub told_unread : (rules : Rules) (v : Tree) (t : Target) (u : Unread) → IsUnread rules t v
-    → IsUnreadAs t v u → IsToldUnread rules v u
+    → IsUnreadAs rules t v u → IsToldUnread rules v u
 told_unread rules v t u unread h =
     record {
       unread = subst (λ (x : Target). IsUnread rules x v) (sym h.target) unread;
+      name =
+          subst (λ (x : Target). called_view u.name ≡ target_name rules x) (sym h.target) h.name;
+      reads = subst (λ (x : Target). IsSaidToRead rules x v u.reads) (sym h.target) h.reads;
       given = h.given;
     }
 
 -- a value at a place that is not what a target reads is why there is no reading
 pub why_unread : (rules : Rules) (document v : Tree) (t : Target) (place : List PlaceStep)
-    (n : NoReading) → at document place ≡ Some v → IsUnread rules t v → IsUnreadAt t v place n
+    (n : NoReading) → at document place ≡ Some v → IsUnread rules t v → IsUnreadAt rules t v place n
     → IsWhyNone rules document n
 why_unread rules document v t place n leads unread h =
     record {

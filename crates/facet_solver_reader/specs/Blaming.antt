@@ -42,9 +42,11 @@ use Rattle.facet_solver_reader.specs.Rules.{Rules}
 use Rattle.facet_solver_reader.specs.Slots.{index_of}
 use Rattle.facet_solver_reader.specs.Tables.{IsServed, ListIsServed, knows, rules_at}
 use Rattle.facet_solver_reader.specs.TakenBranches.{TakesBranch, parts_in}
+use Rattle.facet_solver_reader.specs.TypeNames.{IsCalled, called_view, target_name}
 use Rattle.facet_solver_reader.specs.Views.{list_view, parts_view, target_view}
+use Rattle.facet_solver_reader.specs.Wanted.{IsSaidToRead}
 use Rattle.facet_solver_reader.specs.Why.{IsOfName, IsRequiredIn, Lacks, IsStop, IsObstacle}
-use Rattle.facet_solver_reader.specs.Why.{IsReadBy, IsReadByBranch}
+use Rattle.facet_solver_reader.specs.Why.{IsOfPart, IsReadBy, IsReadByBranch}
 
 -- each choice at a part requires the name, and it is no name of the members
 pub record PartLacks (rules : Rules) (members : List Member) (p : Part) (x : Name) : Type 0 where
@@ -71,24 +73,28 @@ IsInPart t nodes v (in_part.Branch position optional) = ⊤
 
 -- what is found of a part of a branch is so
 abbrev pub IsInner : Rules → Tree → Inner → Type 0
-IsInner rules v (inner.Stop stop) = IsStop rules v stop
+IsInner rules v (inner.Stop stop) = IsStop rules v stop × IsOfPart stop
 IsInner rules v (inner.List position) = ⊤
 
 -- a value is to blame: it has the count as the target, and what is told of it is so
 pub record IsBlamed (t : Tables) (nodes : Nodes) (blame : Count) (b : Blamed) : Type 0 where
   pub inside : b.node < count nodes
+  pub served : IsServed t (target_view b.target)
   pub counted : IsCount t nodes b.node (target_view b.target) blame
   pub here : IfSome b.here (IsHere (rules_at t) (value_of nodes b.node))
 
--- a target is told of, and what a value is
-pub record IsUnreadAs (t : Target) (v : Tree) (u : Unread) : Type 0 where
+-- a target is told of, what that is called and reads, and what a value is
+pub record IsUnreadAs (rules : Rules) (t : Target) (v : Tree) (u : Unread) : Type 0 where
   pub target : target_view u.target ≡ t
+  pub name : called_view u.name ≡ target_name rules t
+  pub reads : IsSaidToRead rules t v u.reads
   pub given : IsGiven v u.given
 
 -- what is told is a place, and that its value is not what a target reads
-pub record IsUnreadAt (t : Target) (v : Tree) (place : List PlaceStep) (n : NoReading) : Type 0 where
+pub record IsUnreadAt (rules : Rules) (t : Target) (v : Tree) (place : List PlaceStep)
+    (n : NoReading) : Type 0 where
   pub same : n.place ≡ place
-  pub unread : (u : Unread) × (n.why ≡ obstacle.Unread u) × IsUnreadAs t v u
+  pub unread : (u : Unread) × (n.why ≡ obstacle.Unread u) × IsUnreadAs rules t v u
 
 -- the list whose names are left to others is one of the tables
 abbrev pub IsBesides : Tables → Option (Bor ListEntry) → Type 0
@@ -153,6 +159,7 @@ pub record IsTakenPart (t : Tables) (nodes : Nodes) (o : code.Object) (p : Part)
 -- a branch reads an object, and so does its list
 pub record IsTakenBranch (t : Tables) (nodes : Nodes) (o : code.Object) (b : Branch) : Type 0 where
   pub served : ListIsServed t (list_view b.list)
+  pub called : IsCalled (rules_at t) b
   pub taken : IsTakenList t nodes o (list_view b.list)
   pub reads : IsReadByBranch (rules_at t) (value_of nodes o.node) (list_view b.list)
 

@@ -59,6 +59,8 @@ pub mod Found
 pub mod UnderWay
 pub mod Tells
 pub mod TakenBranches
+pub mod TypeNames
+pub mod Wanted
 pub mod Why
 pub mod Blaming
 pub mod Quoted

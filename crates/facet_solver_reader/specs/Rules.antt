@@ -1,5 +1,6 @@
 -- What a type says of the values and objects that are read as it.
 use Rattle.std.specs.Prelude.{ℕ, Bool, List}
+use Rattle.facet_solver_shape.specs.Catalogues.{Catalogue}
 use Rattle.facet_solver_shape.specs.Names.{Name}
 use Rattle.facet_solver_shape.specs.declared.shape.range.WholeRange.{WholeRange}
 use Rattle.facet_solver_reader.specs.Parts.{ListId, Lists, Target}
@@ -54,9 +55,10 @@ pub data Content : Type 0 where
   as_tuple : List ℕ → Content
   as_object : ListId → Content
 
--- the ends of shapes, the contents of variants and the lists of parts of a type, which names are
+-- the shapes of a type, their ends, the contents of variants and the lists of parts, which names are
 -- keys of a map by the shape of its keys, and whether members that nothing takes are refused
 pub record Rules : Type 0 where
+  pub shapes : Catalogue
   pub end_of : ℕ → End
   pub content_of : ℕ → ℕ → Content
   pub lists : Lists

@@ -368,6 +368,7 @@ is_key shapes id name =
 -- what a catalogue says of values and objects
 abbrev pub rules_of : Catalogue → Bool → Rules
 rules_of shapes strict = record {
+  shapes = shapes;
   end_of = end_of shapes;
   content_of = content_at shapes;
   lists = parts_of shapes;

@@ -36,7 +36,9 @@ use Rattle.facet_solver_reader.specs.Places.{IsNameTwice, at}
 use Rattle.facet_solver_reader.specs.Readings.{ReadsValue}
 use Rattle.facet_solver_reader.specs.Rules.{Rules}
 use Rattle.facet_solver_reader.specs.TakenBranches.{TakesBranch, parts_in}
+use Rattle.facet_solver_reader.specs.TypeNames.{IsCalled, called_view, target_name}
 use Rattle.facet_solver_reader.specs.Views.{list_view, target_view}
+use Rattle.facet_solver_reader.specs.Wanted.{IsSaidToRead}
 
 -- some item is a required member with a property
 abbrev pub IsRequiredIn : (MemberPart → Type 0) → List Item → Type 0
@@ -69,6 +71,12 @@ pub record LacksTag (rules : Rules) (members : List Member) (id : ListId) (x : N
   pub other : find members x ≢ Some (text tag)
   pub required : Requires rules id (IsTagOf x tag)
 
+-- each choice of a branch requires the text of a tag, which members don't have, and it is told by its
+-- name
+abbrev pub IsWithoutTag : Rules → List Member → Name → Branch → Type 0
+IsWithoutTag rules members x b =
+    IsCalled rules b × LacksTag rules members (list_view b.list) x
+
 -- what members have of a name: none, or a value that is told
 abbrev pub StandsAt : List Member → Name → Option Given → Type 0
 StandsAt members x None = find members x ≡ None
@@ -100,9 +108,12 @@ pub record IsNoKey (rules : Rules) (members : List Member) (id : ListId) (x : Na
 abbrev pub IsUnread : Rules → Target → Tree → Type 0
 IsUnread rules t v = Counted (ReadsValue rules t v) NoCount
 
--- what is told of a value that is not read: it has no reading as the target, and what it is
+-- what is told of a value that is not read: it has no reading as the target, what that is called
+-- and reads, and what the value is
 pub record IsToldUnread (rules : Rules) (v : Tree) (u : Unread) : Type 0 where
   pub unread : IsUnread rules (target_view u.target) v
+  pub name : called_view u.name ≡ target_name rules (target_view u.target)
+  pub reads : IsSaidToRead rules (target_view u.target) v u.reads
   pub given : IsGiven v u.given
 
 -- what is told of a part of a variant: a member's value is not read, or the value itself
@@ -113,27 +124,47 @@ IsStop rules v Nothing = ⊤
 IsStop rules v (OneOf x) = ⊤
 IsStop rules v (Itself unread) = IsToldUnread rules v unread
 
--- what is told of a variant that does not fit: it lacks a name, has no key of a name, or a part of it
--- is not read
+-- what a variant reads by itself
+abbrev pub content_of : ListId → Target
+content_of (of_struct id) = of_shape id
+content_of (of_enum id) = of_shape id
+content_of (of_joined id) = of_shape id
+content_of (of_branch id k) = of_content id k
+content_of (of_fields id k) = of_content id k
+
+-- where the value itself is told to be not read, it is as the content of the variant
+abbrev pub IsOfBranch : Branch → Stop → Type 0
+IsOfBranch b (Itself unread) = target_view unread.target ≡ content_of (list_view b.list)
+IsOfBranch b _ = ⊤
+
+-- what is told is of a part of a value
+abbrev pub IsOfPart : Stop → Type 0
+IsOfPart (Itself unread) = ⊥
+IsOfPart _ = ⊤
+
+-- what is told of a variant that does not fit, by its name: it lacks a name, has no key of a name, or
+-- a part of it is not read
 pub record IsMisfit (rules : Rules) (v : Tree) (m : Misfit) : Type 0 where
+  pub called : IsCalled rules m.branch
   pub lacks : IfSome m.lacks
       (λ x. Lacks rules (members_in v) (list_view m.branch.list) x.now)
   pub no_key : IfSome m.no_key
       (λ x. IsNoKey rules (members_in v) (list_view m.branch.list) x.now)
   pub stop : IsStop rules v m.stop
+  pub of_branch : IsOfBranch m.branch m.stop
 
 -- what is told of a value that has no reading
 abbrev pub IsObstacle : Rules → Tree → Obstacle → Type 0
 IsObstacle rules v (obstacle.Unread unread) = IsToldUnread rules v unread
 IsObstacle rules v (obstacle.Lacks branch x) =
-    Lacks rules (members_in v) (list_view branch.list) x.now
+    IsCalled rules branch × Lacks rules (members_in v) (list_view branch.list) x.now
 IsObstacle rules v (obstacle.Incomplete x block y) =
-    IsMemberOf rules (members_in v) (list_view block.list) x.now
+    IsCalled rules block × IsMemberOf rules (members_in v) (list_view block.list) x.now
     × Lacks rules (members_in v) (list_view block.list) y.now
 IsObstacle rules v (obstacle.NoVariant of misfits) = All (IsMisfit rules v) misfits.items
 IsObstacle rules v (obstacle.NoTag x given branches) =
     StandsAt (members_in v) x.now given
-    × All (λ b. LacksTag rules (members_in v) (list_view b.list) x.now) branches.items
+    × All (IsWithoutTag rules (members_in v) x.now) branches.items
 IsObstacle rules v _ = ⊤
 
 -- a value is an object that has a reading by a list, and that takes the branch
@@ -144,19 +175,13 @@ pub record IsReadByBranch (rules : Rules) (v : Tree) (id : ListId) : Type 0 wher
   pub reads : ReadsObject rules (ReadsValue rules) list (members_in v) choice
   pub takes : TakesBranch rules.lists choice (parts_in rules.lists list) id
 
--- what a variant reads by itself
-abbrev pub content_of : ListId → Target
-content_of (of_struct id) = of_shape id
-content_of (of_enum id) = of_shape id
-content_of (of_joined id) = of_shape id
-content_of (of_branch id k) = of_content id k
-content_of (of_fields id k) = of_content id k
-
--- a variant reads a value: an object by its parts, or the value as its content
+-- a variant reads a value, an object by its parts or the value as its content, and it is told by its
+-- name
 abbrev pub IsReadBy : Rules → Tree → Branch → Type 0
 IsReadBy rules v b =
-    IsReadByBranch rules v (list_view b.list)
-    ⊎ ((r : Reading) × ReadsValue rules (content_of (list_view b.list)) v r)
+    IsCalled rules b
+    × (IsReadByBranch rules v (list_view b.list)
+    ⊎ ((r : Reading) × ReadsValue rules (content_of (list_view b.list)) v r))
 
 -- a document has no reading for what is told of the value at a place of it
 pub record IsWhyNone (rules : Rules) (document : Tree) (n : NoReading) : Type 0 where

@@ -8,7 +8,7 @@ ghost use Rattle.facet_solver_reader.specs.Nodes.{value_of};
 ghost use Rattle.facet_solver_reader.specs.Parts.{of_shape};
 ghost use Rattle.facet_solver_reader.specs.Reached.{IsRanked};
 ghost use Rattle.facet_solver_reader.specs.Reading.{AreSound, IsCount};
-ghost use Rattle.facet_solver_reader.specs.Tables.{ShapeIsServed, rules_at};
+ghost use Rattle.facet_solver_reader.specs.Tables.{AreTables, IsServed, ShapeIsServed, rules_at};
 ghost use Rattle.facet_solver_reader.specs.Views.{target_view};
 ghost use Rattle.facet_solver_reader.specs.Blaming.{IsUnreadAt};
 ghost use Rattle.facet_solver_reader.specs.Why.{IsWhyNone, IsWhyNot, IsWhySeveral};
@@ -28,6 +28,7 @@ mod stop;
 mod tag;
 mod untagged;
 mod walk;
+mod wanted;
 
 use crate::count::{Count, Memo, count_shape};
 use crate::document::Document;
@@ -98,7 +99,10 @@ fn unread_at<'c, 'd>(
     target: &Target<'c>,
     place: Place<'d>,
 ) -> Result<NoReading<'c, 'd>, AllocError>
-    ensures { IfOk result (IsUnreadAt (target_view target.now) (view value.now) place.entry) }
+    requires tables { AreTables tables.now }
+    requires served { IsServed tables.now (target_view target.now) }
+    ensures { IfOk result (IsUnreadAt (rules_at tables.now) (target_view target.now)
+        (view value.now) place.entry) }
 {
     match unread(tables, value, target) {
         Ok(unread) => Ok(NoReading {

@@ -7,7 +7,7 @@ ghost use Rattle.facet_solver_reader.specs.SelectionNames.{HasBranchNames, PartH
 ghost use Rattle.facet_solver_reader.specs.Tables.{AreTables, IsServed, ListIsServed, PartIsBefore, PartIsServed, rules_at};
 ghost use Rattle.facet_solver_reader.specs.Views.{member_view, part_view, selection_view};
 ghost use Rattle.facet_solver_reader.specs.Blaming.{IsAsked, IsBelow, IsInner};
-ghost use Rattle.facet_solver_reader.specs.Why.{IsStop};
+ghost use Rattle.facet_solver_reader.specs.Why.{IsOfPart, IsStop};
 
 use super::asked::{AskedObject, list_at, position_of};
 use super::name::{selection_name, unread};
@@ -41,6 +41,7 @@ pub(super) fn stop_of<'c, 'd>(
     ensures sound { AreSound tables.now nodes.now memo.new.entries.items }
     ensures stop { IfOk result (IsStop (rules_at tables.now)
         (value_of nodes.now asked.now.object.node)) }
+    ensures part { IfOk result IsOfPart }
 {
     let mut position = position;
     for _ in &asked.object.list.below {

@@ -20,11 +20,11 @@ returns-in-Some-Splits c =
     let target = target_view c.same_target-target.result in
     let unread = subst (λ (u : Target). IsUnread rules u v) (sym c.same_target-target.ensures)
     c.in_ok-last.ensures.counted in
-    ok_then (IsUnreadAt target seen place) (IsWhyNone rules (value_of nodes 0))
+    ok_then (IsUnreadAt rules target seen place) (IsWhyNone rules (value_of nodes 0))
     c.unread_at.result
-    (λ (n : NoReading) (h : IsUnreadAt target seen place n).
+    (λ (n : NoReading) (h : IsUnreadAt rules target seen place n).
     why_unread rules (value_of nodes 0) v target place n c.in_ok-place.ensures unread
-    (subst (λ (w : Tree). IsUnreadAt target w place n) c.value-value.ensures h))
+    (subst (λ (w : Tree). IsUnreadAt rules target w place n) c.value-value.ensures h))
     c.unread_at.ensures
 
 pub returns-in-None : goal.returns-in-None
@@ -37,9 +37,9 @@ returns-in-None c =
     let target = target_view c.same_target-target.result in
     let unread = subst (λ (u : Target). IsUnread rules u v) (sym c.same_target-target.ensures)
     c.in_ok-last.ensures.counted in
-    ok_then (IsUnreadAt target seen place) (IsWhyNone rules (value_of nodes 0))
+    ok_then (IsUnreadAt rules target seen place) (IsWhyNone rules (value_of nodes 0))
     c.unread_at-in-None.result
-    (λ (n : NoReading) (h : IsUnreadAt target seen place n).
+    (λ (n : NoReading) (h : IsUnreadAt rules target seen place n).
     why_unread rules (value_of nodes 0) v target place n c.in_ok-place.ensures unread
-    (subst (λ (w : Tree). IsUnreadAt target w place n) c.value-value.ensures h))
+    (subst (λ (w : Tree). IsUnreadAt rules target w place n) c.value-value.ensures h))
     c.unread_at-in-None.ensures

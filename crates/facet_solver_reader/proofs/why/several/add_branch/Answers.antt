@@ -1,10 +1,11 @@
-use Rattle.std.proofs.Common.{◌≡◌, length, subst, sym, false, true}
+use Rattle.std.proofs.Common.{◌≡◌, ◌∙◌, ap, length, subst, sym, false, true}
 use Rattle.std.specs.List.{All}
 use Rattle.facet_solver_reader.specs.Blaming.{IsTakenBranch, IsTakenList}
 use Rattle.facet_solver_reader.specs.Nodes.{value_of}
 use Rattle.facet_solver_reader.specs.Reading.{AreListCounts, object_view}
 use Rattle.facet_solver_reader.specs.Readings.{ReadsValue}
 use Rattle.facet_solver_reader.specs.Tables.{BranchIsBefore, ListIsServed, rules_at}
+use Rattle.facet_solver_reader.specs.TypeNames.{list_name}
 use Rattle.facet_solver_reader.specs.Views.{list_view, selection_view}
 use Rattle.facet_solver_reader.specs.Why.{IsReadByBranch}
 use Rattle.facet_solver_reader.specs.declared.count.Count.TheVariants as counts
@@ -48,11 +49,12 @@ returns-in-Ok c =
     let isnt : c.is_none.result ≡ false = c.if-is_none.false in absurd (cc))
     (c.count_one_branch-count.ensures k c.requires.branch.1) in
     let branch = c.branch_of-branch.result in
-    let same : id ≡ list_view branch.list = sym c.branch_of-branch.ensures in
+    let same : id ≡ list_view branch.list = sym c.branch_of-branch.ensures.list in
     let served = all_at (ListIsServed t) s.branches k id c.requires.served c.requires.branch.1 in
     let here : IsTakenBranch t nodes o branch =
     record {
       served = subst (ListIsServed t) same served;
+      called = c.branch_of-branch.ensures.name ∙ ap (list_name t.shapes.now) same;
       taken =
           subst (IsTakenList t nodes o) same
           (branch_taken t c.requires.tables nodes o s c.requires.part k read.0 read.1 id

@@ -104,4 +104,5 @@ loop-part-preserved c =
 
 pub returns-then-len-gt1-clause-branches : goal.returns-then-len-gt1-clause-branches
 returns-then-len-gt1-clause-branches c =
-    λ k d within. inl (c.in_ok-branches.ensures k d within).reads
+    λ k d within.
+    let b = c.in_ok-branches.ensures k d within in (b.called, inl b.reads)

@@ -16,8 +16,11 @@ returns-in-Ok-clause-inner c =
     let target = target_view c.args.member.now.target in
     let none = subst (IsCount t nodes c.in-Some.value target)
     (c.is_none.ensures.0 c.if-not-is_none.false) c.in_ok-count.ensures.count in (
-      w,
-      c.in-Some.ensures.1,
-      told_unread (rules_at t) w target c.in-Ok.unread none
-          (subst (λ (v : Tree). IsUnreadAs target v c.in-Ok.unread) c.value.ensures c.in-Ok.ensures),
+      (
+        w,
+        c.in-Some.ensures.1,
+        told_unread (rules_at t) w target c.in-Ok.unread none
+            (subst (λ (v : Tree). IsUnreadAs (rules_at t) target v c.in-Ok.unread) c.value.ensures c.in-Ok.ensures),
+      ),
+      tt,
     )

@@ -4,6 +4,7 @@ use Rattle.facet_solver_reader.specs.Nodes.{value_of}
 use Rattle.facet_solver_reader.specs.Parts.{Target, of_branch}
 use Rattle.facet_solver_reader.specs.Readings.{ReadsValue}
 use Rattle.facet_solver_reader.specs.Tables.{rules_at}
+use Rattle.facet_solver_reader.specs.TypeNames.{list_name}
 use Rattle.facet_solver_reader.specs.Views.{target_view}
 use Rattle.facet_solver_reader.specs.Why.{content_of}
 use Rattle.facet_solver_reader.specs.declared.count.Count.TheVariants as counts
@@ -23,5 +24,8 @@ returns-else-is_none-clause-variant c =
     c.in_ok-count.ensures.count in
     let same : target ≡ content_of (of_branch c.in-Content.shape c.in-Content.variant) =
     ap target_view c.in-Content.is in
-    let told = same ∙ ap content_of (sym c.branch_of-branch.ensures) in
-    inr (subst (λ (t : Target). (r : Reading) × ReadsValue rules t v r) told read)
+    let told = same ∙ ap content_of (sym c.branch_of-branch.ensures.list) in (
+      c.branch_of-branch.ensures.name
+          ∙ ap (list_name rules.shapes) (sym c.branch_of-branch.ensures.list),
+      inr (subst (λ (t : Target). (r : Reading) × ReadsValue rules t v r) told read),
+    )
