@@ -21,7 +21,7 @@ use Rattle.facet_solver_reader.specs.Readings.{ReadsValue, inner}
 use Rattle.facet_solver_reader.specs.Rules.{Content, End, Rules, a_list, a_map, a_tuple}
 use Rattle.facet_solver_reader.specs.Rules.{an_option}
 use Rattle.facet_solver_reader.specs.Tables.{rules_at}
-use Rattle.facet_solver_reader.specs.Told.{TellsReading, end_of_content}
+use Rattle.facet_solver_reader.specs.Told.{TellsAs, end_of_content}
 use Rattle.facet_solver_reader.specs.ToldAt.{IsRead, IsToldAs, IsToldAt}
 use Rattle.facet_solver_reader.specs.Values.{Inner, ReadsContent, ReadsEach, ReadsEnd, ReadsEntries}
 use Rattle.facet_solver_reader.specs.Values.{ReadsItems, ReadsPlace}
@@ -56,7 +56,7 @@ told_end t nodes node n s e w ranked is h =
       reading = h.reading;
       reads = (value_by_parts rules n (of_shape s) v ranked h.reading).1
           (subst (λ x. ReadsEnd rules (inner rules) x v h.reading) (sym is) h.reads);
-      tells = subst (λ x. TellsReading rules t.shapes.now x v h.reading w.variants.items w.kind) (sym is)
+      tells = subst (λ x. TellsAs rules t.shapes.now x v h.reading w.variants.items w.kind) (sym is)
           h.tells;
     }
 
@@ -65,7 +65,7 @@ pub told_content : (t : Tables) (nodes : Nodes) (node n s k : ℕ) (x : Content)
     (w : code.Reading) → IsRanked n (rules_at t) (of_content s k)
     → (rules_at t).content_of s k ≡ x
     → ReadsContent (rules_at t) (inner (rules_at t)) x (value_of nodes node) r
-    → TellsReading (rules_at t) t.shapes.now (end_of_content x) (value_of nodes node) r w.variants.items
+    → TellsAs (rules_at t) t.shapes.now (end_of_content x) (value_of nodes node) r w.variants.items
     w.kind
     → IsToldAt t nodes node (of_content s k) w
 told_content t nodes node n s k x r w ranked is reads tells =
@@ -75,7 +75,7 @@ told_content t nodes node n s k x r w ranked is reads tells =
       reading = r;
       reads = (value_by_parts rules n (of_content s k) v ranked r).1
           (subst (λ y. ReadsContent rules (inner rules) y v r) (sym is) reads);
-      tells = subst (λ y. TellsReading rules t.shapes.now (end_of_content y) v r w.variants.items w.kind)
+      tells = subst (λ y. TellsAs rules t.shapes.now (end_of_content y) v r w.variants.items w.kind)
           (sym is) tells;
     }
 

@@ -22,7 +22,7 @@ use Rattle.facet_solver_reader.specs.Reading.{IsPartCount, object_view}
 use Rattle.facet_solver_reader.specs.Readings.{ReadsValue}
 use Rattle.facet_solver_reader.specs.Rules.{Rules, anything}
 use Rattle.facet_solver_reader.specs.Tables.{rules_at}
-use Rattle.facet_solver_reader.specs.Told.{IsTold, TellsReading, as_it_is}
+use Rattle.facet_solver_reader.specs.Told.{IsTold, TellsAs, as_it_is}
 use Rattle.facet_solver_reader.specs.Told.{is_absent, is_present, texts}
 use Rattle.facet_solver_reader.specs.ToldObjects.{IsToldField, IsToldRest, IsToldTaken, Rest}
 use Rattle.facet_solver_reader.proofs.CatchAlls.{catch_all_images, count_of_no_catch_all}
@@ -139,11 +139,11 @@ anything_taken t m w d variants kind same =
     record {
       reading = a_value;
       takes = refl;
-      tells = subst (λ v. TellsReading (rules_at t) t.shapes.now anything v a_value w.variants.items w.kind)
+      tells = subst (λ v. TellsAs (rules_at t) t.shapes.now anything v a_value w.variants.items w.kind)
           same
-          (subst (λ ns. TellsReading (rules_at t) t.shapes.now anything (view d.now) a_value ns w.kind)
+          (subst (λ ns. TellsAs (rules_at t) t.shapes.now anything (view d.now) a_value ns w.kind)
           (sym variants)
-          (subst (λ k. TellsReading (rules_at t) t.shapes.now anything (view d.now) a_value [] k) (sym kind)
+          (subst (λ k. TellsAs (rules_at t) t.shapes.now anything (view d.now) a_value [] k) (sym kind)
           (as_it_is anything d)));
     }
 

@@ -7,7 +7,7 @@ use Rattle.facet_solver_shape.specs.Catalogues.{Catalogue}
 use Rattle.facet_solver_reader.specs.declared.reading.Reading as code
 use Rattle.facet_solver_reader.specs.Choices.{Reading, Readings, no_readings, reading}
 use Rattle.facet_solver_reader.specs.Rules.{Rules}
-use Rattle.facet_solver_reader.specs.Told.{TellsReading, TellsEach, ValueAs, no_values, one_value}
+use Rattle.facet_solver_reader.specs.Told.{TellsAs, TellsEach, ValueAs, no_values, one_value}
 use Rattle.facet_solver_reader.specs.Values.{ReadsEach}
 
 module _ (rules : Rules) (shapes : Catalogue) {A : Type 0} (P : A → Reading → Type 0)
@@ -25,7 +25,7 @@ module _ (rules : Rules) (shapes : Catalogue) {A : Type 0} (P : A → Reading �
   -- one more at the end is told
   last_told : (xs : List A) (x : A) (rs : Readings) (ws : List code.Reading) (r : Reading)
       (w : code.Reading) → ReadsEach P xs rs → TellsEach rules shapes (map f xs) rs ws → P x r
-      → TellsReading rules shapes (f x).0 (f x).1 r w.variants.items w.kind
+      → TellsAs rules shapes (f x).0 (f x).1 r w.variants.items w.kind
       → EachTold (xs ++ x ∷ []) (ws ++ w ∷ [])
   last_told [] x no_readings ws r w h no_values p u =
       record {
@@ -47,7 +47,7 @@ module _ (rules : Rules) (shapes : Catalogue) {A : Type 0} (P : A → Reading �
   -- one more, up to a place, is told
   pub more_told : (xs : List A) (i : ℕ) (x : A) (ws : List code.Reading) (r : Reading)
       (w : code.Reading) → slice_get xs i ≡ Some x → EachTold (take i xs) ws → P x r
-      → TellsReading rules shapes (f x).0 (f x).1 r w.variants.items w.kind
+      → TellsAs rules shapes (f x).0 (f x).1 r w.variants.items w.kind
       → EachTold (take (i + 1) xs) (ws ++ w ∷ [])
   more_told xs i x ws r w there h p t =
       let is : take (i + 1) xs ≡ take i xs ++ x ∷ [] =

@@ -27,7 +27,7 @@ use Rattle.facet_solver_reader.specs.Readings.{ReadsValue}
 use Rattle.facet_solver_reader.specs.Rules.{Rules}
 use Rattle.facet_solver_reader.specs.Steps.{Step, a_field, a_rest, a_variant, an_absence}
 use Rattle.facet_solver_reader.specs.Tables.{rules_at}
-use Rattle.facet_solver_reader.specs.Told.{TellsReading, TellsField, TellsFields, TellsTaken, end_taken}
+use Rattle.facet_solver_reader.specs.Told.{TellsAs, TellsField, TellsFields, TellsTaken, end_taken}
 use Rattle.facet_solver_reader.specs.Told.{fields_in, no_fields, none_taken, one_field, one_passed}
 use Rattle.facet_solver_reader.specs.Told.{one_taken}
 use Rattle.facet_solver_reader.specs.ToldObjects.{AreToldFields, IsToldField}
@@ -121,7 +121,7 @@ module _ (rules : Rules) (shapes : Catalogue) (object : Object) (k : CatchAll) w
   last_taken : (ms : List Member) (t : Taken) (ns : List Name) (ws : List code.Reading)
       (m : Member) (r : Reading) (w : code.Reading) → IsUnknown rules object m.name
       → Takes rules (ReadsValue rules) k m r
-      → TellsReading rules shapes (end_taken rules k) m.value r w.variants.items w.kind
+      → TellsAs rules shapes (end_taken rules k) m.value r w.variants.items w.kind
       → TakesRest rules object (Takes rules (ReadsValue rules) k) ms t
       → TellsTaken rules shapes (end_taken rules k) ms t ns ws
       → TakenTold (ms ++ m ∷ []) (ns ++ m.name ∷ []) (ws ++ w ∷ [])
@@ -174,7 +174,7 @@ module _ (rules : Rules) (shapes : Catalogue) (object : Object) (k : CatchAll) w
     -- or taken
     pub more_taken : (t : Taken) (ns : List Name) (ws : List code.Reading) (r : Reading)
         (w : code.Reading) → IsUnknown rules object m.name → Takes rules (ReadsValue rules) k m r
-        → TellsReading rules shapes (end_taken rules k) m.value r w.variants.items w.kind
+        → TellsAs rules shapes (end_taken rules k) m.value r w.variants.items w.kind
         → TakesRest rules object (Takes rules (ReadsValue rules) k) (take i ms) t
         → TellsTaken rules shapes (end_taken rules k) (take i ms) t ns ws
         → TakenTold (take (i + 1) ms) (ns ++ m.name ∷ []) (ws ++ w ∷ [])

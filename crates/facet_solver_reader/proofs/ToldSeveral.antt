@@ -18,7 +18,7 @@ use Rattle.facet_solver_reader.specs.Parts.{of_shape}
 use Rattle.facet_solver_reader.specs.Readings.{ReadsValue, inner}
 use Rattle.facet_solver_reader.specs.Rules.{a_list, a_map, a_tuple}
 use Rattle.facet_solver_reader.specs.Tables.{rules_at}
-use Rattle.facet_solver_reader.specs.Told.{TellsReading, entries_of, items_of, places_of, texts}
+use Rattle.facet_solver_reader.specs.Told.{TellsAs, entries_of, items_of, places_of, texts}
 use Rattle.facet_solver_reader.specs.ToldAt.{IsToldAs}
 use Rattle.facet_solver_reader.specs.Values.{ReadsEnd, ReadsEntry, ReadsPlace}
 use Rattle.facet_solver_reader.proofs.ToldEach.{EachTold}
@@ -72,7 +72,7 @@ module _ (t : Tables) (nodes : Nodes) (node : ℕ) (w : code.Reading) (none : w.
             → (h : EachTold (rules_at t) t.shapes.now (ReadsValue (rules_at t) (of_shape s))
             (λ u. ((rules_at t).end_of s, u)) (children v) ws.items)
             → ReadsEnd (rules_at t) (inner (rules_at t)) (a_list s) v (each_of h.readings)
-            × TellsReading (rules_at t) t.shapes.now (a_list s) v (each_of h.readings) []
+            × TellsAs (rules_at t) t.shapes.now (a_list s) v (each_of h.readings) []
             (kinds.List ws)
         go (list vs) is h = (h.reads, items_of s vs h.readings ws h.tells)
         go null is h = absurd (cc)
@@ -103,7 +103,7 @@ module _ (t : Tables) (nodes : Nodes) (node : ℕ) (w : code.Reading) (none : w.
             → (h : EachTold (rules_at t) t.shapes.now (ReadsPlace (ReadsValue (rules_at t)))
             (λ p. ((rules_at t).end_of p.0, p.1)) (zip ss (children v)) ws.items)
             → ReadsEnd (rules_at t) (inner (rules_at t)) (a_tuple ss) v (each_of h.readings)
-            × TellsReading (rules_at t) t.shapes.now (a_tuple ss) v (each_of h.readings) []
+            × TellsAs (rules_at t) t.shapes.now (a_tuple ss) v (each_of h.readings) []
             (kinds.List ws)
         go (list vs) is same h = ((same, h.reads), places_of ss vs h.readings ws h.tells)
         go null is same h = absurd (cc)
@@ -136,7 +136,7 @@ module _ (t : Tables) (nodes : Nodes) (node : ℕ) (w : code.Reading) (none : w.
             (ReadsEntry ((rules_at t).is_key key) (ReadsValue (rules_at t)) (of_shape s))
             (λ m. ((rules_at t).end_of s, m.value)) (members_in v) ws.items)
             → ReadsEnd (rules_at t) (inner (rules_at t)) (a_map key s) v (each_of h.readings)
-            × TellsReading (rules_at t) t.shapes.now (a_map key s) v (each_of h.readings) []
+            × TellsAs (rules_at t) t.shapes.now (a_map key s) v (each_of h.readings) []
             (kinds.Map ns ws)
         go (object ms) is named h = (h.reads, entries_of key s ms h.readings ns ws named h.tells)
         go null is named h = absurd (cc)

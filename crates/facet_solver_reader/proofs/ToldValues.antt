@@ -31,7 +31,7 @@ use Rattle.facet_solver_reader.specs.Rules as types
 use Rattle.facet_solver_reader.specs.Rules.{Alternative, End, Rules, a_character, a_text, a_truth}
 use Rattle.facet_solver_reader.specs.Rules.{an_untagged_variant, anything, as_object}
 use Rattle.facet_solver_reader.specs.Tables.{rules_at}
-use Rattle.facet_solver_reader.specs.Told.{TellsReading, TellsObject, as_it_is, by_joined}
+use Rattle.facet_solver_reader.specs.Told.{TellsAs, TellsObject, as_it_is, by_joined}
 use Rattle.facet_solver_reader.specs.Told.{by_parts, end_of_target}
 use Rattle.facet_solver_reader.specs.ToldAt.{IsAsItIs, IsRead, IsToldAt}
 use Rattle.facet_solver_reader.specs.Values.{Inner, ReadsContent, ReadsEnd, ReadsTag, is_scalar_end}
@@ -42,12 +42,12 @@ use Rattle.facet_solver_reader.proofs.ReadOnce.{is_one, read_as, same_one}
 -- a value that is read as it is is told so
 pub tells_as_it_is : (rules : Rules) (shapes : Catalogue) (e : End) (v : Tree) (r : Reading)
     (ns : List VariantName) (k : ReadingKind) (d : Bor Document) → view d.now ≡ v → r ≡ a_value
-    → ns ≡ [] → k ≡ kinds.Value d → TellsReading rules shapes e v r ns k
+    → ns ≡ [] → k ≡ kinds.Value d → TellsAs rules shapes e v r ns k
 tells_as_it_is rules shapes e v r ns k d seen plain none is =
-    subst (λ u. TellsReading rules shapes e u r ns k) seen
-    (subst (λ q. TellsReading rules shapes e (view d.now) q ns k) (sym plain)
-    (subst (λ ms. TellsReading rules shapes e (view d.now) a_value ms k) (sym none)
-    (subst (λ j. TellsReading rules shapes e (view d.now) a_value [] j) (sym is) (as_it_is e d))))
+    subst (λ u. TellsAs rules shapes e u r ns k) seen
+    (subst (λ q. TellsAs rules shapes e (view d.now) q ns k) (sym plain)
+    (subst (λ ms. TellsAs rules shapes e (view d.now) a_value ms k) (sym none)
+    (subst (λ j. TellsAs rules shapes e (view d.now) a_value [] j) (sym is) (as_it_is e d))))
 
 -- the same of a target
 pub told_as_it_is : (t : Tables) (nodes : Nodes) (node : ℕ) (target : Target) (w : code.Reading)
@@ -190,11 +190,11 @@ module _ (rules : Rules) (shapes : Catalogue) (id : ListId) (o : ObjectReading)
   pub tells_object : (v : Tree) (c : Choice) (ns : List VariantName) (k : ReadingKind)
       → is_object v ≡ true → ns ≡ [] → k ≡ kinds.Object o values rest
       → TellsObject rules shapes id (members_in v) c o values.items rest.items
-      → TellsReading rules shapes (types.an_object id) v (an_object c) ns k
+      → TellsAs rules shapes (types.an_object id) v (an_object c) ns k
   tells_object (object ms) c ns k is none same h =
-      subst (λ ms'. TellsReading rules shapes (types.an_object id) (object ms) (an_object c) ms' k)
+      subst (λ ms'. TellsAs rules shapes (types.an_object id) (object ms) (an_object c) ms' k)
       (sym none)
-      (subst (λ j. TellsReading rules shapes (types.an_object id) (object ms) (an_object c) [] j)
+      (subst (λ j. TellsAs rules shapes (types.an_object id) (object ms) (an_object c) [] j)
       (sym same) (by_parts id ms c o values rest h))
   tells_object null c ns k is none same h = absurd (cc)
   tells_object (truth b) c ns k is none same h = absurd (cc)
@@ -206,11 +206,11 @@ module _ (rules : Rules) (shapes : Catalogue) (id : ListId) (o : ObjectReading)
   pub tells_joined : (alone : List Alternative) (v : Tree) (c : Choice) (ns : List VariantName)
       (k : ReadingKind) → is_object v ≡ true → ns ≡ [] → k ≡ kinds.Object o values rest
       → TellsObject rules shapes id (members_in v) c o values.items rest.items
-      → TellsReading rules shapes (an_untagged_variant id alone) v (an_object c) ns k
+      → TellsAs rules shapes (an_untagged_variant id alone) v (an_object c) ns k
   tells_joined alone (object ms) c ns k is none same h =
-      subst (λ ms'. TellsReading rules shapes (an_untagged_variant id alone) (object ms) (an_object c) ms' k)
+      subst (λ ms'. TellsAs rules shapes (an_untagged_variant id alone) (object ms) (an_object c) ms' k)
       (sym none)
-      (subst (λ j. TellsReading rules shapes (an_untagged_variant id alone) (object ms) (an_object c) [] j)
+      (subst (λ j. TellsAs rules shapes (an_untagged_variant id alone) (object ms) (an_object c) [] j)
       (sym same) (by_joined id alone ms c o values rest h))
   tells_joined alone null c ns k is none same h = absurd (cc)
   tells_joined alone (truth b) c ns k is none same h = absurd (cc)

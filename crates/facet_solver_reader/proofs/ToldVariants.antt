@@ -31,7 +31,7 @@ use Rattle.facet_solver_reader.specs.Rules as types
 use Rattle.facet_solver_reader.specs.Rules.{Alternative, AlternativeKind, End, NamedVariant, Rules}
 use Rattle.facet_solver_reader.specs.Rules.{a_fallback, a_named_variant, an_untagged_variant, joins}
 use Rattle.facet_solver_reader.specs.Rules.{other}
-use Rattle.facet_solver_reader.specs.Told.{TellsReading, by_alternative, by_member, by_name, end_of_target}
+use Rattle.facet_solver_reader.specs.Told.{TellsAs, by_alternative, by_member, by_name, end_of_target}
 use Rattle.facet_solver_reader.specs.Told.{names_of, names_view}
 use Rattle.facet_solver_reader.specs.ToldAt.{IsOnlyByKind, IsToldAlternative, IsToldAs, IsToldAt}
 use Rattle.facet_solver_reader.specs.ToldAt.{ReadsByAlternative}
@@ -309,10 +309,10 @@ reads_by_content other r C apart h = h
 -- what is told with one list of variants and one kind is told with the same
 pub tells_same : (rules : Rules) (shapes : Catalogue) (e : End) (v : Tree) (r : Reading)
     (ns ms : List VariantName) (j k : ReadingKind) → ns ≡ ms → j ≡ k
-    → TellsReading rules shapes e v r ns j → TellsReading rules shapes e v r ms k
+    → TellsAs rules shapes e v r ns j → TellsAs rules shapes e v r ms k
 tells_same rules shapes e v r ns ms j k p q h =
-    subst (λ xs. TellsReading rules shapes e v r xs k) p
-    (subst (λ x. TellsReading rules shapes e v r ns x) q h)
+    subst (λ xs. TellsAs rules shapes e v r xs k) p
+    (subst (λ x. TellsAs rules shapes e v r ns x) q h)
 
 -- what is told of a value as a variant of an untagged enum
 pub alternative_told : (t : Tables) (nodes : Nodes) (node : ℕ) (joined : ListId)
@@ -332,8 +332,8 @@ alternative_told t nodes node joined alone k a r w there h one told =
     same_by rules (inner rules) joined alone v k a there a.kind r told.reading
     (one_alternative rules (inner rules) joined alone v k a there one r h)
     (content_read rules (inner rules) joined alone v k a there r h) told.reads in
-    let inside : TellsReading rules t.shapes.now (end_of_target rules a.content) v r told.names w.kind =
-    subst (λ q. TellsReading rules t.shapes.now (end_of_target rules a.content) v q told.names w.kind) same
+    let inside : TellsAs rules t.shapes.now (end_of_target rules a.content) v r told.names w.kind =
+    subst (λ q. TellsAs rules t.shapes.now (end_of_target rules a.content) v q told.names w.kind) same
     told.tells in
     record {
       reading = a_variant k r;
@@ -370,7 +370,7 @@ text_told t nodes node vs k a r n d w there h no_object seen is_of variants kind
               h;
           tells = tells_same rules t.shapes.now (a_named_variant vs) v (a_variant k a_value) (n ∷ [])
               w.variants.items (kinds.Value d) w.kind (sym variants) (sym kind)
-              (subst (λ z. TellsReading rules t.shapes.now (a_named_variant vs) z (a_variant k a_value)
+              (subst (λ z. TellsAs rules t.shapes.now (a_named_variant vs) z (a_variant k a_value)
               (n ∷ []) (kinds.Value d)) seen (by_name vs k a n d there is_of));
         }
     go (object (member m x ms)) e (a_member_named name y named p) is_not = absurd (cc)
@@ -416,9 +416,9 @@ member_told t nodes node child vs k a r n b w there h is_so at told is_of varian
         let q = told.reading in
         let reads : ReadsValue rules a.content y q =
         subst (λ z. ReadsValue rules a.content z q) same told.reads in
-        let tells : TellsReading rules t.shapes.now (end_of_target rules a.content) y q
+        let tells : TellsAs rules t.shapes.now (end_of_target rules a.content) y q
         b.value.variants.items b.value.kind =
-        subst (λ z. TellsReading rules t.shapes.now (end_of_target rules a.content) z q
+        subst (λ z. TellsAs rules t.shapes.now (end_of_target rules a.content) z q
         b.value.variants.items b.value.kind) same told.tells in
         record {
           reading = a_variant k q;
@@ -429,7 +429,7 @@ member_told t nodes node child vs k a r n b w there h is_so at told is_of varian
               (named, reads));
           tells = tells_same rules t.shapes.now (a_named_variant vs) v (a_variant k q) (n ∷ [])
               w.variants.items (kinds.Content b) w.kind (sym variants) (sym kind)
-              (subst (λ z. TellsReading rules t.shapes.now (a_named_variant vs) z (a_variant k q) (n ∷ [])
+              (subst (λ z. TellsAs rules t.shapes.now (a_named_variant vs) z (a_variant k q) (n ∷ [])
               (kinds.Content b)) (sym e)
               (by_member vs k a n name y q b there is_of tells));
         }

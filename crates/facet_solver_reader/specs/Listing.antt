@@ -28,7 +28,8 @@ pub record AreListed (shapes : Catalogue) (every : EveryList) : Type 0 where
   pub slots_are : (id : ListId) → IsOfCatalogue shapes id → HasSlot every.numbers id
 
 -- the lists of some names are added, if they have parts, and the others are as before
-pub record AreListsAdded (shapes : Catalogue) (old new : EveryList) (Done : ListId → Type 0) : Type 0
+pub record AreListsAdded (shapes : Catalogue) (old new : EveryList) (Done : ListId → Type 0)
+    : Type 0
   where
     pub listed : AreListed shapes new
     pub done : (q : ListId) → Done q → index_of new.numbers q ≡ None → parts_of shapes q ≡ None

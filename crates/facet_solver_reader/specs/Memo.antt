@@ -21,7 +21,8 @@ abbrev pub IsNoted : List MemoEntry → ℕ → Target → Count → Type 0
 IsNoted entries node target count = Any (Notes node target count) entries
 
 -- what stands before an entry does not count: each says so
-pub record IsEntryAdded (node : ℕ) (target : Target) (count : Count) (old new : List MemoEntry) : Type 0
+pub record IsEntryAdded (node : ℕ) (target : Target) (count : Count) (old new : List MemoEntry)
+    : Type 0
   where
     pub kept : (n : ℕ) (t : Target) (c : Count) → IsNoted new n t c
         → IsNoted old n t c ⊎ ((n ≡ node) × (t ≡ target) × (c ≡ count))

@@ -55,8 +55,8 @@ pub data Content : Type 0 where
   as_tuple : List ℕ → Content
   as_object : ListId → Content
 
--- the shapes of a type, their ends, the contents of variants and the lists of parts, which names are
--- keys of a map by the shape of its keys, and whether members that nothing takes are refused
+-- the shapes of a type, their ends, the contents of variants and the lists of parts, which names
+-- are keys of a map by the shape of its keys, and whether members that nothing takes are refused
 pub record Rules : Type 0 where
   pub shapes : Catalogue
   pub end_of : ℕ → End

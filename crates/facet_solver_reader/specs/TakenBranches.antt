@@ -15,8 +15,8 @@ abbrev mutual
       TakesBranchAt lists a p id ⊎ TakesBranch lists c ps id
   TakesBranch lists _ _ id = ⊥
 
-  -- a choice at one part takes a branch: it is the one that is chosen, or what is chosen of that one's
-  -- parts takes it
+  -- a choice at one part takes a branch: it is the one that is chosen, or what is chosen of the
+  -- parts of that takes it
   pub TakesBranchAt : Lists → ChoiceAt → Part → ListId → Type 0
   TakesBranchAt lists (choosing k c) (a_selection s) id =
       AreOfBranch s k

@@ -148,58 +148,59 @@ pub data AreUnknown (rules : Rules) (id : ListId) : List Member → List Name �
 
 mutual
   -- a reading of a value as an end is told by variants and a kind
-  pub data TellsReading (rules : Rules) (shapes : Catalogue) :
+  pub data TellsAs (rules : Rules) (shapes : Catalogue) :
       End → Tree → Reading → List VariantName → ReadingKind → Type 0 where
     -- a value that is read as it is
     as_it_is : (e : End) (d : Bor Document)
-        → TellsReading rules shapes e (view d.now) a_value [] (kinds.Value d)
+        → TellsAs rules shapes e (view d.now) a_value [] (kinds.Value d)
     -- an option that is there is told as what it holds
     inside : (id : ℕ) (v : Tree) (r : Reading) (ns : List VariantName) (k : ReadingKind)
-        → TellsReading rules shapes (rules.end_of id) v r ns k
-        → TellsReading rules shapes (an_option id) v r ns k
+        → TellsAs rules shapes (rules.end_of id) v r ns k
+        → TellsAs rules shapes (an_option id) v r ns k
     -- the items of a list
     items_of : (id : ℕ) (vs : Items) (rs : Readings) (ws : Vec code.Reading Global)
         → TellsEach rules shapes (each_as (rules.end_of id) (items vs)) rs ws.items
-        → TellsReading rules shapes (a_list id) (list vs) (each_of rs) [] (kinds.List ws)
+        → TellsAs rules shapes (a_list id) (list vs) (each_of rs) [] (kinds.List ws)
     -- the values of a tuple
     places_of : (ids : List ℕ) (vs : Items) (rs : Readings) (ws : Vec code.Reading Global)
         → TellsEach rules shapes (each_at rules (zip ids (items vs))) rs ws.items
-        → TellsReading rules shapes (a_tuple ids) (list vs) (each_of rs) [] (kinds.List ws)
+        → TellsAs rules shapes (a_tuple ids) (list vs) (each_of rs) [] (kinds.List ws)
     -- the entries of a map
     entries_of : (key id : ℕ) (ms : Members) (rs : Readings) (ns : Vec (Bor Name) Global)
         (ws : Vec code.Reading Global)
         → texts ns.items ≡ map (λ m. m.name) (members ms)
         → TellsEach rules shapes (each_member_as (rules.end_of id) (members ms)) rs ws.items
-        → TellsReading rules shapes (a_map key id) (object ms) (each_of rs) [] (kinds.Map ns ws)
+        → TellsAs rules shapes (a_map key id) (object ms) (each_of rs) [] (kinds.Map ns ws)
     -- an object by a list of parts
     by_parts : (id : ListId) (ms : Members) (c : Choice) (o : ObjectReading)
         (values rest : Vec code.Reading Global)
         → TellsObject rules shapes id (members ms) c o values.items rest.items
-        → TellsReading rules shapes (types.an_object id) (object ms) (choices.an_object c) []
+        → TellsAs rules shapes (types.an_object id) (object ms) (choices.an_object c) []
         (kinds.Object o values rest)
     -- an object by the variants of an untagged enum that join
     by_joined : (id : ListId) (alone : List Alternative) (ms : Members) (c : Choice)
         (o : ObjectReading) (values rest : Vec code.Reading Global)
         → TellsObject rules shapes id (members ms) c o values.items rest.items
-        → TellsReading rules shapes (an_untagged_variant id alone) (object ms) (choices.an_object c) []
+        → TellsAs rules shapes (an_untagged_variant id alone) (object ms) (choices.an_object c) []
         (kinds.Object o values rest)
     -- a variant that stands by itself
     by_alternative : (id : ListId) (alone : List Alternative) (k : ℕ) (a : Alternative) (v : Tree)
         (r : Reading) (n : VariantName) (ns : List VariantName) (kind : ReadingKind)
         → slice_get alone k ≡ Some a → names_view n ≡ names_of shapes a.content
-        → TellsReading rules shapes (end_of_target rules a.content) v r ns kind
-        → TellsReading rules shapes (an_untagged_variant id alone) v (a_variant k r) (n ∷ ns) kind
+        → TellsAs rules shapes (end_of_target rules a.content) v r ns kind
+        → TellsAs rules shapes (an_untagged_variant id alone) v (a_variant k r) (n ∷ ns) kind
     -- a variant that a text names
     by_name : (vs : List NamedVariant) (k : ℕ) (a : NamedVariant) (n : VariantName)
         (d : Bor Document) → slice_get vs k ≡ Some a → names_view n ≡ names_of shapes a.content
-        → TellsReading rules shapes (a_named_variant vs) (view d.now) (a_variant k a_value) (n ∷ [])
+        → TellsAs rules shapes (a_named_variant vs) (view d.now) (a_variant k a_value) (n ∷ [])
         (kinds.Value d)
     -- a variant that the only member of an object names
     by_member : (vs : List NamedVariant) (k : ℕ) (a : NamedVariant) (n : VariantName) (name : Name)
         (v : Tree) (r : Reading) (w : Box code.Reading Global)
         → slice_get vs k ≡ Some a → names_view n ≡ names_of shapes a.content
-        → TellsReading rules shapes (end_of_target rules a.content) v r w.value.variants.items w.value.kind
-        → TellsReading rules shapes (a_named_variant vs) (object (member name v no_members))
+        → TellsAs rules shapes (end_of_target rules a.content) v r w.value.variants.items
+        w.value.kind
+        → TellsAs rules shapes (a_named_variant vs) (object (member name v no_members))
         (a_variant k r) (n ∷ []) (kinds.Content w)
 
   -- values, each with its end, are told by readings
@@ -208,7 +209,7 @@ mutual
     no_values : TellsEach rules shapes [] no_readings []
     one_value : (v : ValueAs) (r : Reading) (w : code.Reading) (vs : List ValueAs) (rs : Readings)
         (ws : List code.Reading)
-        → TellsReading rules shapes v.0 v.1 r w.variants.items w.kind → TellsEach rules shapes vs rs ws
+        → TellsAs rules shapes v.0 v.1 r w.variants.items w.kind → TellsEach rules shapes vs rs ws
         → TellsEach rules shapes (v ∷ vs) (reading r rs) (w ∷ ws)
 
   -- a choice of a list of parts, as an object has it, is told
@@ -240,7 +241,7 @@ mutual
         → w.variants.items ≡ [] → w.kind ≡ kinds.Absent → TellsField rules shapes ms m None w
     is_present : (ms : List Member) (m : MemberPart) (v : Tree) (r : Reading) (w : code.Reading)
         → find ms m.name ≡ Some v
-        → TellsReading rules shapes (end_of_target rules m.target) v r w.variants.items w.kind
+        → TellsAs rules shapes (end_of_target rules m.target) v r w.variants.items w.kind
         → TellsField rules shapes ms m (Some r) w
 
   -- the members of no known name are told: as what a catch-all takes, or as ignored
@@ -264,7 +265,7 @@ mutual
         → TellsTaken rules shapes e (m ∷ ms) (passing t) ns ws
     one_taken : (e : End) (m : Member) (ms : List Member) (t : Taken) (ns : List Name)
         (r : Reading) (w : code.Reading) (ws : List code.Reading)
-        → TellsReading rules shapes e m.value r w.variants.items w.kind
+        → TellsAs rules shapes e m.value r w.variants.items w.kind
         → TellsTaken rules shapes e ms t ns ws
         → TellsTaken rules shapes e (m ∷ ms) (taken r t) (m.name ∷ ns) (w ∷ ws)
 
@@ -273,7 +274,7 @@ pub record IsTold (rules : Rules) (shapes : Catalogue) (t : Target) (v : Tree) (
     : Type 0 where
   pub reading : Reading
   pub reads : ReadsValue rules t v reading
-  pub tells : TellsReading rules shapes (end_of_target rules t) v reading w.variants.items w.kind
+  pub tells : TellsAs rules shapes (end_of_target rules t) v reading w.variants.items w.kind
 
 -- a reading in memory tells the only reading of a value as a target
 pub record IsOnlyTold (rules : Rules) (shapes : Catalogue) (t : Target) (v : Tree)

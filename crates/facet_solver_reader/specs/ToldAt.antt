@@ -26,7 +26,7 @@ use Rattle.facet_solver_reader.specs.Readings.{ReadsValue, inner}
 use Rattle.facet_solver_reader.specs.Rules as types
 use Rattle.facet_solver_reader.specs.Rules.{Alternative, AlternativeKind, End, NamedVariant, Rules}
 use Rattle.facet_solver_reader.specs.Tables.{rules_at}
-use Rattle.facet_solver_reader.specs.Told.{IsTold, TellsReading, TellsObject, end_of_target, names_of}
+use Rattle.facet_solver_reader.specs.Told.{IsTold, TellsAs, TellsObject, end_of_target, names_of}
 use Rattle.facet_solver_reader.specs.Told.{names_view}
 use Rattle.facet_solver_reader.specs.Values.{ReadsEnd, ReadsNamedVariant}
 
@@ -60,7 +60,8 @@ pub record IsToldAs (t : Tables) (nodes : Nodes) (node : ℕ) (e : End) (w : cod
     : Type 0 where
   pub reading : Reading
   pub reads : ReadsEnd (rules_at t) (inner (rules_at t)) e (value_of nodes node) reading
-  pub tells : TellsReading (rules_at t) t.shapes.now e (value_of nodes node) reading w.variants.items w.kind
+  pub tells :
+      TellsAs (rules_at t) t.shapes.now e (value_of nodes node) reading w.variants.items w.kind
 
 -- a reading of a numbered object by a list of parts is told
 pub record IsToldBy (t : Tables) (nodes : Nodes) (node : ℕ) (id : ListId) (w : code.Reading)
@@ -135,5 +136,5 @@ pub record IsToldAlternative (t : Tables) (nodes : Nodes) (node : ℕ) (a : Alte
   pub is_of : names_view name ≡ names_of t.shapes.now a.content
   pub variants_are : w.variants.items ≡ name ∷ names
   pub tells :
-      TellsReading (rules_at t) t.shapes.now (end_of_target (rules_at t) a.content) (value_of nodes node)
+      TellsAs (rules_at t) t.shapes.now (end_of_target (rules_at t) a.content) (value_of nodes node)
       reading names w.kind

@@ -22,7 +22,7 @@ use Rattle.facet_solver_reader.specs.Found.{catch_all_in}
 use Rattle.facet_solver_reader.specs.Reading.{IsPartCount, object_view}
 use Rattle.facet_solver_reader.specs.Readings.{ReadsValue}
 use Rattle.facet_solver_reader.specs.Tables.{knows, rules_at}
-use Rattle.facet_solver_reader.specs.Told.{TellsReading, TellsField, TellsTaken, end_taken, texts}
+use Rattle.facet_solver_reader.specs.Told.{TellsAs, TellsField, TellsTaken, end_taken, texts}
 
 -- a numbered object has one reading by a part, and that is it
 abbrev pub IsOnlyOf : Tables → Nodes → read.Object → Part → ChoiceAt → Type 0
@@ -68,7 +68,7 @@ pub record IsToldTaken (t : Tables) (k : CatchAll) (m : Member) (w : code.Readin
   pub reading : Reading
   pub takes : Takes (rules_at t) (ReadsValue (rules_at t)) k m reading
   pub tells :
-      TellsReading (rules_at t) t.shapes.now (end_taken (rules_at t) k) m.value reading w.variants.items
+      TellsAs (rules_at t) t.shapes.now (end_taken (rules_at t) k) m.value reading w.variants.items
       w.kind
 
 -- the names of members that no choice of a list has, in order

@@ -71,8 +71,8 @@ pub record LacksTag (rules : Rules) (members : List Member) (id : ListId) (x : N
   pub other : find members x ≢ Some (text tag)
   pub required : Requires rules id (IsTagOf x tag)
 
--- each choice of a branch requires the text of a tag, which members don't have, and it is told by its
--- name
+-- each choice of a branch requires the text of a tag, which members don't have, and it is told by
+-- its name
 abbrev pub IsWithoutTag : Rules → List Member → Name → Branch → Type 0
 IsWithoutTag rules members x b =
     IsCalled rules b × LacksTag rules members (list_view b.list) x
@@ -142,8 +142,8 @@ abbrev pub IsOfPart : Stop → Type 0
 IsOfPart (Itself unread) = ⊥
 IsOfPart _ = ⊤
 
--- what is told of a variant that does not fit, by its name: it lacks a name, has no key of a name, or
--- a part of it is not read
+-- what is told of a variant that does not fit, by its name: it lacks a name, has no key of a name,
+-- or a part of it is not read
 pub record IsMisfit (rules : Rules) (v : Tree) (m : Misfit) : Type 0 where
   pub called : IsCalled rules m.branch
   pub lacks : IfSome m.lacks
@@ -175,8 +175,8 @@ pub record IsReadByBranch (rules : Rules) (v : Tree) (id : ListId) : Type 0 wher
   pub reads : ReadsObject rules (ReadsValue rules) list (members_in v) choice
   pub takes : TakesBranch rules.lists choice (parts_in rules.lists list) id
 
--- a variant reads a value, an object by its parts or the value as its content, and it is told by its
--- name
+-- a variant reads a value, an object by its parts or the value as its content, and it is told by
+-- its name
 abbrev pub IsReadBy : Rules → Tree → Branch → Type 0
 IsReadBy rules v b =
     IsCalled rules b
