@@ -4,7 +4,7 @@ use Rattle.std.specs.Borrow.{Bor}
 use Rattle.facet_solver_reader.specs.Choices.{a_value}
 use Rattle.facet_solver_reader.specs.Documents.{Tree, number, truth, view}
 use Rattle.facet_solver_reader.specs.Parts.{of_shape}
-use Rattle.facet_solver_reader.specs.Told.{IsOnlyTold, IsTold, TellsReading, as_it_is}
+use Rattle.facet_solver_reader.specs.Told.{IsOnlyTold, IsTold, TellsAs, as_it_is}
 use Rattle.facet_solver_reader.specs.declared.document.Document.{Document}
 use Rattle.facet_solver_reader.specs.declared.reading.Reading as code
 use Rattle.facet_solver_reader.specs.declared.reading.ReadingKind.TheVariants as kinds
