@@ -213,7 +213,7 @@ reads_object_rows = (
   λ reads. inr (reads_ignoring_rows.0 reads),
   λ reads c h. elim h [
     | inl all ↦ reading_fails reads c all.reading
-    | inr ignoring ↦ ignored reads c ignoring.reading
+    | inr ignores ↦ ignored reads c ignores.reading
   ],
 )
   where

@@ -66,16 +66,19 @@ pub without_end_rows : IsReadWithoutEnd circle 0 × (¬ (IsReadWithoutEnd shapes
 without_end_rows =
     (inl circle_rows.0, λ h. elim h [ inl leads ↦ circle_rows.1 leads | inr asks ↦ asks_fails asks ])
 
--- a root past the last shape, and one that is read without end; not a root that is there
+-- a root past the last shape, one that is read without end, and refused memory; not a root that is
+-- there
 pub no_tables_rows :
     IsWhyNoTables shapes 3 (faults.NoShape 3)
     × IsWhyNoTables circle 0 (faults.ReadsItself 0)
+    × IsWhyNoTables shapes 1 faults.OutOfMemory
     × (¬ (IsWhyNoTables shapes 1 (faults.NoShape 1)))
     × (¬ (IsWhyNoTables shapes 3 (faults.NoShape 1)))
     × (¬ (IsWhyNoTables shapes 0 (faults.ReadsItself 0)))
 no_tables_rows = (
   (refl, omega arith),
   (without_end_rows.0, λ strict. (0, refl)),
+  (tt, tt),
   λ h. let past = h.1 in omega (arith, past),
   λ h. let same = h.0 in omega (arith, same),
   λ h. without_end_rows.1 h.0,
