@@ -165,7 +165,7 @@ before_fails = (
 )
 
 -- a struct with a field of the shape at 3 and two fields `a`
-abbrev unsound : List Shape
+abbrev pub unsound : List Shape
 unsound = struct_of (field (codes "a") 3 ∷ field (codes "a") 3 ∷ []) ∷ []
 
 -- numbers begin at one

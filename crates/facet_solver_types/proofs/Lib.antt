@@ -59,3 +59,4 @@ pub mod FaultRows
 pub mod DeclarationRows
 pub mod ShapeRows
 pub mod PathRows
+pub mod ParsedRows
