@@ -160,8 +160,8 @@ before_holds = (inr (refl, omega arith), inl (omega arith))
 pub before_fails :
     (¬ (ComesBefore (NotEarlier 0) (NotEarlier 0))) × (¬ (ComesBefore (OutOfRange 1) (NotEarlier 0)))
 before_fails = (
-  λ h. elim h [ inl index ↦ omega (arith, index) | inr number ↦ omega (arith, number.1) ],
-  λ h. elim h [ inl index ↦ omega (arith, index) | inr number ↦ omega (arith, number.1) ],
+  λ h. elim h [ inl index ↦ omega (arith, index) | inr lower ↦ omega (arith, lower.1) ],
+  λ h. elim h [ inl index ↦ omega (arith, index) | inr lower ↦ omega (arith, lower.1) ],
 )
 
 -- a struct with a field of the shape at 3 and two fields `a`
@@ -186,7 +186,7 @@ first_fault_holds = record {
     go : (d : CatalogueError) → ComesBefore d (OutOfRange 0) → ¬ (HasFault unsound d)
     go d before h = elim before [
       | inl index ↦ omega (arith, index)
-      | inr number ↦ omega (arith, number.1, numbered d)
+      | inr lower ↦ omega (arith, lower.1, numbered d)
     ]
 
 -- the names come after it
