@@ -1,18 +1,17 @@
 -- The lists and the branches that readings of an object take.
-use Rattle.std.proofs.Common.{◌≡◌, ◌∙◌, inl, inr, sym, ap, subst, ℕ, zero, suc, List, [], ◌∷◌, Some}
-use Rattle.std.proofs.Common.{Bool, true, false, slice_get, length, refl, arith}
+use Rattle.std.proofs.Common.{◌≡◌, inl, inr, sym, ap, subst, ℕ, zero, suc, List, [], ◌∷◌, Some}
+use Rattle.std.proofs.Common.{slice_get, refl, true, arith}
 use Rattle.std.proofs.lemmas.Option.{slice_get_within}
 use Rattle.std.specs.Option.{unwrap_or}
 use Rattle.facet_solver_reader.specs.declared.nodes.Nodes.{Nodes}
 use Rattle.facet_solver_reader.specs.declared.count.object.Object as code
-use Rattle.facet_solver_reader.specs.declared.tables.List.{List as ListEntry}
 use Rattle.facet_solver_reader.specs.declared.tables.Tables.{Tables}
 use Rattle.facet_solver_reader.specs.Blaming.{IsTakenList, IsTakenPart}
 use Rattle.facet_solver_reader.specs.Branches.{IsReadByList, ReadsList, ReadsPart, ReadsParts}
 use Rattle.facet_solver_reader.specs.Choices.{Choice, ChoiceAt, next, choosing}
 use Rattle.facet_solver_reader.specs.Kinds.{is_object}
 use Rattle.facet_solver_reader.specs.Known.{ChoosesAll, ChoosesAt, HasChoice, IsDistinct}
-use Rattle.facet_solver_reader.specs.Nodes.{members_in, value_of}
+use Rattle.facet_solver_reader.specs.Nodes.{value_of}
 use Rattle.facet_solver_reader.specs.Objects.{Object, Reads}
 use Rattle.facet_solver_reader.specs.Parts.{ListId, Part, Selection, a_selection}
 use Rattle.facet_solver_reader.specs.Reading.{object_view}

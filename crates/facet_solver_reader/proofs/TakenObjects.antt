@@ -1,6 +1,6 @@
 -- The readings of an object by its own list, with its members of no known name and without them.
-use Rattle.std.proofs.Common.{◌≡◌, ◌⊎◌, ◌||◌, ◌<◌, ◌+◌, ◌-◌, inl, inr, sym, ap, ◌∙◌, subst, ⊎_elim, ℕ}
-use Rattle.std.proofs.Common.{List, Bool, true, false, not, Some, get_or, length, slice_get, arith, refl}
+use Rattle.std.proofs.Common.{◌≡◌, ◌⊎◌, ◌||◌, ◌<◌, ◌+◌, ◌-◌, inl, inr, sym, ap, ◌∙◌, subst, ⊎_elim}
+use Rattle.std.proofs.Common.{List, Bool, true, false, not, get_or, length, slice_get, arith, refl}
 use Rattle.std.proofs.lemmas.Option.{slice_get-get_or}
 use Rattle.std.specs.Option.{unwrap_or}
 use Rattle.facet_solver_reader.specs.declared.count.Count.{Count}
@@ -10,7 +10,6 @@ use Rattle.facet_solver_reader.specs.declared.nodes.Nodes.{Nodes}
 use Rattle.facet_solver_reader.specs.declared.tables.Tables.{Tables}
 use Rattle.facet_solver_reader.specs.Blaming.{IsTakenList}
 use Rattle.facet_solver_reader.specs.Branches.{IsReadByList, ReadsList}
-use Rattle.facet_solver_reader.specs.Choices.{Choice}
 use Rattle.facet_solver_reader.specs.Counted.{Counted}
 use Rattle.facet_solver_reader.specs.Documents.{Member}
 use Rattle.facet_solver_reader.specs.Kinds.{is_object}

@@ -1,13 +1,9 @@
 use Rattle.std.proofs.Common.{◌≡◌, ap, false, length, slice_get, subst, sym, true, ◌-◌, ◌∙◌}
 use Rattle.std.specs.Option.{unwrap_or}
-use Rattle.std.specs.Prelude.{IfSome}
-use Rattle.facet_solver_reader.specs.Blaming.{IsTakenList}
 use Rattle.facet_solver_reader.specs.Documents.{view}
 use Rattle.facet_solver_reader.specs.Kinds.{is_object}
 use Rattle.facet_solver_reader.specs.Nodes.{value_of}
-use Rattle.facet_solver_reader.specs.Reading.{IsListCount, IsObject}
-use Rattle.facet_solver_reader.specs.Views.{list_view}
-use Rattle.facet_solver_reader.specs.declared.count.Count.{Count}
+use Rattle.facet_solver_reader.specs.Reading.{IsListCount}
 use Rattle.facet_solver_reader.specs.declared.count.Count.TheVariants as counts
 use Rattle.facet_solver_reader.proofs.Seen.{seen_object}
 use Rattle.facet_solver_reader.proofs.TakenObjects.{ignoring_is_object, ignoring_object}
