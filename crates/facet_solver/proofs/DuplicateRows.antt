@@ -1,5 +1,5 @@
 -- Which fields that a walk emits have a duplicate key: the definitions, row by row.
-use Rattle.std.proofs.Common.{◌≡◌, ℕ, zero, suc, ◌<◌, Bool, true, false, List, [], ◌∷◌, Option, Some, None, slice_get, refl, sym, ap, ◌∙◌, arith, codes}
+use Rattle.std.proofs.Common.{◌≡◌, ℕ, zero, suc, ◌<◌, Bool, true, false, List, [], ◌∷◌, Option, Some, None, length, slice_get, refl, sym, ap, ◌∙◌, arith, codes}
 use Rattle.std.proofs.lemmas.Bool.{false≢true}
 use Rattle.facet_solver_shape.specs.Fields.{FieldView, key_of_field}
 use Rattle.facet_solver_shape.specs.Names.{Name, name_eq}
@@ -102,6 +102,66 @@ choice_duplicate_fails name first second d =
   where
     none : {f : FieldView} → ¬ (None ≡ Some (a_field f))
     none is = cc
+
+-- the path of a field that is emitted, and its name
+abbrev path_in : Option Emission → Path
+path_in (Some (a_field f)) = f.path
+path_in _ = []
+
+abbrev name_in : Option Emission → Name
+name_in (Some (a_field f)) = f.name
+name_in _ = []
+
+-- the path of the struct's own `a`, and that of the flattened one
+abbrev own_path : Path
+own_path = by_field (codes "a") ∷ []
+
+abbrev inner_path : Path
+inner_path = by_field (codes "f") ∷ by_field (codes "a") ∷ []
+
+-- the two that have a duplicate key there stand at these paths, in this order
+only_duplicate : (f g : FieldView) (i j : ℕ) → i < j
+    → slice_get (emissions (flat twice_a) 2 []) i ≡ Some (a_field f)
+    → slice_get (emissions (flat twice_a) 2 []) j ≡ Some (a_field g)
+    → (own_path ≡ f.path) × (inner_path ≡ g.path) × (codes "a" ≡ g.name)
+unfolding walk_root walk_root_variant walk_content walk_fields walk_within walk_fields_step emit_plain emit_regular regular_field field_and_paths
+only_duplicate f g i zero less first second = let no : ⊥ = omega (arith, less) in absurd no
+only_duplicate f g zero (suc zero) less first second = let no : ⊥ = cc in absurd no
+only_duplicate f g zero (suc (suc zero)) less first second =
+    (ap path_in first, ap path_in second, ap name_in second)
+only_duplicate f g zero (suc (suc (suc zero))) less first second = let no : ⊥ = cc in absurd no
+only_duplicate f g zero (suc (suc (suc (suc j)))) less first second = let no : ⊥ = cc in absurd no
+only_duplicate f g (suc zero) (suc j) less first second = let no : ⊥ = cc in absurd no
+only_duplicate f g (suc (suc zero)) (suc zero) less first second =
+    let no : ⊥ = omega (arith, less) in absurd no
+only_duplicate f g (suc (suc zero)) (suc (suc zero)) less first second =
+    let no : ⊥ = omega (arith, less) in absurd no
+only_duplicate f g (suc (suc zero)) (suc (suc (suc zero))) less first second =
+    let no : ⊥ = cc in absurd no
+only_duplicate f g (suc (suc zero)) (suc (suc (suc (suc j)))) less first second =
+    let no : ⊥ = cc in absurd no
+only_duplicate f g (suc (suc (suc zero))) (suc j) less first second = let no : ⊥ = cc in absurd no
+only_duplicate f g (suc (suc (suc (suc i)))) (suc j) less first second = let no : ⊥ = cc in absurd no
+
+-- so in no other order, at no other path, and under no other name
+pub other_duplicates_fail :
+    (¬ (IsChoiceDuplicate (flat twice_a) 2 (codes "a") inner_path own_path))
+    × (¬ (IsChoiceDuplicate (flat twice_a) 2 (codes "a") own_path own_path))
+    × (¬ (IsChoiceDuplicate (flat twice_a) 2 (codes "b") own_path inner_path))
+unfolding walk_root walk_root_variant walk_content walk_fields walk_within walk_fields_step emit_plain emit_regular regular_field field_and_paths
+other_duplicates_fail = (
+  λ d. let long = ap length (d.first_is ∙ sym (told (codes "a") inner_path own_path d).0) in omega (arith, long),
+  λ d. let short = ap length (d.second_is ∙ sym (told (codes "a") own_path own_path d).1) in omega (arith, short),
+  λ d. false≢true (sym (ap (λ x. name_eq x (codes "b")) (d.same_name ∙ sym (told (codes "b") own_path inner_path d).2))),
+)
+  where
+    told : (name : Name) (p q : Path) (d : IsChoiceDuplicate (flat twice_a) 2 name p q)
+        → (own_path ≡ d.first.path) × (inner_path ≡ d.second.path) × (codes "a" ≡ d.second.name)
+    told name p q d =
+        let same = ap emitted_by d.emitted in
+        only_duplicate d.first d.second d.duplicates.first_at d.duplicates.second_at d.duplicates.in_order
+        (ap (λ es. slice_get es d.duplicates.first_at) same ∙ d.duplicates.first_is)
+        (ap (λ es. slice_get es d.duplicates.second_at) same ∙ d.duplicates.second_is)
 
 -- out of memory may come at any time, and a duplicate key where there is one
 pub refusal_holds :

@@ -77,3 +77,4 @@ pub mod ReportRows
 pub mod ToldRows
 pub mod PairRows
 pub mod SchemaRows
+pub mod NestedRows
