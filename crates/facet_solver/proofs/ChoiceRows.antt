@@ -1,5 +1,5 @@
 -- Which indices are choices of a root, and what each resolves to: the definitions, row by row.
-use Rattle.std.proofs.Common.{◌≡◌, ℕ, zero, suc, List, [], ◌∷◌, Some, None, slice_index, length, Contains, refl, ap, subst, inl, inr, arith}
+use Rattle.std.proofs.Common.{ℕ, zero, suc, List, [], ◌∷◌, Some, None, slice_index, length, Contains, refl, ap, subst, inl, inr, arith}
 use Rattle.std.specs.List.Sorted.{IsStrictlySortedBy}
 use Rattle.facet_solver_shape.proofs.FewValues.{which_is}
 use Rattle.facet_solver.specs.build.Choice.{IsChoice, ListsChoices}

@@ -1,5 +1,5 @@
 -- Which fields that a walk emits have a duplicate key: the definitions, row by row.
-use Rattle.std.proofs.Common.{◌≡◌, ℕ, zero, suc, ◌<◌, Bool, true, false, List, [], ◌∷◌, Option, Some, None, length, slice_get, refl, sym, ap, ◌∙◌, arith, codes}
+use Rattle.std.proofs.Common.{◌≡◌, ℕ, zero, suc, ◌<◌, Bool, false, [], ◌∷◌, Option, Some, None, length, slice_get, refl, sym, ap, ◌∙◌, arith, codes}
 use Rattle.std.proofs.lemmas.Bool.{false≢true}
 use Rattle.facet_solver_shape.specs.Fields.{FieldView, key_of_field}
 use Rattle.facet_solver_shape.specs.Names.{Name, name_eq}
@@ -9,7 +9,7 @@ use Rattle.facet_solver_shape.specs.declared.resolution.error.SchemaError.TheVar
 use Rattle.facet_solver_shape.specs.declared.resolution.key.FieldCategory.TheVariants.{Flat, Attribute, Element}
 use Rattle.facet_solver_shape.proofs.Samples.{seen_field}
 use Rattle.facet_solver.specs.build.Choice.{AreDuplicates, HasNoDuplicates, IsChoiceDuplicate, IsRefusal}
-use Rattle.facet_solver.specs.build.Emissions.{Emission, a_catch_all, a_field, a_selection, some_key_paths, emit_plain, emit_regular, field_and_paths, regular_field}
+use Rattle.facet_solver.specs.build.Emissions.{Emission, a_field, emit_plain, emit_regular, field_and_paths, regular_field}
 use Rattle.facet_solver.specs.build.Place.{Path}
 use Rattle.facet_solver.specs.build.Walk.{walk_content, walk_fields, walk_fields_step, walk_root, walk_root_variant, walk_within}
 use Rattle.facet_solver.proofs.SampleBuilds.{emissions, emitted_by, flat, two_variants, twice_a}

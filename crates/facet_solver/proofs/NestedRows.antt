@@ -1,12 +1,11 @@
 -- Which sets of key paths have no gaps, and which fields one shape: the definitions, row by row.
-use Rattle.std.proofs.Common.{◌≡◌, ℕ, zero, suc, Bool, true, false, List, [], ◌∷◌, ◌++◌, Option, Some, None, find, refl, sym, ap, ◌∙◌, inl, inr, arith, codes}
+use Rattle.std.proofs.Common.{◌≡◌, ℕ, zero, suc, false, [], ◌∷◌, ◌++◌, Option, Some, None, find, sym, ap, ◌∙◌, inl, inr, arith, codes}
 use Rattle.std.proofs.lemmas.Bool.{false≢true}
 use Rattle.std.specs.Cmp.Lexicographic.{slice_cmp}
 use Rattle.std.specs.FinSet as set
 use Rattle.std.specs.Ordering.{nat_cmp}
 use Rattle.facet_solver_shape.specs.Fields.{FieldView, matches}
 use Rattle.facet_solver_shape.specs.Keys.{Key, flat_key}
-use Rattle.facet_solver_shape.specs.Resolved.{Resolved}
 use Rattle.facet_solver_shape.specs.declared.resolution.key.FieldCategory.TheVariants.{Flat}
 use Rattle.facet_solver_shape.proofs.Keys.{path_cmp_total}
 use Rattle.facet_solver_shape.proofs.Samples.{seen_field}

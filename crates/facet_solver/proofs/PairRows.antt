@@ -1,10 +1,9 @@
 -- Which resolutions keys leave viable together: the definitions, row by row.
-use Rattle.std.proofs.Common.{◌≡◌, ℕ, Bool, true, false, List, [], ◌∷◌, Contains, filter, find, is_some, length, refl, sym, ap, ap₂, subst, ◌∙◌, arith, codes}
+use Rattle.std.proofs.Common.{◌≡◌, Bool, true, false, List, [], ◌∷◌, Contains, filter, find, is_some, length, refl, sym, ap, ap₂, subst, ◌∙◌, arith, codes}
 use Rattle.std.proofs.lemmas.Bool.{false≢true}
 use Rattle.std.specs.Cmp.Lexicographic.{nat_list_eq_equiv}
-use Rattle.std.specs.FinMap as finite
 use Rattle.std.specs.List.{AllByRecursion}
-use Rattle.facet_solver_shape.specs.Fields.{FieldView, matches}
+use Rattle.facet_solver_shape.specs.Fields.{matches}
 use Rattle.facet_solver_shape.specs.Keys.{Key, flat_key}
 use Rattle.facet_solver_shape.specs.Names.{name_eq}
 use Rattle.facet_solver_shape.specs.declared.resolution.key.FieldCategory.TheVariants.{Flat}

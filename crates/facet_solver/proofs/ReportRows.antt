@@ -1,15 +1,12 @@
 -- Which resolutions are viable, and what is reported and found: the definitions, row by row.
-use Rattle.std.proofs.Common.{◌≡◌, ℕ, Bool, true, false, List, [], ◌∷◌, Option, Some, None, Ok, Err, length, slice_get, slice_index, refl, sym, ap, ◌∙◌, arith, codes}
+use Rattle.std.proofs.Common.{◌≡◌, ℕ, true, false, List, [], ◌∷◌, None, Ok, Err, length, slice_get, slice_index, refl, sym, ap, ◌∙◌, arith, codes}
 use Rattle.std.specs.List.{list_all}
 use Rattle.facet_solver_shape.specs.Keys.{Key, flat_key}
 use Rattle.facet_solver_shape.specs.Names.{Name}
-use Rattle.facet_solver_shape.specs.Resolved.{Resolved}
-use Rattle.facet_solver.specs.declared.error.SolverError.{SolverError}
-use Rattle.facet_solver.specs.declared.error.SolverError.TheVariants.{NoMatch, Ambiguous, OutOfMemory}
+use Rattle.facet_solver.specs.declared.error.SolverError.TheVariants.{Ambiguous, OutOfMemory}
 use Rattle.facet_solver.specs.declared.schema.handle.ResolutionHandle.{ResolutionHandle}
-use Rattle.facet_solver.specs.error.ErrorView.{ErrorView}
 use Rattle.facet_solver.specs.set.IndexSet.{how_many}
-use Rattle.facet_solver.specs.solver.Failure.{is_met, missing}
+use Rattle.facet_solver.specs.solver.Failure.{is_met}
 use Rattle.facet_solver.specs.solver.Found.{GivesOrNames, StandsAtPlace}
 use Rattle.facet_solver.specs.solver.Report.{IsReportOn, descriptions, is_viable, report_by, report_of, resolutions_at, viable}
 use Rattle.facet_solver.specs.solver.State.{State, mark_seen, new_solver}

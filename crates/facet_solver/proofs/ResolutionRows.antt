@@ -3,15 +3,15 @@ use Rattle.std.proofs.Common.{◌≡◌, ℕ, zero, suc, ◌<◌, List, [], ◌�
 use Rattle.std.specs.FinMap as finite
 use Rattle.std.specs.List.{AllZip}
 use Rattle.facet_solver_shape.specs.Fields.{FieldView, key_of_field}
-use Rattle.facet_solver_shape.specs.Keys.{Key, key_cmp}
-use Rattle.facet_solver_shape.specs.Representation.{Repr, flattened}
+use Rattle.facet_solver_shape.specs.Keys.{key_cmp}
+use Rattle.facet_solver_shape.specs.Representation.{flattened}
 use Rattle.facet_solver_shape.specs.Resolved.{Resolved, nothing, with_field}
-use Rattle.facet_solver_shape.specs.declared.resolution.key.FieldCategory.TheVariants.{Flat, Attribute}
+use Rattle.facet_solver_shape.specs.declared.resolution.key.FieldCategory.TheVariants.{Attribute}
 use Rattle.facet_solver_shape.proofs.Keys.{key_cmp_total}
 use Rattle.facet_solver_shape.proofs.Samples.{seen_field}
-use Rattle.facet_solver.specs.build.Choice.{AreDuplicates, Enumerates, GoesByName, HasNoDuplicates, IsResolution, ListsChoices, resolution_from}
+use Rattle.facet_solver.specs.build.Choice.{Enumerates, GoesByName, HasNoDuplicates, IsResolution, resolution_from}
 use Rattle.facet_solver.specs.build.Count.{IsCountOf, count_fields, count_fields_step, count_of_root, count_within}
-use Rattle.facet_solver.specs.build.Emissions.{Emission, a_field, emit_plain, emit_regular, field_and_paths, regular_field}
+use Rattle.facet_solver.specs.build.Emissions.{a_field, emit_plain, emit_regular, field_and_paths, regular_field}
 use Rattle.facet_solver.specs.build.Nested.{with_key_paths}
 use Rattle.facet_solver.specs.build.Walk.{walk_content, walk_fields, walk_fields_step, walk_root, walk_root_variant, walk_within}
 use Rattle.facet_solver.specs.declared.build.format.Format.TheVariants.{Flat as FlatFormat}

@@ -10,7 +10,7 @@ use Rattle.facet_solver_shape.proofs.Keys.{key_cmp_total}
 use Rattle.facet_solver_shape.proofs.Samples.{seen_field}
 use Rattle.facet_solver.specs.Resolutions.{has_key}
 use Rattle.facet_solver.specs.schema.Schema.{SchemaView}
-use Rattle.facet_solver.specs.solver.State.{State, new_solver, passing}
+use Rattle.facet_solver.specs.solver.State.{new_solver, passing}
 use Rattle.facet_solver.proofs.SampleBuilds.{flat, two_variants}
 
 -- a required flat field under its key

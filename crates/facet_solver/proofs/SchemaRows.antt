@@ -1,10 +1,7 @@
 -- Which handles, answers and formats belong to a schema: the definitions, row by row.
-use Rattle.std.proofs.Common.{◌≡◌, ℕ, zero, suc, ◌<◌, List, [], ◌∷◌, Some, None, All, length, slice_get, refl, sym, ap, subst, ◌∙◌, arith, codes}
+use Rattle.std.proofs.Common.{◌≡◌, [], ◌∷◌, All, slice_get, refl, sym, ap, subst, ◌∙◌, codes}
 use Rattle.std.proofs.lemmas.List.Elements.{All-nil, All-cons, All-head}
 use Rattle.std.specs.FinMap as finite
-use Rattle.std.specs.Option.{ForSome}
-use Rattle.facet_solver_shape.specs.Fields.{FieldView}
-use Rattle.facet_solver_shape.specs.Keys.{flat_key}
 use Rattle.facet_solver_shape.specs.declared.resolution.key.FieldCategory.TheVariants.{Flat as FlatCategory, Attribute}
 use Rattle.facet_solver.specs.declared.build.format.Format.TheVariants.{Flat, Dom}
 use Rattle.facet_solver.specs.declared.schema.handle.ResolutionHandle.{ResolutionHandle}

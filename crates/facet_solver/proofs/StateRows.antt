@@ -1,5 +1,5 @@
 -- What calls leave of a solver and answer: the definitions, row by row.
-use Rattle.std.proofs.Common.{◌≡◌, ℕ, Bool, true, false, List, [], ◌∷◌, map, filter, find, is_some, refl, ap, codes}
+use Rattle.std.proofs.Common.{◌≡◌, ℕ, true, false, List, [], ◌∷◌, map, filter, find, is_some, refl, ap, codes}
 use Rattle.std.specs.List.{filter_map, list_any}
 use Rattle.facet_solver_shape.specs.Fields.{FieldView, matches}
 use Rattle.facet_solver_shape.specs.Keys.{Key, flat_key}
@@ -8,8 +8,8 @@ use Rattle.facet_solver.specs.Resolutions.{has_key}
 use Rattle.facet_solver.specs.set.IndexSet.{has_index, how_many}
 use Rattle.facet_solver.specs.solver.FirstOfEach.{first_of_each}
 use Rattle.facet_solver.specs.solver.KeyResult.{IsUnknownOrSolved, KeyResultView, ambiguous, distinct_fields, key_result, of_fields, solved, solved_or, unambiguous, unknown, with_score}
-use Rattle.facet_solver.specs.solver.State.{State, has_shape_among, hint_variant, mark_seen, narrow, new_solver, or_all, retain, satisfy_shapes, see_key, selects_variant, was_field_seen}
-use Rattle.facet_solver.proofs.SampleResolutions.{both_fields, chosen, entry, has, only_a, only_b, passing_two, resolved, two, values_of}
+use Rattle.facet_solver.specs.solver.State.{State, has_shape_among, hint_variant, mark_seen, new_solver, or_all, satisfy_shapes, see_key, was_field_seen}
+use Rattle.facet_solver.proofs.SampleResolutions.{entry, has, only_a, only_b, passing_two, two, values_of}
 
 -- a new solver of a resolution with `a` and one with `b`
 abbrev start : State

@@ -1,5 +1,5 @@
 -- What keys tell of choices and resolutions: the definitions, row by row.
-use Rattle.std.proofs.Common.{◌≡◌, ℕ, Bool, true, false, cond, ◌||◌, List, [], ◌∷◌, Some, None, Contains, find, is_some, filter, slice_get, refl, sym, ap, ap₂, subst, ◌∙◌, inl, inr, arith, codes, nat_eq}
+use Rattle.std.proofs.Common.{◌≡◌, ℕ, Bool, true, false, cond, ◌||◌, List, [], ◌∷◌, Contains, find, is_some, refl, sym, ap, ap₂, subst, ◌∙◌, inl, inr, arith, codes, nat_eq}
 use Rattle.std.proofs.lemmas.Bool.{false≢true}
 use Rattle.std.specs.FinMap as finite
 use Rattle.std.specs.List.{list_all}
@@ -7,21 +7,19 @@ use Rattle.facet_solver_shape.specs.Fields.{FieldView, matches}
 use Rattle.facet_solver_shape.specs.Keys.{Key, flat_key}
 use Rattle.facet_solver_shape.specs.Names.{name_eq}
 use Rattle.facet_solver_shape.specs.Paths.{by_field, by_variant}
-use Rattle.facet_solver_shape.specs.Resolved.{Resolved, nothing}
 use Rattle.facet_solver_shape.specs.declared.resolution.key.FieldCategory.TheVariants.{Flat}
 use Rattle.facet_solver_shape.proofs.FewValues.{which_is}
 use Rattle.facet_solver_shape.proofs.Samples.{field}
 use Rattle.facet_solver.specs.Resolutions.{has_key}
-use Rattle.facet_solver.specs.build.Choice.{IsResolution, resolution_from}
+use Rattle.facet_solver.specs.build.Choice.{resolution_from}
 use Rattle.facet_solver.specs.build.Emissions.{emit_plain, emit_regular, field_and_paths, regular_field}
 use Rattle.facet_solver.specs.build.Nested.{with_key_paths}
 use Rattle.facet_solver.specs.build.Walk.{walk_content, walk_fields, walk_fields_step, walk_root, walk_root_variant, walk_within}
-use Rattle.facet_solver.specs.schema.Schema.{SchemaView}
 use Rattle.facet_solver.specs.solver.Failure.{is_met}
 use Rattle.facet_solver.specs.solver.Report.{is_viable}
-use Rattle.facet_solver.specs.solver.Run.{CallView, FindsToldChoices, see_key}
-use Rattle.facet_solver.specs.solver.State.{State, new_solver}
-use Rattle.facet_solver.specs.solver.Told.{ChoiceHasKey, HasAllKnown, HaveSameKeys, LeavesSome, TellsChoice, has_keys, known_keys}
+use Rattle.facet_solver.specs.solver.Run.{FindsToldChoices, see_key}
+use Rattle.facet_solver.specs.solver.State.{new_solver}
+use Rattle.facet_solver.specs.solver.Told.{ChoiceHasKey, HasAllKnown, HaveSameKeys, LeavesSome, TellsChoice}
 use Rattle.facet_solver.proofs.ChoiceRows.{both, lists_choices_holds}
 use Rattle.facet_solver.proofs.ResolutionRows.{of_first, of_second, resolution_holds, schema}
 use Rattle.facet_solver.proofs.SampleBuilds.{flat, two_variants}

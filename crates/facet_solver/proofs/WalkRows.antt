@@ -8,7 +8,7 @@ use Rattle.facet_solver_shape.specs.declared.shape.ShapeKind.TheVariants as kind
 use Rattle.facet_solver_shape.proofs.Samples.{enum_of, field, flat_field, number, shape, struct_of, variant}
 use Rattle.facet_solver.specs.build.Build.{Build}
 use Rattle.facet_solver.specs.build.Emissions.{Emission, a_catch_all, a_field, a_selection, some_key_paths, catch_all_field, emit_catch_all, emit_leaf, emit_plain, emit_regular, emit_selector_by, emit_variant, field_and_paths, leaf_field, regular_field, selector_field}
-use Rattle.facet_solver.specs.build.Walk.{Walked, walk_content, walk_fields, walk_fields_step, walk_root, walk_root_variant, walk_within}
+use Rattle.facet_solver.specs.build.Walk.{walk_content, walk_fields, walk_fields_step, walk_root, walk_root_variant, walk_within}
 use Rattle.facet_solver.proofs.SampleBuilds.{flat, flat_with, two_variants}
 
 -- what is emitted, in words
