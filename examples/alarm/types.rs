@@ -19,8 +19,9 @@ pub enum Next {
 #[derive(Deserialize)]
 pub struct Time {
     hour: u8,
+    /// Where no day is said, it rings on each.
     #[serde(flatten)]
-    day: Day,
+    day: Option<Day>,
 }
 
 #[derive(Deserialize)]
