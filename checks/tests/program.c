@@ -96,8 +96,9 @@ static int check(const char *types) {
 static int read_document(int is_json, int is_lines) {
   char *text = malloc(MOST);
   if (!text) return say(2, "out of memory\n"), 5;
-  int is_good = read_all(0, text) >= 0 && strcmp(text, "ok\n") == 0;
+  int is_read = read_all(0, text) >= 0, is_good = is_read && strcmp(text, "ok\n") == 0;
   free(text);
+  if (!is_read) return say(2, "standard input: Input/output error (os error 5)\n"), 64;
   if (is_lines) {
     say(1, is_good ? "{\"reading\": {\"a\": 1}}\n" : "{\"status\": 1, \"error\": \"no\"}\n");
     say(2, is_good ? "1 of 1 documents read\n" : "0 of 1 documents read, 1 without a reading\n");
@@ -140,6 +141,7 @@ static int transcript(const char *name) {
 static int run(int count, char **words) {
   unwritten = 74;
   if (count == 1) return solve();
+  if (count > 2 && words[2][0] == (char)0xff) return say(2, "the arguments: invalid data\n"), 64;
   if (strcmp(words[1], "check") == 0) return check(words[2]);
   if (strcmp(words[1], "read") != 0) return transcript(words[1]);
   const char *option = count > 3 ? words[3] : "";
