@@ -25,6 +25,9 @@ if text == b"types":
     output = open("types.rs").read()
 if text == b"large":
     output = "x" * 100_000
+if text == b"terminal":
+    output = f"{os.isatty(1)}\\n"
+    errors += f"{os.isatty(2)}\\n"
 sys.stdout.write(output)
 sys.stderr.write(errors)
 sys.exit(status)
@@ -68,9 +71,14 @@ def slowly():
     return Run(SOLVER, "large", End(0, "x" * 100_000), is_slow=True)
 
 
+@size
+def beside_a_terminal():
+    return Run(SOLVER, "terminal", End(0, "False\\n", "True\\n"), is_terminal=True)
+
+
 '''
 LAST = 'if __name__ == "__main__":\n    sys.exit(main())\n'
-COUNT = 7
+COUNT = 8
 
 
 class Sizes(Repository):
