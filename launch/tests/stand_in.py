@@ -57,6 +57,11 @@ try)
     while [ "$1" != -- ]
     do
         if [ "$1" = --data ]; then
+            case "${{2%%=*}}" in
+            program | program/* | stdin | stdout | stderr)
+                echo "rt: --data cannot name ${{2%%=*}}" >&2
+                exit 2 ;;
+            esac
             mkdir -p "$room/$(dirname "${{2%%=*}}")"
             cat "${{2#*=}}" >"$room/${{2%%=*}}"
         fi

@@ -137,7 +137,8 @@ class Places(Repository):
         file.write_text(TYPES)
 
     def test_of_types(self):
-        names = ["a b.rs", "a=b.rs", "=/x.rs", "deep/down/x.rs", "stdin", "deep/../x.rs", "é\n.rs"]
+        names = ["a b.rs", "a=b.rs", "=/x.rs", "deep/down/x.rs", "deep/../x.rs", "é\n.rs"]
+        names += ["stdin", "stdout", "stderr", "program/x.rs"]  # So rt calls files of its own.
         names += ["../x.rs", "link/x.rs", str(self.room / "a\tb =.rs")]
         (self.top / "link").symlink_to(self.room)
         for name in names:
