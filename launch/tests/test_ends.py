@@ -87,6 +87,19 @@ class Streams(Repository):
         self.assertEqual((status, output), (70, ""))
         self.assertIn("facet-read: out of memory", said)
 
+    def test_an_input_that_is_too_large_to_run_without_proofs(self):
+        script = self.top / "launch" / "program.py"
+        text = script.read_text()
+        self.assertEqual(text.count("MOST = 64 << 20 "), 1)
+        script.write_text(text.replace("MOST = 64 << 20 ", "MOST = 9 "))
+        self.assertEqual(self.read("types.rs", document=b"12345678")[0], WORD)
+        for document in (b"123456789", b"1234567890"):
+            status, output, said = self.read("types.rs", document=document)
+            self.assertEqual((status, output), (70, ""))
+            self.assertIn("an input of this size is for the proved program", said)
+        self.prove()
+        self.assertEqual(self.read("types.rs", document=b"123456789")[0], WORD)
+
     def test_a_fault_of_the_script(self):
         (self.top / "crates.txt").write_text("")
         self.program.parent.mkdir()
