@@ -75,7 +75,7 @@ class Sweep(Repository):
             self.prove(crate, compiled(self.made, *faults))
 
     def test_nothing_wrong(self):
-        said = "16 sweeps, 144 runs, 12 requests refused, 0 faults\n"
+        said = "16 sweeps, 149 runs, 17 requests refused, 0 faults\n"
         self.assertEqual(self.expect_passes(*CALL), said)
 
     def test_faults_of_the_programs(self):

@@ -4,6 +4,7 @@ import functools
 import os
 import pathlib
 import pty
+import re
 import shutil
 import signal
 import unittest
@@ -255,6 +256,24 @@ class Proving(Repository):
         (self.kit / "go").touch()
         said = process.communicate()[1]
         self.assertEqual(process.returncode, 0, said)
+
+    def test_how_far_it_is_stands_in_a_line_each_half_minute(self):
+        script = self.top / "launch" / "program.py"
+        text = script.read_text()
+        for old, new in (("waits = 30, None", "waits = 2, None"), ("% 30 + 30", "% 2 + 2")):
+            self.assertEqual(text.count(old), 1)
+            text = text.replace(old, new)
+        script.write_text(text)
+        self.environment["BEFORE"] = f"echo so far: 3 of 9 functions; {GO}"
+        process = self.start("./facet-read", "--prove")
+        self.assertEqual(process.stderr.readline(), PROVING)
+        said = "".join(process.stderr.readline() for _ in range(2))
+        (self.kit / "go").touch()
+        process.communicate()
+        line = r"facet-read: beginning, 3 of 9 functions, (\d+) s\n"
+        first, second = map(int, re.fullmatch(line * 2, said).groups())
+        self.assertGreaterEqual(first, 2)
+        self.assertGreater(second // 2, first // 2)
 
     def test_how_far_it_is_stands_in_one_line_of_a_terminal(self):
         self.environment["BEFORE"] = f"echo so far: 3 of 9 functions; {GO}"
