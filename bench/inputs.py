@@ -279,6 +279,30 @@ def members():
     return text_of({name: n for n, name in enumerate(names)} | {"size": 1})
 
 
+FIELDS = [f"field_{n:03}" for n in range(200)]
+
+
+def fields_types():
+    return f"struct Row {{ {', '.join(f'{name}: u32' for name in FIELDS)} }}\n"
+
+
+def fields():
+    """40 objects of 200 members, by turns in the order of the type and in the other order."""
+    members = [(name, n) for n, name in enumerate(FIELDS)]
+    return text_of([dict(members), dict(reversed(members))] * 20)
+
+
+def alternatives_types():
+    """An enum of 201 variants, each of which has to be asked: all read lists."""
+    variants = ", ".join(f"V{n}(Vec<u8>)" for n in range(200))
+    return f"#[serde(untagged)] enum Way {{ {variants}, Last(Vec<String>) }}\n"
+
+
+def alternatives():
+    """100 lists that the last variant alone reads."""
+    return text_of([["a"]] * 100)
+
+
 # What follows are inputs of the solver's program: a catalogue of shapes, and a document.
 
 TEXT = {"id": "String", "kind": "scalar", "scalar": "string"}
@@ -442,6 +466,10 @@ RECIPES = {
     "deep.json": deep_document,
     "members.rs": members_types,
     "members.json": members,
+    "fields.rs": fields_types,
+    "fields.json": fields,
+    "alternatives.rs": alternatives_types,
+    "alternatives.json": alternatives,
     "build_and_solve.json": build_and_solve,
     "build_and_solve_external.json": build_and_solve_external,
     "no_key_none_fits.json": no_key_none_fits,
