@@ -66,7 +66,7 @@ class Totals(Repository):
         self.assertEqual(self.expect_passes(*CALL), "")
         text = (self.top / TOTALS).read_text()
         self.assertIn("questions of the examples: 8\n", text)
-        self.assertIn("sweeps: 12\nsweeps that refuse requests: 9\n", text)
+        self.assertIn("sweeps: 13\nsweeps that refuse requests: 9\n", text)
 
     def test_something_is_gone(self):
         """Each is gone with all that would tell it elsewhere."""

@@ -129,7 +129,10 @@ fn read<'w>(alloc: Global, words: &[&'w str]) -> Result<Request<'w>, ArgumentErr
     ensures { Asks (requests.read (names_of words.now)) result }
 {
     let operands = operands(alloc, words)?;
-    Ok(read_operands(words, &operands)?)
+    match read_operands(words, &operands) {
+        Ok(request) => Ok(request),
+        Err(misuse) => Err(ArgumentError::Misuse(misuse)),
+    }
 }
 
 /// What is asked by the words behind `read`, of which these don't say how a document is read.
