@@ -37,6 +37,7 @@ pub mod FreeNames
 pub mod ApartNames
 pub mod PrintedAttributes
 pub mod Walks
+pub mod Ranks
 pub mod DeclaredPlaces
 pub mod Ranges
 pub mod TextOrder

@@ -27,6 +27,7 @@ pub mod Links
 pub mod NamePlaces
 pub mod PlacedNames
 pub mod Walks
+pub mod Ranks
 pub mod Marks
 pub mod TypeTables
 pub mod ShapeFaults

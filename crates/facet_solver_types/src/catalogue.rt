@@ -14,6 +14,7 @@ mod links;
 mod members;
 mod ordered;
 mod parts;
+mod ranks;
 mod shapes;
 mod standards;
 mod table;

@@ -1,12 +1,14 @@
 //! Why types have no shapes.
-ghost use Rattle.std.specs.Prelude.{◌≡◌, ◌++◌, IfOk, OnOk, map, option_map};
+ghost use Rattle.std.specs.Prelude.{◌≡◌, ◌++◌, IfOk, OnOk, map, option_map, true};
 ghost use Rattle.std.specs.String.{string_bytes};
 ghost use Rattle.facet_solver_types.specs.TypeTables.{table_view};
 ghost use Rattle.facet_solver_types.specs.Links.{links_view};
+ghost use Rattle.facet_solver_types.specs.Ranks.{AreAcyclic};
 ghost use Rattle.facet_solver_types.specs.ShapeFaults as of;
 ghost use Rattle.facet_solver_types.specs.TypeEntries.{form_view};
 ghost use Rattle.facet_solver_types.specs.Understood.{declaration_view, declared_view, field_view, variant_view};
 
+use super::ranks::is_acyclic;
 use super::shapes::declaration_at;
 use super::table::TypeTable;
 use super::walks::{is_marked, reached};
@@ -99,12 +101,17 @@ fn add_itself_fault(
     alloc: Global,
     faults: &mut Vec<Fault>,
     needs: &[Vec<usize>],
+    is_acyclic: bool,
     place: usize,
     offset: usize,
 ) -> Result<(), AllocError>
+    requires { is_acyclic ≡ true → AreAcyclic (links_view needs.now) }
     ensures { OnOk result (faults.new.items
         ≡ faults.old.items ++ of.itself_faults (links_view needs.now) place offset) }
 {
+    if is_acyclic {
+        return Ok(());
+    }
     let marks = reached(alloc, needs, place)?;
     if is_marked(&marks, place) {
         faults.push(Fault::At {
@@ -121,15 +128,24 @@ fn add_declaration_faults(
     faults: &mut Vec<Fault>,
     table: TypeTable<'_, '_, '_, '_>,
     needs: &[Vec<usize>],
+    is_acyclic: bool,
     place: usize,
     declaration: &Declaration<'_, '_>,
     types: &[Vec<String>],
 ) -> Result<(), AllocError>
+    requires { is_acyclic ≡ true → AreAcyclic (links_view needs.now) }
     ensures { OnOk result (faults.new.items ≡ faults.old.items
         ++ of.declaration_faults (table_view table.entry) (links_view needs.now) place
         (map (λ ids. map string_bytes ids.items) types.now) (declaration_view declaration.now)) }
 {
-    add_itself_fault(alloc, faults, needs, place, declaration.name.offset)?;
+    add_itself_fault(
+        alloc,
+        faults,
+        needs,
+        is_acyclic,
+        place,
+        declaration.name.offset,
+    )?;
     add_members_faults(faults, table, &declaration.declared, types)
 }
 
@@ -140,10 +156,12 @@ fn add_found_faults(
     faults: &mut Vec<Fault>,
     table: TypeTable<'_, '_, '_, '_>,
     needs: &[Vec<usize>],
+    is_acyclic: bool,
     place: usize,
     found: Option<&Declaration<'_, '_>>,
     types: &[Vec<String>],
 ) -> Result<(), AllocError>
+    requires { is_acyclic ≡ true → AreAcyclic (links_view needs.now) }
     ensures { OnOk result (faults.new.items ≡ faults.old.items
         ++ of.found_faults (table_view table.entry) (links_view needs.now) place
         (map (λ ids. map string_bytes ids.items) types.now)
@@ -151,7 +169,16 @@ fn add_found_faults(
 {
     match found {
         Some(declaration) => {
-            add_declaration_faults(alloc, faults, table, needs, place, declaration, types)
+            add_declaration_faults(
+                alloc,
+                faults,
+                table,
+                needs,
+                is_acyclic,
+                place,
+                declaration,
+                types,
+            )
         }
         None => Ok(()),
     }
@@ -163,9 +190,11 @@ fn add_type_faults(
     faults: &mut Vec<Fault>,
     table: TypeTable<'_, '_, '_, '_>,
     needs: &[Vec<usize>],
+    is_acyclic: bool,
     place: usize,
     form: &Form,
 ) -> Result<(), AllocError>
+    requires { is_acyclic ≡ true → AreAcyclic (links_view needs.now) }
     ensures { OnOk result (faults.new.items ≡ faults.old.items
         ++ of.type_faults (table_view table.entry) (links_view needs.now) place
         (form_view form.now)) }
@@ -173,7 +202,7 @@ fn add_type_faults(
     match form {
         Form::Declared { index, types } => {
             let found = declaration_at(table.declarations, *index);
-            add_found_faults(alloc, faults, table, needs, place, found, types)
+            add_found_faults(alloc, faults, table, needs, is_acyclic, place, found, types)
         }
         _ => Ok(()),
     }
@@ -190,8 +219,17 @@ pub(super) fn shape_faults(
         ≡ of.shape_faults (table_view table.entry) (links_view needs.now)) }
 {
     let mut faults = Vec::new(alloc);
+    let is_acyclic = is_acyclic(alloc, needs)?;
     for (place, entry) in table.entries.iter().enumerate() {
-        add_type_faults(alloc, &mut faults, table, needs, place, &entry.form)?;
+        add_type_faults(
+            alloc,
+            &mut faults,
+            table,
+            needs,
+            is_acyclic,
+            place,
+            &entry.form,
+        )?;
     }
     Ok(faults)
 }

@@ -7,7 +7,7 @@ ghost use Rattle.facet_solver_types.specs.Walks.{in_order, is_marked, is_placed,
 use std::alloc::{AllocError, Global};
 
 /// Where a type leads to.
-fn links_at(links: &[Vec<usize>], place: usize) -> &[usize]
+pub(super) fn links_at(links: &[Vec<usize>], place: usize) -> &[usize]
     ensures { result.now ≡ links_at (links_view links.now) place }
 {
     match links.get(place) {
