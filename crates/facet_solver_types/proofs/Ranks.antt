@@ -1,12 +1,12 @@
 -- Where ranks fall from each type to its needs, no type leads to itself.
-use Rattle.std.proofs.Common.{◌≡◌, ◌≢◌, ℕ, zero, suc, ◌+◌, ◌<◌, ◌≤◌, ◌⊎◌, inl, inr, Bool, true, false, cond, List, [], ◌∷◌, fold, get_or, length, ltb, replicate, set, refl, sym, ap, ◌∙◌, arith}
+use Rattle.std.proofs.Common.{◌≡◌, ◌≢◌, ℕ, zero, suc, ◌<◌, ◌≤◌, ◌⊎◌, inl, inr, Bool, true, false, cond, List, [], ◌∷◌, fold, get_or, length, ltb, replicate, set, refl, sym, ap, ◌∙◌, arith}
 use Rattle.std.proofs.lemmas.Bool.{cases_lt, ltb-true}
 use Rattle.std.proofs.lemmas.List.{get_or-set_other, get_or_past}
 use Rattle.std.proofs.lemmas.List.Elements.{recursion_from_All}
 use Rattle.std.proofs.lemmas.List.FromFn.{get_or-range_with_len, length-range_with_len}
 use Rattle.std.proofs.lemmas.List.Sums.{AllPass-from_list_all}
 use Rattle.std.specs.List.{AllByRecursion, range_with_len}
-use Rattle.facet_solver_types.specs.Ranks.{AreAcyclic, are_below, rank, fall}
+use Rattle.facet_solver_types.specs.Ranks.{AreAcyclic, are_below, fall, rank}
 use Rattle.facet_solver_types.specs.Walks.{is_marked, links_at, reach}
 
 -- none is marked at first

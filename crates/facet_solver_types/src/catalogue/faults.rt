@@ -98,7 +98,6 @@ fn add_members_faults(
 
 /// Adds the fault of the type at a place, whose name stands at an offset, if it leads to itself.
 fn add_itself_fault(
-    alloc: Global,
     faults: &mut Vec<Fault>,
     needs: &[Vec<usize>],
     is_acyclic: bool,
@@ -112,7 +111,7 @@ fn add_itself_fault(
     if is_acyclic {
         return Ok(());
     }
-    let marks = reached(alloc, needs, place)?;
+    let marks = reached(*faults.allocator(), needs, place)?;
     if is_marked(&marks, place) {
         faults.push(Fault::At {
             offset,
@@ -124,7 +123,6 @@ fn add_itself_fault(
 
 /// Adds the faults of a declaration, whose type stands at a place and has these types in it.
 fn add_declaration_faults(
-    alloc: Global,
     faults: &mut Vec<Fault>,
     table: TypeTable<'_, '_, '_, '_>,
     needs: &[Vec<usize>],
@@ -138,21 +136,13 @@ fn add_declaration_faults(
         ++ of.declaration_faults (table_view table.entry) (links_view needs.now) place
         (map (λ ids. map string_bytes ids.items) types.now) (declaration_view declaration.now)) }
 {
-    add_itself_fault(
-        alloc,
-        faults,
-        needs,
-        is_acyclic,
-        place,
-        declaration.name.offset,
-    )?;
+    add_itself_fault(faults, needs, is_acyclic, place, declaration.name.offset)?;
     add_members_faults(faults, table, &declaration.declared, types)
 }
 
 /// Adds the faults of a declaration, if there is one, whose type stands at a place and has these
 /// types in it.
 fn add_found_faults(
-    alloc: Global,
     faults: &mut Vec<Fault>,
     table: TypeTable<'_, '_, '_, '_>,
     needs: &[Vec<usize>],
@@ -169,16 +159,7 @@ fn add_found_faults(
 {
     match found {
         Some(declaration) => {
-            add_declaration_faults(
-                alloc,
-                faults,
-                table,
-                needs,
-                is_acyclic,
-                place,
-                declaration,
-                types,
-            )
+            add_declaration_faults(faults, table, needs, is_acyclic, place, declaration, types)
         }
         None => Ok(()),
     }
@@ -186,7 +167,6 @@ fn add_found_faults(
 
 /// Adds the faults of the type at a place, if it is declared.
 fn add_type_faults(
-    alloc: Global,
     faults: &mut Vec<Fault>,
     table: TypeTable<'_, '_, '_, '_>,
     needs: &[Vec<usize>],
@@ -202,7 +182,7 @@ fn add_type_faults(
     match form {
         Form::Declared { index, types } => {
             let found = declaration_at(table.declarations, *index);
-            add_found_faults(alloc, faults, table, needs, is_acyclic, place, found, types)
+            add_found_faults(faults, table, needs, is_acyclic, place, found, types)
         }
         _ => Ok(()),
     }
@@ -221,15 +201,7 @@ pub(super) fn shape_faults(
     let mut faults = Vec::new(alloc);
     let is_acyclic = is_acyclic(alloc, needs)?;
     for (place, entry) in table.entries.iter().enumerate() {
-        add_type_faults(
-            alloc,
-            &mut faults,
-            table,
-            needs,
-            is_acyclic,
-            place,
-            &entry.form,
-        )?;
+        add_type_faults(&mut faults, table, needs, is_acyclic, place, &entry.form)?;
     }
     Ok(faults)
 }

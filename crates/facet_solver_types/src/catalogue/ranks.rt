@@ -1,7 +1,7 @@
 //! Ranks of types: where each has a higher one than all that it needs, none leads to itself.
 ghost use Rattle.std.specs.Prelude.{◌≡◌, IfOk, length, true};
 ghost use Rattle.facet_solver_types.specs.Links.{links_view};
-ghost use Rattle.facet_solver_types.specs.Ranks.{AreAcyclic, are_below, rank, fall};
+ghost use Rattle.facet_solver_types.specs.Ranks.{AreAcyclic, are_below, fall, rank};
 
 use super::walks::{in_order, links_at};
 use std::alloc::{AllocError, Global};

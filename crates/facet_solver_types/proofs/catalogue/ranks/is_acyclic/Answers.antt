@@ -1,4 +1,4 @@
-use Rattle.std.proofs.Common.{◌≡◌, ◌∙◌, sym}
+use Rattle.std.proofs.Common.{◌∙◌, sym}
 use Rattle.facet_solver_types.specs.Links.{links_view}
 use Rattle.facet_solver_types.proofs.Ranks.{acyclic}
 use Rattle.facet_solver_types.proofs.catalogue.ranks.is_acyclic.Goals as goal
