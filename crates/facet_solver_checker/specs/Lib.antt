@@ -1,0 +1,4 @@
+pub mod Pairs
+pub mod Meeting
+pub mod Differing
+pub mod Certain
