@@ -1,4 +1,0 @@
-pub mod Pairs
-pub mod Meeting
-pub mod Differing
-pub mod Certain
