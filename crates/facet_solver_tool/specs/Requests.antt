@@ -183,6 +183,7 @@ abbrev pub subject_view : Bor Name × Option (Bor Name) → Subject
 subject_view s = record { types = s.0.now; root = option_map (λ name. name.now) s.1 }
 
 -- a result tells what words name
-abbrev pub Names : Result Subject Misuse → Result (Bor Name × Option (Bor Name)) misuse.Misuse → Type 0
+abbrev pub Names
+    : Result Subject Misuse → Result (Bor Name × Option (Bor Name)) misuse.Misuse → Type 0
 Names outcome (Ok made) = outcome ≡ Ok (subject_view made)
 Names outcome (Err misuse) = outcome ≡ Err (misuse_of misuse)

@@ -111,8 +111,8 @@ impl Memo {
 
     /// Keeps how often a value is read as what was asked.
     pub(crate) fn put(&mut self, node: usize, asked: &Asked, count: Count) -> Result<(), AllocError>
-        ensures ok { OnOk result (IsEntryAdded node (asked_view asked.now) count self.old.entries.items
-            self.new.entries.items) }
+        ensures ok { OnOk result (IsEntryAdded node (asked_view asked.now) count
+            self.old.entries.items self.new.entries.items) }
         ensures err { OnErr result (self.new.entries.items ≡ self.old.entries.items) }
     {
         if self.first.is_empty() {
