@@ -66,3 +66,8 @@ pub mod Blaming
 pub mod Quoted
 pub mod PathTexts
 pub mod LookUps
+pub mod Plans
+pub mod TargetKeys
+pub mod PlanNumbers
+pub mod PlannedLists
+pub mod PlanKeys

@@ -20,6 +20,7 @@ mod nodes;
 mod part;
 mod parts;
 mod place;
+mod plan;
 mod read;
 mod read_error;
 mod reader;
@@ -34,6 +35,10 @@ pub use document::{Document, Number};
 pub use facet_solver_shape::{Whole, WholeRange};
 pub use nodes::DocumentError;
 pub use place::{Place, PlaceSegment};
+pub use plan::{
+    Plan, PlannedAlternative, PlannedCatchAll, PlannedEnd, PlannedKeys, PlannedKind, PlannedList,
+    PlannedMember, PlannedName, PlannedPart, PlannedSelection, PlannedTarget,
+};
 pub use read_error::{
     Branch, Given, Misfit, NoReading, Obstacle, ReadError, Several, Stop, TypeName, Unread, Wanted,
 };

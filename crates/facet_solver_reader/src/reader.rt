@@ -4,6 +4,7 @@ ghost use Rattle.facet_solver_reader.specs.Counted.{Counted};
 ghost use Rattle.facet_solver_reader.specs.Documents.{view};
 ghost use Rattle.facet_solver_reader.specs.Nodes.{IsNumbering, value_of};
 ghost use Rattle.facet_solver_reader.specs.Parts.{of_shape};
+ghost use Rattle.facet_solver_reader.specs.Plans.{IsPlanOf};
 ghost use Rattle.facet_solver_reader.specs.Readers.{HasNoCount, IsReaderOf, IsRefused};
 ghost use Rattle.facet_solver_reader.specs.Readings.{ReadsValue};
 ghost use Rattle.facet_solver_reader.specs.Told.{IsOnlyTold};
@@ -16,6 +17,7 @@ use crate::count::{Count, Memo, count_target};
 use crate::document::Document;
 use crate::nodes::{DocumentError, Nodes};
 use crate::part::Target;
+use crate::plan::Plan;
 use crate::read::{NotOne, read_target};
 use crate::read_error::ReadError;
 use crate::reading::Reading;
@@ -24,7 +26,7 @@ use crate::why::why_not_one;
 pub use error::TypeError;
 use error::type_error_of;
 use facet_solver_shape::{ShapeId, Shapes};
-use std::alloc::Global;
+use std::alloc::{AllocError, Global};
 use std::marker::Model;
 
 /// What a reader does with members of an object that no choice has and no catch-all takes.
@@ -156,5 +158,13 @@ impl<'c> Reader<'c> {
         let root = Target::Shape(self.root);
         let steps = self.tables.steps;
         Ok(count_target(&self.tables, &nodes, &mut memo, 0, &root, steps)?)
+    }
+
+    /// The plan of the type: what it reads, as data.
+    pub fn plan(&self, alloc: Global) -> Result<Plan<'c>, AllocError>
+        ensures { IfOk result (IsPlanOf (rules_of self.now.shapes self.now.strict) self.now.shapes
+            (of_shape self.now.root)) }
+    {
+        Plan::new(alloc, &self.tables, self.root)
     }
 }
