@@ -4,6 +4,7 @@ mod debugs;
 mod denying;
 mod errors;
 mod pieces;
+mod plans;
 mod sources;
 
 use crate::answer::{Answer, Line};
@@ -21,6 +22,7 @@ use facet_solver::{
     Solver, specificity_score,
 };
 use pieces::texts_of_readings_are_written_in_few_pieces;
+use plans::a_plan_says_what_a_type_reads;
 use sources::places_are_those_of_sources;
 use std::alloc::AllocError;
 
@@ -42,10 +44,11 @@ pub enum Check {
     Calling,
     Sources,
     Denying,
+    Plans,
 }
 
 /// The checks, by name.
-pub const CHECKS: [(&str, Check); 15] = [
+pub const CHECKS: [(&str, Check); 16] = [
     ("public_types_have_their_derives", Check::PublicTypes),
     ("keys_have_names_and_an_order", Check::Keys),
     ("a_catalogue_gives_its_shapes", Check::Catalogue),
@@ -64,6 +67,7 @@ pub const CHECKS: [(&str, Check); 15] = [
     ("the_program_of_a_caller_holds", Check::Calling),
     ("places_are_those_of_sources", Check::Sources),
     ("denying_types_are_told", Check::Denying),
+    ("a_plan_says_what_a_type_reads", Check::Plans),
 ];
 
 impl Check {
@@ -85,6 +89,7 @@ impl Check {
             Check::Calling => documents_are_told(answer),
             Check::Sources => places_are_those_of_sources(answer),
             Check::Denying => denying_types_are_told(answer),
+            Check::Plans => a_plan_says_what_a_type_reads(answer),
         }
     }
 }
