@@ -46,11 +46,13 @@ abbrev pub takings_in : List Declaration → Name → List ℕ → List ℕ
 takings_in declarations module_name indices =
     filter (is_taking_in declarations module_name) indices
 
--- whether the declaration at an index wins over each `use` in the module of the type: it stands in
--- for others, or stands in the block of the type, or in its module and in no block
+-- whether the declaration at an index wins over each `use` in the module of the type: where that is
+-- the root; or it stands in for others, or in the block of the type, or in its module and in no
+-- block
 abbrev pub is_near : Scope → ℕ → Bool
 is_near scope index =
-    is_in scope.declarations stand_ins index
+    scope.is_root
+    || is_in scope.declarations stand_ins index
     || is_beside scope.declarations scope.site.block index
     || (is_outside scope.declarations index
     && is_in scope.declarations scope.site.module_name index)

@@ -89,13 +89,15 @@ fn takings_in(
     Ok(found)
 }
 
-/// Whether the declaration at an index wins over each `use` in the module of the type: it stands in
-/// for others, or stands in the block of the type, or in its module and in no block.
+/// Whether the declaration at an index wins over each `use` in the module of the type: where that is
+/// the root; or it stands in for others, or in the block of the type, or in its module and in no
+/// block.
 fn is_near(scope: Scope<'_, '_>, index: usize) -> bool
     ensures { result ≡ of.is_near (scope_view scope.entry) index }
 {
     let declarations = scope.declarations.list;
-    is_in(declarations, STAND_INS, index)
+    scope.is_root
+        || is_in(declarations, STAND_INS, index)
         || is_beside(declarations, scope.site.block, index)
         || (is_outside(declarations, index) && is_in(declarations, scope.site.module_name, index))
 }
