@@ -30,7 +30,7 @@ use Rattle.facet_solver_types.specs.Scopes.{Scope, bound_id}
 use Rattle.facet_solver_types.specs.Sites.{Site, site_view}
 use Rattle.facet_solver_types.specs.declared.standard.Standard.{Standard}
 use Rattle.facet_solver_types.specs.Standards.{count_of}
-use Rattle.facet_solver_types.specs.Takings.{deciding, has_elsewhere, those_declared}
+use Rattle.facet_solver_types.specs.Takings.{deciding, has_elsewhere, has_taking, those_declared}
 use Rattle.facet_solver_types.specs.Tokens.{Token, tokens_view}
 use Rattle.facet_solver_types.specs.Understood.{Declaration, Declared, alias as declares_alias, unread}
 use Rattle.facet_solver_types.specs.WrittenTypes.{NamedType, Written, is_str, written_type, unit, enclosed, tuple as tuple_of, slice as slice_of, array as array_of, text, bytes, this, named}
@@ -251,21 +251,26 @@ layer_by scope n namesakes (index ∷ []) =
 layer_by scope n namesakes (index ∷ other ∷ others) =
     Err (wrong (offset_at scope.declarations other) Twice)
 
--- a type by a name of which these say that a `use` takes it: unknown, or one that needs no
--- declaration
+-- a type by a name that a `use` takes, at these indices: unknown, or one that needs no declaration
 abbrev pub taken_layer : Scope → NamedType → List ℕ → Result Layer Fault
 taken_layer scope n takings =
     if has_elsewhere scope.declarations takings then Err (wrong n.name.offset Unknown)
     else undeclared n
 
--- a type by a name: of a declaration, or else of one that needs none
-abbrev pub free_layer : Scope → NamedType → Result Layer Fault
-free_layer scope n =
-    let found = namesakes n.name.text scope.declarations in
+-- a type by a name that stands at some indices, where a `use` takes it in some module
+abbrev pub layer_beside : Scope → NamedType → List ℕ → Result Layer Fault
+layer_beside scope n found =
     let own = those_declared scope.declarations found in
     let takings = deciding scope n.origin found own in
     if length takings == 0 then layer_by scope n own (meant scope n.origin own)
     else taken_layer scope n takings
+
+-- a type by a name: of a declaration, or else of one that needs none
+abbrev pub free_layer : Scope → NamedType → Result Layer Fault
+free_layer scope n =
+    let found = namesakes n.name.text scope.declarations in
+    if has_taking scope.declarations found then layer_beside scope n found
+    else layer_by scope n found (meant scope n.origin found)
 
 -- the id for which a name alone stands as a parameter, if it does
 abbrev pub alone_id : Scope → NamedType → Option Name

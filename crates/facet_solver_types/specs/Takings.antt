@@ -31,6 +31,10 @@ is_from_elsewhere_at declarations index =
     option_map_or (λ (d : Declaration). is_from_elsewhere d.declared)
     (slice_get declarations index) false
 
+-- whether one of some is such a `use`
+abbrev pub has_taking : List Declaration → List ℕ → Bool
+has_taking declarations indices = list_any (is_taking_at declarations) indices
+
 -- those of some that declare something
 abbrev pub those_declared : List Declaration → List ℕ → List ℕ
 those_declared declarations indices =
@@ -61,7 +65,7 @@ is_near scope index =
 abbrev pub has_near : Scope → List ℕ → Bool
 has_near scope indices = list_any (is_near scope) indices
 
--- those of the namesakes by which a `use` decides what a name means that is declared at some of them
+-- those of the namesakes by which a `use` decides what a name means that some of them declare
 abbrev pub deciding : Scope → Origin → List ℕ → List ℕ → List ℕ
 deciding scope origin namesakes declared =
     if not (is_here origin) || has_near scope declared then []

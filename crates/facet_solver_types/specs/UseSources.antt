@@ -25,7 +25,7 @@ source_of_crate (first ∷ others) =
     if is_home first.text then Some Home
     else (if is_open Curly first.kind then None else Some Other)
 
--- where paths begin that begin with the name of a module, or nothing where a known crate has it too
+-- where paths begin that begin with the name of a module, or nothing where a known crate has it
 abbrev pub source_of_module : Name → Option Source
 source_of_module name = if is_home name then None else Some Own
 

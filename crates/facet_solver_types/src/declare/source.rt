@@ -45,7 +45,7 @@ fn source_of_crate(tokens: &[Token<'_>]) -> Option<Source>
     }
 }
 
-/// Where paths begin that begin with the name of a module, or nothing where a known crate has it too.
+/// Where paths begin that begin with the name of a module, or nothing where a known crate has it.
 fn source_of_module(name: &str) -> Option<Source>
     ensures { result ≡ of.source_of_module name.now }
 {

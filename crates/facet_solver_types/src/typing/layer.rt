@@ -15,7 +15,7 @@ use super::called::{Called, called_among};
 use super::known::{Applied, Known, arity_of, known_type};
 use super::meant::{is_here, meant};
 use super::scope::Scope;
-use super::takings::{deciding, has_elsewhere, those_declared};
+use super::takings::{deciding, has_elsewhere, has_taking, those_declared};
 use crate::attribute::{Misuse, Refusal};
 use crate::declaration::{Declaration, Declared};
 use crate::fault::Fault;
@@ -463,8 +463,7 @@ fn layer_by<'d, 't>(
     }
 }
 
-/// A type by a name of which these say that a `use` takes it: unknown, or one that needs no
-/// declaration.
+/// A type by a name that a `use` takes, at these indices: unknown, or one that needs no declaration.
 fn taken_layer<'d, 't>(
     alloc: Global,
     scope: Scope<'d, 't>,
@@ -481,6 +480,26 @@ fn taken_layer<'d, 't>(
     undeclared(alloc, named)
 }
 
+/// A type by a name that stands at some indices, where a `use` takes it in some module.
+fn layer_beside<'d, 't>(
+    alloc: Global,
+    scope: Scope<'d, 't>,
+    named: NamedType<'d, 't>,
+    namesakes: &[usize],
+) -> Result<Layer<'d, 't>, Fault>
+    ensures { Gives layer_view
+        (layers.layer_beside (scope_view scope.entry) (named_view named.entry) namesakes.now)
+        result }
+{
+    let declared = those_declared(alloc, scope.declarations.list, namesakes)?;
+    let takings = deciding(alloc, scope, named.origin, namesakes, &declared)?;
+    if !takings.is_empty() {
+        return taken_layer(alloc, scope, named, &takings);
+    }
+    let meant = meant(alloc, scope, named.origin, &declared)?;
+    layer_by(alloc, scope, named, &declared, &meant)
+}
+
 /// A type by a name: of a declaration, or else of one that needs none.
 fn free_layer<'d, 't>(
     alloc: Global,
@@ -491,13 +510,11 @@ fn free_layer<'d, 't>(
         (layers.free_layer (scope_view scope.entry) (named_view named.entry)) result }
 {
     let namesakes = scope.declarations.namesakes(alloc, named.name.text)?;
-    let declared = those_declared(alloc, scope.declarations.list, &namesakes)?;
-    let takings = deciding(alloc, scope, named.origin, &namesakes, &declared)?;
-    if !takings.is_empty() {
-        return taken_layer(alloc, scope, named, &takings);
+    if has_taking(scope.declarations.list, &namesakes) {
+        return layer_beside(alloc, scope, named, &namesakes);
     }
-    let meant = meant(alloc, scope, named.origin, &declared)?;
-    layer_by(alloc, scope, named, &declared, &meant)
+    let meant = meant(alloc, scope, named.origin, &namesakes)?;
+    layer_by(alloc, scope, named, &namesakes, &meant)
 }
 
 /// The id for which a name alone stands as a parameter, if it does.

@@ -52,6 +52,18 @@ fn is_from_elsewhere_at(declarations: &[Declaration<'_, '_>], index: usize) -> b
     }
 }
 
+/// Whether one of some is such a `use`.
+pub(super) fn has_taking(declarations: &[Declaration<'_, '_>], indices: &[usize]) -> bool
+    ensures { result ≡ of.has_taking (declarations_view declarations.now) indices.now }
+{
+    for index in indices {
+        if is_taking_at(declarations, *index) {
+            return true;
+        }
+    }
+    false
+}
+
 /// Those of some that declare something.
 pub(super) fn those_declared(
     alloc: Global,
@@ -114,8 +126,7 @@ fn has_near(scope: Scope<'_, '_>, indices: &[usize]) -> bool
     false
 }
 
-/// Those of the namesakes by which a `use` decides what a name means that is declared at some of
-/// them.
+/// Those of the namesakes by which a `use` decides what a name means that some of them declare.
 pub(super) fn deciding(
     alloc: Global,
     scope: Scope<'_, '_>,
