@@ -78,6 +78,19 @@ taken_by_item modules declared site item = []
 abbrev pub taken_by : List Name → List Name → ModuleItem → List Declaration
 taken_by modules declared m = taken_by_item modules declared m.site m.item
 
+-- whether an item is a `use`
+abbrev pub is_use_item : Item → Bool
+is_use_item (takes tokens) = true
+is_use_item item = false
+
+-- the same where it stands
+abbrev pub is_use : ModuleItem → Bool
+is_use m = is_use_item m.item
+
+-- whether one of some items is a `use`
+abbrev pub has_use : List ModuleItem → Bool
+has_use items = list_any is_use items
+
 -- the names of the modules in which items stand
 abbrev pub module_names : List ModuleItem → List Name
 module_names items = map (λ (m : ModuleItem). m.site.module_name) items

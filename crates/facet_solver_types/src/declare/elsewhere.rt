@@ -142,6 +142,28 @@ fn add_taken_by<'s, 't>(
     }
 }
 
+/// Whether an item is a `use`.
+fn is_use(item: &ModuleItem<'_, '_>) -> bool
+    ensures { result ≡ of.is_use (module_item_view item.now) }
+{
+    match item.item {
+        Item::Use(_) => true,
+        _ => false,
+    }
+}
+
+/// Whether one of some items is a `use`.
+fn has_use(items: &[ModuleItem<'_, '_>]) -> bool
+    ensures { result ≡ of.has_use (items_view items.now) }
+{
+    for item in items {
+        if is_use(item) {
+            return true;
+        }
+    }
+    false
+}
+
 /// The names of the modules in which items stand.
 fn module_names<'t>(alloc: Global, items: &[ModuleItem<'_, 't>]) -> Result<Vec<&'t str>, AllocError>
     ensures { IfOk result (λ names. names_of names.items ≡ of.module_names (items_view items.now)) }
@@ -175,9 +197,12 @@ pub(super) fn elsewhere<'s, 't>(
     ensures { IfOk result (λ found. declarations_view found.items
         ≡ of.elsewhere (items_view items.now) (declarations_view declared.now)) }
 {
+    let mut found = Vec::new(alloc);
+    if !has_use(items) {
+        return Ok(found);
+    }
     let modules = placed_modules(alloc, items)?;
     let names = name_places(alloc, declared)?;
-    let mut found = Vec::new(alloc);
     for item in items {
         add_taken_by(alloc, &mut found, &modules, &names, item)?;
     }
