@@ -33,7 +33,7 @@ use Rattle.facet_solver_types.specs.Sought.{is_same}
 use Rattle.facet_solver_types.specs.Starts.{begins_statement, item_len, named_call_len, path_from, path_step, qualified_start, qualifiers_len, run_and_end_len, start_of, visible_len, whole_call_len}
 use Rattle.facet_solver_types.specs.Texts.{begins_character, character, opening_of, text_token}
 use Rattle.facet_solver_types.specs.Tokens.{tokens, tokens_from}
-use Rattle.facet_solver_types.specs.Understood.{Declaration, Declared, DeclaredField, DeclaredVariant, Proxy, alias, elsewhere, enum, proxied, struct, unread}
+use Rattle.facet_solver_types.specs.Understood.{Declaration, Declared, DeclaredField, DeclaredVariant, Proxy, alias, elsewhere, enum, home, proxied, struct, unread}
 use Rattle.facet_solver_types.specs.WrittenTypes.{front_len}
 
 -- the declarations of a text, with their faults
@@ -129,6 +129,7 @@ kind_of (struct kind fields transparent says_so container) = codes "struct"
 kind_of (enum variants tagging) = codes "enum"
 kind_of (proxied proxies) = codes "proxied"
 kind_of (alias passage) = codes "alias"
+kind_of home = codes "home"
 kind_of elsewhere = codes "elsewhere"
 kind_of unread = codes "unread"
 

@@ -64,7 +64,7 @@ name_of item = []
 abbrev names : List ℕ → Result (List Name) Fault
 names text = and_then (read text) (λ found. Ok (flat_map (λ (m : ModuleItem). name_of m.item) found))
 
--- the names of the modules in which the items of a text stand
+-- the names of the modules in which the items of a text stand, and each module itself
 abbrev module_names : List ℕ → Result (List Name) Fault
 module_names text = and_then (read text) (λ found. Ok (map (λ (m : ModuleItem). m.site.module_name) found))
 
@@ -158,14 +158,14 @@ pub enclosed_rows :
     × (names (codes "fn f() { let a = b as extern \"C\" fn(); g(h as unsafe extern fn(u8)); struct I; }")
     ≡ Ok (codes "I" ∷ []))
     × (blocks (codes "struct A; fn f() { struct B; { struct C; } struct D; mod e { struct F; } } impl G { fn h() { struct I; } }")
-    ≡ Ok (None ∷ Some 17 ∷ Some 29 ∷ Some 17 ∷ None ∷ Some 91 ∷ []))
+    ≡ Ok (None ∷ Some 17 ∷ Some 29 ∷ Some 17 ∷ None ∷ None ∷ Some 91 ∷ []))
     × (names (codes "mod a { struct A; fn f() { mod b { struct B; } struct C; } } struct D;")
     ≡ Ok (codes "A" ∷ codes "B" ∷ codes "C" ∷ codes "D" ∷ []))
     × (names (codes "impl<'a, T: X<T>> a::Deserialize<'a> for b::C<T> { } unsafe impl Facet<'_> for D { }")
     ≡ Ok (codes "C" ∷ codes "D" ∷ []))
     × (names (codes "impl A { } impl B for C { } impl Facet<'_> for (D, E) { }") ≡ Ok [])
     × (module_names (codes "struct A; mod a { struct B; fn f() { struct C; mod b { struct D; } } } enum E {}")
-    ≡ Ok ([] ∷ codes "a" ∷ codes "a" ∷ codes "b" ∷ [] ∷ []))
+    ≡ Ok ([] ∷ codes "a" ∷ codes "a" ∷ codes "a" ∷ codes "b" ∷ codes "b" ∷ [] ∷ []))
     × (read (codes "mod a { b }") ≡ Err (At 8 (problem.Expected expected.Item)))
     × (read (codes "mod { }") ≡ Err (At 4 (problem.Expected expected.Name)))
     × (read (codes "mod a b { }") ≡ Err (At 6 (problem.Expected expected.HeadEnd)))

@@ -17,6 +17,7 @@ pub mod Qualifiers
 pub mod ConditionTurns
 pub mod PlacedItems
 pub mod TakenTurns
+pub mod UntakenNames
 pub mod Listed
 pub mod Views
 pub mod Attributes

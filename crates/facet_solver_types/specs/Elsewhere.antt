@@ -1,14 +1,18 @@
--- Names that a `use` takes from elsewhere, where they may mean another type than a known one.
-use Rattle.std.specs.Prelude.{Bool, true, false, ◌&&◌, ◌||◌, not, if◌then◌else◌, List, [], ◌∷◌, ◌++◌, Option, Some, None, codes}
+-- Names that a `use` takes, where they may mean another type than a declared or a known one.
+use Rattle.std.specs.Prelude.{Bool, true, false, ◌&&◌, ◌||◌, not, if◌then◌else◌, List, [], ◌∷◌, ◌++◌, map, Option, Some, None, codes}
 use Rattle.std.specs.List.{flat_map, list_any}
 use Rattle.std.specs.Option.{option_to_list}
 use Rattle.facet_solver_shape.specs.Names.{Name, name_eq}
-use Rattle.facet_solver_types.specs.declared.token.Bracket.TheVariants.{Curly}
+use Rattle.facet_solver_types.specs.declared.declare.source.Source.{Source}
+use Rattle.facet_solver_types.specs.declared.declare.source.Source.TheVariants.{Home, Own, Other}
 use Rattle.facet_solver_types.specs.Declarations.{Item, ModuleItem, takes}
-use Rattle.facet_solver_types.specs.FirstTokens.{is_open, sees_path, sees_word}
+use Rattle.facet_solver_types.specs.DeclaredNames.{declared_names}
+use Rattle.facet_solver_types.specs.FirstTokens.{sees_path, sees_word}
+use Rattle.facet_solver_types.specs.NamePlaces.{has_name}
 use Rattle.facet_solver_types.specs.Sites.{Site}
 use Rattle.facet_solver_types.specs.Tokens.{Token}
-use Rattle.facet_solver_types.specs.Understood.{Declaration, elsewhere as declares_elsewhere}
+use Rattle.facet_solver_types.specs.Understood.{Declaration, Declared, home, elsewhere as from_elsewhere}
+use Rattle.facet_solver_types.specs.UseSources.{source_of}
 
 -- whether a known type has this name, and other crates have other types of it
 abbrev pub is_shared : Name → Bool
@@ -18,73 +22,79 @@ is_shared name =
     ∷ codes "Duration" ∷ codes "SystemTime" ∷ codes "Result" ∷ codes "Bound" ∷ codes "OsString"
     ∷ codes "Range" ∷ codes "RangeInclusive" ∷ codes "RangeFrom" ∷ codes "RangeTo" ∷ [])
 
--- whether the known types are those of a crate of this name, or are read as these
-abbrev pub is_home : Name → Bool
-is_home name =
-    list_any (λ one. name_eq name one)
-    (codes "std" ∷ codes "core" ∷ codes "alloc"
-    ∷ codes "serde_json" ∷ codes "serde_yaml" ∷ codes "toml"
-    ∷ codes "facet" ∷ codes "facet_value" ∷ [])
-
--- whether such a crate stands first, or a list of paths, which are not looked at
-abbrev pub begins_home : List Token → Bool
-begins_home [] = true
-begins_home (first ∷ others) = is_home first.text || is_open Curly first.kind
-
--- the tokens behind the first
-abbrev pub behind_first : List Token → List Token
-behind_first [] = []
-behind_first (first ∷ others) = others
-
--- whether the paths that a `use` has begin in such a crate, or are not looked at
-abbrev pub are_from_home : List Token → Bool
-are_from_home tokens =
-    if sees_path tokens then begins_home (behind_first tokens) else begins_home tokens
-
 -- whether the name before these tokens is the last of its path, and goes by no other
 abbrev pub ends_path : List Token → Bool
 ends_path tokens = not (sees_path tokens) && not (sees_word (codes "as") tokens)
 
--- whether one of some declarations has a name
-abbrev pub is_declared : Name → List Declaration → Bool
-is_declared name declarations =
-    list_any (λ (d : Declaration). name_eq d.name.text name) declarations
+-- whether a name means another type where a `use` takes it from there, where these are declared
+abbrev pub matters : List Name → Source → Name → Bool
+matters declared Home name = has_name declared name
+matters declared Own name = is_shared name && not (has_name declared name)
+matters declared Other name = is_shared name || has_name declared name
 
--- what says that a name is taken from elsewhere
-abbrev pub taken_declaration : Site → Token → Declaration
-taken_declaration site name = record {
+-- what is said of a name that a `use` takes from there
+abbrev pub said_of : Source → Declared
+said_of Home = home
+said_of source = from_elsewhere
+
+-- what says that a `use` takes a name from there
+abbrev pub taken_declaration : Source → Site → Token → Declaration
+taken_declaration source site name = record {
   site = site;
   name = name;
   parameters = [];
   has_other_forms = false;
   denies_unknown = false;
   faults = [];
-  declared = declares_elsewhere;
+  declared = said_of source;
 }
 
--- what says that the name that stands first is taken from elsewhere, if it is and is not declared
-abbrev pub taken_at : List Declaration → Site → List Token → Option Declaration
-taken_at declared site [] = None
-taken_at declared site (name ∷ others) =
-    if is_shared name.text && ends_path others && not (is_declared name.text declared)
-    then Some (taken_declaration site name) else None
+-- what says that a `use` takes the name that stands first from there, if it does and that matters
+abbrev pub taken_at : List Name → Source → Site → List Token → Option Declaration
+taken_at declared source site [] = None
+taken_at declared source site (name ∷ others) =
+    if ends_path others && matters declared source name.text
+    then Some (taken_declaration source site name) else None
 
--- what says which names are taken from elsewhere by a `use` of these tokens
-abbrev pub taken : List Declaration → Site → List Token → List Declaration
-taken declared site [] = []
-taken declared site (token ∷ others) =
-    option_to_list (taken_at declared site (token ∷ others)) ++ taken declared site others
+-- what says which names a `use` of these tokens takes from there
+abbrev pub taken : List Name → Source → Site → List Token → List Declaration
+taken declared source site [] = []
+taken declared source site (token ∷ others) =
+    option_to_list (taken_at declared source site (token ∷ others))
+    ++ taken declared source site others
 
--- the same of an item, if it is a `use` of such paths
-abbrev pub taken_by_item : List Declaration → Site → Item → List Declaration
-taken_by_item declared site (takes tokens) =
-    if are_from_home tokens then [] else taken declared site tokens
-taken_by_item declared site item = []
+-- the same, if it is told where its paths begin
+abbrev pub taken_if : List Name → Option Source → Site → List Token → List Declaration
+taken_if declared (Some source) site tokens = taken declared source site tokens
+taken_if declared None site tokens = []
+
+-- the same of an item, if it is a `use`, where modules have these names
+abbrev pub taken_by_item : List Name → List Name → Site → Item → List Declaration
+taken_by_item modules declared site (takes tokens) =
+    taken_if declared (source_of modules tokens) site tokens
+taken_by_item modules declared site item = []
 
 -- the same of an item where it stands
-abbrev pub taken_by : List Declaration → ModuleItem → List Declaration
-taken_by declared m = taken_by_item declared m.site m.item
+abbrev pub taken_by : List Name → List Name → ModuleItem → List Declaration
+taken_by modules declared m = taken_by_item modules declared m.site m.item
 
--- what says which names items take from elsewhere, which are not declared among these
+-- whether an item is a `use`
+abbrev pub is_use_item : Item → Bool
+is_use_item (takes tokens) = true
+is_use_item item = false
+
+-- the same where it stands
+abbrev pub is_use : ModuleItem → Bool
+is_use m = is_use_item m.item
+
+-- whether one of some items is a `use`
+abbrev pub has_use : List ModuleItem → Bool
+has_use items = list_any is_use items
+
+-- the names of the modules in which items stand
+abbrev pub module_names : List ModuleItem → List Name
+module_names items = map (λ (m : ModuleItem). m.site.module_name) items
+
+-- what says which names the `use`s among items take, where that matters, with these declared
 abbrev pub elsewhere : List ModuleItem → List Declaration → List Declaration
-elsewhere items declared = flat_map (taken_by declared) items
+elsewhere items declared = flat_map (taken_by (module_names items) (declared_names declared)) items

@@ -11,7 +11,7 @@ use Rattle.facet_solver_types.specs.declared.grammar.starts.Context.TheVariants 
 use Rattle.facet_solver_types.specs.declared.token.Bracket.TheVariants.{Curly}
 use Rattle.facet_solver_types.specs.declared.token.TokenKind.{TokenKind}
 use Rattle.facet_solver_types.specs.declared.token.TokenKind.TheVariants.{Close}
-use Rattle.facet_solver_types.specs.Declarations.{Item, ModuleItem, implements, item_view}
+use Rattle.facet_solver_types.specs.Declarations.{Item, ModuleItem, implements, item_view, other as without_type}
 use Rattle.facet_solver_types.specs.Sites.{Site}
 use Rattle.facet_solver_types.specs.Tokens.{Token, token_view}
 
@@ -111,8 +111,15 @@ site_in around = record { module_name = module_in around; block = block_in aroun
 abbrev pub item_at : List Enclosing → Item → ModuleItem
 item_at around item = record { site = site_in around; item = item }
 
+-- what is known of what is opened, in all that it encloses: that it is a module of its name, by an
+-- item in it that declares nothing
+abbrev pub opened_items : List Enclosing → Enclosing → List ModuleItem
+opened_items around (module_of name) = item_at around without_type ∷ []
+opened_items around enclosing = []
+
 -- the item that a piece is, if it is one, in what encloses it
 abbrev pub items_of : List Enclosing → Piece → List ModuleItem
 items_of around (is item) = item_at around item ∷ []
 items_of around (implementing name) = item_at around (implements name) ∷ []
+items_of around (opens enclosing) = opened_items (around ++ enclosing ∷ []) enclosing
 items_of around piece = []

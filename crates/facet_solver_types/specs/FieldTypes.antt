@@ -16,7 +16,7 @@ use Rattle.facet_solver_types.specs.Passages.{Passage}
 use Rattle.facet_solver_types.specs.Pieces.{and_then}
 use Rattle.facet_solver_types.specs.Scopes.{Scope}
 use Rattle.facet_solver_types.specs.TypeEntries.{TypeEntry, entries_view}
-use Rattle.facet_solver_types.specs.Understood.{Declared, DeclaredField, DeclaredVariant, Proxy, struct, enum, proxied, alias, elsewhere, unread}
+use Rattle.facet_solver_types.specs.Understood.{Declared, DeclaredField, DeclaredVariant, Proxy, struct, enum, proxied, alias, home, elsewhere, unread}
 use Rattle.facet_solver_types.specs.Uses.{Use, uses_view}
 
 -- the types of some fields by their ids, as far as they have no fault; the entries of all types
@@ -145,5 +145,6 @@ declared_types scope (struct kind fields is_transparent says_so is_container) =
 declared_types scope (enum variants tagging) = variant_types scope variants
 declared_types scope (proxied proxies) = proxy_types scope proxies
 declared_types scope (alias passage) = no_groups
+declared_types scope home = no_groups
 declared_types scope elsewhere = no_groups
 declared_types scope unread = no_groups

@@ -20,9 +20,9 @@ use Rattle.facet_solver_types.specs.declared.typing.layer.Layer as code
 use Rattle.facet_solver_types.specs.declared.typing.layer.Part as code_part
 use Rattle.facet_solver_types.specs.Called.{Called, called_among, called_view}
 use Rattle.facet_solver_types.specs.KnownTypes.{arity_of, known_type}
-use Rattle.facet_solver_types.specs.Meant.{meant, namesakes, those_in}
+use Rattle.facet_solver_types.specs.Meant.{is_here, meant, namesakes}
 use Rattle.facet_solver_types.specs.Modules.{is_of_stand_ins}
-use Rattle.facet_solver_types.specs.Origins.{Origin, here, beside, known as to_known}
+use Rattle.facet_solver_types.specs.Origins.{Origin, beside, known as to_known}
 use Rattle.facet_solver_types.specs.Paired.{paired}
 use Rattle.facet_solver_types.specs.Passages.{Passage, passage_view, place}
 use Rattle.facet_solver_types.specs.Pieces.{and_then}
@@ -30,8 +30,9 @@ use Rattle.facet_solver_types.specs.Scopes.{Scope, bound_id}
 use Rattle.facet_solver_types.specs.Sites.{Site, site_view}
 use Rattle.facet_solver_types.specs.declared.standard.Standard.{Standard}
 use Rattle.facet_solver_types.specs.Standards.{count_of}
+use Rattle.facet_solver_types.specs.Takings.{deciding, has_elsewhere, has_taking, those_declared}
 use Rattle.facet_solver_types.specs.Tokens.{Token, tokens_view}
-use Rattle.facet_solver_types.specs.Understood.{Declaration, Declared, alias as declares_alias, elsewhere, unread}
+use Rattle.facet_solver_types.specs.Understood.{Declaration, Declared, alias as declares_alias, unread}
 use Rattle.facet_solver_types.specs.WrittenTypes.{NamedType, Written, is_str, written_type, unit, enclosed, tuple as tuple_of, slice as slice_of, array as array_of, text, bytes, this, named}
 
 -- what a type is outside: the one in it, one by its id, what the declaration at an index declares,
@@ -174,11 +175,6 @@ abbrev pub array_of_two : Token → List Passage → Result Layer Fault
 array_of_two name (item ∷ len ∷ []) = Ok (around (array len.tokens) item)
 array_of_two name types = Err (wrong name.offset (Takes 2))
 
--- whether a path leads nowhere else
-abbrev pub is_here : Origin → Bool
-is_here here = true
-is_here origin = false
-
 -- whether a path leads into a crate whose types are known
 abbrev pub is_to_known : Origin → Bool
 is_to_known to_known = true
@@ -255,34 +251,25 @@ layer_by scope n namesakes (index ∷ []) =
 layer_by scope n namesakes (index ∷ other ∷ others) =
     Err (wrong (offset_at scope.declarations other) Twice)
 
--- whether nothing is declared, but the name is taken from elsewhere
-abbrev pub is_elsewhere : Declared → Bool
-is_elsewhere elsewhere = true
-is_elsewhere what = false
-
--- whether the declaration at an index says that its name is taken from elsewhere
-abbrev pub is_taken : List Declaration → ℕ → Bool
-is_taken declarations index =
-    option_map_or (λ (d : Declaration). is_elsewhere d.declared) (slice_get declarations index)
-    false
-
--- whether the first of some declarations, by their indices, says so: then all do
-abbrev pub are_taken : List Declaration → List ℕ → Bool
-are_taken declarations [] = false
-are_taken declarations (index ∷ others) = is_taken declarations index
-
--- a type by a name that some modules take from elsewhere: in one of these it is unknown
+-- a type by a name that a `use` takes, at these indices: unknown, or one that needs no declaration
 abbrev pub taken_layer : Scope → NamedType → List ℕ → Result Layer Fault
-taken_layer scope n namesakes =
-    let here = those_in scope.declarations scope.site.module_name namesakes in
-    if is_here n.origin && not (length here == 0) then Err (wrong n.name.offset Unknown)
+taken_layer scope n takings =
+    if has_elsewhere scope.declarations takings then Err (wrong n.name.offset Unknown)
     else undeclared n
+
+-- a type by a name that stands at some indices, where a `use` takes it in some module
+abbrev pub layer_beside : Scope → NamedType → List ℕ → Result Layer Fault
+layer_beside scope n found =
+    let own = those_declared scope.declarations found in
+    let takings = deciding scope n.origin found own in
+    if length takings == 0 then layer_by scope n own (meant scope n.origin own)
+    else taken_layer scope n takings
 
 -- a type by a name: of a declaration, or else of one that needs none
 abbrev pub free_layer : Scope → NamedType → Result Layer Fault
 free_layer scope n =
     let found = namesakes n.name.text scope.declarations in
-    if are_taken scope.declarations found then taken_layer scope n found
+    if has_taking scope.declarations found then layer_beside scope n found
     else layer_by scope n found (meant scope n.origin found)
 
 -- the id for which a name alone stands as a parameter, if it does

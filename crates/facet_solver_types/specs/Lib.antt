@@ -5,6 +5,7 @@ pub mod Spellings
 pub mod Standards
 pub mod StandardShapes
 pub mod Elsewhere
+pub mod UseSources
 pub mod Words
 pub mod Texts
 pub mod MarkTokens
@@ -95,6 +96,7 @@ pub mod TypeProblems
 pub mod KnownTypes
 pub mod Scopes
 pub mod Meant
+pub mod Takings
 pub mod DeclaredNames
 pub mod AllDeclarations
 pub mod Called

@@ -1,5 +1,5 @@
 -- Which declarations a name means, by their indices.
-use Rattle.std.specs.Prelude.{ℕ, ◌+◌, ◌==◌, Bool, false, if◌then◌else◌, not, List, [], ◌∷◌, ◌++◌, filter, Option, Some, None, is_none, slice_get}
+use Rattle.std.specs.Prelude.{ℕ, ◌+◌, ◌==◌, Bool, true, false, if◌then◌else◌, not, List, [], ◌∷◌, ◌++◌, filter, Option, Some, None, is_none, slice_get}
 use Rattle.std.specs.Option.{option_map_or}
 use Rattle.facet_solver_shape.specs.Names.{Name, name_eq}
 use Rattle.facet_solver_types.specs.Modules.{stand_ins}
@@ -17,6 +17,11 @@ namesakes_from index name (d ∷ others) =
 abbrev pub namesakes : Name → List Declaration → List ℕ
 namesakes name declarations = namesakes_from 0 name declarations
 
+-- whether a path leads nowhere else
+abbrev pub is_here : Origin → Bool
+is_here here = true
+is_here origin = false
+
 -- whether the declaration at an index stands in a module
 abbrev pub is_in : List Declaration → Name → ℕ → Bool
 is_in declarations module_name index =
@@ -33,6 +38,11 @@ abbrev pub is_in_block : List Declaration → ℕ → ℕ → Bool
 is_in_block declarations place index =
     option_map_or (λ (d : Declaration). is_of_block place d.site.block)
     (slice_get declarations index) false
+
+-- whether the declaration at an index stands in a block, if it is one
+abbrev pub is_beside : List Declaration → Option ℕ → ℕ → Bool
+is_beside declarations (Some place) index = is_in_block declarations place index
+is_beside declarations None index = false
 
 -- whether the declaration at an index stands in no block
 abbrev pub is_outside : List Declaration → ℕ → Bool

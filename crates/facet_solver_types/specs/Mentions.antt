@@ -1,5 +1,5 @@
 -- The types that a type mentions: itself, and those in it.
-use Rattle.std.specs.Prelude.{ℕ, zero, suc, nat_lt, if◌then◌else◌, List, [], ◌∷◌, ◌++◌, length, map, Option, Some, None, Result, Ok, Err}
+use Rattle.std.specs.Prelude.{ℕ, zero, suc, nat_lt, false, if◌then◌else◌, List, [], ◌∷◌, ◌++◌, length, map, Option, Some, None, Result, Ok, Err}
 use Rattle.std.specs.String.{string_bytes}
 use Rattle.facet_solver_shape.specs.Names.{Name}
 use Rattle.facet_solver_types.specs.Declarations.{Parameter}
@@ -147,6 +147,7 @@ alias_scope scope site parameters ids = record {
   parameters = parameters;
   arguments = ids;
   begin = scope.begin;
+  is_root = false;
 }
 
 -- what a type mentions, with those in it: an alias is followed

@@ -1,5 +1,5 @@
 -- The type as which documents are read.
-use Rattle.std.specs.Prelude.{ℕ, ◌+◌, List, [], length, map, Option, Some, None, Result, Ok, Err}
+use Rattle.std.specs.Prelude.{ℕ, ◌+◌, true, List, [], length, map, Option, Some, None, Result, Ok, Err}
 use Rattle.facet_solver_shape.specs.Names.{Name}
 use Rattle.facet_solver_types.specs.declared.fault.Fault.{Fault}
 use Rattle.facet_solver_types.specs.declared.fault.Fault.TheVariants.{At}
@@ -45,6 +45,7 @@ root_scope declarations = record {
   parameters = [];
   arguments = [];
   begin = 0;
+  is_root = true;
 }
 
 -- the type that a passage names among declarations

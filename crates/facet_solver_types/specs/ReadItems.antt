@@ -146,7 +146,6 @@ declaration_at all has_derives index m =
 abbrev pub own_declarations : List ModuleItem → List Declaration
 own_declarations all = kept (declaration_at all (has_derives all)) 0 all
 
--- the declarations of items, in order, and behind them what says which names are taken from
--- elsewhere
+-- the declarations of items, in order, and behind them what says which names a `use` takes
 abbrev pub declarations : List ModuleItem → List Declaration
 declarations all = let own = own_declarations all in own ++ elsewhere all own

@@ -13,8 +13,9 @@ use Rattle.facet_solver_types.specs.Called.{by_name, called_among}
 use Rattle.facet_solver_types.specs.Meant.{is_outside, namesakes}
 use Rattle.facet_solver_types.specs.Mentions.{Mention}
 use Rattle.facet_solver_types.specs.Modules.{is_of_stand_ins}
+use Rattle.facet_solver_types.specs.Takings.{is_taking}
 use Rattle.facet_solver_types.specs.TypeIds.{used_id}
-use Rattle.facet_solver_types.specs.Understood.{Declaration, Declared, alias, elsewhere}
+use Rattle.facet_solver_types.specs.Understood.{Declaration, Declared, alias, home, elsewhere}
 use Rattle.facet_solver_types.specs.UsedTypes.{use_types}
 use Rattle.facet_solver_types.specs.Uses.{Use}
 
@@ -90,12 +91,17 @@ is_passed_over (fault ∷ others) = is_unread fault
 -- whether a struct or an enum is declared
 abbrev pub declares_type : Declared → Bool
 declares_type (alias written) = false
+declares_type home = false
 declares_type elsewhere = false
 declares_type what = true
 
+-- whether a declaration stands in for others: what a `use` takes does not
+abbrev pub is_stand_in : Declaration → Bool
+is_stand_in d = is_of_stand_ins d.site.module_name && not (is_taking d.declared)
+
 -- the name of a declaration, if it is a stand-in
 abbrev pub stand_in_name : Declaration → List Name
-stand_in_name d = if is_of_stand_ins d.site.module_name then d.name.text ∷ [] else []
+stand_in_name d = if is_stand_in d then d.name.text ∷ [] else []
 
 -- the names of the stand-ins among declarations
 abbrev pub stand_in_names : List Declaration → List Name

@@ -15,8 +15,8 @@ use Rattle.facet_solver_types.specs.Sites.{Site, site_view}
 use Rattle.facet_solver_types.specs.Understood.{Declaration, declaration_view, declarations_view}
 
 -- where a type stands: all declarations, its module and its block, the id for which `Self` stands,
--- if it does, the parameters that the type can name, the ids for which these stand, and where the
--- whole type begins of which it is a part
+-- if it does, the parameters that the type can name, the ids for which these stand, where the whole
+-- type begins of which it is a part, and whether it is the root or a part of that
 pub record Scope : Type 0 where
   pub declarations : List Declaration
   pub site : Site
@@ -24,6 +24,7 @@ pub record Scope : Type 0 where
   pub parameters : List Parameter
   pub arguments : List Name
   pub begin : ℕ
+  pub is_root : Bool
 
 -- what is seen of a text behind a reference
 abbrev pub str_view : Bor (List ℕ) → Name
@@ -42,6 +43,7 @@ scope_view scope = record {
   parameters = parameters_view scope.parameters.now;
   arguments = map string_bytes scope.arguments.now;
   begin = scope.begin;
+  is_root = scope.is_root;
 }
 
 -- whether a parameter is a type of this name

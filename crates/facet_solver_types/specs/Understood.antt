@@ -6,7 +6,7 @@ use Rattle.facet_solver_shape.specs.declared.shape.DomMark.{DomMark}
 use Rattle.facet_solver_shape.specs.declared.shape.StructKind.{StructKind}
 use Rattle.facet_solver_types.specs.declared.declaration.Declaration as declaration
 use Rattle.facet_solver_types.specs.declared.declaration.Declared as declared
-use Rattle.facet_solver_types.specs.declared.declaration.Declared.TheVariants.{Struct, Enum, Proxied, Alias, Elsewhere, Unread}
+use Rattle.facet_solver_types.specs.declared.declaration.Declared.TheVariants.{Struct, Enum, Proxied, Alias, Home, Elsewhere, Unread}
 use Rattle.facet_solver_types.specs.declared.declaration.DeclaredField as field
 use Rattle.facet_solver_types.specs.declared.declaration.DeclaredVariant as variant
 use Rattle.facet_solver_types.specs.declared.declaration.Proxy as declared_proxy
@@ -86,12 +86,14 @@ pub record Tagging : Type 0 where
 
 -- what a declaration declares: a struct, maybe one that stands for its one field, that says so by
 -- `transparent`, or that holds metadata; an enum; what is read as another type; an alias; nothing,
--- where a `use` takes the name from elsewhere; or nothing that could be read
+-- where a `use` takes the name from a crate whose types are known, or from elsewhere; or nothing
+-- that could be read
 pub data Declared : Type 0 where
   struct : StructKind → List DeclaredField → Bool → Bool → Bool → Declared
   enum : List DeclaredVariant → Tagging → Declared
   proxied : List Proxy → Declared
   alias : Passage → Declared
+  home : Declared
   elsewhere : Declared
   unread : Declared
 
@@ -107,6 +109,7 @@ declared_view (Enum variants tag content untagged) =
     })
 declared_view (Proxied proxies) = proxied (map proxy_view proxies.items)
 declared_view (Alias passage) = alias (passage_view passage)
+declared_view Home = home
 declared_view Elsewhere = elsewhere
 declared_view Unread = unread
 

@@ -1,5 +1,5 @@
 -- The uses of declarations that a root needs.
-use Rattle.std.specs.Prelude.{ℕ, zero, suc, ◌+◌, ◌==◌, Bool, if◌then◌else◌, List, [], ◌∷◌, ◌++◌, filter, flat_map, length, Option, Some, None, slice_get, Result, Ok, Err}
+use Rattle.std.specs.Prelude.{ℕ, zero, suc, ◌+◌, ◌==◌, Bool, false, if◌then◌else◌, List, [], ◌∷◌, ◌++◌, filter, flat_map, length, Option, Some, None, slice_get, Result, Ok, Err}
 use Rattle.std.specs.List.{fold, list_any, range_with_len}
 use Rattle.std.specs.Option.{option_map_or}
 use Rattle.facet_solver_shape.specs.Names.{Name, name_eq}
@@ -21,6 +21,7 @@ scope_of declarations declaration used = record {
   parameters = declaration.parameters;
   arguments = used.arguments;
   begin = 0;
+  is_root = false;
 }
 
 -- the types that a use mentions

@@ -104,6 +104,8 @@ pub(crate) enum Declared<'s, 't> {
     Proxied(Vec<Proxy<'s, 't>>),
     /// An alias of a type.
     Alias(Passage<'s, 't>),
+    /// Nothing: a `use` takes the name from a crate whose types are known.
+    Home,
     /// Nothing: a `use` takes the name from elsewhere.
     Elsewhere,
     /// What could not be read. The declaration has a fault.

@@ -23,6 +23,7 @@ mod placed_items;
 mod proxy;
 mod said;
 mod sought;
+mod source;
 mod stated;
 mod structs;
 mod variants;
@@ -355,8 +356,7 @@ fn own_declarations<'s, 't>(
 /// The declarations of items, in order, with what their attributes say. Of those that are one under
 /// different conditions the first is taken. Each holds the faults of its attributes, of its fields
 /// and of its variants, which are left out. One that cannot be read, or is not read as it is
-/// declared, holds that fault alone. Behind them stands what says which names are taken from
-/// elsewhere.
+/// declared, holds that fault alone. Behind them stands what says which names a `use` takes.
 ///
 /// The only error is out of memory.
 pub(crate) fn declarations<'s, 't>(

@@ -21,6 +21,6 @@ pub(crate) use attributes::{attribute_entries, is_named};
 pub(crate) use entry::{Entry, EntryValue, entries};
 pub(crate) use first::{is_name, is_open, sees_mark, sees_path, sees_word};
 pub(crate) use items::items;
-pub(crate) use origin::Origin;
+pub(crate) use origin::{Origin, first_text, is_own};
 pub(crate) use run::{group_len, is_close, is_mark};
 pub(crate) use written::{NamedType, Written, is_str, written_type};

@@ -15,6 +15,7 @@ mod root;
 mod roots;
 mod scope;
 mod standards;
+mod takings;
 mod type_use;
 mod use_faults;
 mod uses;

@@ -97,7 +97,7 @@ fn declared_shape(
             shape.proxy = first_place(ids, first_types(types));
             Ok(shape)
         }
-        Declared::Alias(_) | Declared::Elsewhere | Declared::Unread => {
+        Declared::Alias(_) | Declared::Home | Declared::Elsewhere | Declared::Unread => {
             Ok(Shape::new(name, ShapeKind::Other))
         }
     }

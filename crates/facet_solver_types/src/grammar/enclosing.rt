@@ -1,7 +1,7 @@
 //! What items stand in: modules, blocks and the bodies of impls.
 ghost use Rattle.std.specs.Prelude.{◌≡◌, [], ◌∷◌, ◌++◌, IfErr, OnOk};
 ghost use Rattle.facet_solver_types.specs.Declarations.{item_view, items_view};
-ghost use Rattle.facet_solver_types.specs.Enclosings.{around_after, around_view, block_in, closes_braces, context_of, is_left, item_at, items_of, module_in, piece_view, sees_close_brace, site_in};
+ghost use Rattle.facet_solver_types.specs.Enclosings.{around_after, around_view, block_in, closes_braces, context_of, enclosing_view, is_left, item_at, items_of, module_in, opened_items, piece_view, sees_close_brace, site_in};
 ghost use Rattle.facet_solver_types.specs.Sites.{site_view};
 ghost use Rattle.facet_solver_types.specs.Tokens.{tokens_view};
 
@@ -123,6 +123,22 @@ fn add<'s, 't>(
     Ok(())
 }
 
+/// Adds what is known of what is opened last: that it is a module of its name, by an item in it that
+/// declares nothing.
+fn add_opened<'s, 't>(
+    found: &mut Vec<ModuleItem<'s, 't>>,
+    around: &[Enclosing<'t>],
+    opened: Enclosing<'t>,
+) -> Result<(), AllocError>
+    ensures { OnOk result (items_view found.new.items ≡ items_view found.old.items
+        ++ opened_items (around_view around.now) (enclosing_view opened.entry)) }
+{
+    match opened {
+        Enclosing::Module(_) => add(found, around, Item::Other),
+        _ => Ok(()),
+    }
+}
+
 /// Adds the item that a piece is, or goes into what it opens, or out of what it closes.
 pub(super) fn follow<'s, 't>(
     found: &mut Vec<ModuleItem<'s, 't>>,
@@ -138,7 +154,10 @@ pub(super) fn follow<'s, 't>(
 {
     match piece {
         Piece::Item(item) => add(found, around, item)?,
-        Piece::Opens(enclosing) => around.push(enclosing)?,
+        Piece::Opens(enclosing) => {
+            around.push(enclosing)?;
+            add_opened(found, around, enclosing)?;
+        }
         Piece::Impl(name) => {
             add(found, around, Item::Impl(name))?;
             around.push(Enclosing::Body)?;

@@ -24,7 +24,7 @@ pub(crate) enum Origin<'t> {
 }
 
 /// Whether a path begins in the crate of the text.
-fn is_own(tokens: &[Token<'_>]) -> bool
+pub(crate) fn is_own(tokens: &[Token<'_>]) -> bool
     ensures { result ≡ is_own (tokens_view tokens.now) }
 {
     sees_word("crate", tokens) || sees_word("self", tokens) || sees_word("super", tokens)
@@ -41,7 +41,7 @@ fn is_known(name: &str) -> bool
 }
 
 /// The text of the first token, or nothing.
-fn first_text<'t>(tokens: &[Token<'t>]) -> &'t str
+pub(crate) fn first_text<'t>(tokens: &[Token<'t>]) -> &'t str
     ensures { result.now ≡ first_text (tokens_view tokens.now) }
 {
     match tokens.first() {

@@ -305,6 +305,8 @@ pub(super) fn declared_types<'d, 't>(
         }
         Declared::Enum { variants, .. } => variant_types(alloc, scope, variants),
         Declared::Proxied(proxies) => proxy_types(alloc, scope, proxies),
-        Declared::Alias(_) | Declared::Elsewhere | Declared::Unread => Ok(no_groups(alloc)),
+        Declared::Alias(_) | Declared::Home | Declared::Elsewhere | Declared::Unread => {
+            Ok(no_groups(alloc))
+        }
     }
 }

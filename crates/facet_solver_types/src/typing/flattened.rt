@@ -182,6 +182,7 @@ fn scope_in<'d, 't>(
         this: None,
         parameters,
         arguments: &[],
+        is_root: false,
         ..scope
     }
 }

@@ -13,8 +13,9 @@ ghost use Rattle.facet_solver_types.specs.WrittenTypes.{named_view, passages_vie
 
 use super::called::{Called, called_among};
 use super::known::{Applied, Known, arity_of, known_type};
-use super::meant::{meant, those_in};
+use super::meant::{is_here, meant};
 use super::scope::Scope;
+use super::takings::{deciding, has_elsewhere, has_taking, those_declared};
 use crate::attribute::{Misuse, Refusal};
 use crate::declaration::{Declaration, Declared};
 use crate::fault::Fault;
@@ -462,57 +463,41 @@ fn layer_by<'d, 't>(
     }
 }
 
-/// Whether nothing is declared, but the name is taken from elsewhere.
-fn is_elsewhere(declared: &Declared<'_, '_>) -> bool
-    ensures { result ≡ layers.is_elsewhere (declared_view declared.now) }
-{
-    match declared {
-        Declared::Elsewhere => true,
-        _ => false,
-    }
-}
-
-/// Whether the declaration at an index says that its name is taken from elsewhere.
-fn is_taken(declarations: &[Declaration<'_, '_>], index: usize) -> bool
-    ensures { result ≡ layers.is_taken (declarations_view declarations.now) index }
-{
-    match declarations.get(index) {
-        Some(declaration) => is_elsewhere(&declaration.declared),
-        None => false,
-    }
-}
-
-/// Whether the first of some declarations, by their indices, says so: then all do.
-fn are_taken(declarations: &[Declaration<'_, '_>], namesakes: &[usize]) -> bool
-    ensures { result ≡ layers.are_taken (declarations_view declarations.now) namesakes.now }
-{
-    match namesakes.first() {
-        Some(index) => is_taken(declarations, *index),
-        None => false,
-    }
-}
-
-/// A type by a name that some modules take from elsewhere: in one of these it is unknown.
+/// A type by a name that a `use` takes, at these indices: unknown, or one that needs no declaration.
 fn taken_layer<'d, 't>(
+    alloc: Global,
+    scope: Scope<'d, 't>,
+    named: NamedType<'d, 't>,
+    takings: &[usize],
+) -> Result<Layer<'d, 't>, Fault>
+    ensures { Gives layer_view
+        (layers.taken_layer (scope_view scope.entry) (named_view named.entry) takings.now)
+        result }
+{
+    if has_elsewhere(scope.declarations.list, takings) {
+        return Err(wrong(named.name, TypeProblem::Unknown));
+    }
+    undeclared(alloc, named)
+}
+
+/// A type by a name that stands at some indices, where a `use` takes it in some module.
+fn layer_beside<'d, 't>(
     alloc: Global,
     scope: Scope<'d, 't>,
     named: NamedType<'d, 't>,
     namesakes: &[usize],
 ) -> Result<Layer<'d, 't>, Fault>
     ensures { Gives layer_view
-        (layers.taken_layer (scope_view scope.entry) (named_view named.entry) namesakes.now)
+        (layers.layer_beside (scope_view scope.entry) (named_view named.entry) namesakes.now)
         result }
 {
-    let here = those_in(
-        alloc,
-        scope.declarations.list,
-        scope.site.module_name,
-        namesakes,
-    )?;
-    if is_here(named.origin) && !here.is_empty() {
-        return Err(wrong(named.name, TypeProblem::Unknown));
+    let declared = those_declared(alloc, scope.declarations.list, namesakes)?;
+    let takings = deciding(alloc, scope, named.origin, namesakes, &declared)?;
+    if !takings.is_empty() {
+        return taken_layer(alloc, scope, named, &takings);
     }
-    undeclared(alloc, named)
+    let meant = meant(alloc, scope, named.origin, &declared)?;
+    layer_by(alloc, scope, named, &declared, &meant)
 }
 
 /// A type by a name: of a declaration, or else of one that needs none.
@@ -525,21 +510,11 @@ fn free_layer<'d, 't>(
         (layers.free_layer (scope_view scope.entry) (named_view named.entry)) result }
 {
     let namesakes = scope.declarations.namesakes(alloc, named.name.text)?;
-    if are_taken(scope.declarations.list, &namesakes) {
-        return taken_layer(alloc, scope, named, &namesakes);
+    if has_taking(scope.declarations.list, &namesakes) {
+        return layer_beside(alloc, scope, named, &namesakes);
     }
     let meant = meant(alloc, scope, named.origin, &namesakes)?;
     layer_by(alloc, scope, named, &namesakes, &meant)
-}
-
-/// Whether a path leads nowhere else.
-fn is_here(origin: Origin<'_>) -> bool
-    ensures { result ≡ layers.is_here (origin_view origin.entry) }
-{
-    match origin {
-        Origin::Here => true,
-        _ => false,
-    }
 }
 
 /// The id for which a name alone stands as a parameter, if it does.

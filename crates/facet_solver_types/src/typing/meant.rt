@@ -11,6 +11,16 @@ use crate::grammar::Origin;
 use crate::modules::STAND_INS;
 use std::alloc::{AllocError, Global};
 
+/// Whether a path leads nowhere else.
+pub(super) fn is_here(origin: Origin<'_>) -> bool
+    ensures { result ≡ of.is_here (origin_view origin.entry) }
+{
+    match origin {
+        Origin::Here => true,
+        _ => false,
+    }
+}
+
 /// Whether the declaration at an index stands in a module.
 pub(super) fn is_in(declarations: &[Declaration<'_, '_>], module_name: &str, index: usize) -> bool
     ensures { result ≡ of.is_in (declarations_view declarations.now) module_name.now index }
@@ -37,6 +47,20 @@ fn is_in_block(declarations: &[Declaration<'_, '_>], place: usize, index: usize)
 {
     match declarations.get(index) {
         Some(declaration) => is_of_block(place, declaration.site.block),
+        None => false,
+    }
+}
+
+/// Whether the declaration at an index stands in a block, if it is one.
+pub(super) fn is_beside(
+    declarations: &[Declaration<'_, '_>],
+    block: Option<usize>,
+    index: usize,
+) -> bool
+    ensures { result ≡ of.is_beside (declarations_view declarations.now) block index }
+{
+    match block {
+        Some(place) => is_in_block(declarations, place, index),
         None => false,
     }
 }

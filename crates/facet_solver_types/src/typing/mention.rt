@@ -248,6 +248,7 @@ pub(super) fn mentions<'d, 't>(
                 this: None,
                 parameters,
                 arguments: &inside.ids,
+                is_root: false,
                 ..scope
             };
             let mention = mentions(alloc, named, levels - 1, written)?;

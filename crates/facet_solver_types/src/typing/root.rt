@@ -91,6 +91,7 @@ fn passage_type<'t>(
         parameters: &[],
         arguments: &[],
         begin: 0,
+        is_root: true,
     };
     whole_type(alloc, scope, passage)
 }

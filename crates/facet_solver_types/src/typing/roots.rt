@@ -18,6 +18,7 @@ use super::id::used_id;
 use super::meant::is_outside;
 use super::mention::{Mention, copied_ids};
 use super::mentioned::Mentioned;
+use super::takings::is_taking;
 use super::type_use::Use;
 use super::uses::use_types;
 use crate::declaration::{Declaration, Declared};
@@ -174,9 +175,16 @@ fn declares_type(declared: &Declared<'_, '_>) -> bool
     ensures { result ≡ of.declares_type (declared_view declared.now) }
 {
     match declared {
-        Declared::Alias(_) | Declared::Elsewhere => false,
+        Declared::Alias(_) | Declared::Home | Declared::Elsewhere => false,
         _ => true,
     }
+}
+
+/// Whether a declaration stands in for others. What a `use` takes does not.
+fn is_stand_in(declaration: &Declaration<'_, '_>) -> bool
+    ensures { result ≡ of.is_stand_in (declaration_view declaration.now) }
+{
+    is_of_stand_ins(declaration.site.module_name) && !is_taking(&declaration.declared)
 }
 
 /// The names of the stand-ins among declarations.
@@ -189,7 +197,7 @@ fn stand_in_names<'t>(
 {
     let mut names = Vec::new(alloc);
     for declaration in declarations {
-        if is_of_stand_ins(declaration.site.module_name) {
+        if is_stand_in(declaration) {
             names.push(declaration.name.text)?;
         }
     }

@@ -26,6 +26,8 @@ pub(super) struct Scope<'d, 't> {
     pub(super) arguments: &'d [String],
     /// Where the whole type begins of which it is a part.
     pub(super) begin: usize,
+    /// Whether it is the root, or a part of it.
+    pub(super) is_root: bool,
 }
 
 impl<'d, 't> Scope<'d, 't> {

@@ -39,6 +39,7 @@ fn scope_of<'d, 't>(
         parameters: &declaration.parameters,
         arguments: &used.arguments,
         begin: 0,
+        is_root: false,
     }
 }
 
