@@ -29,7 +29,7 @@ pub fn a_plan_says_what_a_type_reads(answer: &mut Answer<'static>) {
     match Types::parse(answer.alloc, TYPES, Some("Root")) {
         Ok(types) => add_plan(&types, answer),
         Err(TypesError::OutOfMemory) => answer.refused(),
-        Err(_) => answer.unread(),
+        Err(_error) => answer.unread(),
     }
     answer.claim(TOLD);
 }
@@ -42,7 +42,7 @@ fn add_plan(types: &Types, answer: &mut Answer<'static>) {
             Err(AllocError) => answer.refused(),
         },
         Err(TypeError::OutOfMemory) => answer.refused(),
-        Err(_) => answer.unread(),
+        Err(_error) => answer.unread(),
     }
 }
 
