@@ -1,0 +1,11 @@
+pub mod Among
+pub mod Gathering
+pub mod PlanMembers
+pub mod ListItems
+pub mod ReadNames
+pub mod WaysApart
+pub mod Requires
+pub mod SideLists
+pub mod ListWays
+pub mod BranchesApart
+pub mod PlanOf
