@@ -1,0 +1,13 @@
+use Rattle.std.proofs.Common.{refl}
+use Rattle.facet_solver_reader.specs.Parts.{of_shape}
+use Rattle.facet_solver_reader.specs.Types.{rules_of}
+use Rattle.facet_solver_checker.proofs.Unambiguous.{plan_is_for}
+use Rattle.facet_solver_checker.proofs.checking.check.Goals as goal
+
+pub places_of-requires : goal.places_of-requires
+places_of-requires c = (
+  _,
+  plan_is_for (rules_of c.args.reader.now.shapes c.args.reader.now.strict)
+      c.args.reader.now.shapes (of_shape c.args.reader.now.root) c.in_ok-plan.plan
+      c.in_ok-plan.ensures (λ key x. refl),
+)

@@ -1,0 +1,280 @@
+//! The places at which two readings of a document can differ first.
+ghost use Rattle.std.specs.Prelude.{◌≡◌, ◌<◌, IfOk, OnOk, ℕ, length};
+ghost use Rattle.facet_solver_checker.specs.Apartness.{AreNamesRequired};
+ghost use Rattle.facet_solver_checker.specs.Atoms.{HaveAtoms};
+ghost use Rattle.facet_solver_checker.specs.declared.place.Fork.TheVariants as forks;
+ghost use Rattle.facet_solver_checker.specs.Ambiguity.{AreAllPlaces, IsCertain};
+ghost use Rattle.facet_solver_checker.specs.Forks.{
+  AllSettled,
+  AreSettled,
+  Grows,
+  HasWays,
+  IsFork,
+  IsPartFork,
+  IsSettled,
+  place_at,
+  way_count,
+};
+
+use crate::apart::Apart;
+use crate::atoms::Atoms;
+use crate::forks::is_apart;
+use crate::place::{Fork, Place};
+use crate::required::Required;
+use facet_solver_reader::{Plan, PlannedEnd, PlannedPart};
+use std::alloc::{AllocError, Global};
+
+/// The places at which two readings of a document can differ first; none where no document has two.
+///
+/// The table has to leave each pair of targets that read one value.
+pub(crate) fn all_places(
+    alloc: Global,
+    plan: &Plan<'_>,
+    required: &Required<'_>,
+    atoms: &[Atoms],
+    apart: &Apart,
+) -> Result<Vec<Place>, AllocError>
+    requires required { AreNamesRequired plan.now required.now.names.items }
+    requires atoms { HaveAtoms plan.now atoms.now }
+    requires len { length atoms.now ≡ length plan.now.targets.items }
+    ensures all { IfOk result (λ places. AreAllPlaces plan.now apart.now places.items) }
+    ensures certain { IfOk result (λ places. IsCertain plan.now apart.now places.items) }
+{
+    places_left(alloc, plan, required, atoms, apart)
+}
+
+/// The places of a plan whose two ways are not known to be apart.
+fn places_left(
+    alloc: Global,
+    plan: &Plan<'_>,
+    required: &Required<'_>,
+    atoms: &[Atoms],
+    apart: &Apart,
+) -> Result<Vec<Place>, AllocError>
+    requires required { AreNamesRequired plan.now required.now.names.items }
+    requires atoms { HaveAtoms plan.now atoms.now }
+    requires len { length atoms.now ≡ length plan.now.targets.items }
+    ensures { IfOk result (λ places. AllSettled plan.now apart.now places.items) }
+{
+    let mut places = Vec::new(alloc);
+    add_lists(alloc, plan, required, atoms, apart, &mut places)?;
+    add_enums(alloc, plan, required, atoms, apart, &mut places)?;
+    Ok(places)
+}
+
+/// Adds the places of all selections.
+fn add_lists(
+    alloc: Global,
+    plan: &Plan<'_>,
+    required: &Required<'_>,
+    atoms: &[Atoms],
+    apart: &Apart,
+    places: &mut Vec<Place>,
+) -> Result<(), AllocError>
+    requires required { AreNamesRequired plan.now required.now.names.items }
+    requires atoms { HaveAtoms plan.now atoms.now }
+    requires len { length atoms.now ≡ length plan.now.targets.items }
+    ensures grows { OnOk result (Grows places.old.items places.new.items) }
+    ensures settled { OnOk result ((list part n : ℕ) → IsFork plan.now (forks.Selection list part) n
+        → AreSettled plan.now apart.now places.new.items (forks.Selection list part) n) }
+{
+    for list in 0..plan.lists.len() {
+        add_list(
+            alloc,
+            plan,
+            required,
+            atoms,
+            apart,
+            list,
+            &plan.lists[list].parts,
+            places,
+        )?;
+    }
+    Ok(())
+}
+
+/// Adds those of the selections of a list.
+fn add_list(
+    alloc: Global,
+    plan: &Plan<'_>,
+    required: &Required<'_>,
+    atoms: &[Atoms],
+    apart: &Apart,
+    list: usize,
+    parts: &[PlannedPart<'_>],
+    places: &mut Vec<Place>,
+) -> Result<(), AllocError>
+    requires required { AreNamesRequired plan.now required.now.names.items }
+    requires atoms { HaveAtoms plan.now atoms.now }
+    requires len { length atoms.now ≡ length plan.now.targets.items }
+    ensures grows { OnOk result (Grows places.old.items places.new.items) }
+    ensures settled { OnOk result ((part n : ℕ) → IsPartFork parts.now part n
+        → AreSettled plan.now apart.now places.new.items (forks.Selection list part) n) }
+{
+    for part in 0..parts.len() {
+        let fork = Fork::Selection(list, part);
+        add_part(
+            alloc,
+            plan,
+            required,
+            atoms,
+            apart,
+            fork,
+            &parts[part],
+            places,
+        )?;
+    }
+    Ok(())
+}
+
+/// Adds those of a part, if it is a selection.
+fn add_part(
+    alloc: Global,
+    plan: &Plan<'_>,
+    required: &Required<'_>,
+    atoms: &[Atoms],
+    apart: &Apart,
+    fork: Fork,
+    part: &PlannedPart<'_>,
+    places: &mut Vec<Place>,
+) -> Result<(), AllocError>
+    requires required { AreNamesRequired plan.now required.now.names.items }
+    requires atoms { HaveAtoms plan.now atoms.now }
+    requires len { length atoms.now ≡ length plan.now.targets.items }
+    ensures grows { OnOk result (Grows places.old.items places.new.items) }
+    ensures settled { OnOk result ((n : ℕ) → HasWays part.now n
+        → AreSettled plan.now apart.now places.new.items fork n) }
+{
+    match part {
+        PlannedPart::Selection(selection) => {
+            add_pairs(
+                alloc,
+                plan,
+                required,
+                atoms,
+                apart,
+                fork,
+                selection.branches.len(),
+                places,
+            )
+        }
+        _ => Ok(()),
+    }
+}
+
+/// Adds those of all enums that are read as values.
+fn add_enums(
+    alloc: Global,
+    plan: &Plan<'_>,
+    required: &Required<'_>,
+    atoms: &[Atoms],
+    apart: &Apart,
+    places: &mut Vec<Place>,
+) -> Result<(), AllocError>
+    requires required { AreNamesRequired plan.now required.now.names.items }
+    requires atoms { HaveAtoms plan.now atoms.now }
+    requires len { length atoms.now ≡ length plan.now.targets.items }
+    ensures grows { OnOk result (Grows places.old.items places.new.items) }
+    ensures settled { OnOk result ((target n : ℕ) → IsFork plan.now (forks.Enum target) n
+        → AreSettled plan.now apart.now places.new.items (forks.Enum target) n) }
+{
+    for target in 0..plan.targets.len() {
+        let count = ways_of(&plan.targets[target].end);
+        add_pairs(
+            alloc,
+            plan,
+            required,
+            atoms,
+            apart,
+            Fork::Enum(target),
+            count,
+            places,
+        )?;
+    }
+    Ok(())
+}
+
+/// How many ways there are to read an enum; none where it is none.
+fn ways_of(end: &PlannedEnd<'_>) -> usize
+    ensures { result ≡ way_count end.now }
+{
+    match end {
+        PlannedEnd::Named(variants) => variants.len(),
+        PlannedEnd::Untagged(_, alone) => alone.len() + 1,
+        _ => 0,
+    }
+}
+
+/// Adds each two of the first ways of a fork.
+fn add_pairs(
+    alloc: Global,
+    plan: &Plan<'_>,
+    required: &Required<'_>,
+    atoms: &[Atoms],
+    apart: &Apart,
+    fork: Fork,
+    count: usize,
+    places: &mut Vec<Place>,
+) -> Result<(), AllocError>
+    requires required { AreNamesRequired plan.now required.now.names.items }
+    requires atoms { HaveAtoms plan.now atoms.now }
+    requires len { length atoms.now ≡ length plan.now.targets.items }
+    ensures grows { OnOk result (Grows places.old.items places.new.items) }
+    ensures settled { OnOk result (AreSettled plan.now apart.now places.new.items fork count) }
+{
+    for second in 0..count {
+        add_before(alloc, plan, required, atoms, apart, fork, second, places)?;
+    }
+    Ok(())
+}
+
+/// Adds a way of a fork with each that comes before it.
+fn add_before(
+    alloc: Global,
+    plan: &Plan<'_>,
+    required: &Required<'_>,
+    atoms: &[Atoms],
+    apart: &Apart,
+    fork: Fork,
+    second: usize,
+    places: &mut Vec<Place>,
+) -> Result<(), AllocError>
+    requires required { AreNamesRequired plan.now required.now.names.items }
+    requires atoms { HaveAtoms plan.now atoms.now }
+    requires len { length atoms.now ≡ length plan.now.targets.items }
+    ensures grows { OnOk result (Grows places.old.items places.new.items) }
+    ensures settled { OnOk result ((x : ℕ) → x < second
+        → IsSettled plan.now apart.now places.new.items (place_at fork x second)) }
+{
+    for first in 0..second {
+        let place = Place {
+            fork,
+            first,
+            second,
+        };
+        add_place(alloc, plan, required, atoms, apart, place, places)?;
+    }
+    Ok(())
+}
+
+/// Adds a place, unless its two ways are apart.
+fn add_place(
+    alloc: Global,
+    plan: &Plan<'_>,
+    required: &Required<'_>,
+    atoms: &[Atoms],
+    apart: &Apart,
+    place: Place,
+    places: &mut Vec<Place>,
+) -> Result<(), AllocError>
+    requires required { AreNamesRequired plan.now required.now.names.items }
+    requires atoms { HaveAtoms plan.now atoms.now }
+    requires len { length atoms.now ≡ length plan.now.targets.items }
+    ensures grows { OnOk result (Grows places.old.items places.new.items) }
+    ensures settled { OnOk result (IsSettled plan.now apart.now places.new.items place) }
+{
+    if !is_apart(alloc, plan, required, atoms, apart, place)? {
+        places.push(place)?;
+    }
+    Ok(())
+}
