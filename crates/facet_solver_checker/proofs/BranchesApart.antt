@@ -5,19 +5,19 @@ use Rattle.std.specs.Str.{bytes_eq}
 use Rattle.facet_solver_shape.specs.Names.{Name}
 use Rattle.facet_solver_reader.specs.declared.plan.Plan.{Plan}
 use Rattle.facet_solver_reader.specs.declared.plan.PlannedList.{PlannedList}
-use Rattle.facet_solver_reader.specs.declared.plan.PlannedSelection.{PlannedSelection}
-use Rattle.facet_solver_reader.specs.Branches.{ReadsPart}
+use Rattle.facet_solver_reader.specs.Branches.{ReadsList, ReadsPart}
 use Rattle.facet_solver_reader.specs.Choices.{Choice, ChoiceAt, Item, member_of, catch_all_of, presence_of, presence, choosing}
 use Rattle.facet_solver_reader.specs.Known.{Chooses, ChoosesAt, HasKey, IsKnown, IsKnownIn, Key, named, rest}
 use Rattle.facet_solver_reader.specs.Objects.{Agrees, Has, HasNamed, Object, Reads, Touches}
 use Rattle.facet_solver_reader.specs.Parts.{ListId, Selection, a_selection}
-use Rattle.facet_solver_reader.specs.Plans.{IsNumberOfList, IsPlannedList, IsPlannedSelection, Meaning, has_key}
+use Rattle.facet_solver_reader.specs.Plans.{IsNumberOfList, IsPlannedList, Meaning, has_key}
 use Rattle.facet_solver_reader.specs.Values.{ReadsDown}
 use Rattle.facet_solver_reader.proofs.Items.{Agrees-left, Agrees-right, HasKey-right}
 use Rattle.facet_solver_reader.proofs.Pairs.{pair_of}
 use Rattle.facet_solver_reader.proofs.Quantifiers.{all_at}
 use Rattle.facet_solver_checker.specs.declared.apart.Apart.{Apart}
-use Rattle.facet_solver_checker.specs.BranchesMeet.{AgreesBy, AreApartIn, AreInnersApart, BothHave, BranchesMeet, BranchSides, IsMemberApart, LeavesAll, ShareNone}
+use Rattle.facet_solver_checker.specs.BranchesMeet.{AgreesBy, AreApartIn, AreInnersApart, BothHave, BranchesMeet, BranchSides, IsMemberApart, ShareNone}
+use Rattle.facet_solver_checker.specs.Aparts.{LeavesAll}
 use Rattle.facet_solver_checker.specs.Inners.{AreInners, IsThrough, IsThroughSome}
 use Rattle.facet_solver_checker.specs.PlanMembers.{AreListsOf, AreTargetsAt, IsIn, IsReadAmong, targets_below}
 use Rattle.facet_solver_checker.specs.Requires.{AreRequired, HasRequired, IsRequiredBy, NameLists}
@@ -81,7 +81,7 @@ module _ (m : Meaning) (reads : Reads) (s : Selection) (object : Object) where
   }
 
   -- a key of the object that the selection knows is one of the choice
-  branch_has : (k : ℕ) (c : Choice)
+  pub branch_has : (k : ℕ) (c : Choice)
       (r : ReadsPart m.rules reads object (a_selection s) (choosing k c)) (x : Key)
       → Has m.rules object x → IsKnown (ChoosesAt m.rules.lists (a_selection s)) x
       → HasKey r.chooses.of_branch x
@@ -102,7 +102,7 @@ module _ (m : Meaning) (reads : Reads) (s : Selection) (object : Object) where
   }
 
   -- so is what some branch does
-  known_of_branch : (x : Key) → IsKnownIn m.rules.lists s x
+  pub known_of_branch : (x : Key) → IsKnownIn m.rules.lists s x
       → IsKnown (ChoosesAt m.rules.lists (a_selection s)) x
   known_of_branch x k = record {
     choice = choosing k.branch k.choice;
@@ -112,7 +112,7 @@ module _ (m : Meaning) (reads : Reads) (s : Selection) (object : Object) where
   }
 
   -- a selection that may be absent and is not is touched
-  touches_of : (k : ℕ) (c : Choice) → s.optional ≡ true
+  pub touches_of : (k : ℕ) (c : Choice) → s.optional ≡ true
       → ReadsPart m.rules reads object (a_selection s) (choosing k c) → Touches m.rules object s
   touches_of k c e r =
       (subst (λ (b : Bool). Agrees m.rules reads object (if b then presence_of s ∷ [] else [])) e
@@ -184,15 +184,13 @@ module _ (m : Meaning) (reads : Reads) (s : Selection) (one other : ℕ) (sides 
       (known_by m reads s sides.meet.object sides.second sides.meet.second_choice
       sides.meet.second_reads (named x) (key_of_required x items there))
 
-  -- where the selection may be absent, both have some key of the object
-  share_some : (apart : Apart) → s.optional ≡ true → ShareNone m apart one other
+  -- where the object has a member that the selection knows, both have some key of the object
+  share_some : (apart : Apart) → Touches m.rules sides.meet.object s → ShareNone m apart one other
       → ((x : Name) → IsMemberApart m apart one other x
       → BothHave m.rules reads sides.first_through.id sides.second_through.id x → ⊥) → ⊥
-  share_some apart optional none apart_by =
-      let object = sides.meet.object in
-      let touches = touches_of m reads s object sides.first sides.meet.first_choice optional
-      sides.meet.first_reads in
-      go touches.key touches.has (known_of_branch m reads s object touches.key touches.known)
+  share_some apart touches none apart_by =
+      go touches.key touches.has
+      (known_of_branch m reads s sides.meet.object touches.key touches.known)
     where
       first_knows : (x : Key) → Has m.rules sides.meet.object x
           → IsKnown (ChoosesAt m.rules.lists (a_selection s)) x
@@ -226,27 +224,27 @@ module _ (m : Meaning) (reads : Reads) (s : Selection) (one other : ℕ) (sides 
           sides.second_through.is (first_knows rest has known) (second_knows rest has known)
 
 -- two lists within branches are apart, where the first requires such a member
-pub inners_by_first : (m : Meaning) (apart : Apart) (p : PlannedSelection) (one other : ℕ)
+pub inners_by_first : (m : Meaning) (apart : Apart) (must : Bool) (one other : ℕ)
     (x : Name) → IsRequiredBy m one x → IsMemberApart m apart one other x
-    → LeavesAll m apart → AreInnersApart m p one other
-inners_by_first m apart p one other x required none leaves s d is sides =
+    → LeavesAll m apart → AreInnersApart m must one other
+inners_by_first m apart must one other x required none leaves s d sides touch =
     none leaves sides.first_through.id sides.second_through.id d sides.first_through.is
     sides.second_through.is (first_requires m (ReadsDown m.rules d) s one other sides x required)
 
 -- or the second
-pub inners_by_second : (m : Meaning) (apart : Apart) (p : PlannedSelection) (one other : ℕ)
+pub inners_by_second : (m : Meaning) (apart : Apart) (must : Bool) (one other : ℕ)
     (x : Name) → IsRequiredBy m other x → IsMemberApart m apart one other x
-    → LeavesAll m apart → AreInnersApart m p one other
-inners_by_second m apart p one other x required none leaves s d is sides =
+    → LeavesAll m apart → AreInnersApart m must one other
+inners_by_second m apart must one other x required none leaves s d sides touch =
     none leaves sides.first_through.id sides.second_through.id d sides.first_through.is
     sides.second_through.is (second_requires m (ReadsDown m.rules d) s one other sides x required)
 
--- or the selection may be absent, and they share none
-pub inners_by_none : (m : Meaning) (apart : Apart) (p : PlannedSelection) (one other : ℕ)
-    → p.optional ≡ true → ShareNone m apart one other → LeavesAll m apart
-    → AreInnersApart m p one other
-inners_by_none m apart p one other optional none leaves s d is sides =
-    share_some m (ReadsDown m.rules d) s one other sides apart (sym is.optional ∙ optional) none
+-- or the object must have a member that the selection knows, and they share none
+pub inners_by_none : (m : Meaning) (apart : Apart) (must : Bool) (one other : ℕ)
+    → must ≡ true → ShareNone m apart one other → LeavesAll m apart
+    → AreInnersApart m must one other
+inners_by_none m apart must one other is none leaves s d sides touch =
+    share_some m (ReadsDown m.rules d) s one other sides apart (touch is) none
     (λ x h both.
     h leaves sides.first_through.id sides.second_through.id d sides.first_through.is
     sides.second_through.is both)
@@ -268,28 +266,28 @@ branch_through m reads object s k c id n at is r =
     }
 
 -- branches are apart, where each two of the lists within them are
-pub branches_are_apart : (m : Meaning) (p : PlannedSelection) (first second : ℕ) (ps qs : List ℕ)
+pub branches_are_apart : (m : Meaning) (must : Bool) (first second : ℕ) (ps qs : List ℕ)
     → AreInners m first ps → AreInners m second qs
-    → All (λ one. All (λ other. AreInnersApart m p one other) qs) ps
-    → AreApartIn m p first second
-branches_are_apart m p first second ps qs firsts seconds all s a b is is_a is_b d j k at_a at_b meet =
+    → All (λ one. All (λ other. AreInnersApart m must one other) qs) ps
+    → AreApartIn m must first second
+branches_are_apart m must first second ps qs firsts seconds all s a b is_a is_b d j k at_a at_b meet touch =
     let reads = ReadsDown m.rules d in
     let one = firsts meet.first_reads.chooses.of_branch
     (branch_through m reads meet.object s j meet.first_choice a first at_a is_a meet.first_reads) in
     let other = seconds meet.second_reads.chooses.of_branch
     (branch_through m reads meet.object s k meet.second_choice b second at_b is_b
     meet.second_reads) in
-    let here = all_at (λ (n : ℕ). All (λ o. AreInnersApart m p n o) qs) ps one.among.0 one.number all
+    let here = all_at (λ (n : ℕ). All (λ o. AreInnersApart m must n o) qs) ps one.among.0 one.number all
     one.among.1 in
-    all_at (λ (o : ℕ). AreInnersApart m p one.number o) qs other.among.0 other.number here
-    other.among.1 s d is
+    all_at (λ (o : ℕ). AreInnersApart m must one.number o) qs other.among.0 other.number here
+    other.among.1 s d
     (record {
       first = j;
       second = k;
       meet = meet;
       first_through = one.through;
       second_through = other.through;
-    })
+    }) touch
 
 -- lists share none, where the members of all names of the first are apart, and not both take the
 -- rest
@@ -325,3 +323,22 @@ required_member m apart first second number table names list at same are r = (
       are number names id r.0 at is (subst (λ (xs : List (Bor Name)). IsIn r.0 xs) same r.1),
   r.2,
 )
+
+-- no object is read by a list that requires a member which no choice of it reads
+pub none_read : (m : Meaning) (apart : Apart) (n : ℕ) (x : Name) → IsRequiredBy m n x
+    → IsMemberApart m apart n n x → LeavesAll m apart → (id : ListId) → IsNumberOfList m id n
+    → (d : ℕ) (object : Object) (c : Choice) → ReadsList m.rules (ReadsDown m.rules d) object id c
+    → ⊥
+none_read m apart n x required none leaves id is d object c r =
+    let there = required id is c r.items r.chooses in
+    let by : AgreesBy m.rules (ReadsDown m.rules d) object id =
+    record { choice = c; items = r.items; chooses = r.chooses; agrees = r.agrees } in
+    none leaves id id d is is
+    (record {
+      object = object;
+      has = required_there m (ReadsDown m.rules d) object x r.items there r.agrees;
+      one = by;
+      other = by;
+      one_has = key_of_required x r.items there;
+      other_has = key_of_required x r.items there;
+    })

@@ -11,7 +11,8 @@ use Rattle.facet_solver_checker.specs.declared.atoms.Atom.{Atom}
 use Rattle.facet_solver_checker.specs.declared.atoms.Atoms.{Atoms}
 use Rattle.facet_solver_reader.specs.declared.plan.Plan.{Plan}
 use Rattle.facet_solver_checker.specs.Aparts.{is_apart, left}
-use Rattle.facet_solver_checker.specs.Apartness.{AreTargetsApart, AtomsApart, BearsOut, LeavesDown}
+use Rattle.facet_solver_checker.specs.Apartness.{AreTargetsApart, AtomsApart, BearsOut}
+use Rattle.facet_solver_checker.specs.Aparts.{LeavesDown}
 use Rattle.facet_solver_checker.specs.Atoms.{HaveAtoms, IsPlanFor}
 use Rattle.facet_solver_reader.specs.Choices.{Reading}
 use Rattle.facet_solver_reader.specs.Documents.{Tree}

@@ -22,7 +22,8 @@ use Rattle.facet_solver_reader.proofs.Quantifiers.{all_at, any_is_at}
 use Rattle.facet_solver_checker.specs.declared.apart.Apart.{Apart}
 use Rattle.facet_solver_checker.specs.declared.end_ways.MemberWays.{MemberWays}
 use Rattle.facet_solver_checker.specs.declared.ways.Ways.{Ways}
-use Rattle.facet_solver_checker.specs.Apartness.{AreNamesRequired, LeavesDown, ObjectsApart}
+use Rattle.facet_solver_checker.specs.Apartness.{AreNamesRequired, ObjectsApart}
+use Rattle.facet_solver_checker.specs.Aparts.{LeavesDown}
 use Rattle.facet_solver_checker.specs.Atoms.{IsPlanFor, NamesContent, ReadsAs, ReadsByList, ReadsNumber, ReadsValueOf}
 use Rattle.facet_solver_checker.specs.EndWays.{AreContentsAmong, AreEndWays, AreMemberWays, HasContent}
 use Rattle.facet_solver_checker.specs.ListsMeet.{MayRead, may_items}
@@ -31,7 +32,6 @@ use Rattle.facet_solver_checker.specs.Requires.{AreRequired, NameLists}
 use Rattle.facet_solver_checker.specs.Ways.{AreWays, IsReadIn, ways_apart}
 use Rattle.facet_solver_checker.proofs.ListItems.{have_below, planned_at}
 use Rattle.facet_solver_checker.proofs.ListWays.{has_required, way_of}
-use Rattle.facet_solver_checker.proofs.PartsApart.{lists_of_plan, meaning_of_plan}
 use Rattle.facet_solver_checker.proofs.WaysApart.{ways_exclude}
 
 -- a member that is found stands among the members
@@ -103,7 +103,7 @@ map_ways plan key n x w e e_is among =
     let r = all_at (ReadsValueOf m reads key n) (members ms) f.index f.one h f.one_is in
     let k : m.rules.is_key key x ≡ true =
     subst (λ (y : Name). m.rules.is_key key y ≡ true) f.name r.0 in
-    read_in m reads w n has.value (stands w.targets.items n (among (is.keys key x ∙ k)))
+    read_in m reads w n has.value (stands w.targets.items n (among (is.meaning.keys key x ∙ k)))
     (subst (ReadsNumber m reads n) f.value r.1))
 
 -- the content of the variant that is named
@@ -156,18 +156,18 @@ module _ (plan : Plan) (apart : Apart) (table : NameLists) (required : AreNamesR
         has : HasNamed (members ms) x.now
         has =
             has_required m (ReadsDown m.rules depth) a.list (members ms) a.choice x.now a.is_read
-            (required m (lists_of_plan m plan is) list names a.list x names_are a.number_is is_in
+            (required m is.meaning.lists list names a.list x names_are a.number_is is_in
             a.choice (may_items m.rules (ReadsDown m.rules depth) a.list (members ms) a.choice
             a.is_read)
             (may_chooses m (ReadsDown m.rules depth) a.list (members ms) a.choice a.is_read))
 
         by_list : IsReadIn m (ReadsDown m.rules depth) w.list has.value
         by_list =
-            way_of m plan (meaning_of_plan m plan is) (ReadsDown m.rules depth) a.list ways.entry
-            (planned_at m plan (lists_of_plan m plan is) a.list list ways.entry a.number_is
+            way_of m plan is.meaning (ReadsDown m.rules depth) a.list ways.entry
+            (planned_at m plan is.meaning.lists a.list list ways.entry a.number_is
             ways.entry_is) ways.entry.below.items (members ms) a.choice x.now has.value has.found
             w.list ways.list_ways a.is_read
-            (have_below m plan (lists_of_plan m plan is) a.list list ways.entry a.number_is
+            (have_below m plan is.meaning.lists a.list list ways.entry a.number_is
             ways.entry_is a.choice
             (may_items m.rules (ReadsDown m.rules depth) a.list (members ms) a.choice a.is_read)
             (may_chooses m (ReadsDown m.rules depth) a.list (members ms) a.choice a.is_read))

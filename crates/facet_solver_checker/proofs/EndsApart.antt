@@ -11,7 +11,8 @@ use Rattle.facet_solver_reader.specs.declared.plan.PlannedEnd.TheVariants as pla
 use Rattle.facet_solver_reader.specs.declared.plan.PlannedName.{PlannedName}
 use Rattle.facet_solver_reader.specs.declared.plan.PlannedTarget.{PlannedTarget}
 use Rattle.facet_solver_checker.specs.Aparts.{is_apart}
-use Rattle.facet_solver_checker.specs.Apartness.{ArePlacesApart, AtomsApart, EndApart, EndsApart, HaveNoSimple, IsNoUnit, LeavesDown, ListsApart, NameIsApart, NamesApart, ObjectsApart, PartsApart, PlaceIsApart, TextsApart, reads_list, reads_null, reads_number, reads_object, reads_text, reads_truth}
+use Rattle.facet_solver_checker.specs.Apartness.{ArePlacesApart, AtomsApart, EndApart, EndsApart, HaveNoSimple, IsNoUnit, ListsApart, NameIsApart, NamesApart, ObjectsApart, PartsApart, PlaceIsApart, TextsApart, reads_list, reads_null, reads_number, reads_object, reads_text, reads_truth}
+use Rattle.facet_solver_checker.specs.Aparts.{LeavesDown}
 use Rattle.facet_solver_checker.specs.Atoms.{IsPlanFor, NamesContent, NamesUnit, NamesVariant, ReadsAs, ReadsNumber, ReadsPlain}
 use Rattle.facet_solver_reader.specs.Documents.{Tree, null, truth, number, text, list, object, Items, Member, Members, member, no_members, items, members}
 use Rattle.facet_solver_reader.specs.Numbers.{Number}

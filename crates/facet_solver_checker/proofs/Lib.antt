@@ -22,6 +22,8 @@ pub mod PartsApart
 pub mod EndWays
 pub mod BothReadings
 pub mod SelfDifferent
+pub mod Sites
+pub mod TouchedLists
 pub mod ObjectSites
 pub mod ValueSites
 pub mod EqualOrDifferent

@@ -15,14 +15,16 @@ use Rattle.facet_solver_reader.specs.declared.plan.PlannedPart.TheVariants as pa
 use Rattle.facet_solver_reader.specs.declared.plan.PlannedSelection.{PlannedSelection}
 use Rattle.facet_solver_reader.specs.declared.plan.PlannedTarget.{PlannedTarget}
 use Rattle.facet_solver_checker.specs.Differing.{Difference, Side, branch, joined, variant}
-use Rattle.facet_solver_checker.specs.Forks.{AllSettled, IsApart}
-use Rattle.facet_solver_checker.specs.Forks.{IsListed, IsPlanFor}
+use Rattle.facet_solver_checker.specs.Forks.{AllSettled, IsApart, IsBranchAt, IsListed}
+use Rattle.facet_solver_checker.specs.Forks.{IsPlanFor, IsSelectionAt}
 use Rattle.facet_solver_checker.specs.Forks.{LeavesAll, place_at, side_at, way_at, way_count}
-use Rattle.facet_solver_checker.specs.Ambiguity.{IsAt, IsAtEnum, IsAtSelection, IsBranchAt}
+use Rattle.facet_solver_checker.specs.Ambiguity.{IsAt, IsAtEnum, IsAtSelection}
 use Rattle.facet_solver_checker.specs.Ambiguity.{IsPlaceOf, StandAt}
 use Rattle.facet_solver_checker.specs.Leading.{Spot, enum_of, part_of}
-use Rattle.facet_solver_checker.specs.Sites.{BranchSite, BranchesMeet, HasSide, SiteAt, SiteFrom}
-use Rattle.facet_solver_checker.specs.Sites.{VariantSite, VariantsMeet}
+use Rattle.facet_solver_checker.specs.BranchesMeet.{BranchesMeet}
+use Rattle.facet_solver_checker.specs.Comes.{ComesTo}
+use Rattle.facet_solver_checker.specs.Sites.{HasSide, VariantsMeet}
+use Rattle.facet_solver_checker.proofs.Sites.{BranchSite, SiteAt, SiteFrom, VariantSite}
 use Rattle.facet_solver_reader.specs.Branches.{ReadsPart}
 use Rattle.facet_solver_reader.specs.Choices.{Choice, choosing}
 use Rattle.facet_solver_reader.specs.Known.{Chooses, HasChoice}
@@ -124,16 +126,8 @@ stand_in_order m _ _ (passed d ids ns none rest) zero (suc k) less a b at_a at_b
 stand_in_order m _ _ (passed d ids ns none rest) (suc j) (suc k) less a b at_a at_b some_a some_b =
     stand_in_order m ids ns rest j k (omega arith) a b at_a at_b some_a some_b
 
--- a planned selection is one
-planned_selection : (m : Meaning) (s : Selection) (p : PlannedPart)
-    → IsPlannedPart m (a_selection s) p
-    → (q : PlannedSelection) × (p ≡ parts.Selection q) × IsPlannedSelection m s q
-planned_selection m s (parts.Selection q) h = (q, refl, h)
-planned_selection m s (parts.Member q) h = absurd h
-planned_selection m s (parts.CatchAll q) h = absurd h
-
 -- two branches that read one object, the other way round
-swapped : (rules : Rules) (reads : Reads) (s : Selection) (j k : ℕ)
+abbrev swapped : (rules : Rules) (reads : Reads) (s : Selection) (j k : ℕ)
     → BranchesMeet rules reads s j k → BranchesMeet rules reads s k j
 swapped rules reads s j k h = record {
   object = h.object;
@@ -204,31 +198,6 @@ module _ (m : Meaning) where
   way_of (an_untagged_variant list alone) p a h has = untagged_way list alone p a h has
   way_of e p a h has = absurd has
 
--- a planned list with a selection, and the selection as it is planned
-record IsSelectionIn (m : Meaning) (plan : Plan) (number part : ℕ) (s : Selection) : Type 0 where
-  list : PlannedList
-  list_is : slice_get plan.lists.items number ≡ Some list
-  planned : PlannedSelection
-  planned_is : slice_get list.parts.items part ≡ Some (parts.Selection planned)
-  is_planned : IsPlannedSelection m s planned
-
-selection_in : (m : Meaning) (plan : Plan) → IsPlanFor m plan → (id : ListId) (number : ℕ)
-    → IsNumberOfList m id number → (ps : List Part) → m.rules.lists id ≡ Some ps → (part : ℕ)
-    (s : Selection) → slice_get ps part ≡ Some (a_selection s) → IsSelectionIn m plan number part s
-selection_in m plan is id number numbered ps ps_are part s s_is =
-    let l = pair_of (IsPlannedList m) m.lists plan.lists.items number id is.each_list numbered in
-    let same : ps ≡ l.2.parts = some_is (sym ps_are ∙ l.2.parts_are) in
-    let here = subst (λ xs. slice_get xs part ≡ Some (a_selection s)) same s_is in
-    let y = pair_of (IsPlannedPart m) l.2.parts l.0.parts.items part (a_selection s) l.2.each here in
-    let q = planned_selection m s y.0 y.2 in
-    record {
-      list = l.0;
-      list_is = l.1;
-      planned = q.0;
-      planned_is = y.1 ∙ ap (λ z. Some z) q.1;
-      is_planned = q.2;
-    }
-
 -- a branch that reads an object has a choice
 branch_chooses : (rules : Rules) (reads : Reads) (o : Object) (s : Selection) (j : ℕ) (c : Choice)
     → ReadsPart rules reads o (a_selection s) (choosing j c)
@@ -248,100 +217,88 @@ module _ (m : Meaning) (plan : Plan) (apart : Apart) (places : List Place) (is :
       Any (IsAt m plan (record { spot = spot; first = a; second = b })) places
 
   -- two branches, the earlier one first
-  module _ (id : ListId) (number : ℕ) (numbered : IsNumberOfList m id number) (ps : List Part)
-      (ps_are : m.rules.lists id ≡ Some ps) (part : ℕ) (s : Selection)
-      (s_is : slice_get ps part ≡ Some (a_selection s)) (q : IsSelectionIn m plan number part s)
-    where
-      at_selection : (x y : ℕ) (a b : Side) → StandAt (IsBranchAt m s q.planned) (x, y) a b
-          → IsAtSelection m plan (number, part) (x, y)
-          (record { spot = part_of id part; first = a; second = b })
-      at_selection x y a b stand = record {
-        id = id;
-        spot_is = refl;
-        numbered = numbered;
-        all = ps;
-        all_are = ps_are;
-        selection = s;
-        selection_is = s_is;
-        list = q.list;
-        list_is = q.list_is;
-        planned = q.planned;
-        planned_is = q.planned_is;
-        stand = stand;
-      }
+  module _ (number part : ℕ) (s : Selection) (there : IsSelectionAt m plan (number, part) s) where
+    at_selection : (x y : ℕ) (a b : Side) → StandAt (IsBranchAt m s there.planned) (x, y) a b
+        → IsAtSelection m plan (number, part) (x, y)
+        (record { spot = part_of there.id part; first = a; second = b })
+    at_selection x y a b stand =
+        record { selection = s; there = there; spot_is = refl; stand = stand }
 
-      in_order : (j k d : ℕ) → j < k → BranchesMeet m.rules (ReadsDown m.rules d) s j k
-          → HaveListed (part_of id part) (branch j) (branch k)
-          × HaveListed (part_of id part) (branch k) (branch j)
-      in_order j k d less meet =
-          let reads = ReadsDown m.rules d in
-          let a = branch_chooses m.rules reads meet.object s j meet.first_choice meet.first_reads in
-          let b = branch_chooses m.rules reads meet.object s k meet.second_choice meet.second_reads in
-          let h = stand_in_order m s.branches q.planned.branches.items q.is_planned.branches j k less
-          a.0 b.0 a.1 b.1 a.2 b.2 in
-          let fork = forks.Selection number part in
-          let place = place_at fork h.first h.second in
-          let spot = part_of id part in
-          let first : IsBranchAt m s q.planned h.first (branch j) =
-          record {
-            index_of = j;
-            side = refl;
-            list = a.0;
-            is_branch = a.1;
-            number = h.first_number;
-            stands = h.first_is;
-            numbered = h.first_numbered;
-          } in
-          let second : IsBranchAt m s q.planned h.second (branch k) =
-          record {
-            index_of = k;
-            side = refl;
-            list = b.0;
-            is_branch = b.1;
-            number = h.second_number;
-            stands = h.second_is;
-            numbered = h.second_numbered;
-          } in
-          ⊎_elim
-          (λ (apart_here : IsApart plan apart place).
-          absurd (apart_here q.list q.planned h.first_number h.second_number q.list_is q.planned_is
-          h.first_is h.second_is m is s a.0 b.0 d j k q.is_planned h.first_numbered
-          h.second_numbered a.1 b.1 leaves meet))
-          (λ (listed : IsListed places place). (
-            listed_as
-                (IsAt m plan (record { spot = spot; first = branch j; second = branch k })) places
-                place listed (at_selection h.first h.second (branch j) (branch k) (inl (first, second))),
-            listed_as
-                (IsAt m plan (record { spot = spot; first = branch k; second = branch j })) places
-                place listed (at_selection h.first h.second (branch k) (branch j) (inr (first, second))),
-          ))
-          (settled fork (length q.planned.branches.items)
-          (q.list, q.list_is, (parts.Selection q.planned, q.planned_is, refl))
-          h.first h.second h.less (slice_get_within q.planned.branches.items h.second h.second_number
-          h.second_is))
+    in_order : (j k d : ℕ) → j < k → (meet : BranchesMeet m.rules (ReadsDown m.rules d) s j k)
+        → ComesTo m plan (ReadsDown m.rules d) number meet.object
+        → HaveListed (part_of there.id part) (branch j) (branch k)
+        × HaveListed (part_of there.id part) (branch k) (branch j)
+    in_order j k d less meet comes =
+        let reads = ReadsDown m.rules d in
+        let a = branch_chooses m.rules reads meet.object s j meet.first_choice meet.first_reads in
+        let b = branch_chooses m.rules reads meet.object s k meet.second_choice meet.second_reads in
+        let h = stand_in_order m s.branches there.planned.branches.items there.is_planned.branches j
+        k less a.0 b.0 a.1 b.1 a.2 b.2 in
+        let fork = forks.Selection number part in
+        let place = place_at fork h.first h.second in
+        let spot = part_of there.id part in
+        let first : IsBranchAt m s there.planned h.first (branch j) =
+        record {
+          index_of = j;
+          side = refl;
+          list = a.0;
+          is_branch = a.1;
+          number = h.first_number;
+          stands = h.first_is;
+          numbered = h.first_numbered;
+        } in
+        let second : IsBranchAt m s there.planned h.second (branch k) =
+        record {
+          index_of = k;
+          side = refl;
+          list = b.0;
+          is_branch = b.1;
+          number = h.second_number;
+          stands = h.second_is;
+          numbered = h.second_numbered;
+        } in
+        ⊎_elim
+        (λ (apart_here : IsApart plan apart place).
+        absurd (apart_here m is leaves d
+        (record {
+          selection = s;
+          there = there;
+          j = j;
+          k = k;
+          first = first;
+          second = second;
+          meet = meet;
+          comes = comes;
+        })))
+        (λ (listed : IsListed places place). (
+          listed_as
+              (IsAt m plan (record { spot = spot; first = branch j; second = branch k })) places
+              place listed (at_selection h.first h.second (branch j) (branch k) (inl (first, second))),
+          listed_as
+              (IsAt m plan (record { spot = spot; first = branch k; second = branch j })) places
+              place listed (at_selection h.first h.second (branch k) (branch j) (inr (first, second))),
+        ))
+        (settled fork (length there.planned.branches.items)
+        (there.list, there.list_is, (parts.Selection there.planned, there.planned_is, refl))
+        h.first h.second h.less
+        (slice_get_within there.planned.branches.items h.second h.second_number h.second_is))
 
-  branches_listed : (id : ListId) (part : ℕ) (a b : Side) → BranchSite m id part a b
+  branches_listed : (id : ListId) (part : ℕ) (a b : Side) → BranchSite m plan id part a b
       → HaveListed (part_of id part) a b
   branches_listed id part a b h =
-      subst (λ z. HaveListed (part_of id part) z b) (sym h.first_is)
-      (subst (λ z. HaveListed (part_of id part) (branch h.first) z) (sym h.second_is) (go h.meet))
+      subst (λ z. HaveListed (part_of z part) a b) h.id_is
+      (subst (λ z. HaveListed (part_of h.there.id part) z b) (sym h.first_is)
+      (subst (λ z. HaveListed (part_of h.there.id part) (branch h.first) z) (sym h.second_is) go))
     where
-      q : IsSelectionIn m plan h.number part h.selection
-      q =
-          selection_in m plan is id h.number h.numbered h.parts h.parts_are part h.selection
-          h.selection_is
-
-      go : BranchesMeet m.rules (ReadsDown m.rules h.depth) h.selection h.first h.second
-          → HaveListed (part_of id part) (branch h.first) (branch h.second)
-      go meet =
+      go : HaveListed (part_of h.there.id part) (branch h.first) (branch h.second)
+      go =
           ⊎_elim
           (λ (less : h.first < h.second).
-          (in_order id h.number h.numbered h.parts h.parts_are part h.selection h.selection_is q
-          h.first h.second h.depth less meet).0)
+          (in_order h.number part h.selection h.there h.first h.second h.depth less h.meet h.comes).0)
           (λ (less : h.second < h.first).
-          (in_order id h.number h.numbered h.parts h.parts_are part h.selection h.selection_is q
-          h.second h.first h.depth less
-          (swapped m.rules (ReadsDown m.rules h.depth) h.selection h.first h.second meet)).1)
+          (in_order h.number part h.selection h.there h.second h.first h.depth less
+          (swapped m.rules (ReadsDown m.rules h.depth) h.selection h.first h.second h.meet)
+          h.comes).1)
           (below_or_above h.first h.second h.differ)
 
   -- two variants, the earlier way first
@@ -404,12 +361,12 @@ module _ (m : Meaning) (plan : Plan) (apart : Apart) (places : List Place) (is :
       (below_or_above x.index y.index other)
 
   -- a site
-  pub site_listed : (spot : Spot) (a b : Side) → SiteAt m spot a b → HaveListed spot a b
+  pub site_listed : (spot : Spot) (a b : Side) → SiteAt m plan spot a b → HaveListed spot a b
   site_listed (part_of id part) a b h = branches_listed id part a b h
   site_listed (enum_of shape) a b h = variants_listed shape a b h
 
   -- and where a difference leads to from a target
-  pub difference_listed : (t : Target) (d : Difference) → SiteFrom m t d
+  pub difference_listed : (t : Target) (d : Difference) → SiteFrom m plan t d
       → Any (λ place. IsPlaceOf m plan t place d) places
   difference_listed t d h =
       let some = site_listed h.spot d.first d.second h.site in (

@@ -8,17 +8,8 @@ use Rattle.facet_solver_checker.specs.declared.apart.Apart.{Apart}
 use Rattle.facet_solver_checker.specs.Apartness.{AreNamesRequired, PartsApart}
 use Rattle.facet_solver_checker.specs.Atoms.{IsPlanFor}
 use Rattle.facet_solver_checker.specs.ListsMeet.{AreListsApart}
-use Rattle.facet_solver_checker.specs.PlanMembers.{AreListsOf, IsMeaningOf}
+use Rattle.facet_solver_checker.specs.PlanMembers.{IsMeaningOf}
 use Rattle.facet_solver_checker.specs.Requires.{AreRequired, NameLists}
-
--- a plan has the lists that its numbers stand for
-pub lists_of_plan : (m : Meaning) (plan : Plan) → IsPlanFor m plan → AreListsOf m plan
-lists_of_plan m plan is = record { each = is.each_list; below = is.below }
-
--- and what is said of them
-pub meaning_of_plan : (m : Meaning) (plan : Plan) → IsPlanFor m plan → IsMeaningOf m plan
-meaning_of_plan m plan is =
-    record { lists = lists_of_plan m plan is; strict = is.strict; keys = is.keys }
 
 -- what is told of two lists for one meaning is so for each
 pub parts_apart : (plan : Plan) (apart : Apart) (names : NameLists) (p q : ℕ)
@@ -27,7 +18,7 @@ pub parts_apart : (plan : Plan) (apart : Apart) (names : NameLists) (p q : ℕ)
     → IfOk r (λ b. b ≡ true → AreListsApart m apart p q))
     → IfOk r (λ b. IsTrue b → PartsApart plan apart p q)
 parts_apart plan apart names p q required (Ok b) f = λ h m is depth leaves ms x y.
-    f m (meaning_of_plan m plan is) (required m (lists_of_plan m plan is)) h x.list y.list depth
+    f m is.meaning (required m is.meaning.lists) h x.list y.list depth
     x.number_is y.number_is leaves
     (record {
       members = ms;

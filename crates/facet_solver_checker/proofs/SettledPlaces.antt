@@ -11,44 +11,14 @@ use Rattle.facet_solver_reader.specs.declared.plan.PlannedPart.{PlannedPart}
 use Rattle.facet_solver_reader.specs.declared.plan.PlannedPart.TheVariants as parts
 use Rattle.facet_solver_reader.specs.declared.plan.PlannedSelection.{PlannedSelection}
 use Rattle.facet_solver_reader.specs.declared.plan.PlannedTarget.{PlannedTarget}
-use Rattle.facet_solver_checker.specs.Forks.{AllSettled, AreBranchesApart, AreSettled, Grows, IsApart}
+use Rattle.facet_solver_checker.specs.Forks.{AllSettled, AreSettled, Grows, IsApart}
 use Rattle.facet_solver_checker.specs.Forks.{HasWays, IsFork, IsListed, IsPartFork}
-use Rattle.facet_solver_checker.specs.Forks.{IsSelectionApart, IsSettled}
+use Rattle.facet_solver_checker.specs.Forks.{IsSettled}
 use Rattle.facet_solver_checker.specs.Forks.{place_at, way_count}
 
 -- what is there is one thing
 some_is : {A : Type 0} {x y : A} → Some x ≡ Some y → x ≡ y
 some_is p = cc
-
--- one selection
-selection_is : {p q : PlannedSelection}
-    → Some (parts.Selection p) ≡ Some (parts.Selection q) → p ≡ q
-selection_is e = cc
-
-module _ (plan : Plan) (apart : Apart) (at ways : ℕ × ℕ) (l : PlannedList) (p : PlannedSelection)
-    (a b : ℕ) (list_is : slice_get plan.lists.items at.0 ≡ Some l)
-    (part_is : slice_get l.parts.items at.1 ≡ Some (parts.Selection p))
-    (first_is : slice_get p.branches.items ways.0 ≡ Some a)
-    (second_is : slice_get p.branches.items ways.1 ≡ Some b) where
-  -- the branches that stand at a place
-  pub selection_told : AreBranchesApart plan apart p a b → IsSelectionApart plan apart at ways
-  selection_told h = λ k q x y list_at part_at first_at second_at.
-      let same_list : k ≡ l = some_is (sym list_at ∙ list_is) in
-      let part_there : slice_get l.parts.items at.1 ≡ Some (parts.Selection q) =
-      subst (λ (z : PlannedList). slice_get z.parts.items at.1 ≡ Some (parts.Selection q))
-      same_list part_at in
-      let same_part : p ≡ q = selection_is (sym part_is ∙ part_there) in
-      let first : slice_get q.branches.items ways.0 ≡ Some a =
-      subst (λ (z : PlannedSelection). slice_get z.branches.items ways.0 ≡ Some a) same_part
-      first_is in
-      let second : slice_get q.branches.items ways.1 ≡ Some b =
-      subst (λ (z : PlannedSelection). slice_get z.branches.items ways.1 ≡ Some b) same_part
-      second_is in
-      let same_first : a ≡ x = some_is (sym first ∙ first_at) in
-      let same_second : b ≡ y = some_is (sym second ∙ second_at) in
-      subst (λ z. AreBranchesApart plan apart z x y) same_part
-      (subst (λ z. AreBranchesApart plan apart p z y) same_first
-      (subst (λ z. AreBranchesApart plan apart p a z) same_second h))
 
 -- where the answer is that they are apart
 pub told_if : {E : Type 0} (X Y : Type 0) → (X → Y) → (r : Result Bool E)

@@ -28,11 +28,13 @@ use Rattle.facet_solver_checker.specs.declared.apart.Apart.{Apart}
 use Rattle.facet_solver_checker.specs.declared.atoms.Atom.{Atom}
 use Rattle.facet_solver_checker.specs.declared.atoms.Atom.TheVariants.{Null, Plain, Joined}
 use Rattle.facet_solver_checker.specs.declared.atoms.Atoms.{Atoms}
-use Rattle.facet_solver_checker.specs.Apartness.{AllApart, AtomsApart, LeavesDown}
+use Rattle.facet_solver_checker.specs.Apartness.{AllApart, AtomsApart}
+use Rattle.facet_solver_checker.specs.Aparts.{LeavesDown}
 use Rattle.facet_solver_checker.specs.Atoms.{AsksOnward, HaveAtoms, IsPlanFor, ReadsAs, ReadsAtom, is_null_alone, is_null_kind}
 use Rattle.facet_solver_checker.specs.Differing.{Side, joined, variant}
 use Rattle.facet_solver_checker.specs.Sites.{Takes, VariantsMeet}
-use Rattle.facet_solver_checker.specs.VariantsApart.{AreAtomsOf, AreJoinedApart, AreNamesApart, AreOnesApart, AreSidesApart, AreTwoApart, AreVariantsApart, side_at, way_at, by_fallback, by_float, by_whole, by_atoms, IsListApart, IsReadByOne, as_null, as_content, IsFloatBeside, IsFloatKindBeside, IsWholeAtom, IsWholeIn, ReadsWholes, LeavesAll, is_fallback, is_fallback_kind}
+use Rattle.facet_solver_checker.specs.VariantsApart.{AreAtomsOf, AreJoinedApart, AreNamesApart, AreOnesApart, AreSidesApart, AreTwoApart, AreVariantsApart, side_at, way_at, by_fallback, by_float, by_whole, by_atoms, IsListApart, IsReadByOne, as_null, as_content, IsFloatBeside, IsFloatKindBeside, IsWholeAtom, IsWholeIn, ReadsWholes, is_fallback, is_fallback_kind}
+use Rattle.facet_solver_checker.specs.Aparts.{LeavesAll}
 use Rattle.facet_solver_reader.proofs.Pairs.{pair_at, pair_of}
 use Rattle.facet_solver_checker.proofs.PlainReads.{by_list}
 use Rattle.facet_solver_checker.proofs.ReadByAtom.{read_by_atom}

@@ -9,7 +9,7 @@ use Rattle.facet_solver_checker.specs.Aparts.{left}
 use Rattle.facet_solver_checker.specs.Atoms.{AsksLower, IsPlanFor}
 use Rattle.facet_solver_checker.specs.Pairs.{IsClosedDown}
 use Rattle.facet_solver_checker.specs.Told.{AreAllTold, IsPlanned, IsTold}
-use Rattle.facet_solver_checker.specs.VariantsApart.{LeavesAll}
+use Rattle.facet_solver_checker.specs.Aparts.{LeavesAll}
 use Rattle.facet_solver_checker.proofs.AskedLower.{asks_lower}
 use Rattle.facet_solver_checker.proofs.ClosedPairs.{among_down}
 

@@ -1,13 +1,15 @@
 -- A settled list of places has each at which two readings differ first; where it has none, no document
 -- has two readings.
-use Rattle.std.proofs.Common.{◌≡◌, ⊎_elim, sym, subst, ℕ, suc, List, Result, Ok, Err, IfOk, Any}
+use Rattle.std.proofs.Common.{◌≡◌, ⊎_elim, sym, subst, ℕ, suc, List, [], Result, Ok, Err, IfOk, Any}
 use Rattle.facet_solver_shape.specs.Catalogues.{Catalogue}
 use Rattle.facet_solver_shape.specs.Names.{Name}
 use Rattle.facet_solver_checker.specs.declared.apart.Apart.{Apart}
 use Rattle.facet_solver_checker.specs.declared.place.Place.{Place}
 use Rattle.facet_solver_reader.specs.declared.plan.Plan.{Plan}
 use Rattle.facet_solver_checker.specs.Ambiguity.{AreAllPlaces, IsCertain, IsPlaceOf}
+use Rattle.facet_solver_checker.specs.Certain.{IsUnambiguous}
 use Rattle.facet_solver_checker.specs.Differing.{Differ, Difference}
+use Rattle.facet_solver_checker.specs.Told.{IsTold}
 use Rattle.facet_solver_reader.specs.Documents.{depth}
 use Rattle.facet_solver_checker.specs.Forks.{AllSettled, IsPlanFor}
 use Rattle.facet_solver_reader.specs.Parts.{Target}
@@ -38,7 +40,7 @@ module _ (m : Meaning) (plan : Plan) (is : IsPlanFor m plan) where
 
   lists_of : AreListed m
   lists_of id n at =
-      let pair = pair_of (IsPlannedList m) m.lists plan.lists.items n id is.each_list at in
+      let pair = pair_of (IsPlannedList m) m.lists plan.lists.items n id is.meaning.lists.each at in
       (pair.0, pair.2)
 
 module _ (plan : Plan) (apart : Apart) (places : List Place) (settled : AllSettled plan apart places)
@@ -47,8 +49,7 @@ module _ (plan : Plan) (apart : Apart) (places : List Place) (settled : AllSettl
     unfolding ReadsValue
     all_places_of m is leaves t n at v r s d x y differ =
         difference_listed m plan apart places is leaves settled t d
-        (value_sites m (targets_of m plan is) (lists_of m plan is) is.asked_first (suc (depth v)) t n v
-        r s d at x y differ)
+        (value_sites m plan is (suc (depth v)) t n v r s d at x y differ)
 
     pub certain_of : IsCertain plan apart places
     unfolding ReadsValue
@@ -68,11 +69,21 @@ pub plan_is_for : (rules : Rules) (shapes : Catalogue) (root : Target) (p : Plan
     → IsPlanFor (meaning shapes rules is.targets is.lists) p
 plan_is_for rules shapes root p is keys = record {
   each_target = is.each_target;
-  each_list = is.each_list;
   distinct = is.distinct;
   asked_first = is.asked_first;
-  below = is.below;
-  strict = is.strict;
-  keys = λ key x.
-      subst (λ (c : Catalogue). is_key c key x ≡ rules.is_key key x) (sym is.keys) (keys key x);
+  meaning = record {
+    lists = record { each = is.each_list; below = is.below };
+    strict = is.strict;
+    keys = λ key x.
+        subst (λ (c : Catalogue). is_key c key x ≡ rules.is_key key x) (sym is.keys) (keys key x);
+  };
 }
+
+-- where no place is told, no document has two readings as the root
+pub root_told : (rules : Rules) (shapes : Catalogue) (root : Target) (p : Plan)
+    → (is : IsPlanOf rules shapes root p)
+    → ((key : ℕ) (x : Name) → is_key shapes key x ≡ rules.is_key key x) → (places : List Place)
+    → IsTold p places → places ≡ [] → IsUnambiguous rules root
+root_told rules shapes root p is keys places told none =
+    told (meaning shapes rules is.targets is.lists) (plan_is_for rules shapes root p is keys) root
+    p.root is.root_is none

@@ -1,6 +1,7 @@
 -- Where two readings of a value differ, two branches of a selection read one object, or two variants
 -- of an enum read one value.
 use Rattle.std.proofs.Common.{◌≡◌, refl, sym, subst, ⊎_elim, ℕ, zero, suc, ◌<◌, List, [], ◌∷◌, Some, arith}
+use Rattle.facet_solver_reader.specs.declared.plan.Plan.{Plan}
 use Rattle.facet_solver_reader.specs.declared.plan.PlannedEnd.{PlannedEnd}
 use Rattle.facet_solver_reader.specs.Choices.{Reading, Readings, a_variant, an_object}
 use Rattle.facet_solver_checker.specs.Differing.{Differ, DifferEach, Difference, Side, first_differ}
@@ -12,16 +13,20 @@ use Rattle.facet_solver_checker.specs.Leading.{IsWithin, Leads, by_asked, enum_o
 use Rattle.facet_solver_checker.specs.Leading.{into_content, into_item, into_object, is_enum}
 use Rattle.facet_solver_reader.specs.Objects.{Reads}
 use Rattle.facet_solver_reader.specs.Parts.{ListId, Target, of_shape}
-use Rattle.facet_solver_reader.specs.Plans.{AreAskedFirst, IsNumberOf, IsPlannedAs, Meaning}
+use Rattle.facet_solver_reader.specs.Plans.{AreAskedFirst, IsNumberOf, IsPlannedAs, IsPlannedTarget, Meaning}
+use Rattle.facet_solver_checker.specs.Atoms.{IsPlanFor}
 use Rattle.facet_solver_reader.specs.Reached.{IsRanked, list_of}
-use Rattle.facet_solver_checker.specs.Sites.{HasSide, SiteFrom, SiteIn, Takes}
+use Rattle.facet_solver_checker.specs.Sites.{HasSide, Takes}
 use Rattle.facet_solver_reader.specs.Values.{ReadsDown, ReadsEach}
 use Rattle.facet_solver_checker.proofs.BothReadings.{AreNumbered, AreWithin, Both, ReadsPair, are_same, ask}
 use Rattle.facet_solver_checker.proofs.BothReadings.{both_readings, of_alone, of_joined, of_member}
 use Rattle.facet_solver_checker.proofs.BothReadings.{of_objects, of_one, of_two, of_values}
-use Rattle.facet_solver_checker.proofs.ObjectSites.{AreListed, HaveSites, list_site}
+use Rattle.facet_solver_checker.proofs.ObjectSites.{HaveSites, list_site}
 use Rattle.facet_solver_checker.proofs.SelfDifferent.{alone_differ, joined_differ, not_same}
 use Rattle.facet_solver_checker.proofs.SelfDifferent.{objects_differ, values_differ, variants_differ}
+use Rattle.facet_solver_checker.proofs.Sites.{SiteFrom, SiteIn}
+use Rattle.facet_solver_checker.proofs.TouchedLists.{list_number}
+use Rattle.facet_solver_reader.proofs.Pairs.{pair_of}
 use Rattle.facet_solver_reader.proofs.Unrolling.{inner_down, unrolled}
 
 -- what planned targets say
@@ -38,30 +43,29 @@ number_ranks m first (suc b) n less t is = λ u asks.
     number_ranks m first b below.0 fewer u below.2
 
 -- two readings of values within one of a target
-each_site : (m : Meaning) (reads : Reads) → HaveSites m reads → (t : Target)
+each_site : (m : Meaning) (plan : Plan) (reads : Reads) → HaveSites m plan reads → (t : Target)
     → (ps : List (Target × Tree)) → AreNumbered m ps → AreWithin m.rules t ps
     → (rs ss : Readings) (k : ℕ) (d : Difference) → DifferEach rs ss k d
     → ReadsEach (ReadsPair reads) ps rs → ReadsEach (ReadsPair reads) ps ss
-    → (j : ℕ) → SiteFrom m t (behind (into_value j) d)
-each_site m reads values t [] numbers inside _ _ _ _ (first_differ r s rs ss d h) x y j = absurd x
-each_site m reads values t [] numbers inside _ _ _ _ (later_differ r s rs ss k d h) x y j = absurd x
-each_site m reads values t (p ∷ ps) numbers inside _ _ _ _ (first_differ r s rs ss d h) x y j =
+    → (j : ℕ) → SiteFrom m plan t (behind (into_value j) d)
+each_site m plan reads values t [] numbers inside _ _ _ _ (first_differ r s rs ss d h) x y j = absurd x
+each_site m plan reads values t [] numbers inside _ _ _ _ (later_differ r s rs ss k d h) x y j = absurd x
+each_site m plan reads values t (p ∷ ps) numbers inside _ _ _ _ (first_differ r s rs ss d h) x y j =
     let site = values p.0 numbers.0.0 p.1 r s d numbers.0.1 x.0 y.0 h in
     record {
       spot = site.spot;
       leads = into_item j t p.0 d.way site.spot inside.0 site.leads;
       site = site.site;
     }
-each_site m reads values t (p ∷ ps) numbers inside _ _ _ _ (later_differ r s rs ss k d h) x y j =
-    each_site m reads values t ps numbers.1 inside.1 rs ss k d h x.1 y.1 j
+each_site m plan reads values t (p ∷ ps) numbers inside _ _ _ _ (later_differ r s rs ss k d h) x y j =
+    each_site m plan reads values t ps numbers.1 inside.1 rs ss k d h x.1 y.1 j
 
-module _ (m : Meaning) (planned : ArePlanned m) (listed : AreListed m)
-    (first : AreAskedFirst m.rules m.targets) where
+module _ (m : Meaning) (plan : Plan) (is_for : IsPlanFor m plan) where
   -- two variants of one enum
   variants_site : (depth n id : ℕ) (t : Target) → IsNumberOf m t n → t ≡ of_shape id
       → (a b : Side) → HasSide (m.rules.end_of id) a → HasSide (m.rules.end_of id) b
       → (a ≡ b → ⊥) → (v : Tree) (r s : Reading) → ReadsDown m.rules depth t v r
-      → ReadsDown m.rules depth t v s → Takes a r → Takes b s → SiteFrom m t (here a b)
+      → ReadsDown m.rules depth t v s → Takes a r → Takes b s → SiteFrom m plan t (here a b)
   variants_site depth n id t is same a b has_a has_b ne v r s x y takes_r takes_s =
       record {
         spot = enum_of id;
@@ -87,20 +91,20 @@ module _ (m : Meaning) (planned : ArePlanned m) (listed : AreListed m)
 
   -- two readings of a value, where there are sites for those one level less deep, and for those of
   -- targets of lower numbers
-  module _ (depth n : ℕ) (deeper : HaveSites m (ReadsDown m.rules depth))
+  module _ (depth n : ℕ) (deeper : HaveSites m plan (ReadsDown m.rules depth))
       (lower : (u : Target) (k : ℕ) → k < n → IsNumberOf m u k → (v : Tree) (r s : Reading)
       (d : Difference) → ReadsDown m.rules (suc depth) u v r → ReadsDown m.rules (suc depth) u v s
-      → Differ r s d → SiteFrom m u d)
+      → Differ r s d → SiteFrom m plan u d)
       (t : Target) (is : IsNumberOf m t n) (v : Tree) where
     -- of one variant
     one_variant_site : (i : ℕ) (r s : Reading)
-        → ((e : Difference) → Differ r s e → SiteFrom m t (behind (into_variant i) e))
-        → (d : Difference) → Differ (a_variant i r) (a_variant i s) d → SiteFrom m t d
+        → ((e : Difference) → Differ r s e → SiteFrom m plan t (behind (into_variant i) e))
+        → (d : Difference) → Differ (a_variant i r) (a_variant i s) d → SiteFrom m plan t d
     one_variant_site i r s inside d h =
         ⊎_elim
         (λ (p : (i ≡ i → ⊥) × (d ≡ here (variant i) (variant i))). absurd (p.0 refl))
         (λ (p : (i ≡ i) × ((e : Difference) × Differ r s e × (d ≡ behind (into_variant i) e))).
-        subst (SiteFrom m t) (sym p.1.2) (inside p.1.0 p.1.1))
+        subst (SiteFrom m plan t) (sym p.1.2) (inside p.1.0 p.1.1))
         (variants_differ h i i r s refl refl)
 
     -- of two
@@ -108,11 +112,11 @@ module _ (m : Meaning) (planned : ArePlanned m) (listed : AreListed m)
         → HasSide (m.rules.end_of id) (variant i) → HasSide (m.rules.end_of id) (variant j)
         → (i ≡ j → ⊥) → (r s : Reading) → ReadsDown m.rules (suc depth) t v (a_variant i r)
         → ReadsDown m.rules (suc depth) t v (a_variant j s) → (d : Difference)
-        → Differ (a_variant i r) (a_variant j s) d → SiteFrom m t d
+        → Differ (a_variant i r) (a_variant j s) d → SiteFrom m plan t d
     two_variants_site id same i j has_i has_j ne r s x y d h =
         ⊎_elim
         (λ (p : (i ≡ j → ⊥) × (d ≡ here (variant i) (variant j))).
-        subst (SiteFrom m t) (sym p.1)
+        subst (SiteFrom m plan t) (sym p.1)
         (variants_site (suc depth) n id t is same (variant i) (variant j) has_i has_j
         (λ e. ne (cc)) v (a_variant i r) (a_variant j s) x y refl refl))
         (λ (p : (i ≡ j) × ((e : Difference) × Differ r s e × (d ≡ behind (into_variant i) e))).
@@ -120,8 +124,8 @@ module _ (m : Meaning) (planned : ArePlanned m) (listed : AreListed m)
         (variants_differ h i j r s refl refl)
 
     -- through the content of a variant that is asked of the same value
-    through_asked : (u : Target) → Asks m.rules t u → (i : ℕ) (e : Difference) → SiteFrom m u e
-        → SiteFrom m t (behind (into_variant i) e)
+    through_asked : (u : Target) → Asks m.rules t u → (i : ℕ) (e : Difference) → SiteFrom m plan u e
+        → SiteFrom m plan t (behind (into_variant i) e)
     through_asked u asks i e h =
         record {
           spot = h.spot;
@@ -131,7 +135,7 @@ module _ (m : Meaning) (planned : ArePlanned m) (listed : AreListed m)
 
     -- through the content of one that is named
     through_content : (u : Target) → IsWithin m.rules t u → (i : ℕ) (e : Difference)
-        → SiteFrom m u e → SiteFrom m t (behind (into_variant i) e)
+        → SiteFrom m plan u e → SiteFrom m plan t (behind (into_variant i) e)
     through_content u inside i e h =
         record {
           spot = h.spot;
@@ -140,7 +144,7 @@ module _ (m : Meaning) (planned : ArePlanned m) (listed : AreListed m)
         }
 
     -- on from another target of the same value
-    on_from : (u : Target) → Asks m.rules t u → (d : Difference) → SiteFrom m u d → SiteFrom m t d
+    on_from : (u : Target) → Asks m.rules t u → (d : Difference) → SiteFrom m plan u d → SiteFrom m plan t d
     on_from u asks d h =
         record {
           spot = h.spot;
@@ -150,7 +154,7 @@ module _ (m : Meaning) (planned : ArePlanned m) (listed : AreListed m)
 
     -- into the list of an object
     into_list : (id : ListId) → list_of m.rules t ≡ Some id → (k : ℕ) (e : Difference)
-        → SiteIn m id k e → SiteFrom m t (behind (at_part k) e)
+        → SiteIn m plan id k e → SiteFrom m plan t (behind (at_part k) e)
     into_list id list_is k e h =
         record {
           spot = h.spot;
@@ -160,7 +164,7 @@ module _ (m : Meaning) (planned : ArePlanned m) (listed : AreListed m)
 
     site_of_both : (r s : Reading) (d : Difference) → ReadsDown m.rules (suc depth) t v r
         → ReadsDown m.rules (suc depth) t v s → Both m (inner_down m.rules depth) n t v r s
-        → Differ r s d → SiteFrom m t d
+        → Differ r s d → SiteFrom m plan t d
     site_of_both _ _ d x y (are_same r s e) h = absurd (not_same h e)
     site_of_both _ _ d x y (ask u asks k less number r s a b) h =
         on_from u asks d (lower u k less number v r s d a b h)
@@ -173,40 +177,44 @@ module _ (m : Meaning) (planned : ArePlanned m) (listed : AreListed m)
     site_of_both _ _ d x y (of_two id same i j has_i has_j ne r s) h =
         two_variants_site id same i j has_i has_j ne r s x y d h
     site_of_both _ _ d x y (of_joined id same j has_i has_j c s) h =
-        subst (SiteFrom m t) (sym (joined_differ h c j s refl refl))
+        subst (SiteFrom m plan t) (sym (joined_differ h c j s refl refl))
         (variants_site (suc depth) n id t is same joined (variant j) has_i has_j (λ e. absurd (cc))
         v (an_object c) (a_variant j s) x y tt refl)
     site_of_both _ _ d x y (of_alone id same i has_i has_j r e) h =
-        subst (SiteFrom m t) (sym (alone_differ h i r e refl refl))
+        subst (SiteFrom m plan t) (sym (alone_differ h i r e refl refl))
         (variants_site (suc depth) n id t is same (variant i) joined has_i has_j (λ p. absurd (cc))
         v (a_variant i r) (an_object e) x y refl tt)
     site_of_both _ _ d x y (of_values ps numbers inside rs ss a b) h =
         let each = values_differ h rs ss refl refl in
-        subst (SiteFrom m t) (sym each.1.2)
-        (each_site m (ReadsDown m.rules depth) deeper t ps numbers inside rs ss each.0 each.1.0
+        subst (SiteFrom m plan t) (sym each.1.2)
+        (each_site m plan (ReadsDown m.rules depth) deeper t ps numbers inside rs ss each.0 each.1.0
         each.1.1 a b each.0)
     site_of_both _ _ d x y (of_objects id list_is k number o c e a b) h =
         let at = objects_differ h c e refl refl in
-        subst (SiteFrom m t) (sym at.1.2)
+        let l = list_number m plan is_for t n is id list_is
+        (record { choice = c; items = a.items; chooses = a.chooses }) o in
+        subst (SiteFrom m plan t) (sym at.1.2)
         (into_list id list_is at.0 at.1.0
-        (list_site m depth o listed deeper c e at.0 at.1.0 at.1.1 id k number a b))
+        (list_site m plan is_for depth o deeper c e at.0 at.1.0 at.1.1 id l.number l.numbered l.touch
+        a b))
 
   -- two readings of a value that nests so deep
-  lower_sites : (depth : ℕ) → HaveSites m (ReadsDown m.rules depth) → (b k : ℕ) → k < b
+  lower_sites : (depth : ℕ) → HaveSites m plan (ReadsDown m.rules depth) → (b k : ℕ) → k < b
       → (u : Target) → IsNumberOf m u k → (v : Tree) (r s : Reading) (d : Difference)
       → ReadsDown m.rules (suc depth) u v r → ReadsDown m.rules (suc depth) u v s → Differ r s d
-      → SiteFrom m u d
+      → SiteFrom m plan u d
   lower_sites depth deeper zero k less u is v r s d x y h = absurd (omega arith)
   lower_sites depth deeper (suc b) k less u is v r s d x y h =
+      let first = is_for.asked_first in
       let ranked = number_ranks m first (suc k) k (omega arith) u is in
-      let p = planned u k is in
+      let p = pair_of (IsPlannedTarget m) m.targets plan.targets.items k u is_for.each_target is in
       site_of_both depth k deeper
       (λ w j below number. lower_sites depth deeper b j (omega arith) w number) u is v r s d x y
-      (both_readings m (inner_down m.rules depth) k u p.0 p.1 (λ w asks. first k u w is asks) v r s
+      (both_readings m (inner_down m.rules depth) k u p.0.end p.2.end (λ w asks. first k u w is asks) v r s
       ((unrolled m.rules depth (suc k) u v ranked r).0 x)
       ((unrolled m.rules depth (suc k) u v ranked s).0 y)) h
 
-  pub value_sites : (depth : ℕ) → HaveSites m (ReadsDown m.rules depth)
+  pub value_sites : (depth : ℕ) → HaveSites m plan (ReadsDown m.rules depth)
   value_sites zero = λ t n v r s d is x y h. absurd x
   value_sites (suc depth) = λ t n v r s d is x y h.
       lower_sites depth (value_sites depth) (suc n) n (omega arith) t is v r s d x y h

@@ -5,31 +5,17 @@ use Rattle.facet_solver_checker.specs.declared.place.Fork.{Fork}
 use Rattle.facet_solver_checker.specs.declared.place.Fork.TheVariants as forks
 use Rattle.facet_solver_checker.specs.declared.place.Place.{Place}
 use Rattle.facet_solver_reader.specs.declared.plan.Plan.{Plan}
-use Rattle.facet_solver_reader.specs.declared.plan.PlannedList.{PlannedList}
-use Rattle.facet_solver_reader.specs.declared.plan.PlannedPart.TheVariants as parts
-use Rattle.facet_solver_reader.specs.declared.plan.PlannedSelection.{PlannedSelection}
 use Rattle.facet_solver_reader.specs.declared.plan.PlannedTarget.{PlannedTarget}
 use Rattle.facet_solver_checker.specs.Certain.{IsUnambiguous, ListsAll}
-use Rattle.facet_solver_checker.specs.Differing.{Difference, Side, branch}
-use Rattle.facet_solver_checker.specs.Forks.{IsPlanFor, LeavesAll, side_at}
+use Rattle.facet_solver_checker.specs.Differing.{Difference, Side}
+use Rattle.facet_solver_checker.specs.Forks.{IsBranchAt, IsPlanFor, IsSelectionAt, LeavesAll, side_at}
 use Rattle.facet_solver_checker.specs.Leading.{Leads, Spot, enum_of, part_of}
-use Rattle.facet_solver_reader.specs.Parts.{ListId, Part, Selection, Target, a_selection, of_shape}
-use Rattle.facet_solver_reader.specs.Plans.{IsNumberOf, IsNumberOfList, Meaning}
+use Rattle.facet_solver_reader.specs.Parts.{Selection, Target, of_shape}
+use Rattle.facet_solver_reader.specs.Plans.{IsNumberOf, Meaning}
 
 -- two sides stand at two indices, in either order
 abbrev pub StandAt : (ℕ → Side → Type 0) → ℕ × ℕ → Side → Side → Type 0
 StandAt IsAt ways a b = (IsAt ways.0 a × IsAt ways.1 b) ⊎ (IsAt ways.0 b × IsAt ways.1 a)
-
--- a branch of a selection stands at an index, by the number of its list
-pub record IsBranchAt (m : Meaning) (s : Selection) (p : PlannedSelection) (index : ℕ) (a : Side)
-    : Type 0 where
-  pub index_of : ℕ
-  pub side : a ≡ branch index_of
-  pub list : ListId
-  pub is_branch : slice_get s.branches index_of ≡ Some list
-  pub number : ℕ
-  pub stands : slice_get p.branches.items index ≡ Some number
-  pub numbered : IsNumberOfList m list number
 
 -- what can be read in several ways, and two of them
 pub record Choosing : Type 0 where
@@ -40,18 +26,10 @@ pub record Choosing : Type 0 where
 -- two branches of a selection stand at the ways of the part that it is of a list
 pub record IsAtSelection (m : Meaning) (plan : Plan) (at ways : ℕ × ℕ) (c : Choosing)
     : Type 0 where
-  pub id : ListId
-  pub spot_is : c.spot ≡ part_of id at.1
-  pub numbered : IsNumberOfList m id at.0
-  pub all : List Part
-  pub all_are : m.rules.lists id ≡ Some all
   pub selection : Selection
-  pub selection_is : slice_get all at.1 ≡ Some (a_selection selection)
-  pub list : PlannedList
-  pub list_is : slice_get plan.lists.items at.0 ≡ Some list
-  pub planned : PlannedSelection
-  pub planned_is : slice_get list.parts.items at.1 ≡ Some (parts.Selection planned)
-  pub stand : StandAt (IsBranchAt m selection planned) ways c.first c.second
+  pub there : IsSelectionAt m plan at selection
+  pub spot_is : c.spot ≡ part_of there.id at.1
+  pub stand : StandAt (IsBranchAt m selection there.planned) ways c.first c.second
 
 -- two variants of an enum stand at the ways of the target that it is
 pub record IsAtEnum (m : Meaning) (plan : Plan) (target : ℕ) (ways : ℕ × ℕ) (c : Choosing)

@@ -9,20 +9,14 @@ use Rattle.facet_solver_reader.specs.declared.plan.Plan.{Plan}
 use Rattle.facet_solver_reader.specs.declared.plan.PlannedEnd.{PlannedEnd}
 use Rattle.facet_solver_reader.specs.declared.plan.PlannedEnd.TheVariants as planned
 use Rattle.facet_solver_reader.specs.declared.plan.PlannedName.{PlannedName}
-use Rattle.facet_solver_checker.specs.Aparts.{is_apart, left}
+use Rattle.facet_solver_checker.specs.Aparts.{LeavesDown, is_apart}
 use Rattle.facet_solver_checker.specs.Atoms.{IsPlanFor, ReadsAs, ReadsAtom, ReadsByList}
 use Rattle.facet_solver_reader.specs.Documents.{Tree, null, truth, number, text, list, object, Items, Member, Members}
 use Rattle.facet_solver_reader.specs.Objects.{Reads}
-use Rattle.facet_solver_checker.specs.Pairs.{AreAmong}
 use Rattle.facet_solver_checker.specs.PlanMembers.{AreListsOf}
 use Rattle.facet_solver_checker.specs.Requires.{AreRequired, NameLists}
 use Rattle.facet_solver_reader.specs.Plans.{Meaning}
 use Rattle.facet_solver_reader.specs.Values.{ReadsDown}
-
--- two targets that read one value that nests fewer than so many deep are not in a table
-abbrev pub LeavesDown : Meaning → Apart → ℕ → Type 0
-LeavesDown m apart depth =
-    AreAmong (left m apart) (ReadsDown m.rules depth) (ReadsDown m.rules depth)
 
 -- what something reads, by how the values within are read
 abbrev pub Way : Type 0 → Type 1

@@ -4,8 +4,9 @@ use Rattle.std.specs.declared.cmp.Ordering.{Ordering}
 use Rattle.std.specs.BTreeSet.{contains}
 use Rattle.std.specs.Ordering.{nat_cmp, ordering_then}
 use Rattle.facet_solver_checker.specs.declared.apart.Apart.{Apart}
-use Rattle.facet_solver_checker.specs.Pairs.{Pairs}
+use Rattle.facet_solver_checker.specs.Pairs.{AreAmong, Pairs}
 use Rattle.facet_solver_reader.specs.Plans.{IsNumberOf, Meaning}
+use Rattle.facet_solver_reader.specs.Values.{ReadsDown}
 
 -- which of two pairs of numbers comes first
 abbrev pub pair_cmp : ℕ × ℕ → ℕ × ℕ → Ordering
@@ -19,3 +20,12 @@ is_apart apart first second = contains pair_cmp apart.pairs (first, second)
 abbrev pub left : Meaning → Apart → Pairs
 left m apart t u =
     (i j : ℕ) → IsNumberOf m t i → IsNumberOf m u j → is_apart apart i j ≡ false
+
+-- two targets that read one value that nests fewer than so many deep are not in a table
+abbrev pub LeavesDown : Meaning → Apart → ℕ → Type 0
+LeavesDown m apart depth =
+    AreAmong (left m apart) (ReadsDown m.rules depth) (ReadsDown m.rules depth)
+
+-- two targets that read one value, however deep it nests, are not in a table
+abbrev pub LeavesAll : Meaning → Apart → Type 0
+LeavesAll m apart = (depth : ℕ) → LeavesDown m apart depth

@@ -12,28 +12,23 @@ use Rattle.facet_solver_reader.specs.declared.plan.PlannedEnd.{PlannedEnd}
 use Rattle.facet_solver_reader.specs.declared.plan.PlannedEnd.TheVariants as planned
 use Rattle.facet_solver_reader.specs.declared.plan.PlannedKind.{PlannedKind}
 use Rattle.facet_solver_reader.specs.declared.plan.PlannedKind.TheVariants as kinds
-use Rattle.facet_solver_reader.specs.declared.plan.PlannedList.{PlannedList}
 use Rattle.facet_solver_reader.specs.declared.plan.PlannedName.{PlannedName}
 use Rattle.facet_solver_reader.specs.declared.plan.PlannedTarget.{PlannedTarget}
 use Rattle.facet_solver_reader.specs.Choices.{Choice, Reading}
 use Rattle.facet_solver_reader.specs.Documents.{Tree, null, truth, number, text, list, object, Member, member, no_members, items, members}
 use Rattle.facet_solver_checker.specs.ListsMeet.{MayRead}
+use Rattle.facet_solver_checker.specs.PlanMembers.{IsMeaningOf}
 use Rattle.facet_solver_reader.specs.Objects.{Reads}
 use Rattle.facet_solver_reader.specs.Parts.{ListId, Target}
-use Rattle.facet_solver_reader.specs.Plans.{AreAskedFirst, AreBelow, AreDistinct, AreInPairs, IsNumberOf, IsNumberOfList, IsPlannedList, IsPlannedTarget, Meaning}
-use Rattle.facet_solver_reader.specs.Types.{is_key}
+use Rattle.facet_solver_reader.specs.Plans.{AreAskedFirst, AreDistinct, AreInPairs, IsNumberOf, IsNumberOfList, IsPlannedTarget, Meaning}
 use Rattle.facet_solver_reader.specs.Values.{is_in}
 
 -- a plan has what its numbers stand for
 pub record IsPlanFor (m : Meaning) (p : Plan) : Type 0 where
   pub each_target : AreInPairs (IsPlannedTarget m) m.targets p.targets.items
-  pub each_list : AreInPairs (IsPlannedList m) m.lists p.lists.items
   pub distinct : AreDistinct m.targets
   pub asked_first : AreAskedFirst m.rules m.targets
-  pub below : (n : ℕ) (l : PlannedList) → slice_get p.lists.items n ≡ Some l
-      → AreBelow p n l.below.items
-  pub strict : p.strict ≡ m.rules.strict
-  pub keys : (key : ℕ) (x : Name) → is_key p.shapes.now key x ≡ m.rules.is_key key x
+  pub meaning : IsMeaningOf m p
 
 -- a value is read as the target of a number
 pub record ReadsNumber (m : Meaning) (reads : Reads) (n : ℕ) (v : Tree) : Type 0 where

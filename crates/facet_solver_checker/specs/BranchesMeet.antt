@@ -1,19 +1,17 @@
 -- Objects that two branches of a selection read.
-use Rattle.std.specs.Prelude.{◌≡◌, ℕ, Some, slice_get, List}
+use Rattle.std.specs.Prelude.{◌≡◌, ℕ, Bool, true, Some, slice_get, List}
 use Rattle.facet_solver_shape.specs.Names.{Name}
-use Rattle.facet_solver_reader.specs.declared.plan.PlannedSelection.{PlannedSelection}
 use Rattle.facet_solver_reader.specs.Branches.{ReadsPart}
 use Rattle.facet_solver_reader.specs.Choices.{Choice, Item, choosing}
 use Rattle.facet_solver_reader.specs.Known.{Chooses, HasKey, IsKnown, Key, named, rest}
-use Rattle.facet_solver_reader.specs.Objects.{Agrees, HasNamed, Object, Reads}
+use Rattle.facet_solver_reader.specs.Objects.{Agrees, HasNamed, Object, Reads, Touches}
 use Rattle.facet_solver_reader.specs.Parts.{ListId, Selection, a_selection}
-use Rattle.facet_solver_reader.specs.Plans.{IsNumberOfList, IsPlannedSelection, Meaning}
+use Rattle.facet_solver_reader.specs.Plans.{IsNumberOfList, Meaning}
 use Rattle.facet_solver_reader.specs.Rules.{Rules}
 use Rattle.facet_solver_reader.specs.Values.{ReadsDown}
 use Rattle.facet_solver_checker.specs.declared.apart.Apart.{Apart}
-use Rattle.facet_solver_checker.specs.Aparts.{left}
+use Rattle.facet_solver_checker.specs.Aparts.{LeavesAll}
 use Rattle.facet_solver_checker.specs.Inners.{IsThrough}
-use Rattle.facet_solver_checker.specs.Pairs.{AreAmong}
 
 -- one object is read by two branches of a selection, whatever list it is read by, and whether
 -- catch-alls take its members of no known name
@@ -24,22 +22,22 @@ pub record BranchesMeet (rules : Rules) (reads : Reads) (s : Selection) (j k : �
   pub first_reads : ReadsPart rules reads object (a_selection s) (choosing j first_choice)
   pub second_reads : ReadsPart rules reads object (a_selection s) (choosing k second_choice)
 
+-- the object has a member that the selection knows, if it must
+abbrev pub MustTouch : Bool → Rules → Object → Selection → Type 0
+MustTouch must rules object s = must ≡ true → Touches rules object s
+
 -- no object is read by two branches of a selection, by their lists, however deep it nests
-abbrev pub NoneMeet : Rules → Selection → ListId → ListId → Type 0
-NoneMeet rules s a b =
+abbrev pub NoneMeet : Rules → Selection → Bool → ListId → ListId → Type 0
+NoneMeet rules s must a b =
     (d j k : ℕ) → slice_get s.branches j ≡ Some a → slice_get s.branches k ≡ Some b
-    → BranchesMeet rules (ReadsDown rules d) s j k → ⊥
+    → (meet : BranchesMeet rules (ReadsDown rules d) s j k) → MustTouch must rules meet.object s
+    → ⊥
 
--- the same of a planned selection, by the numbers of two lists
-abbrev pub AreApartIn : Meaning → PlannedSelection → ℕ → ℕ → Type 0
-AreApartIn m p first second =
-    (s : Selection) (a b : ListId) → IsPlannedSelection m s p
-    → IsNumberOfList m a first → IsNumberOfList m b second → NoneMeet m.rules s a b
-
--- what a table leaves has each pair of targets that read one value, however deep it nests
-abbrev pub LeavesAll : Meaning → Apart → Type 0
-LeavesAll m apart =
-    (d : ℕ) → AreAmong (left m apart) (ReadsDown m.rules d) (ReadsDown m.rules d)
+-- the same by the numbers of two lists
+abbrev pub AreApartIn : Meaning → Bool → ℕ → ℕ → Type 0
+AreApartIn m must first second =
+    (s : Selection) (a b : ListId) → IsNumberOfList m a first → IsNumberOfList m b second
+    → NoneMeet m.rules s must a b
 
 -- what a choice of a list has is as an object has it
 pub record AgreesBy (rules : Rules) (reads : Reads) (object : Object) (id : ListId) : Type 0 where
@@ -80,7 +78,7 @@ pub record BranchSides (m : Meaning) (reads : Reads) (s : Selection) (one other 
   pub second_through : IsThrough m meet.second_reads.chooses.of_branch other
 
 -- there is none, however deep it nests
-abbrev pub AreInnersApart : Meaning → PlannedSelection → ℕ → ℕ → Type 0
-AreInnersApart m p one other =
-    (s : Selection) (d : ℕ) → IsPlannedSelection m s p
-    → BranchSides m (ReadsDown m.rules d) s one other → ⊥
+abbrev pub AreInnersApart : Meaning → Bool → ℕ → ℕ → Type 0
+AreInnersApart m must one other =
+    (s : Selection) (d : ℕ) (sides : BranchSides m (ReadsDown m.rules d) s one other)
+    → MustTouch must m.rules sides.meet.object s → ⊥

@@ -2,6 +2,7 @@ pub mod Pairs
 pub mod Aparts
 pub mod PlanMembers
 pub mod Requires
+pub mod Touched
 pub mod Ways
 pub mod ListsMeet
 pub mod BranchesMeet
@@ -14,7 +15,9 @@ pub mod Certain
 pub mod Leading
 pub mod Sites
 pub mod VariantsApart
+pub mod Comes
 pub mod Forks
 pub mod Ambiguity
+pub mod Tables
 pub mod Told
 pub mod Reports

@@ -12,9 +12,8 @@ use Rattle.facet_solver_reader.specs.Values.{ReadsDown}
 use Rattle.facet_solver_shape.specs.Names.{Name}
 use Rattle.facet_solver_checker.specs.declared.apart.Apart.{Apart}
 use Rattle.facet_solver_checker.specs.declared.objects.Side.{Side}
-use Rattle.facet_solver_checker.specs.Aparts.{left}
+use Rattle.facet_solver_checker.specs.Aparts.{LeavesDown}
 use Rattle.facet_solver_checker.specs.Inners.{IsThrough}
-use Rattle.facet_solver_checker.specs.Pairs.{AreAmong}
 
 -- an object is read by a list, whether or not another reading takes members that this one ignores:
 -- all its members are taken, or, where the reader is not strict, those of no known name are ignored
@@ -43,7 +42,7 @@ may_items rules reads list members c (inr ignoring) = ignoring.1.items
 abbrev pub AreListsApart : Meaning → Apart → ℕ → ℕ → Type 0
 AreListsApart m apart first second =
     (p q : ListId) (d : ℕ) → IsNumberOfList m p first → IsNumberOfList m q second
-    → AreAmong (left m apart) (ReadsDown m.rules d) (ReadsDown m.rules d)
+    → LeavesDown m apart d
     → ListsMeet m.rules (ReadsDown m.rules d) p q → ⊥
 
 -- one object is read by two lists, of each by a choice that is one of a list within it
@@ -61,7 +60,7 @@ pub record SidesMeet (m : Meaning) (reads : Reads) (first second : Side) : Type 
 -- there is none, where values within it are read as pairs that a table leaves
 abbrev pub AreSidesApart : Meaning → Apart → Side → Side → Type 0
 AreSidesApart m apart first second =
-    (d : ℕ) → AreAmong (left m apart) (ReadsDown m.rules d) (ReadsDown m.rules d)
+    (d : ℕ) → LeavesDown m apart d
     → SidesMeet m (ReadsDown m.rules d) first second → ⊥
 
 -- the same of a side and each of several lists within the list of a number
@@ -72,5 +71,5 @@ AllOthersApart m apart first second inners =
 -- there is none that has a member of the name
 abbrev pub IsNameApart : Meaning → Apart → Side → Side → Name → Type 0
 IsNameApart m apart first second x =
-    (d : ℕ) → AreAmong (left m apart) (ReadsDown m.rules d) (ReadsDown m.rules d)
+    (d : ℕ) → LeavesDown m apart d
     → (sides : SidesMeet m (ReadsDown m.rules d) first second) → HasNamed sides.meet.members x → ⊥

@@ -48,7 +48,8 @@ joined_names plan (Some list) = flat_map (names_at plan) (branches_at plan list 
 
 -- the names of the variants that the way of an index takes of an enum
 abbrev pub enum_names : Plan → PlannedEnd → ℕ → List TypeName
-enum_names plan (planned.Named vs) way = option_to_list (option_map (λ v. v.name) (slice_get vs.items way))
+enum_names plan (planned.Named vs) way =
+    option_to_list (option_map (λ v. v.name) (slice_get vs.items way))
 enum_names plan (planned.Untagged joined alone) way =
     option_map_or (λ a. a.name ∷ []) (slice_get alone.items way) (joined_names plan joined)
 enum_names plan _ way = []

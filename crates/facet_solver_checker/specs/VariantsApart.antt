@@ -20,14 +20,10 @@ use Rattle.facet_solver_checker.specs.declared.apart.Apart.{Apart}
 use Rattle.facet_solver_checker.specs.declared.atoms.Atom.{Atom}
 use Rattle.facet_solver_checker.specs.declared.atoms.Atom.TheVariants.{Null, Plain}
 use Rattle.facet_solver_checker.specs.declared.atoms.Atoms.{Atoms}
-use Rattle.facet_solver_checker.specs.Apartness.{LeavesDown}
+use Rattle.facet_solver_checker.specs.Aparts.{LeavesAll, LeavesDown}
 use Rattle.facet_solver_checker.specs.Atoms.{AsksOnward, HasOnward, IsPlanFor, ReadsAs, is_null_alone}
 use Rattle.facet_solver_checker.specs.Differing.{Side, joined, variant}
 use Rattle.facet_solver_checker.specs.Sites.{VariantsMeet}
-
--- two targets that read one value, however deep it nests, are not in a table
-abbrev pub LeavesAll : Meaning → Apart → Type 0
-LeavesAll m apart = (depth : ℕ) → LeavesDown m apart depth
 
 -- the way of an index: a variant, or, behind the last one, those that join
 abbrev pub way_at : ℕ → ℕ → Side
@@ -108,8 +104,8 @@ pub record IsFloatBeside (plan : Plan) (a b : PlannedAlternative) : Type 0 where
   pub whole : b.kind ≡ kinds.Whole range
   pub wholes : ReadsWholes plan b range
 
--- two variants of one enum read no value in common: one alone is a fallback, which reads only what no
--- other does; or one is of floats beside whole numbers; or what they read is apart
+-- two variants of one enum read no value in common: one alone is a fallback, which reads only what
+-- no other does; or one is of floats beside whole numbers; or what they read is apart
 pub data AreTwoApart (plan : Plan) (apart : Apart) (a b : PlannedAlternative) : Type 0 where
   by_fallback : (is_fallback a ≡ is_fallback b → ⊥) → AreTwoApart plan apart a b
   by_float : IsFloatBeside plan a b → AreTwoApart plan apart a b

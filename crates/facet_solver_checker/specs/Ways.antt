@@ -67,9 +67,10 @@ has_any_way p l x below =
     not (has_key l (named x)) && (not p.strict || takes_any_below p.lists.items below)
 
 -- the ways in which a list, of which these are left, reads the member of the name
-pub record AreWays (p : Plan) (l : PlannedList) (x : Name) (below : List ℕ) (w : Ways) : Type 0 where
-  pub targets : w.targets.items ≡ way_targets p l x below
-  pub any : w.any ≡ has_any_way p l x below
+pub record AreWays (p : Plan) (l : PlannedList) (x : Name) (below : List ℕ) (w : Ways) : Type 0
+  where
+    pub targets : w.targets.items ≡ way_targets p l x below
+    pub any : w.any ≡ has_any_way p l x below
 
 -- those of a list by the choices of one within it, by their numbers, if both are there
 abbrev pub AreWaysAt : Plan → Side → Name → Ways → Type 0

@@ -3,37 +3,38 @@ ghost use Rattle.std.specs.Prelude.{◌≡◌, All, IfOk, true};
 ghost use Rattle.std.specs.Borrow.{Bor};
 ghost use Rattle.facet_solver_shape.specs.Names.{Name};
 ghost use Rattle.facet_solver_reader.specs.Plans.{Meaning};
-ghost use Rattle.facet_solver_checker.specs.BranchesMeet.{AreApartIn, AreInnersApart, IsMemberApart, LeavesAll, ShareNone};
+ghost use Rattle.facet_solver_checker.specs.BranchesMeet.{AreApartIn, AreInnersApart, IsMemberApart, ShareNone};
+ghost use Rattle.facet_solver_checker.specs.Aparts.{LeavesAll};
 ghost use Rattle.facet_solver_checker.specs.PlanMembers.{AreListsOf, AreTargetsAt, IsIn};
 ghost use Rattle.facet_solver_checker.specs.Requires.{AreRequired, IsRequiredBy};
 
 use crate::apart::Apart;
 use crate::inners::inners_of;
 use crate::members::targets_of;
-use crate::required::Required;
+use crate::tables::Tables;
 use crate::ways::are_all_apart;
-use facet_solver_reader::{Plan, PlannedSelection};
+use facet_solver_reader::Plan;
 use std::alloc::{AllocError, Global};
 
 /// Whether two branches of a selection, by the numbers of their lists, read no object in common, as
-/// far as is seen for each two of the lists within them.
+/// far as is seen for each two of the lists within them; where it must, of those that have a member
+/// which the selection knows.
 pub(crate) fn branches_apart(
     alloc: Global,
-    plan: &Plan<'_>,
-    required: &Required<'_>,
-    apart: &Apart,
-    selection: &PlannedSelection<'_>,
+    tables: &Tables<'_, '_>,
+    must_touch: bool,
     first: usize,
     second: usize,
 ) -> Result<bool, AllocError>
-    ensures { (m : Meaning) → AreListsOf m plan.now → AreRequired m required.now.names.items
-        → LeavesAll m apart.now
-        → IfOk result (λ b. b ≡ true → AreApartIn m selection.now first second) }
+    ensures { (m : Meaning) → AreListsOf m tables.now.plan.now
+        → AreRequired m tables.now.required.now.names.items
+        → LeavesAll m tables.now.apart.now
+        → IfOk result (λ b. b ≡ true → AreApartIn m must_touch first second) }
 {
-    let firsts = inners_of(alloc, plan, first)?;
-    let seconds = inners_of(alloc, plan, second)?;
+    let firsts = inners_of(alloc, tables.plan, first)?;
+    let seconds = inners_of(alloc, tables.plan, second)?;
     for one in &firsts {
-        let all = all_inners_apart(alloc, plan, required, apart, selection, *one, &seconds)?;
+        let all = all_inners_apart(alloc, tables, must_touch, *one, &seconds)?;
         if !all {
             return Ok(false);
         }
@@ -45,19 +46,18 @@ pub(crate) fn branches_apart(
 /// another.
 fn all_inners_apart(
     alloc: Global,
-    plan: &Plan<'_>,
-    required: &Required<'_>,
-    apart: &Apart,
-    selection: &PlannedSelection<'_>,
+    tables: &Tables<'_, '_>,
+    must_touch: bool,
     one: usize,
     others: &[usize],
 ) -> Result<bool, AllocError>
-    ensures { (m : Meaning) → AreListsOf m plan.now → AreRequired m required.now.names.items
-        → LeavesAll m apart.now → IfOk result (λ b. b ≡ true
-        → All (λ other. AreInnersApart m selection.now one other) others.now) }
+    ensures { (m : Meaning) → AreListsOf m tables.now.plan.now
+        → AreRequired m tables.now.required.now.names.items
+        → LeavesAll m tables.now.apart.now → IfOk result (λ b. b ≡ true
+        → All (λ other. AreInnersApart m must_touch one other) others.now) }
 {
     for other in others {
-        let none = inners_apart(alloc, plan, required, apart, selection, one, *other)?;
+        let none = inners_apart(alloc, tables, must_touch, one, *other)?;
         if !none {
             return Ok(false);
         }
@@ -65,53 +65,53 @@ fn all_inners_apart(
     Ok(true)
 }
 
-/// Whether two lists within branches read no object in common: as far as is seen by the members that
-/// they require, or, where the selection may be absent, by all that both have.
+/// Whether two lists within branches read no object in common: as far as is seen by the members
+/// that they require, or, where the object must have a member of the selection, by all that both
+/// have.
 fn inners_apart(
     alloc: Global,
-    plan: &Plan<'_>,
-    required: &Required<'_>,
-    apart: &Apart,
-    selection: &PlannedSelection<'_>,
+    tables: &Tables<'_, '_>,
+    must_touch: bool,
     one: usize,
     other: usize,
 ) -> Result<bool, AllocError>
-    ensures { (m : Meaning) → AreListsOf m plan.now → AreRequired m required.now.names.items
-        → LeavesAll m apart.now
-        → IfOk result (λ b. b ≡ true → AreInnersApart m selection.now one other) }
+    ensures { (m : Meaning) → AreListsOf m tables.now.plan.now
+        → AreRequired m tables.now.required.now.names.items
+        → LeavesAll m tables.now.apart.now
+        → IfOk result (λ b. b ≡ true → AreInnersApart m must_touch one other) }
 {
-    let by_first = some_required_member_apart(alloc, plan, required, apart, one, other, one)?;
+    let by_first = some_required_member_apart(alloc, tables, one, other, one)?;
     if by_first {
         return Ok(true);
     }
-    let by_second = some_required_member_apart(alloc, plan, required, apart, one, other, other)?;
+    let by_second = some_required_member_apart(alloc, tables, one, other, other)?;
     if by_second {
         return Ok(true);
     }
-    if !selection.optional {
+    if !must_touch {
         return Ok(false);
     }
-    let by_none = share_none(alloc, plan, apart, one, other)?;
+    let by_none = share_none(alloc, tables.plan, tables.apart, one, other)?;
     Ok(by_none)
 }
 
 /// Whether no object has a member, of one of the names that the list of a number requires, that
 /// choices of both lists have.
-fn some_required_member_apart(
+pub(crate) fn some_required_member_apart(
     alloc: Global,
-    plan: &Plan<'_>,
-    required: &Required<'_>,
-    apart: &Apart,
+    tables: &Tables<'_, '_>,
     first: usize,
     second: usize,
     number: usize,
 ) -> Result<bool, AllocError>
-    ensures { (m : Meaning) → AreListsOf m plan.now → AreRequired m required.now.names.items
+    ensures { (m : Meaning) → AreListsOf m tables.now.plan.now
+        → AreRequired m tables.now.required.now.names.items
         → IfOk result (λ b. b ≡ true
-        → (x : Name) × IsRequiredBy m number x × IsMemberApart m apart.now first second x) }
+        → (x : Name) × IsRequiredBy m number x
+        × IsMemberApart m tables.now.apart.now first second x) }
 {
-    match required.names.get(number) {
-        Some(names) => some_member_apart(alloc, plan, apart, first, second, names),
+    match tables.required.names.get(number) {
+        Some(names) => some_member_apart(alloc, tables.plan, tables.apart, first, second, names),
         None => Ok(false),
     }
 }

@@ -3,8 +3,8 @@ use crate::apart::Apart;
 use facet_solver_reader::{Plan, PlannedCatchAll, PlannedEnd, PlannedPart};
 use std::alloc::{AllocError, Global};
 
-/// Pairs of targets that values at one place may be read as: of members of one name, with the content
-/// of variants of this name; of what catch-alls take; of items of lists and tuples.
+/// Pairs of targets that values at one place may be read as: of members of one name, with the
+/// content of variants of this name; of what catch-alls take; of items of lists and tuples.
 pub(crate) fn candidates(alloc: Global, plan: &Plan<'_>) -> Result<Apart, AllocError> {
     let mut pairs = Apart::none(alloc);
     let named = named_targets(alloc, plan)?;

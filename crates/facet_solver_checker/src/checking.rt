@@ -1,8 +1,9 @@
 //! The check of a type.
-ghost use Rattle.std.specs.Prelude.{IfOk};
+ghost use Rattle.std.specs.Prelude.{◌≡◌, [], IfOk};
 ghost use Rattle.facet_solver_reader.specs.Parts.{of_shape};
 ghost use Rattle.facet_solver_reader.specs.Plans.{IsPlanOf};
 ghost use Rattle.facet_solver_reader.specs.Types.{rules_of};
+ghost use Rattle.facet_solver_checker.specs.Certain.{IsUnambiguous};
 ghost use Rattle.facet_solver_checker.specs.Told.{AreAllTold, IsPlanned, IsTold};
 
 use crate::atoms::all_atoms;
@@ -24,6 +25,9 @@ pub fn check<'c>(alloc: Global, reader: &Reader<'c>) -> Result<Report<'c>, Alloc
         (of_shape reader.now.root) report.plan) }
     ensures all { IfOk result (λ report. AreAllTold report.plan report.places.items) }
     ensures certain { IfOk result (λ report. IsTold report.plan report.places.items) }
+    ensures unambiguous { IfOk result (λ report. report.places.items ≡ []
+        → IsUnambiguous (rules_of reader.now.shapes reader.now.strict)
+        (of_shape reader.now.root)) }
 {
     let plan = reader.plan(alloc)?;
     let places = places_of(alloc, &plan)?;

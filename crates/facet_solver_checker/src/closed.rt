@@ -144,24 +144,23 @@ pub(crate) fn targets_apart(
     required: &Required<'_>,
     atoms: &[Atoms],
     apart: &Apart,
-    first: usize,
-    second: usize,
+    pair: (usize, usize),
 ) -> Result<bool, AllocError>
     requires required { AreNamesRequired plan.now required.now.names.items }
     ensures { IfOk result (λ b. IsTrue b
-        → AreTargetsApart plan.now apart.now atoms.now first second) }
+        → AreTargetsApart plan.now apart.now atoms.now pair.0 pair.1) }
 {
-    let Some(one) = atoms.get(first) else {
+    let Some(one) = atoms.get(pair.0) else {
         return Ok(false);
     };
-    let Some(other) = atoms.get(second) else {
+    let Some(other) = atoms.get(pair.1) else {
         return Ok(false);
     };
     all_apart(alloc, plan, required, apart, &one.each, &other.each)
 }
 
-/// Whether each pair of a table reads no value in common, if those of the table do not of the values
-/// within. So no pair of the table reads a value in common.
+/// Whether each pair of a table reads no value in common, if those of the table do not of the
+/// values within. So no pair of the table reads a value in common.
 pub(crate) fn is_closed(
     alloc: Global,
     plan: &Plan<'_>,
@@ -176,7 +175,7 @@ pub(crate) fn is_closed(
 {
     let pairs = apart.pairs(alloc)?;
     for pair in &pairs {
-        let is_apart = targets_apart(alloc, plan, required, atoms, apart, pair.0, pair.1)?;
+        let is_apart = targets_apart(alloc, plan, required, atoms, apart, *pair)?;
         if !is_apart {
             return Ok(false);
         }

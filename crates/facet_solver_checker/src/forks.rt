@@ -1,72 +1,51 @@
 //! Whether two ways to read the same have a value in common.
-ghost use Rattle.std.specs.Prelude.{◌≡◌, IfOk, length, true};
-ghost use Rattle.facet_solver_checker.specs.Apartness.{AreNamesRequired};
-ghost use Rattle.facet_solver_checker.specs.Atoms.{HaveAtoms};
+ghost use Rattle.std.specs.Prelude.{◌≡◌, ◌||◌, IfOk, true};
 ghost use Rattle.facet_solver_checker.specs.Forks.{
   AreBranchesApart,
   IsApart,
   IsSelectionApart,
+  ReadsNone,
 };
+ghost use Rattle.facet_solver_checker.specs.Tables.{AreTablesOf};
+ghost use Rattle.facet_solver_checker.specs.Touched.{is_touched};
 
-use crate::apart::Apart;
-use crate::atoms::Atoms;
-use crate::branches::branches_apart;
+use crate::branches::{branches_apart, some_required_member_apart};
 use crate::place::{Fork, Place};
-use crate::required::Required;
+use crate::tables::Tables;
 use crate::variants::variants_apart;
-use facet_solver_reader::{Plan, PlannedPart, PlannedSelection};
+use facet_solver_reader::{PlannedPart, PlannedSelection};
 use std::alloc::{AllocError, Global};
 
 /// Whether no value is read in both ways of a place.
 pub(crate) fn is_apart(
     alloc: Global,
-    plan: &Plan<'_>,
-    required: &Required<'_>,
-    atoms: &[Atoms],
-    apart: &Apart,
+    tables: &Tables<'_, '_>,
     place: Place,
 ) -> Result<bool, AllocError>
-    requires required { AreNamesRequired plan.now required.now.names.items }
-    requires atoms { HaveAtoms plan.now atoms.now }
-    requires len { length atoms.now ≡ length plan.now.targets.items }
-    ensures { IfOk result (λ b. b ≡ true → IsApart plan.now apart.now place) }
+    requires { AreTablesOf tables.now }
+    ensures { IfOk result (λ b.
+        b ≡ true → IsApart tables.now.plan.now tables.now.apart.now place) }
 {
     match place.fork {
         Fork::Selection(list, part) => {
-            selection_apart(
-                alloc,
-                plan,
-                required,
-                apart,
-                (list, part),
-                (place.first, place.second),
-            )
+            selection_apart(alloc, tables, (list, part), (place.first, place.second))
         }
-        Fork::Enum(target) => variants_apart(
-            alloc,
-            plan,
-            required,
-            atoms,
-            apart,
-            target,
-            (place.first, place.second),
-        ),
+        Fork::Enum(target) => variants_apart(alloc, tables, target, (place.first, place.second)),
     }
 }
 
 /// Whether no object is read by two branches of a selection.
 fn selection_apart(
     alloc: Global,
-    plan: &Plan<'_>,
-    required: &Required<'_>,
-    apart: &Apart,
+    tables: &Tables<'_, '_>,
     at: (usize, usize),
     ways: (usize, usize),
 ) -> Result<bool, AllocError>
-    requires required { AreNamesRequired plan.now required.now.names.items }
-    ensures { IfOk result (λ b. b ≡ true → IsSelectionApart plan.now apart.now at ways) }
+    requires { AreTablesOf tables.now }
+    ensures { IfOk result (λ b.
+        b ≡ true → IsSelectionApart tables.now.plan.now tables.now.apart.now at ways) }
 {
-    let Some(list) = plan.lists.get(at.0) else {
+    let Some(list) = tables.plan.lists.get(at.0) else {
         return Ok(false);
     };
     let Some(PlannedPart::Selection(selection)) = list.parts.get(at.1) else {
@@ -78,22 +57,45 @@ fn selection_apart(
     let Some(second) = selection.branches.get(ways.1) else {
         return Ok(false);
     };
-    parts_apart(alloc, plan, required, apart, selection, *first, *second)
+    let must_touch = must_touch(tables, selection, at.0);
+    parts_apart(alloc, tables, at.0, must_touch, (*first, *second))
 }
 
-/// Whether no object is read by two branches of a selection, by the numbers of their lists.
+/// Whether each object that comes to a selection, a part of the list of a number, has a member that
+/// the selection knows, as far as is seen.
+fn must_touch(tables: &Tables<'_, '_>, selection: &PlannedSelection<'_>, list: usize) -> bool
+    ensures { result ≡ (selection.now.optional
+        || is_touched tables.now.touched.now.flags.items list) }
+{
+    selection.optional || tables.touched.has(list)
+}
+
+/// Whether no object that the list of a number reads is read by two branches, by the numbers of
+/// their lists, of a selection that is a part of it; where it must, of those that have a member
+/// which the selection knows.
 fn parts_apart(
     alloc: Global,
-    plan: &Plan<'_>,
-    required: &Required<'_>,
-    apart: &Apart,
-    selection: &PlannedSelection<'_>,
-    first: usize,
-    second: usize,
+    tables: &Tables<'_, '_>,
+    list: usize,
+    must_touch: bool,
+    branches: (usize, usize),
 ) -> Result<bool, AllocError>
-    requires required { AreNamesRequired plan.now required.now.names.items }
+    requires { AreTablesOf tables.now }
     ensures { IfOk result (λ b. b ≡ true
-        → AreBranchesApart plan.now apart.now selection.now first second) }
+        → AreBranchesApart tables.now.plan.now tables.now.apart.now list must_touch branches) }
 {
-    branches_apart(alloc, plan, required, apart, selection, first, second)
+    let none = branches_apart(alloc, tables, must_touch, branches.0, branches.1)?;
+    if none {
+        return Ok(true);
+    }
+    reads_none(alloc, tables, list)
+}
+
+/// Whether the list of a number reads no object, since it requires a member that has no value.
+fn reads_none(alloc: Global, tables: &Tables<'_, '_>, list: usize) -> Result<bool, AllocError>
+    requires { AreTablesOf tables.now }
+    ensures { IfOk result (λ b.
+        b ≡ true → ReadsNone tables.now.plan.now tables.now.apart.now list) }
+{
+    some_required_member_apart(alloc, tables, list, list, list)
 }

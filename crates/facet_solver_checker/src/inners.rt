@@ -21,7 +21,8 @@ pub(crate) fn inners_of(
     plan: &Plan<'_>,
     number: usize,
 ) -> Result<Vec<usize>, AllocError>
-    ensures { IfOk result (λ ns. (m : Meaning) → AreListsOf m plan.now → AreInners m number ns.items) }
+    ensures { IfOk result (λ ns.
+        (m : Meaning) → AreListsOf m plan.now → AreInners m number ns.items) }
 {
     let mut inners = vec![in alloc; number]?;
     for _ in 0..LEVELS {

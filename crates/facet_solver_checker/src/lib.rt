@@ -27,7 +27,9 @@ mod places;
 mod report;
 mod required;
 mod table;
+mod tables;
 mod texts;
+mod touched;
 mod variants;
 mod ways;
 

@@ -2,16 +2,19 @@
 ghost use Rattle.std.specs.Prelude.{◌≡◌, ◌<◌, IfOk, OnOk, ℕ, length};
 ghost use Rattle.facet_solver_checker.specs.Apartness.{AreNamesRequired};
 ghost use Rattle.facet_solver_checker.specs.Atoms.{HaveAtoms};
+ghost use Rattle.facet_solver_checker.specs.Tables.{
+  AllSettledBy,
+  AreSettledBy,
+  AreTablesOf,
+  HasFork,
+  IsSettledBy,
+};
 ghost use Rattle.facet_solver_checker.specs.declared.place.Fork.TheVariants as forks;
 ghost use Rattle.facet_solver_checker.specs.Ambiguity.{AreAllPlaces, IsCertain};
 ghost use Rattle.facet_solver_checker.specs.Forks.{
-  AllSettled,
-  AreSettled,
   Grows,
   HasWays,
-  IsFork,
   IsPartFork,
-  IsSettled,
   place_at,
   way_count,
 };
@@ -21,6 +24,8 @@ use crate::atoms::Atoms;
 use crate::forks::is_apart;
 use crate::place::{Fork, Place};
 use crate::required::Required;
+use crate::tables::Tables;
+use crate::touched::Touched;
 use facet_solver_reader::{Plan, PlannedEnd, PlannedPart};
 use std::alloc::{AllocError, Global};
 
@@ -40,55 +45,42 @@ pub(crate) fn all_places(
     ensures all { IfOk result (λ places. AreAllPlaces plan.now apart.now places.items) }
     ensures certain { IfOk result (λ places. IsCertain plan.now apart.now places.items) }
 {
-    places_left(alloc, plan, required, atoms, apart)
+    let touched = Touched::new(alloc, plan)?;
+    let tables = Tables {
+        plan,
+        required,
+        touched: &touched,
+        atoms,
+        apart,
+    };
+    places_left(alloc, &tables)
 }
 
 /// The places of a plan whose two ways are not known to be apart.
-fn places_left(
-    alloc: Global,
-    plan: &Plan<'_>,
-    required: &Required<'_>,
-    atoms: &[Atoms],
-    apart: &Apart,
-) -> Result<Vec<Place>, AllocError>
-    requires required { AreNamesRequired plan.now required.now.names.items }
-    requires atoms { HaveAtoms plan.now atoms.now }
-    requires len { length atoms.now ≡ length plan.now.targets.items }
-    ensures { IfOk result (λ places. AllSettled plan.now apart.now places.items) }
+fn places_left(alloc: Global, tables: &Tables<'_, '_>) -> Result<Vec<Place>, AllocError>
+    requires { AreTablesOf tables.now }
+    ensures { IfOk result (λ places. AllSettledBy tables.now places.items) }
 {
     let mut places = Vec::new(alloc);
-    add_lists(alloc, plan, required, atoms, apart, &mut places)?;
-    add_enums(alloc, plan, required, atoms, apart, &mut places)?;
+    add_lists(alloc, tables, &mut places)?;
+    add_enums(alloc, tables, &mut places)?;
     Ok(places)
 }
 
 /// Adds the places of all selections.
 fn add_lists(
     alloc: Global,
-    plan: &Plan<'_>,
-    required: &Required<'_>,
-    atoms: &[Atoms],
-    apart: &Apart,
+    tables: &Tables<'_, '_>,
     places: &mut Vec<Place>,
 ) -> Result<(), AllocError>
-    requires required { AreNamesRequired plan.now required.now.names.items }
-    requires atoms { HaveAtoms plan.now atoms.now }
-    requires len { length atoms.now ≡ length plan.now.targets.items }
+    requires { AreTablesOf tables.now }
     ensures grows { OnOk result (Grows places.old.items places.new.items) }
-    ensures settled { OnOk result ((list part n : ℕ) → IsFork plan.now (forks.Selection list part) n
-        → AreSettled plan.now apart.now places.new.items (forks.Selection list part) n) }
+    ensures settled { OnOk result ((list part n : ℕ)
+        → HasFork tables.now (forks.Selection list part) n
+        → AreSettledBy tables.now places.new.items (forks.Selection list part) n) }
 {
-    for list in 0..plan.lists.len() {
-        add_list(
-            alloc,
-            plan,
-            required,
-            atoms,
-            apart,
-            list,
-            &plan.lists[list].parts,
-            places,
-        )?;
+    for list in 0..tables.plan.lists.len() {
+        add_list(alloc, tables, list, &tables.plan.lists[list].parts, places)?;
     }
     Ok(())
 }
@@ -96,33 +88,19 @@ fn add_lists(
 /// Adds those of the selections of a list.
 fn add_list(
     alloc: Global,
-    plan: &Plan<'_>,
-    required: &Required<'_>,
-    atoms: &[Atoms],
-    apart: &Apart,
+    tables: &Tables<'_, '_>,
     list: usize,
     parts: &[PlannedPart<'_>],
     places: &mut Vec<Place>,
 ) -> Result<(), AllocError>
-    requires required { AreNamesRequired plan.now required.now.names.items }
-    requires atoms { HaveAtoms plan.now atoms.now }
-    requires len { length atoms.now ≡ length plan.now.targets.items }
+    requires { AreTablesOf tables.now }
     ensures grows { OnOk result (Grows places.old.items places.new.items) }
     ensures settled { OnOk result ((part n : ℕ) → IsPartFork parts.now part n
-        → AreSettled plan.now apart.now places.new.items (forks.Selection list part) n) }
+        → AreSettledBy tables.now places.new.items (forks.Selection list part) n) }
 {
     for part in 0..parts.len() {
         let fork = Fork::Selection(list, part);
-        add_part(
-            alloc,
-            plan,
-            required,
-            atoms,
-            apart,
-            fork,
-            &parts[part],
-            places,
-        )?;
+        add_part(alloc, tables, fork, &parts[part], places)?;
     }
     Ok(())
 }
@@ -130,33 +108,19 @@ fn add_list(
 /// Adds those of a part, if it is a selection.
 fn add_part(
     alloc: Global,
-    plan: &Plan<'_>,
-    required: &Required<'_>,
-    atoms: &[Atoms],
-    apart: &Apart,
+    tables: &Tables<'_, '_>,
     fork: Fork,
     part: &PlannedPart<'_>,
     places: &mut Vec<Place>,
 ) -> Result<(), AllocError>
-    requires required { AreNamesRequired plan.now required.now.names.items }
-    requires atoms { HaveAtoms plan.now atoms.now }
-    requires len { length atoms.now ≡ length plan.now.targets.items }
+    requires { AreTablesOf tables.now }
     ensures grows { OnOk result (Grows places.old.items places.new.items) }
     ensures settled { OnOk result ((n : ℕ) → HasWays part.now n
-        → AreSettled plan.now apart.now places.new.items fork n) }
+        → AreSettledBy tables.now places.new.items fork n) }
 {
     match part {
         PlannedPart::Selection(selection) => {
-            add_pairs(
-                alloc,
-                plan,
-                required,
-                atoms,
-                apart,
-                fork,
-                selection.branches.len(),
-                places,
-            )
+            add_pairs(alloc, tables, fork, selection.branches.len(), places)
         }
         _ => Ok(()),
     }
@@ -165,31 +129,17 @@ fn add_part(
 /// Adds those of all enums that are read as values.
 fn add_enums(
     alloc: Global,
-    plan: &Plan<'_>,
-    required: &Required<'_>,
-    atoms: &[Atoms],
-    apart: &Apart,
+    tables: &Tables<'_, '_>,
     places: &mut Vec<Place>,
 ) -> Result<(), AllocError>
-    requires required { AreNamesRequired plan.now required.now.names.items }
-    requires atoms { HaveAtoms plan.now atoms.now }
-    requires len { length atoms.now ≡ length plan.now.targets.items }
+    requires { AreTablesOf tables.now }
     ensures grows { OnOk result (Grows places.old.items places.new.items) }
-    ensures settled { OnOk result ((target n : ℕ) → IsFork plan.now (forks.Enum target) n
-        → AreSettled plan.now apart.now places.new.items (forks.Enum target) n) }
+    ensures settled { OnOk result ((target n : ℕ) → HasFork tables.now (forks.Enum target) n
+        → AreSettledBy tables.now places.new.items (forks.Enum target) n) }
 {
-    for target in 0..plan.targets.len() {
-        let count = ways_of(&plan.targets[target].end);
-        add_pairs(
-            alloc,
-            plan,
-            required,
-            atoms,
-            apart,
-            Fork::Enum(target),
-            count,
-            places,
-        )?;
+    for target in 0..tables.plan.targets.len() {
+        let count = ways_of(&tables.plan.targets[target].end);
+        add_pairs(alloc, tables, Fork::Enum(target), count, places)?;
     }
     Ok(())
 }
@@ -208,22 +158,17 @@ fn ways_of(end: &PlannedEnd<'_>) -> usize
 /// Adds each two of the first ways of a fork.
 fn add_pairs(
     alloc: Global,
-    plan: &Plan<'_>,
-    required: &Required<'_>,
-    atoms: &[Atoms],
-    apart: &Apart,
+    tables: &Tables<'_, '_>,
     fork: Fork,
     count: usize,
     places: &mut Vec<Place>,
 ) -> Result<(), AllocError>
-    requires required { AreNamesRequired plan.now required.now.names.items }
-    requires atoms { HaveAtoms plan.now atoms.now }
-    requires len { length atoms.now ≡ length plan.now.targets.items }
+    requires { AreTablesOf tables.now }
     ensures grows { OnOk result (Grows places.old.items places.new.items) }
-    ensures settled { OnOk result (AreSettled plan.now apart.now places.new.items fork count) }
+    ensures settled { OnOk result (AreSettledBy tables.now places.new.items fork count) }
 {
     for second in 0..count {
-        add_before(alloc, plan, required, atoms, apart, fork, second, places)?;
+        add_before(alloc, tables, fork, second, places)?;
     }
     Ok(())
 }
@@ -231,20 +176,15 @@ fn add_pairs(
 /// Adds a way of a fork with each that comes before it.
 fn add_before(
     alloc: Global,
-    plan: &Plan<'_>,
-    required: &Required<'_>,
-    atoms: &[Atoms],
-    apart: &Apart,
+    tables: &Tables<'_, '_>,
     fork: Fork,
     second: usize,
     places: &mut Vec<Place>,
 ) -> Result<(), AllocError>
-    requires required { AreNamesRequired plan.now required.now.names.items }
-    requires atoms { HaveAtoms plan.now atoms.now }
-    requires len { length atoms.now ≡ length plan.now.targets.items }
+    requires { AreTablesOf tables.now }
     ensures grows { OnOk result (Grows places.old.items places.new.items) }
     ensures settled { OnOk result ((x : ℕ) → x < second
-        → IsSettled plan.now apart.now places.new.items (place_at fork x second)) }
+        → IsSettledBy tables.now places.new.items (place_at fork x second)) }
 {
     for first in 0..second {
         let place = Place {
@@ -252,7 +192,7 @@ fn add_before(
             first,
             second,
         };
-        add_place(alloc, plan, required, atoms, apart, place, places)?;
+        add_place(alloc, tables, place, places)?;
     }
     Ok(())
 }
@@ -260,20 +200,15 @@ fn add_before(
 /// Adds a place, unless its two ways are apart.
 fn add_place(
     alloc: Global,
-    plan: &Plan<'_>,
-    required: &Required<'_>,
-    atoms: &[Atoms],
-    apart: &Apart,
+    tables: &Tables<'_, '_>,
     place: Place,
     places: &mut Vec<Place>,
 ) -> Result<(), AllocError>
-    requires required { AreNamesRequired plan.now required.now.names.items }
-    requires atoms { HaveAtoms plan.now atoms.now }
-    requires len { length atoms.now ≡ length plan.now.targets.items }
+    requires { AreTablesOf tables.now }
     ensures grows { OnOk result (Grows places.old.items places.new.items) }
-    ensures settled { OnOk result (IsSettled plan.now apart.now places.new.items place) }
+    ensures settled { OnOk result (IsSettledBy tables.now places.new.items place) }
 {
-    if !is_apart(alloc, plan, required, atoms, apart, place)? {
+    if !is_apart(alloc, tables, place)? {
         places.push(place)?;
     }
     Ok(())

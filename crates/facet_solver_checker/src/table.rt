@@ -16,8 +16,8 @@ use std::alloc::{AllocError, Global};
 
 /// The pairs of targets that read no value in common, of those that are asked of.
 ///
-/// It begins with all of these. Those whose values may meet, by the table as it is, are left out, and
-/// so on, until the others bear one another out.
+/// It begins with all of these. Those whose values may meet, by the table as it is, are left out,
+/// and so on, until the others bear one another out.
 pub(crate) fn apart_of(
     alloc: Global,
     plan: &Plan<'_>,
@@ -54,7 +54,7 @@ fn borne_out(
 {
     let mut left = Apart::none(alloc);
     for pair in &apart.pairs(alloc)? {
-        let is_apart = targets_apart(alloc, plan, required, atoms, apart, pair.0, pair.1)?;
+        let is_apart = targets_apart(alloc, plan, required, atoms, apart, *pair)?;
         if is_apart {
             left.add(pair.0, pair.1)?;
         }

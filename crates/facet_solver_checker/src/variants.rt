@@ -1,14 +1,12 @@
 //! Values that two variants of an enum read in common.
-ghost use Rattle.std.specs.Prelude.{◌≡◌, All, IfOk, IsTrue, length};
-ghost use Rattle.facet_solver_checker.specs.Apartness.{AreNamesRequired};
-ghost use Rattle.facet_solver_checker.specs.Atoms.{HaveAtoms};
+ghost use Rattle.std.specs.Prelude.{◌≡◌, All, IfOk, IsTrue};
+ghost use Rattle.facet_solver_checker.specs.Tables.{AreTablesOf};
 ghost use Rattle.facet_solver_checker.specs.VariantsApart as spec;
 ghost use Rattle.facet_solver_checker.specs.VariantsApart.{AreAtomsOf, AreJoinedApart, AreNamesApart, AreSidesApart, AreTwoApart, AreVariantsApart, IsFloatKindBeside, IsWholeAtom, side_at};
 
-use crate::apart::Apart;
 use crate::atoms::{Atom, Atoms, is_null_alone};
 use crate::closed::all_apart;
-use crate::required::Required;
+use crate::tables::Tables;
 use facet_solver_reader::{
     Plan, PlannedAlternative, PlannedEnd, PlannedKind, PlannedName, WholeRange,
 };
@@ -18,50 +16,41 @@ use std::alloc::{AllocError, Global};
 /// behind the last one, those that join.
 pub(crate) fn variants_apart(
     alloc: Global,
-    plan: &Plan<'_>,
-    required: &Required<'_>,
-    atoms: &[Atoms],
-    apart: &Apart,
+    tables: &Tables<'_, '_>,
     target: usize,
     ways: (usize, usize),
 ) -> Result<bool, AllocError>
-    requires required { AreNamesRequired plan.now required.now.names.items }
-    requires atoms { HaveAtoms plan.now atoms.now }
-    requires len { length atoms.now ≡ length plan.now.targets.items }
+    requires { AreTablesOf tables.now }
     ensures { IfOk result (λ b.
-        IsTrue b → AreVariantsApart plan.now apart.now target ways) }
+        IsTrue b → AreVariantsApart tables.now.plan.now tables.now.apart.now target ways) }
 {
-    let Some(found) = plan.targets.get(target) else {
+    let Some(found) = tables.plan.targets.get(target) else {
         return Ok(false);
     };
-    ways_apart(alloc, plan, required, atoms, apart, &found.end, ways)
+    ways_apart(alloc, tables, &found.end, ways)
 }
 
 /// The same of what a target comes to.
 fn ways_apart(
     alloc: Global,
-    plan: &Plan<'_>,
-    required: &Required<'_>,
-    atoms: &[Atoms],
-    apart: &Apart,
+    tables: &Tables<'_, '_>,
     end: &PlannedEnd<'_>,
     ways: (usize, usize),
 ) -> Result<bool, AllocError>
-    requires required { AreNamesRequired plan.now required.now.names.items }
-    requires atoms { HaveAtoms plan.now atoms.now }
-    requires len { length atoms.now ≡ length plan.now.targets.items }
-    ensures { IfOk result (λ b. IsTrue b → AreSidesApart plan.now apart.now end.now
+    requires { AreTablesOf tables.now }
+    ensures { IfOk result (λ b. IsTrue b
+        → AreSidesApart tables.now.plan.now tables.now.apart.now end.now
         (side_at end.now ways.0) (side_at end.now ways.1)) }
 {
     match end {
         PlannedEnd::Named(names) => Ok(names_differ(names, ways.0, ways.1)),
         PlannedEnd::Untagged(joined, alone) => match alone.get(ways.0) {
             Some(one) => match alone.get(ways.1) {
-                Some(other) => two_apart(alloc, plan, required, atoms, apart, one, other),
-                None => joined_apart(alloc, plan, required, atoms, apart, *joined, one),
+                Some(other) => two_apart(alloc, tables, one, other),
+                None => joined_apart(alloc, tables, *joined, one),
             },
             None => match alone.get(ways.1) {
-                Some(other) => joined_apart(alloc, plan, required, atoms, apart, *joined, other),
+                Some(other) => joined_apart(alloc, tables, *joined, other),
                 None => Ok(false),
             },
         },
@@ -72,30 +61,33 @@ fn ways_apart(
 /// Whether two variants of an untagged enum read no value in common.
 fn two_apart(
     alloc: Global,
-    plan: &Plan<'_>,
-    required: &Required<'_>,
-    atoms: &[Atoms],
-    apart: &Apart,
+    tables: &Tables<'_, '_>,
     one: &PlannedAlternative<'_>,
     other: &PlannedAlternative<'_>,
 ) -> Result<bool, AllocError>
-    requires required { AreNamesRequired plan.now required.now.names.items }
-    requires atoms { HaveAtoms plan.now atoms.now }
-    requires len { length atoms.now ≡ length plan.now.targets.items }
-    ensures { IfOk result (λ b. IsTrue b → AreTwoApart plan.now apart.now one.now other.now) }
+    requires { AreTablesOf tables.now }
+    ensures { IfOk result (λ b. IsTrue b
+        → AreTwoApart tables.now.plan.now tables.now.apart.now one.now other.now) }
 {
     if is_fallback(one) != is_fallback(other) {
         return Ok(true);
     }
-    let first = alternative_atoms(alloc, atoms, one)?;
-    let second = alternative_atoms(alloc, atoms, other)?;
-    if is_float_beside(plan, one.kind, other.kind, &second.each) {
+    let first = alternative_atoms(alloc, tables.atoms, one)?;
+    let second = alternative_atoms(alloc, tables.atoms, other)?;
+    if is_float_beside(tables.plan, one.kind, other.kind, &second.each) {
         return Ok(true);
     }
-    if is_float_beside(plan, other.kind, one.kind, &first.each) {
+    if is_float_beside(tables.plan, other.kind, one.kind, &first.each) {
         return Ok(true);
     }
-    all_apart(alloc, plan, required, apart, &first.each, &second.each)
+    all_apart(
+        alloc,
+        tables.plan,
+        tables.required,
+        tables.apart,
+        &first.each,
+        &second.each,
+    )
 }
 
 /// Whether a kind is that of floats, and another that of whole numbers of a range, which the atoms
@@ -143,17 +135,13 @@ fn reads_wholes(plan: &Plan<'_>, range: WholeRange, atom: Atom) -> bool
 /// Whether those that join and another variant of an untagged enum read no value in common.
 fn joined_apart(
     alloc: Global,
-    plan: &Plan<'_>,
-    required: &Required<'_>,
-    atoms: &[Atoms],
-    apart: &Apart,
+    tables: &Tables<'_, '_>,
     joined: Option<usize>,
     one: &PlannedAlternative<'_>,
 ) -> Result<bool, AllocError>
-    requires required { AreNamesRequired plan.now required.now.names.items }
-    requires atoms { HaveAtoms plan.now atoms.now }
-    requires len { length atoms.now ≡ length plan.now.targets.items }
-    ensures { IfOk result (λ b. IsTrue b → AreJoinedApart plan.now apart.now joined one.now) }
+    requires { AreTablesOf tables.now }
+    ensures { IfOk result (λ b. IsTrue b
+        → AreJoinedApart tables.now.plan.now tables.now.apart.now joined one.now) }
 {
     if is_fallback(one) {
         return Ok(true);
@@ -162,8 +150,15 @@ fn joined_apart(
         return Ok(true);
     };
     let first = [Atom::Joined(list)];
-    let second = alternative_atoms(alloc, atoms, one)?;
-    all_apart(alloc, plan, required, apart, &first, &second.each)
+    let second = alternative_atoms(alloc, tables.atoms, one)?;
+    all_apart(
+        alloc,
+        tables.plan,
+        tables.required,
+        tables.apart,
+        &first,
+        &second.each,
+    )
 }
 
 /// Whether a variant of an untagged enum is a fallback.

@@ -6,7 +6,7 @@ use Rattle.facet_solver_checker.proofs.branches.all_inners_apart.Goals as goal
 
 pub loop-other-preserved : goal.loop-other-preserved
 loop-other-preserved c = λ m is required leaves.
-    All-more (λ (o : ℕ). AreInnersApart m c.args.selection.now c.args.one o) c.args.others.now
+    All-more (λ (o : ℕ). AreInnersApart m c.args.must_touch c.args.one o) c.args.others.now
     c.loop-other.other-index 0 c.loop-other-test.true
     (c.loop-other.invariant m is required leaves)
     (c.in_ok-none.ensures m is required leaves c.if-not-none.false)
@@ -16,6 +16,6 @@ returns c = λ m is required leaves e.
     let past : length c.args.others.now ≤ c.loop-other.other-index =
     omega (arith, c.loop-other-test.false) in
     subst
-    (λ (xs : List ℕ). All (λ (o : ℕ). AreInnersApart m c.args.selection.now c.args.one o) xs)
+    (λ (xs : List ℕ). All (λ (o : ℕ). AreInnersApart m c.args.must_touch c.args.one o) xs)
     (take_past c.loop-other.other-index c.args.others.now past)
     (c.loop-other.invariant m is required leaves)

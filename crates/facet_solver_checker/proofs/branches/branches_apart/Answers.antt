@@ -10,13 +10,13 @@ pub loop-one-preserved : goal.loop-one-preserved
 loop-one-preserved c = λ m is required leaves.
     let firsts = c.deref-one-items.result.now in
     All-more
-    (λ (i : ℕ). All (λ (o : ℕ). AreInnersApart m c.args.selection.now i o)
+    (λ (i : ℕ). All (λ (o : ℕ). AreInnersApart m c.args.must_touch i o)
     c.in_ok-seconds.seconds.items)
     firsts c.loop-one.one-index 0 c.loop-one-test.true
     (c.loop-one.invariant m is required leaves)
     (subst
     (λ (ns : List ℕ).
-    All (λ (o : ℕ). AreInnersApart m c.args.selection.now (get_or firsts c.loop-one.one-index 0) o)
+    All (λ (o : ℕ). AreInnersApart m c.args.must_touch (get_or firsts c.loop-one.one-index 0) o)
     ns)
     c.deref.ensures.value (c.in_ok-all.ensures m is required leaves c.if-not-all.false))
 
@@ -24,7 +24,7 @@ pub returns : goal.returns
 returns c = λ m is required leaves e.
     let firsts = c.deref-one-items.result.now in
     let past : length firsts ≤ c.loop-one.one-index = omega (arith, c.loop-one-test.false) in
-    branches_are_apart m c.args.selection.now c.args.first c.args.second firsts
+    branches_are_apart m c.args.must_touch c.args.first c.args.second firsts
     c.in_ok-seconds.seconds.items
     (subst (λ (ns : List ℕ). AreInners m c.args.first ns) (sym c.deref-one-items.ensures.value)
     (c.in_ok-firsts.ensures m is))
@@ -32,7 +32,7 @@ returns c = λ m is required leaves e.
     (subst
     (λ (xs : List ℕ).
     All
-    (λ (i : ℕ). All (λ (o : ℕ). AreInnersApart m c.args.selection.now i o)
+    (λ (i : ℕ). All (λ (o : ℕ). AreInnersApart m c.args.must_touch i o)
     c.in_ok-seconds.seconds.items)
     xs)
     (take_past c.loop-one.one-index firsts past) (c.loop-one.invariant m is required leaves))

@@ -10,9 +10,9 @@ use Rattle.facet_solver_checker.proofs.branches.some_required_member_apart.Goals
 
 pub returns-in-Some : goal.returns-in-Some
 returns-in-Some c = λ m is required.
-    let apart = c.args.apart.now in
+    let apart = c.args.tables.now.apart.now in
     let look = c.in-Some.ensures.lookup in
-    let there = read_at c.deref.result.now c.args.required.now.names.items c.args.number
+    let there = read_at c.deref.result.now c.args.tables.now.required.now.names.items c.args.number
     c.in-Some.names.now c.deref.ensures.value look.3.0 look.1 in
     IfOk-weaker c.some_member_apart.result
     (λ (b : Bool). b ≡ true → (x : Bor Name) × IsIn x c.deref-in-Some.result.now
@@ -20,6 +20,6 @@ returns-in-Some c = λ m is required.
     (λ (b : Bool). b ≡ true → (x : Name) × IsRequiredBy m c.args.number x
     × IsMemberApart m apart c.args.first c.args.second x)
     (λ b f e.
-    required_member m apart c.args.first c.args.second c.args.number c.args.required.now.names.items
+    required_member m apart c.args.first c.args.second c.args.number c.args.tables.now.required.now.names.items
     c.in-Some.names.now c.deref-in-Some.result.now there c.deref-in-Some.ensures.value required (f e))
     (c.some_member_apart.ensures m is)

@@ -1,7 +1,7 @@
 use Rattle.std.proofs.Common.{refl}
 use Rattle.facet_solver_reader.specs.Parts.{of_shape}
 use Rattle.facet_solver_reader.specs.Types.{rules_of}
-use Rattle.facet_solver_checker.proofs.Unambiguous.{plan_is_for}
+use Rattle.facet_solver_checker.proofs.Unambiguous.{plan_is_for, root_told}
 use Rattle.facet_solver_checker.proofs.checking.check.Goals as goal
 
 pub places_of-requires : goal.places_of-requires
@@ -11,3 +11,9 @@ places_of-requires c = (
       c.args.reader.now.shapes (of_shape c.args.reader.now.root) c.in_ok-plan.plan
       c.in_ok-plan.ensures (λ key x. refl),
 )
+
+pub returns-clause-unambiguous : goal.returns-clause-unambiguous
+returns-clause-unambiguous c =
+    root_told (rules_of c.args.reader.now.shapes c.args.reader.now.strict)
+    c.args.reader.now.shapes (of_shape c.args.reader.now.root) c.in_ok-plan.plan
+    c.in_ok-plan.ensures (λ key x. refl) c.in_ok-places.places.items c.in_ok-places.ensures.certain

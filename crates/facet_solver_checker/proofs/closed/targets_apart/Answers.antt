@@ -14,13 +14,13 @@ returns c =
     let other = c.in-Some-get.other.now in
     let look = c.in-Some.ensures.lookup in
     let look_other = c.in-Some-get.ensures.lookup in
-    let first : slice_get atoms c.args.first ≡ Some one =
-    slice_get_read atoms (length atoms) c.args.first one refl look.3.0 look.1 in
-    let second : slice_get atoms c.args.second ≡ Some other =
-    slice_get_read atoms (length atoms) c.args.second other refl look_other.3.0 look_other.1 in
+    let first : slice_get atoms c.args.pair.0 ≡ Some one =
+    slice_get_read atoms (length atoms) c.args.pair.0 one refl look.3.0 look.1 in
+    let second : slice_get atoms c.args.pair.1 ≡ Some other =
+    slice_get_read atoms (length atoms) c.args.pair.1 other refl look_other.3.0 look_other.1 in
     IfOk-weaker c.all_apart.result
     (λ b. IsTrue b → AllApart plan apart c.deref.result.now c.deref-2.result.now)
-    (λ b. IsTrue b → AreTargetsApart plan apart atoms c.args.first c.args.second)
+    (λ b. IsTrue b → AreTargetsApart plan apart atoms c.args.pair.0 c.args.pair.1)
     (λ b f h.
     record {
       first = one;

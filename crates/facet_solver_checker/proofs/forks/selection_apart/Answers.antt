@@ -2,13 +2,14 @@ use Rattle.std.proofs.Common.{◌≡◌, refl, Some, length, slice_get}
 use Rattle.std.proofs.lemmas.Option.{slice_get_read}
 use Rattle.facet_solver_reader.specs.declared.plan.PlannedPart.TheVariants as parts
 use Rattle.facet_solver_checker.specs.Forks.{AreBranchesApart, IsSelectionApart}
-use Rattle.facet_solver_checker.proofs.SettledPlaces.{selection_told, told_if}
+use Rattle.facet_solver_checker.proofs.BranchesTold.{selection_told}
+use Rattle.facet_solver_checker.proofs.SettledPlaces.{told_if}
 use Rattle.facet_solver_checker.proofs.forks.selection_apart.Goals as goal
 
 pub returns : goal.returns
 returns c =
-    let plan = c.args.plan.now in
-    let apart = c.args.apart.now in
+    let plan = c.args.tables.now.plan.now in
+    let apart = c.args.tables.now.apart.now in
     let l = c.in-Some.list.now in
     let p = c.in-Some-Selection.selection in
     let a = c.in-Some-get.first.now in
@@ -29,6 +30,9 @@ returns c =
     let read_second = slice_get_read seconds (length seconds) c.args.ways.1 b refl
     c.in-Some-get-2.ensures.lookup.3.0 c.in-Some-get-2.ensures.lookup.1 in
     let second_is : slice_get p.branches.items c.args.ways.1 ≡ Some b = cc in
-    told_if (AreBranchesApart plan apart p a b) (IsSelectionApart plan apart c.args.at c.args.ways)
-    (selection_told plan apart c.args.at c.args.ways l p a b list_is part_is first_is second_is)
+    told_if (AreBranchesApart plan apart c.args.at.0 c.must_touch-must_touch.result (a, b))
+    (IsSelectionApart plan apart c.args.at c.args.ways)
+    (selection_told plan apart c.args.at c.args.ways l p a b list_is part_is first_is second_is
+    c.must_touch-must_touch.result c.args.tables.now.touched.now.flags.items c.requires.touched
+    c.must_touch-must_touch.ensures)
     c.parts_apart.result c.parts_apart.ensures

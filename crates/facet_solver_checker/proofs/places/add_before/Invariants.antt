@@ -7,4 +7,4 @@ abbrev pub invariant-loop-first : goal.invariant-loop-first
 invariant-loop-first l =
     Grows l.fn.places.items l.places.items
     × ((x : ℕ) → x < l.first
-    → IsSettled l.plan l.apart l.places.items (place_at l.fork x l.second))
+    → IsSettled l.tables.plan.now l.tables.apart.now l.places.items (place_at l.fork x l.second))

@@ -7,8 +7,8 @@ use Rattle.facet_solver_checker.proofs.places.add_enums.Goals as goal
 
 pub loop-target-preserved : goal.loop-target-preserved
 loop-target-preserved c =
-    let plan = c.args.plan.now in
-    let apart = c.args.apart.now in
+    let plan = c.args.tables.now.plan.now in
+    let apart = c.args.tables.now.apart.now in
     let i = c.loop-target.target in
     let before = c.loop-target.places.items in
     let after = c.add_pairs.new.places.items in
@@ -27,6 +27,6 @@ loop-target-preserved c =
 
 pub returns-clause-settled : goal.returns-clause-settled
 returns-clause-settled c = λ target n is.
-    let within : target < length c.args.plan.now.targets.items =
-    slice_get_within c.args.plan.now.targets.items target is.0 is.1 in
+    let within : target < length c.args.tables.now.plan.now.targets.items =
+    slice_get_within c.args.tables.now.plan.now.targets.items target is.0 is.1 in
     c.loop-target.invariant.1 target n (omega (arith, within)) is

@@ -7,5 +7,5 @@ use Rattle.facet_solver_checker.proofs.places.add_enums.Given as goal
 abbrev pub invariant-loop-target : goal.invariant-loop-target
 invariant-loop-target l =
     Grows l.fn.places.items l.places.items
-    × ((k n : ℕ) → k < l.target → IsFork l.plan (forks.Enum k) n
-    → AreSettled l.plan l.apart l.places.items (forks.Enum k) n)
+    × ((k n : ℕ) → k < l.target → IsFork l.tables.plan.now (forks.Enum k) n
+    → AreSettled l.tables.plan.now l.tables.apart.now l.places.items (forks.Enum k) n)

@@ -8,4 +8,4 @@ abbrev pub invariant-loop-part : goal.invariant-loop-part
 invariant-loop-part l =
     Grows l.fn.places.items l.places.items
     × ((k n : ℕ) → k < l.part → IsPartFork l.parts k n
-    → AreSettled l.plan l.apart l.places.items (forks.Selection l.list k) n)
+    → AreSettled l.tables.plan.now l.tables.apart.now l.places.items (forks.Selection l.list k) n)

@@ -6,7 +6,7 @@ use Rattle.facet_solver_checker.proofs.places.add_lists.Goals as goal
 
 pub loop-list-preserved : goal.loop-list-preserved
 loop-list-preserved c =
-    let plan = c.args.plan.now in
+    let plan = c.args.tables.now.plan.now in
     let i = c.loop-list.list in
     let before = c.loop-list.places.items in
     let after = c.add_list.new.places.items in
@@ -17,7 +17,7 @@ loop-list-preserved c =
     c.index.ensures in
     let same : l.parts.items ≡ c.deref.result.now = cc in (
       grows_on c.args.places.now.items before after c.loop-list.invariant.0 grows,
-      lists_more plan c.args.apart.now before after grows i c.loop-list.invariant.1
+      lists_more plan c.args.tables.now.apart.now before after grows i c.loop-list.invariant.1
           (λ part n is.
           c.in_ok-add_list.ensures.settled part n
           (subst (λ ps. IsPartFork ps part n) same (part_fork plan i part n l there is))),
@@ -25,6 +25,6 @@ loop-list-preserved c =
 
 pub returns-clause-settled : goal.returns-clause-settled
 returns-clause-settled c = λ list part n is.
-    let within : list < length c.args.plan.now.lists.items =
-    slice_get_within c.args.plan.now.lists.items list is.0 is.1 in
+    let within : list < length c.args.tables.now.plan.now.lists.items =
+    slice_get_within c.args.tables.now.plan.now.lists.items list is.0 is.1 in
     c.loop-list.invariant.1 list part n (omega (arith, within)) is

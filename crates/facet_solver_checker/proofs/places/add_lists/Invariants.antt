@@ -7,5 +7,5 @@ use Rattle.facet_solver_checker.proofs.places.add_lists.Given as goal
 abbrev pub invariant-loop-list : goal.invariant-loop-list
 invariant-loop-list l =
     Grows l.fn.places.items l.places.items
-    × ((k part n : ℕ) → k < l.list → IsFork l.plan (forks.Selection k part) n
-    → AreSettled l.plan l.apart l.places.items (forks.Selection k part) n)
+    × ((k part n : ℕ) → k < l.list → IsFork l.tables.plan.now (forks.Selection k part) n
+    → AreSettled l.tables.plan.now l.tables.apart.now l.places.items (forks.Selection k part) n)

@@ -5,4 +5,4 @@ use Rattle.facet_solver_checker.proofs.places.add_pairs.Given as goal
 abbrev pub invariant-loop-second : goal.invariant-loop-second
 invariant-loop-second l =
     Grows l.fn.places.items l.places.items
-    × AreSettled l.plan l.apart l.places.items l.fork l.second
+    × AreSettled l.tables.plan.now l.tables.apart.now l.places.items l.fork l.second

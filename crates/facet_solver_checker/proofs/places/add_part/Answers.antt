@@ -5,8 +5,8 @@ use Rattle.facet_solver_checker.proofs.places.add_part.Goals as goal
 
 pub returns-in-Selection-clause-settled : goal.returns-in-Selection-clause-settled
 returns-in-Selection-clause-settled c =
-    let plan = c.args.plan.now in
-    let apart = c.args.apart.now in
+    let plan = c.args.tables.now.plan.now in
+    let apart = c.args.tables.now.apart.now in
     let places = c.add_pairs.new.places.items in
     let p = c.in-Selection.selection in
     on_ok c.add_pairs.result (AreSettled plan apart places c.args.fork (length p.branches.items))

@@ -3,6 +3,15 @@ use Rattle.facet_solver_checker.specs.Forks.{AllSettled}
 use Rattle.facet_solver_checker.proofs.Unambiguous.{all_places_of, certain_of, if_ok}
 use Rattle.facet_solver_checker.proofs.places.all_places.Goals as goal
 
+pub places_left-requires : goal.places_left-requires
+places_left-requires c =
+    record {
+      required = c.requires.required;
+      touched = c.in_ok-touched.ensures;
+      atoms = c.requires.atoms;
+      len = c.requires.len;
+    }
+
 pub returns-clause-all : goal.returns-clause-all
 returns-clause-all c =
     let plan = c.args.plan.now in

@@ -4,8 +4,8 @@ use Rattle.facet_solver_checker.proofs.places.places_left.Goals as goal
 
 pub returns : goal.returns
 returns c =
-    let plan = c.args.plan.now in
-    let apart = c.args.apart.now in
+    let plan = c.args.tables.now.plan.now in
+    let apart = c.args.tables.now.apart.now in
     let before = c.add_lists.new.places.items in
     let after = c.add_enums.new.places.items in
     all_settled plan apart after

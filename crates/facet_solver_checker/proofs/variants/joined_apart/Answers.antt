@@ -9,9 +9,9 @@ use Rattle.facet_solver_checker.proofs.variants.joined_apart.Goals as goal
 
 pub returns : goal.returns
 returns c =
-    let plan = c.args.plan.now in
-    let apart = c.args.apart.now in
-    let atoms = c.args.atoms.now in
+    let plan = c.args.tables.now.plan.now in
+    let apart = c.args.tables.now.apart.now in
+    let atoms = c.args.tables.now.atoms.now in
     let p = c.args.one.now in
     let list = c.in-Some.list in
     let own = c.in_ok-second.second.each.items in

@@ -8,31 +8,31 @@ use Rattle.facet_solver_checker.proofs.variants.two_apart.Goals as goal
 
 pub returns-then-is_float_beside : goal.returns-then-is_float_beside
 returns-then-is_float_beside c = λ h.
-    let plan = c.args.plan.now in
+    let plan = c.args.tables.now.plan.now in
     let a = c.args.one.now in
     let b = c.args.other.now in
     let ys = c.in_ok-second.second.each.items in
     by_float
-    (float_beside plan c.args.atoms.now c.requires.atoms c.requires.len a b ys c.in_ok-second.ensures
+    (float_beside plan c.args.tables.now.atoms.now c.requires.atoms c.requires.len a b ys c.in_ok-second.ensures
     (subst (λ (xs : List Atom). IsFloatKindBeside plan a.kind b.kind xs) c.deref.ensures.value
     (c.is_float_beside.ensures c.if-is_float_beside.true)))
 
 pub returns-then-is_float_beside-2 : goal.returns-then-is_float_beside-2
 returns-then-is_float_beside-2 c = λ h.
-    let plan = c.args.plan.now in
+    let plan = c.args.tables.now.plan.now in
     let a = c.args.one.now in
     let b = c.args.other.now in
     let xs = c.in_ok-first.first.each.items in
     by_whole
-    (float_beside plan c.args.atoms.now c.requires.atoms c.requires.len b a xs c.in_ok-first.ensures
+    (float_beside plan c.args.tables.now.atoms.now c.requires.atoms c.requires.len b a xs c.in_ok-first.ensures
     (subst (λ (ys : List Atom). IsFloatKindBeside plan b.kind a.kind ys) c.deref-2.ensures.value
     (c.is_float_beside-2.ensures c.if-is_float_beside-2.true)))
 
 pub returns : goal.returns
 returns c =
-    let plan = c.args.plan.now in
-    let apart = c.args.apart.now in
-    let atoms = c.args.atoms.now in
+    let plan = c.args.tables.now.plan.now in
+    let apart = c.args.tables.now.apart.now in
+    let atoms = c.args.tables.now.atoms.now in
     let a = c.args.one.now in
     let b = c.args.other.now in
     let xs = c.in_ok-first.first.each.items in

@@ -8,8 +8,8 @@ use Rattle.facet_solver_checker.proofs.variants.variants_apart.Goals as goal
 
 pub returns : goal.returns
 returns c =
-    let plan = c.args.plan.now in
-    let apart = c.args.apart.now in
+    let plan = c.args.tables.now.plan.now in
+    let apart = c.args.tables.now.apart.now in
     let n = c.args.target in
     let t = c.in-Some.found.now in
     let look = c.in-Some.ensures.lookup in

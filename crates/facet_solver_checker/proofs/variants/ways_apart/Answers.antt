@@ -9,15 +9,15 @@ use Rattle.facet_solver_checker.proofs.variants.ways_apart.Goals as goal
 
 pub returns-in-Named : goal.returns-in-Named
 returns-in-Named c = λ h.
-    named_ways c.args.plan.now c.args.apart.now c.in-Named.names c.args.end.now c.args.ways.0
+    named_ways c.args.tables.now.plan.now c.args.tables.now.apart.now c.in-Named.names c.args.end.now c.args.ways.0
     c.args.ways.1 c.in-Named.is
     (subst (λ (ps : List PlannedName). AreNamesApart ps c.args.ways.0 c.args.ways.1)
     c.deref.ensures.value (c.names_differ.ensures h))
 
 pub returns-in-Some-get : goal.returns-in-Some-get
 returns-in-Some-get c =
-    let plan = c.args.plan.now in
-    let apart = c.args.apart.now in
+    let plan = c.args.tables.now.plan.now in
+    let apart = c.args.tables.now.apart.now in
     let e = c.args.end.now in
     let x = c.args.ways.0 in
     let y = c.args.ways.1 in
@@ -43,8 +43,8 @@ returns-in-Some-get c =
 
 pub returns-in-None-get : goal.returns-in-None-get
 returns-in-None-get c =
-    let plan = c.args.plan.now in
-    let apart = c.args.apart.now in
+    let plan = c.args.tables.now.plan.now in
+    let apart = c.args.tables.now.apart.now in
     let e = c.args.end.now in
     let x = c.args.ways.0 in
     let y = c.args.ways.1 in
@@ -67,8 +67,8 @@ returns-in-None-get c =
 
 pub returns-in-Some-get-2 : goal.returns-in-Some-get-2
 returns-in-Some-get-2 c =
-    let plan = c.args.plan.now in
-    let apart = c.args.apart.now in
+    let plan = c.args.tables.now.plan.now in
+    let apart = c.args.tables.now.apart.now in
     let e = c.args.end.now in
     let x = c.args.ways.0 in
     let y = c.args.ways.1 in
