@@ -9,6 +9,8 @@
 #![tactic(auto)]
 
 mod apart;
+mod asked;
+mod asking;
 mod atoms;
 mod branches;
 mod candidates;
@@ -16,13 +18,14 @@ mod checking;
 mod closed;
 mod end_ways;
 mod forks;
+mod index;
 mod inners;
 mod kinds;
 mod lists;
 mod members;
+mod named_apart;
 mod object_ends;
 mod objects;
-mod place;
 mod places;
 mod report;
 mod required;
@@ -34,5 +37,7 @@ mod variants;
 mod ways;
 
 pub use checking::check;
-pub use place::{Fork, Place};
+pub use facet_solver_witnesses::{
+    Ambiguity, Cause, DEFAULT_BUDGET, Evidence, Fork, Ignored, Place, PlaceStep, Value,
+};
 pub use report::Report;

@@ -24,6 +24,18 @@ pub(crate) struct Side {
     inner: usize,
 }
 
+impl Side {
+    /// A list, and one within it.
+    pub(crate) fn new(list: usize, inner: usize) -> Side {
+        Side { list, inner }
+    }
+
+    /// The number of the list within it.
+    pub(crate) fn inner(self) -> usize {
+        self.inner
+    }
+}
+
 /// Whether two lists read no object in common: as far as is seen, for each two of the lists within
 /// them, by a name that one of these requires.
 pub(crate) fn objects_apart(
@@ -79,7 +91,7 @@ fn all_others_apart(
 }
 
 /// Whether two sides read no object in common, as far as is seen by a name that one requires.
-fn sides_apart(
+pub(crate) fn sides_apart(
     alloc: Global,
     plan: &Plan<'_>,
     required: &Required<'_>,
@@ -158,7 +170,12 @@ fn name_apart(
 }
 
 /// In which ways a side reads the member of a name.
-fn ways_of_side(alloc: Global, plan: &Plan<'_>, side: Side, name: &str) -> Result<Ways, AllocError>
+pub(crate) fn ways_of_side(
+    alloc: Global,
+    plan: &Plan<'_>,
+    side: Side,
+    name: &str,
+) -> Result<Ways, AllocError>
     ensures { IfOk result (AreWaysAt plan.now side name.now) }
 {
     match (plan.lists.get(side.list), plan.lists.get(side.inner)) {
