@@ -289,22 +289,6 @@ branches_are_apart m must first second ps qs firsts seconds all s a b is_a is_b 
       second_through = other.through;
     }) touch
 
--- branches are apart, where their lists are as a whole
-pub wholes_apart : (m : Meaning) (must : Bool) (first second : ℕ)
-    → AreInnersApart m must first second → AreApartIn m must first second
-wholes_apart m must first second none s a b is_a is_b d j k at_a at_b meet touch =
-    let reads = ReadsDown m.rules d in
-    none s d
-    (record {
-      first = j;
-      second = k;
-      meet = meet;
-      first_through = branch_through m reads meet.object s j meet.first_choice a first at_a is_a
-          meet.first_reads;
-      second_through = branch_through m reads meet.object s k meet.second_choice b second at_b is_b
-          meet.second_reads;
-    }) touch
-
 -- lists share none, where the members of all names of the first are apart, and not both take the
 -- rest
 pub none_shared : (m : Meaning) (p : Plan) (apart : Apart) (first second : ℕ) (l r : PlannedList)

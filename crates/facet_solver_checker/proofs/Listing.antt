@@ -4,8 +4,8 @@ use Rattle.std.proofs.Common.{List, ◌∷◌, Some, Any, if◌then◌else◌, l
 use Rattle.std.proofs.lemmas.Bool.{le-ltb, lt-ltb}
 use Rattle.std.proofs.lemmas.Option.{slice_get_within}
 use Rattle.facet_solver_checker.specs.declared.apart.Apart.{Apart}
-use Rattle.facet_solver_witnesses.specs.declared.place.Fork.TheVariants as forks
-use Rattle.facet_solver_witnesses.specs.declared.place.Place.{Place}
+use Rattle.facet_solver_checker.specs.declared.place.Fork.TheVariants as forks
+use Rattle.facet_solver_checker.specs.declared.place.Place.{Place}
 use Rattle.facet_solver_reader.specs.declared.plan.Plan.{Plan}
 use Rattle.facet_solver_reader.specs.declared.plan.PlannedEnd.{PlannedEnd}
 use Rattle.facet_solver_reader.specs.declared.plan.PlannedEnd.TheVariants as planned

@@ -2,9 +2,9 @@
 use Rattle.std.proofs.Common.{◌≡◌, inl, inr, sym, ◌∙◌, subst, ⊎_elim, ℕ, ◌<◌, ◌+◌, Bool, true, List, Some, Result, Ok, Err, IfOk, OnOk, length, refl, slice_get}
 use borrow.Author.Count.{below_more}
 use Rattle.facet_solver_checker.specs.declared.apart.Apart.{Apart}
-use Rattle.facet_solver_witnesses.specs.declared.place.Fork.{Fork}
-use Rattle.facet_solver_witnesses.specs.declared.place.Fork.TheVariants as forks
-use Rattle.facet_solver_witnesses.specs.declared.place.Place.{Place}
+use Rattle.facet_solver_checker.specs.declared.place.Fork.{Fork}
+use Rattle.facet_solver_checker.specs.declared.place.Fork.TheVariants as forks
+use Rattle.facet_solver_checker.specs.declared.place.Place.{Place}
 use Rattle.facet_solver_reader.specs.declared.plan.Plan.{Plan}
 use Rattle.facet_solver_reader.specs.declared.plan.PlannedList.{PlannedList}
 use Rattle.facet_solver_reader.specs.declared.plan.PlannedPart.{PlannedPart}

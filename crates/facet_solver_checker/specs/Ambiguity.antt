@@ -1,9 +1,9 @@
 -- At which place of a plan two readings differ, and what a list of places promises.
 use Rattle.std.specs.Prelude.{◌≡◌, ◌⊎◌, ℕ, List, [], Some, slice_get}
 use Rattle.facet_solver_checker.specs.declared.apart.Apart.{Apart}
-use Rattle.facet_solver_witnesses.specs.declared.place.Fork.{Fork}
-use Rattle.facet_solver_witnesses.specs.declared.place.Fork.TheVariants as forks
-use Rattle.facet_solver_witnesses.specs.declared.place.Place.{Place}
+use Rattle.facet_solver_checker.specs.declared.place.Fork.{Fork}
+use Rattle.facet_solver_checker.specs.declared.place.Fork.TheVariants as forks
+use Rattle.facet_solver_checker.specs.declared.place.Place.{Place}
 use Rattle.facet_solver_reader.specs.declared.plan.Plan.{Plan}
 use Rattle.facet_solver_reader.specs.declared.plan.PlannedTarget.{PlannedTarget}
 use Rattle.facet_solver_checker.specs.Certain.{IsUnambiguous, ListsAll}

@@ -4,7 +4,6 @@ pub mod PlanMembers
 pub mod Requires
 pub mod Touched
 pub mod Ways
-pub mod NamedApart
 pub mod ListsMeet
 pub mod BranchesMeet
 pub mod Inners

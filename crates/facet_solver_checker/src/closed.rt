@@ -170,7 +170,6 @@ pub(crate) fn is_closed(
 ) -> Result<bool, AllocError>
     requires required { AreNamesRequired plan.now required.now.names.items }
     requires atoms { HaveAtoms plan.now atoms.now }
-    requires targets { apart.now.targets.now ≡ plan.now.targets.items }
     ensures { IfOk result (λ b. IsTrue b → (m : Meaning) → IsPlanFor m plan.now
         → IsClosedDown m.rules (left m apart.now)) }
 {

@@ -15,9 +15,9 @@ use std::alloc::{AllocError, Global};
 
 /// The ways in which a list of parts, and an end, read the member of a name.
 #[derive(Drop)]
-pub(crate) struct MemberWays {
-    pub(crate) list: Ways,
-    pub(crate) end: Ways,
+struct MemberWays {
+    list: Ways,
+    end: Ways,
 }
 
 /// Whether a list of parts reads no object in common with an end, by a name that the list requires.
@@ -73,7 +73,7 @@ pub(crate) fn end_apart_from(
 }
 
 /// How a list of parts, and an end, read the member of a name, if that is told.
-pub(crate) fn member_ways(
+fn member_ways(
     alloc: Global,
     plan: &Plan<'_>,
     list: usize,

@@ -9,8 +9,6 @@
 #![tactic(auto)]
 
 mod apart;
-mod asked;
-mod asking;
 mod atoms;
 mod branches;
 mod candidates;
@@ -18,14 +16,13 @@ mod checking;
 mod closed;
 mod end_ways;
 mod forks;
-mod index;
 mod inners;
 mod kinds;
 mod lists;
 mod members;
-mod named_apart;
 mod object_ends;
 mod objects;
+mod place;
 mod places;
 mod report;
 mod required;
@@ -37,7 +34,5 @@ mod variants;
 mod ways;
 
 pub use checking::check;
-pub use facet_solver_witnesses::{
-    Ambiguity, Cause, DEFAULT_BUDGET, Evidence, Fork, Ignored, Place, PlaceStep, Value,
-};
+pub use place::{Fork, Place};
 pub use report::Report;

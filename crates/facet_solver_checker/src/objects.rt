@@ -24,18 +24,6 @@ pub(crate) struct Side {
     inner: usize,
 }
 
-impl Side {
-    /// A list, and one within it.
-    pub(crate) fn new(list: usize, inner: usize) -> Side {
-        Side { list, inner }
-    }
-
-    /// The number of the list within it.
-    pub(crate) fn inner(self) -> usize {
-        self.inner
-    }
-}
-
 /// Whether two lists read no object in common: as far as is seen, for each two of the lists within
 /// them, by a name that one of these requires.
 pub(crate) fn objects_apart(
@@ -91,7 +79,7 @@ fn all_others_apart(
 }
 
 /// Whether two sides read no object in common, as far as is seen by a name that one requires.
-pub(crate) fn sides_apart(
+fn sides_apart(
     alloc: Global,
     plan: &Plan<'_>,
     required: &Required<'_>,
@@ -170,12 +158,7 @@ fn name_apart(
 }
 
 /// In which ways a side reads the member of a name.
-pub(crate) fn ways_of_side(
-    alloc: Global,
-    plan: &Plan<'_>,
-    side: Side,
-    name: &str,
-) -> Result<Ways, AllocError>
+fn ways_of_side(alloc: Global, plan: &Plan<'_>, side: Side, name: &str) -> Result<Ways, AllocError>
     ensures { IfOk result (AreWaysAt plan.now side name.now) }
 {
     match (plan.lists.get(side.list), plan.lists.get(side.inner)) {

@@ -61,11 +61,6 @@ impl Ways {
         }
     }
 
-    /// The targets.
-    pub(crate) fn targets(&self) -> &[usize] {
-        &self.targets
-    }
-
     /// Whether no value is read in one of these ways and in one of others.
     pub(crate) fn are_apart(&self, apart: &Apart, others: &Ways) -> bool
         ensures { result ≡ ways_apart apart.now self.now others.now }

@@ -8,6 +8,14 @@ use Rattle.facet_solver_tool.specs.SeparatedTexts.{behind}
 use Rattle.facet_solver_tool.specs.ShapeText.{line, line_at, lines}
 use Rattle.facet_solver_tool.proofs.ElementLines as each
 
+-- behind the pieces so far comes that of the next element
+pub piece_more : {A : Type 0} (piece : A → Name) (xs : List A) (i : ℕ) (x : A) → i < length xs → x ≡ get_or xs i x
+    → flat_map piece (take i xs) ++ piece x ≡ flat_map piece (take (i + 1) xs)
+piece_more piece xs i x within is =
+    flat_map_more piece [] (take i xs) x
+    ∙ ap (λ y. flat_map piece (take i xs ++ y ∷ [])) is
+    ∙ ap (flat_map piece) (sym (take_more xs i x within))
+
 -- behind the lines so far comes that of the shape at the next index
 pub line_at_more : (shapes : Catalogue) (i : ℕ) → i < length shapes → lines (take i shapes) ++ line_at shapes i ≡ lines (take (i + 1) shapes)
 line_at_more shapes i within = go shapes i within ∙ ap (λ k. lines (take k shapes)) (sym (add-one i))

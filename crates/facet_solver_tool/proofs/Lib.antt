@@ -1,8 +1,3 @@
-pub mod Pieces
-pub mod Verdicts
-pub mod FindingViews
-pub mod CutLines
-pub mod Ends
 pub mod ElementLines
 pub mod CatalogueLines
 pub mod Words

@@ -2,21 +2,21 @@
 
 use facet_solver_reader::Unknown;
 
-/// How an answer is written.
+/// How a reading is written.
 #[derive(Clone, Copy, Debug, Drop, PartialEq, Eq)]
 pub enum Form {
-    /// As a text.
+    /// As an indented text.
     Text,
-    /// As JSON: a reading in one line, and a check with a line for each thing that is told.
+    /// As JSON, in one line.
     Json,
 }
 
-/// How documents are read, and how the answer is written.
+/// How a document is read.
 #[derive(Clone, Copy, Debug, Drop, PartialEq, Eq)]
 pub struct Manner {
     /// What is done with unknown members.
     pub unknown: Unknown,
-    /// How the answer is written.
+    /// How the reading is written.
     pub form: Form,
 }
 
@@ -25,9 +25,8 @@ pub struct Manner {
 pub enum Task {
     /// The reading of a document.
     Read(Manner),
-    /// Whether documents can be read as the root, how each enum is written, and which variants
-    /// documents do not tell apart.
-    Check(Manner),
+    /// Whether documents can be read as the root, and how each enum is written.
+    Check,
     /// The types as a catalogue.
     Catalogue,
 }
@@ -41,8 +40,6 @@ pub struct Question<'w> {
     pub types: &'w str,
     /// The root, which is any type. Without it the root is the one type that no other mentions.
     pub root: Option<&'w str>,
-    /// The path of the file that has accepted ambiguities, for a check.
-    pub accepted: Option<&'w str>,
 }
 
 /// A question about each document of an input that has a document a line. The readings are answered

@@ -15,8 +15,7 @@ use facet_solver_shape::ShapeId;
 use facet_solver_types::Types;
 use std::alloc::{AllocError, Global};
 
-/// The answer about a root to what is asked. The types come from the file at a path. Given are the
-/// bytes of the document that is to be read, or of the file that has accepted ambiguities.
+/// The answer about a root to what is asked. The types come from the file at a path.
 ///
 /// The only error is out of memory.
 pub fn answer(
@@ -25,14 +24,14 @@ pub fn answer(
     types: &Types,
     id: ShapeId,
     task: Task,
-    given: &[u8],
+    document: &[u8],
 ) -> Result<Answer, AllocError>
     ensures { IfOk result (λ a.
-        AnswersRoot (root_at path.now types.now id) task given.now (answer_view a)) }
+        AnswersRoot (root_at path.now types.now id) task document.now (answer_view a)) }
 {
     match task {
-        Task::Read(manner) => read::answer(alloc, path, types, id, manner, given),
-        Task::Check(manner) => check::answer(alloc, path, types, id, manner, given),
+        Task::Read(manner) => read::answer(alloc, path, types, id, manner, document),
+        Task::Check => check::answer(alloc, path, types, id),
         Task::Catalogue => answer_catalogue(alloc, types, id),
     }
 }

@@ -15,21 +15,20 @@ use facet_solver_types::{Located, Types, TypesError};
 use std::alloc::{AllocError, Global};
 use std::str;
 
-/// The answer to a question about the types that bytes declare, and about the bytes of what is read
-/// beside them: a document, or a file of accepted ambiguities.
+/// The answer to a question about the types that bytes declare, and about the bytes of a document.
 ///
 /// The only error is out of memory.
 pub fn answer(
     alloc: Global,
     question: &Question<'_>,
     types: &[u8],
-    given: &[u8],
+    document: &[u8],
 ) -> Result<Answer, AllocError>
     ensures { IfOk result (λ a.
-        IsAnswer (question_view question.now) types.now given.now (answer_view a)) }
+        IsAnswer (question_view question.now) types.now document.now (answer_view a)) }
 {
     match str::from_utf8(types) {
-        Ok(text) => answer_text(alloc, question, text, given),
+        Ok(text) => answer_text(alloc, question, text, document),
         Err(error) => utf8::answer(alloc, Status::BadTypes, question.types, types, error),
     }
 }
@@ -39,13 +38,13 @@ fn answer_text(
     alloc: Global,
     question: &Question<'_>,
     text: &str,
-    given: &[u8],
+    document: &[u8],
 ) -> Result<Answer, AllocError>
     ensures { IfOk result (λ a.
-        AnswersText (question_view question.now) text.now given.now (answer_view a)) }
+        AnswersText (question_view question.now) text.now document.now (answer_view a)) }
 {
     match Types::parse(alloc, text, question.root) {
-        Ok(types) => answer_types(alloc, question, &types, given),
+        Ok(types) => answer_types(alloc, question, &types, document),
         Err(error) => no_types(alloc, question.types, &error),
     }
 }
@@ -77,11 +76,11 @@ fn answer_types(
     alloc: Global,
     question: &Question<'_>,
     types: &Types,
-    given: &[u8],
+    document: &[u8],
 ) -> Result<Answer, AllocError>
     ensures { IfOk result (λ a.
-        AnswersTypes (question_view question.now) types.now given.now (answer_view a)) }
+        AnswersTypes (question_view question.now) types.now document.now (answer_view a)) }
 {
     let id = types.root();
-    root::answer(alloc, question.types, types, id, question.task, given)
+    root::answer(alloc, question.types, types, id, question.task, document)
 }

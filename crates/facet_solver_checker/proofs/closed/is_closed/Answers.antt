@@ -17,7 +17,7 @@ returns c = λ h m is.
     let plan = c.args.plan.now in
     let apart = c.args.apart.now in
     let atoms = c.args.atoms.now in
-    table_closed plan apart atoms c.requires.atoms m is c.requires.targets
+    table_closed plan apart atoms c.requires.atoms m is
     (bears_out plan apart atoms
     (subst (λ (ps : List (ℕ × ℕ)). All (λ (p : ℕ × ℕ). AreTargetsApart plan apart atoms p.0 p.1) ps)
     (c.deref-pair-items.ensures.value ∙ c.in_ok-pairs.ensures)
