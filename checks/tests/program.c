@@ -99,7 +99,7 @@ static int check(const char *types) {
   free(text);
   if (strstr(types, "faults")) return say(2, "at fault\n"), 3;
   say(1, "root: S\n");
-  return 0;
+  return strstr(types, "notice") ? 2 : 0;
 }
 
 static int read_document(int is_json, int is_lines) {

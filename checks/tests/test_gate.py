@@ -8,6 +8,7 @@ STEPS = {
     "edits": ("must-fail/run", "83 edits refused"),
     "types": ("sweep/types", "7 texts of 3 sources, 0 wrong answers, by the proved program"),
     "readings": ("sweep/readings", "220 types, documents by status: 0: 9; 0 types differ"),
+    "ambiguities": ("sweep/ambiguities", "300 types, 0 wrong"),
     "sizes": ("sweep/sizes", "60 sizes, 0 faults"),
     "costs": ("bench/costs", "13 runs compared, 0 differ"),
     "sweep": ("sweep/run", "596 sweeps, 99 runs, 9 requests refused, 0 faults"),
@@ -19,6 +20,7 @@ OTHERS = (
         "edits": "82 edits refused",
         "types": "7 texts of 2 sources, 0 wrong answers, by the proved program",
         "readings": "219 types, documents by status: 0: 9; 0 types differ",
+        "ambiguities": "299 types, 0 wrong",
         "sizes": "59 sizes, 0 faults",
         "costs": "12 runs compared, 0 differ",
         "sweep": "595 sweeps, 99 runs, 9 requests refused, 0 faults",
@@ -28,6 +30,7 @@ OTHERS = (
         "edits": "0 edits refused",
         "types": "7 texts of 3 sources, 0 wrong answers, without proofs",
         "readings": "0 types, documents by status: ; 0 types differ",
+        "ambiguities": "300 types, 1 wrong",
         "sizes": "60 sizes, 1 faults",
         "costs": "13 runs compared, 1 differ",
         "sweep": "596 sweeps, 0 runs, 9 requests refused, 0 faults",
@@ -48,6 +51,7 @@ OTHERS = (
         "edits": "84 edits refused",
         "types": "7 texts of 4 sources, 0 wrong answers, by the proved program",
         "readings": "221 types, documents by status: 0: 9; 0 types differ",
+        "ambiguities": "301 types, 0 wrong",
         "costs": "14 runs compared, 0 differ",
         "sweep": "597 sweeps, 99 runs, 9 requests refused, 0 faults",
     },
@@ -55,16 +59,16 @@ OTHERS = (
 # What each step counts, by its name in the stored totals.
 KINDS = {"edits": "edits that must fail", "types": "texts of types", "solve": "calls"}
 KINDS |= {"readings": "digests of readings", "costs": "costs", "sweep": "sweeps"}
-KINDS |= {"sizes": "sizes"}
+KINDS |= {"sizes": "sizes", "ambiguities": "types that are checked"}
 # The parts, by the words before their names.
 PARTS = {
     (): "totals surfaces quotes statuses examples scripts readme transcripts inputs questions "
     "workloads start types",
     ("--all",): "totals surfaces quotes statuses examples scripts solve ci edits proved readme "
-    "questions types readings sizes costs start sweep",
+    "questions types readings ambiguities sizes costs start sweep",
 }
 TOTALS = {"edits_that_must_fail": 83, "texts_of_types": 3, "digests_of_readings": 220}
-TOTALS |= {"costs": 13, "sizes": 60, "sweeps": 596}
+TOTALS |= {"costs": 13, "sizes": 60, "sweeps": 596, "types_that_are_checked": 300}
 
 
 class Gate(Repository):
@@ -85,7 +89,7 @@ class Gate(Repository):
     def test_nothing_wrong(self):
         self.all_well()
         said = self.expect_passes("./test", "--all", *STEPS)
-        self.assertIn(f"{83 + 1 + 1 + 2 * 5} passed, 0 failed", said)
+        self.assertIn(f"{83 + 1 + 1 + 2 * 6} passed, 0 failed", said)
 
     def test_a_step_that_fails(self):
         for script, line in STEPS.values():

@@ -3,13 +3,24 @@
 from .scratch import Repository
 
 CRATE = "crates/facet_solver_tool"
-# It reads `{"a": 1}` as a text or as JSON, refuses types with `wrong` and says what else is wrong.
+# It reads `{"a": 1}` as a text or as JSON, refuses types with `wrong` and says what else is wrong. Of
+# types with `both` it tells that `{"b": 1}` is read in several ways.
 PROGRAM = r"""#!/bin/sh
 [ -f "$2" ] || exit 64
 case $1 in
 check)
     line=$(grep -n wrong "$2" | cut -d : -f 1)
     [ -z "$line" ] || { echo "$2:$line:8: at fault" >&2; exit 3; }
+    case $(cat "$2") in
+    *both*)
+        case " $* " in
+        *--accept*) cat "$4" && exit 0 || exit 64 ;;
+        *--strict*) echo strictly; exit 0 ;;
+        *--json*) echo '{"root": "S"}'; echo '{"document": {"b": 1}}' ;;
+        *) echo both ;;
+        esac
+        exit 2 ;;
+    esac
     echo "root: ${3:-S}"
     exit 0 ;;
 esac
@@ -23,6 +34,7 @@ esac
 read -r document
 case "$document" in
 '{"a": 1}' | '{"a": 1, "b": 2}') ;;
+'{"b": 1}') echo "a: several" >&2; exit 2 ;;
 *) echo "a: no" >&2; exit 1 ;;
 esac
 case " $* " in
@@ -35,6 +47,8 @@ ENDS = {"some": "0\na: 1\n", "none": "1\na: no\n", "more": '0\na: 1\nignored "b"
 CALL = ("./test", "questions")
 GATE = ("./test", "--all", "questions")
 JSON_END = f"{A}/some.json_end"
+TOLD = "examples/e/check.json_end"
+ACCEPT = "./facet-read check examples/e/types.rs --accept"
 
 
 class Questions(Repository):
@@ -54,6 +68,13 @@ class Questions(Repository):
         "examples/d/root": "D\n",
         "examples/d/stand_ins.rs": "\nstruct wrong;\n",
         "examples/d/check.end": "3\nexamples/d/stand_ins.rs:2:8: at fault\n",
+        "examples/e/types.rs": "struct both;\n",
+        "examples/e/check.end": "2\nboth\n",
+        "examples/e/check_strictly.end": "0\nstrictly\n",
+        TOLD: '2\n{"root": "S"}\n{"document": {"b": 1}}\n',
+        "examples/calls/known": "accepted\n",
+        "examples/calls/accept.call": f"{ACCEPT} examples/calls/known\n",
+        "examples/calls/accept.end": "0\naccepted\n",
         "examples/calls/root.call": "./facet-read check examples/a/types.rs 'Vec<S>'\n",
         "examples/calls/root.end": "0\nroot: Vec<S>\n",
         "examples/calls/none.call": "./facet-read check none.rs\n",
@@ -76,23 +97,24 @@ class Questions(Repository):
         f"{A}/lines.end": '0\n{"reading": {"a": 1}}\n1 of 1 documents read\n',
         f"{A}/table.end": "0\na: 1\n",
         **{f"{A}/{name}.end": end for name, end in ENDS.items()},
-        "checks/totals.txt": "questions of the examples: 21\nends of questions: 16\n",
+        "checks/totals.txt": "questions of the examples: 26\nends of questions: 20\n",
     }
 
     def test_nothing_wrong(self):
         self.prove("facet_solver_tool", self.top / CRATE / "program")
         for call in (CALL, GATE):
-            self.assertIn("24 passed, 0 failed", self.expect_passes(*call))
+            self.assertIn("29 passed, 0 failed", self.expect_passes(*call))
 
     def test_another_end(self):
         names = ["a/check", "c/check", "d/check", "c/documents/some", "faults/f", "faults/g"]
-        names += ["calls/none", "calls/read", "calls/root"]
+        names += ["calls/none", "calls/read", "calls/root", "calls/accept"]
+        names += ["e/check", "e/check_strictly"]
         for name in (*names, *(f"a/documents/{it}" for it in (*ENDS, "bad"))):
             file = self.top / "examples" / f"{name}.end"
             file.write_text(file.read_text() + "more\n")
         status, said = self.call(*CALL)
         # Of documents that are not read the end is also that with `--json`.
-        self.assertEqual((status, said.count("failed: ./facet-read")), (1, 13 + 2), said)
+        self.assertEqual((status, said.count("failed: ./facet-read")), (1, 16 + 2), said)
 
     def test_another_status(self):
         self.edit(f"{A}/none.end", "1\n", "2\n")
@@ -101,6 +123,12 @@ class Questions(Repository):
         told = [f"read examples/a/types.rs < {A}/none.json", "check examples/faults/f.rs"]
         told.append("check examples/faults/g\n")
         self.expect_told(CALL, *told)
+
+    def test_a_told_document_that_has_one_reading(self):
+        for file in (TOLD, f"{CRATE}/program"):
+            self.edit(file, '{"document": {"b": 1}}', '{"document": {"a": 1}}')
+        told = """failed: ./facet-read read examples/e/types.rs <<< '{"a": 1}'\n  wanted: status 2"""
+        self.expect_told(CALL, told)
 
     def test_a_missing_end(self):
         files = ["a/check.end", "faults/f.end", *(f"a/documents/{it}.end" for it in ENDS)]
@@ -113,16 +141,16 @@ class Questions(Repository):
 
     def test_a_missing_end_of_json(self):
         self.remove(JSON_END)
-        self.expect_told(CALL, "the number of ends of questions\n  wanted: 16\n  came:   15")
+        self.expect_told(CALL, "the number of ends of questions\n  wanted: 20\n  came:   19")
 
     def test_a_missing_document_whose_end_is_gone_too(self):
         self.remove(f"{A}/none.json", f"{A}/none.end")
-        told = "the number of questions of the examples\n  wanted: 21\n  came:   19"
+        told = "the number of questions of the examples\n  wanted: 26\n  came:   24"
         self.expect_told(CALL, told)
 
     def test_missing_types(self):
         self.remove("examples/a/types.rs")
-        self.expect_told(CALL, "the number of questions of the examples\n  wanted: 21\n  came:   9")
+        self.expect_told(CALL, "the number of questions of the examples\n  wanted: 26\n  came:   14")
 
     def test_a_folder_whose_fault_stands_in_another_place(self):
         for old, new in (("g/below/it.rs:2", "g/below/it.rs:1"), ("g/below/it.rs", "g/lib.rs")):
@@ -158,4 +186,4 @@ class Questions(Repository):
 
     def test_a_question_that_is_not_answered(self):
         self.edit("../kit/bin/rt", "case=", "other=")
-        self.expect_told(CALL, "failed: 19 questions\n  wanted: runs")
+        self.expect_told(CALL, "failed: 24 questions\n  wanted: runs")

@@ -12,17 +12,18 @@ CALL = ("docs/statuses",)
 # Edits of files, each with what is told of it. Those of a part are made at once.
 EDITS = (
     (
-        (STATUS, "NoReading => 1", "NoReading => 6", f"{PAGE}: ./facet-read: there is no status 1"),
+        (STATUS, "NoReading => 1", "NoReading => 8", f"{PAGE}: ./facet-read: there is no status 1"),
         (REPLY, "BadInput => 4", "BadInput => 3", "./solve: of status 3"),
         (REPLY, "OutOfMemory => 5", "OutOfMemory => 6", "./solve: the status 6 is missing"),
         ("facet-read", "127 where `rt`", "126 where `rt`", "of its own: the status 127 is missing"),
         ("sweep/run", "FAILED = 4 ", "FAILED = 9 ", "sweep/run: FAILED: it is 9"),
     ),
     (
-        (STATUS, "BadTypes => 3", "BadTypes => 7", "--help: there is no status 3"),
+        (STATUS, "BadTypes => 3", "BadTypes => 8", "--help: there is no status 3"),
         (COUNT, "            Status::NoReading\n", "            Status::Misused\n", "does not say"),
         (HELP, ", 74 a failed write", "", "--help: the status 74 is missing"),
-        (PAGE, "| 2 | it has several |", "| 2 | it has some |", "2 nothing says 'several'"),
+        (PAGE, "| 2 | it has several;", "| 2 | it has some;", "2 nothing says 'several'"),
+        (PAGE, "does not tell variants apart | `", "tells no variants | `", "2 nothing says 'apart'"),
         (PAGE, "| 3 | `bad catalogue NUMBER` |\n", "", "./solve: the status 3 is missing"),
         ("facet-read", "2 where it has several", "2 where it has two", "./facet-read: of status 2"),
         ("solve", "from 0 to 5", "from 0 to 4", "./solve: its head does not say 'from 0 to 5'"),

@@ -45,6 +45,8 @@ class Sweep(Repository):
         "examples/a/one.end": "0\nresolved 0\n",
         "examples/a/types.rs": "struct S;\n",
         "examples/a/check.end": "0\nroot: S\n",
+        "examples/notice/types.rs": "struct S;\n",
+        "examples/notice/check.end": "2\nroot: S\n",
         f"{A}/some.json": "ok\n",
         f"{A}/some.end": "0\na: 1\n",
         f"{A}/some.json_end": '0\n{"a": 1}\n',
@@ -75,7 +77,7 @@ class Sweep(Repository):
             self.prove(crate, compiled(self.made, *faults))
 
     def test_nothing_wrong(self):
-        said = "16 sweeps, 149 runs, 17 requests refused, 0 faults\n"
+        said = "17 sweeps, 152 runs, 18 requests refused, 0 faults\n"
         self.assertEqual(self.expect_passes(*CALL), said)
 
     def test_faults_of_the_programs(self):
@@ -89,6 +91,7 @@ class Sweep(Repository):
             "sweep/inputs/bad.end": ("bad input\n", "bad input"),
             "examples/a/one.end": ("0\n", "1\n"),
             "examples/a/check.end": ("root: S", "root: T"),
+            "examples/notice/check.end": ("2\n", "3\n"),
             f"{A}/some.json_end": ("1", "2"),
             f"{A}/none.end": ("no\n", "no"),
             f"{A}/two_events.end": ("1 of", "2 of"),
@@ -99,7 +102,8 @@ class Sweep(Repository):
             (self.top / file).write_text(text.replace(old, new, 1))
         texts = ["the program on facet_solver_program/stdin: request 0: status 0"]
         texts += ["the program on inputs/bad.json: ", "the program on a/one.json: "]
-        texts += ["the tool: check examples/a/types.rs: ", "types.rs --json < some.json: "]
+        texts += [f"the tool: check examples/{it}/types.rs: " for it in ("a", "notice")]
+        texts += ["types.rs --json < some.json: "]
         texts += ["types.rs < none.json: ", "--lines < two_events.jsonl: "]
         self.expect_told(CALL, *texts, "the tool: check examples/faults/alias.rs: ")
 

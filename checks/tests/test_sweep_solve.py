@@ -45,7 +45,7 @@ FAULTS = {
     "nobody says that nothing is proved": (PROGRAM, 'self.say(f"{why}, so', 'str(f"{why}, so'),
     "all counts as proved": ("launch/proof.py", "said.get(kind) != now[kind]", "not said"),
     "a proof that fails counts": (PROGRAM, "if self.crate not in RUNS", "if None in RUNS"),
-    "a missing file is passed over": ("facet-read", "return types.read_bytes()", 'return b""'),
+    "a missing file is passed over": ("facet-read", "return path.read_bytes()", 'return b""'),
 }
 
 

@@ -8,6 +8,7 @@ A = "examples/a/documents"
 TOTALS = "checks/totals.txt"
 CALL = ("checks/totals",)
 LINE = "transcripts: 3\n"
+CHECK = "./facet-read check examples/a/types.rs"
 
 
 class Totals(Repository):
@@ -37,6 +38,13 @@ class Totals(Repository):
         ),
         "examples/a/types.rs": "struct S;\n",
         "examples/a/check.end": "0\nroot: S\n",
+        "examples/notice/types.rs": "struct S;\n",
+        "examples/notice/check.end": "2\nS: A and B\n",
+        "examples/notice/check_strictly.end": "0\nroot: S\n",
+        "examples/notice/check.json_end": '2\n{"root": "S"}\n{"document": {"a": 1}}\n',
+        "examples/calls/known": '{"owner": "S"}\n',
+        "examples/calls/a.call": f"{CHECK} --accept examples/calls/known\n",
+        "examples/calls/a.end": "7\n",
         "examples/c/src/a/b.rs": "struct C;\n",
         "examples/c/root": "C\n",
         "examples/c/check.end": "0\nroot: C\n",
@@ -65,8 +73,8 @@ class Totals(Repository):
     def test_nothing_wrong(self):
         self.assertEqual(self.expect_passes(*CALL), "")
         text = (self.top / TOTALS).read_text()
-        self.assertIn("questions of the examples: 8\n", text)
-        self.assertIn("sweeps: 13\nsweeps that refuse requests: 9\n", text)
+        self.assertIn("questions of the examples: 13\n", text)
+        self.assertIn("sweeps: 14\nsweeps that refuse requests: 10\n", text)
 
     def test_something_is_gone(self):
         """Each is gone with all that would tell it elsewhere."""

@@ -1,5 +1,6 @@
 -- What stands in lists that are made of others.
-use Rattle.std.proofs.Common.{◌≡◌, ◌∙◌, sym, ap, subst, refl, ℕ, zero, suc, List, [], ◌∷◌, ◌++◌, Option, Some, None, slice_get}
+use Rattle.std.proofs.Common.{◌≡◌, ◌∙◌, sym, ap, subst, refl, ℕ, zero, suc, List, [], ◌∷◌, ◌++◌}
+use Rattle.std.proofs.Common.{Option, Some, None, slice_get}
 use Rattle.std.specs.List.{cons_option, filter_map, flat_map}
 use Rattle.facet_solver_checker.specs.PlanMembers.{IsIn}
 

@@ -1,5 +1,6 @@
 -- In a plan, what a target asks of the same value has a lower number.
-use Rattle.std.proofs.Common.{◌≡◌, ◌∙◌, sym, subst, refl, ℕ, ◌<◌, List, [], ◌∷◌, Any, Some, slice_get, arith}
+use Rattle.std.proofs.Common.{◌≡◌, ◌∙◌, sym, subst, refl, ℕ, ◌<◌, List, [], ◌∷◌, Any, Some}
+use Rattle.std.proofs.Common.{slice_get, arith}
 use Rattle.facet_solver_reader.specs.declared.plan.Plan.{Plan}
 use Rattle.facet_solver_reader.specs.declared.plan.PlannedAlternative.{PlannedAlternative}
 use Rattle.facet_solver_reader.specs.declared.plan.PlannedEnd.{PlannedEnd}
@@ -8,11 +9,16 @@ use Rattle.facet_solver_reader.specs.declared.plan.PlannedKind.{PlannedKind}
 use Rattle.facet_solver_reader.specs.declared.plan.PlannedKind.TheVariants as kinds
 use Rattle.facet_solver_reader.specs.declared.plan.PlannedTarget.{PlannedTarget}
 use Rattle.facet_solver_reader.specs.Parts.{Target, of_shape, of_content, of_tag}
-use Rattle.facet_solver_reader.specs.Plans.{IsNumberOf, IsPlannedAlternative, IsPlannedAs, IsPlannedContent, IsPlannedEnd, IsPlannedKind, IsPlannedTag, IsPlannedTarget, Meaning}
+use Rattle.facet_solver_reader.specs.Plans.{IsNumberOf, IsPlannedAlternative, IsPlannedAs}
+use Rattle.facet_solver_reader.specs.Plans.{IsPlannedContent, IsPlannedEnd, IsPlannedKind}
+use Rattle.facet_solver_reader.specs.Plans.{IsPlannedTag, IsPlannedTarget, Meaning}
 use Rattle.facet_solver_reader.specs.Reached.{asked, asked_by_content, asked_by_end, asked_by_kind}
 use Rattle.facet_solver_reader.specs.Rules as types
-use Rattle.facet_solver_reader.specs.Rules.{Alternative, AlternativeKind, End, Content, as_shape, an_option, an_untagged_variant, joins, a_fallback, other}
-use Rattle.facet_solver_checker.specs.Atoms.{AsksByAlternative, AsksLower, AsksNumber, AsksOnward, IsPlanFor}
+use Rattle.facet_solver_reader.specs.Rules.{Alternative, AlternativeKind, End, Content, as_shape}
+use Rattle.facet_solver_reader.specs.Rules.{an_option, an_untagged_variant, joins, a_fallback}
+use Rattle.facet_solver_reader.specs.Rules.{other}
+use Rattle.facet_solver_checker.specs.Atoms.{AsksByAlternative, AsksLower, AsksNumber, AsksOnward}
+use Rattle.facet_solver_checker.specs.Atoms.{IsPlanFor}
 use Rattle.facet_solver_reader.proofs.Asked.{any_first, any_of_each}
 use Rattle.facet_solver_reader.proofs.Pairs.{pair_at}
 use Rattle.facet_solver_reader.proofs.Quantifiers.{any_is_at}
@@ -45,7 +51,8 @@ module _ (m : Meaning) (k : ℕ) where
       let at = any_is_at (AsksByAlternative k) ps.items asks in
       let a = pair_at (IsPlannedAlternative m) alone ps.items asks.0 asks.1 is.1 at in (
         a.0.content,
-        any_of_each (λ t. t ≡ a.0.content) (λ (b : Alternative). asked_by_kind b.kind b.content) alone
+        any_of_each (λ t. t ≡ a.0.content) (λ (b : Alternative). asked_by_kind b.kind b.content)
+            alone
             asks.0 a.0 a.1
             (asked_onward a.0.kind asks.1.kind a.0.content a.2.kind asks.4.0),
         subst (IsNumberOf m a.0.content) asks.4.1 a.2.content,

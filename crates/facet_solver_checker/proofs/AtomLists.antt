@@ -1,7 +1,10 @@
 -- Lists of atoms that grow.
-use Rattle.std.proofs.Common.{◌≡◌, ◌⊎◌, inl, inr, ◌∙◌, sym, subst, refl, ap, ⊎_elim, ℕ, zero, suc, ◌<◌, ◌+◌, List, [], ◌∷◌, ◌++◌, All, Any, length, get_or, take, Option, Some, Vec, Global, slice_get, arith}
+use Rattle.std.proofs.Common.{◌≡◌, ◌⊎◌, inl, inr, ◌∙◌, sym, subst, refl, ap, ⊎_elim, ℕ, zero, suc}
+use Rattle.std.proofs.Common.{◌<◌, ◌+◌, List, [], ◌∷◌, ◌++◌, All, Any, length, get_or, take, Option}
+use Rattle.std.proofs.Common.{Some, Vec, Global, slice_get, arith}
 use Rattle.std.specs.List.{Contains}
-use Rattle.std.proofs.lemmas.List.Elements.{All-contains, All-contains_itself, All-more, All-weaker, Contains-append_left, Contains-push}
+use Rattle.std.proofs.lemmas.List.Elements.{All-contains, All-contains_itself, All-more, All-weaker}
+use Rattle.std.proofs.lemmas.List.Elements.{Contains-append_left, Contains-push}
 use Rattle.facet_solver_checker.specs.declared.atoms.Atom.{Atom}
 use Rattle.facet_solver_checker.specs.declared.atoms.Atoms.{Atoms}
 use Rattle.facet_solver_reader.specs.declared.plan.PlannedAlternative.{PlannedAlternative}
@@ -10,7 +13,9 @@ use Rattle.facet_solver_reader.specs.declared.plan.PlannedEnd.{PlannedEnd}
 use Rattle.facet_solver_reader.specs.declared.plan.PlannedEnd.TheVariants as planned
 use Rattle.facet_solver_reader.specs.declared.plan.PlannedTarget.{PlannedTarget}
 use Rattle.std.proofs.lemmas.Option.{slice_get-get_or}
-use Rattle.facet_solver_checker.specs.Atoms.{AsksByAlternative, AsksLower, AsksNumber, HasAtom, by_itself, as_asked, HasOwn, HaveAtoms, HasLower, HasOnward}
+use Rattle.facet_solver_checker.specs.Atoms.{AsksByAlternative, AsksLower, AsksNumber, HasAtom}
+use Rattle.facet_solver_checker.specs.Atoms.{by_itself, as_asked, HasOwn, HaveAtoms, HasLower}
+use Rattle.facet_solver_checker.specs.Atoms.{HasOnward}
 use Rattle.facet_solver_reader.proofs.Quantifiers.{all_at, any_is_at}
 
 -- what is in a list is in one that has all of it
@@ -42,7 +47,8 @@ pub onward_next : (lower : List Atoms) (xs ys : List Atom) (ps : List PlannedAlt
     → All (HasOnward lower ys) (take (i + 1) ps)
 onward_next lower xs ys ps i d within more h p =
     All-more (HasOnward lower ys) ps i d within
-    (All-weaker (HasOnward lower xs) (HasOnward lower ys) (onward_more lower xs ys more) (take i ps) h)
+    (All-weaker (HasOnward lower xs) (HasOnward lower ys) (onward_more lower xs ys more)
+    (take i ps) h)
     p
 
 -- what some alternative asks

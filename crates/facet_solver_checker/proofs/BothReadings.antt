@@ -1,6 +1,8 @@
 -- How two readings of one value as one target come about.
-use Rattle.std.proofs.Common.{◌≡◌, ◌⊎◌, inl, inr, sym, ap, ◌∙◌, subst, ⊎_elim, ℕ, suc, ◌<◌, List, [], ◌∷◌}
-use Rattle.std.proofs.Common.{Any, Bool, true, false, IsTrue, Option, Some, None, map, option_map, slice_get, zip, refl}
+use Rattle.std.proofs.Common.{◌≡◌, ◌⊎◌, inl, inr, sym, ap, ◌∙◌, subst, ⊎_elim, ℕ, suc, ◌<◌, List}
+use Rattle.std.proofs.Common.{[], ◌∷◌}
+use Rattle.std.proofs.Common.{Any, Bool, true, false, IsTrue, Option, Some, None, map, option_map}
+use Rattle.std.proofs.Common.{slice_get, zip, refl}
 use Rattle.std.specs.Prelude.{⊤}
 use Rattle.std.proofs.Math.Dec.{eqb}
 use Rattle.std.proofs.lemmas.Bool.Decides.{eqb_tells}
@@ -9,7 +11,8 @@ use Rattle.facet_solver_reader.specs.declared.plan.PlannedEnd.{PlannedEnd}
 use Rattle.facet_solver_reader.specs.declared.plan.PlannedEnd.TheVariants as planned
 use Rattle.facet_solver_reader.specs.Asking.{Asks}
 use Rattle.facet_solver_reader.specs.Branches.{ReadsList}
-use Rattle.facet_solver_reader.specs.Choices.{Choice, Reading, a_value, each_of, an_object, a_variant}
+use Rattle.facet_solver_reader.specs.Choices.{Choice, Reading, a_value, each_of, an_object}
+use Rattle.facet_solver_reader.specs.Choices.{a_variant}
 use Rattle.facet_solver_reader.specs.Choices.{Readings, no_readings, reading}
 use Rattle.facet_solver_checker.specs.Differing.{joined, variant}
 use Rattle.facet_solver_reader.specs.Documents.{Tree, null, text, list, object}
@@ -26,7 +29,8 @@ use Rattle.facet_solver_reader.specs.Reached.{asked_by_content, asked_by_end, as
 use Rattle.facet_solver_reader.specs.Reached.{list_of, list_of_content, list_of_end, within_content}
 use Rattle.facet_solver_reader.specs.Reached.{within_end}
 use Rattle.facet_solver_reader.specs.Rules as types
-use Rattle.facet_solver_reader.specs.Rules.{Alternative, AlternativeKind, Content, End, NamedVariant}
+use Rattle.facet_solver_reader.specs.Rules.{Alternative, AlternativeKind, Content, End}
+use Rattle.facet_solver_reader.specs.Rules.{NamedVariant}
 use Rattle.facet_solver_reader.specs.Rules.{Rules, a_character, a_fallback, a_list, a_map}
 use Rattle.facet_solver_reader.specs.Rules.{a_named_variant, a_text, a_truth, a_tuple, an_option}
 use Rattle.facet_solver_reader.specs.Rules.{an_untagged_variant, anything, as_object, as_shape}
@@ -66,9 +70,10 @@ abbrev pub AsksBelow : Meaning → ℕ → Target → Type 0
 AsksBelow m n t = (u : Target) → Asks m.rules t u → (k : ℕ) × (k < n) × IsNumberOf m u k
 
 -- two readings of a value as a target whose number is a limit: they are the same, they are so of
--- another target of the same value, they are of one variant, of two, or of one and of those that are
--- read together, they are of several values within, or of one object by one list
-pub data Both (m : Meaning) (reads : Inner) (n : ℕ) (t : Target) (v : Tree) : Reading → Reading → Type 0
+-- another target of the same value, they are of one variant, of two, or of one and of those that
+-- are read together, they are of several values within, or of one object by one list
+pub data Both (m : Meaning) (reads : Inner) (n : ℕ) (t : Target) (v : Tree) : Reading → Reading
+    → Type 0
   where
     are_same : (r s : Reading) → r ≡ s → Both m reads n t v r s
     ask : (u : Target) → Asks m.rules t u → (k : ℕ) → k < n → IsNumberOf m u k → (r s : Reading)
@@ -226,7 +231,8 @@ module _ (m : Meaning) where
   chosen_number id (Some k) h c = (k, h)
 
 -- a reading of an untagged enum is by the variants that join, or by one
-data ByVariants (rules : Rules) (reads : Inner) (parts : ListId) (alone : List Alternative) (v : Tree) : Reading → Type 0
+data ByVariants (rules : Rules) (reads : Inner) (parts : ListId) (alone : List Alternative)
+    (v : Tree) : Reading → Type 0
   where
     by_joined : (c : Choice) → ReadsJoined rules reads.within parts v (an_object c)
         → ByVariants rules reads parts alone v (an_object c)
@@ -235,7 +241,8 @@ data ByVariants (rules : Rules) (reads : Inner) (parts : ListId) (alone : List A
         ⊎ ((asked_by_kind a.kind a.content ≡ a.content ∷ []) × reads.itself a.content v r)
         → ByVariants rules reads parts alone v (a_variant i r)
 
-module _ (rules : Rules) (reads : Inner) (parts : ListId) (alone : List Alternative) (v : Tree) where
+module _ (rules : Rules) (reads : Inner) (parts : ListId) (alone : List Alternative)
+    (v : Tree) where
   of_joined_ones : (r : Reading) → ReadsJoined rules reads.within parts v r
       → ByVariants rules reads parts alone v r
   of_joined_ones r h = go v r h by_joined
@@ -255,7 +262,8 @@ module _ (rules : Rules) (reads : Inner) (parts : ListId) (alone : List Alternat
   of_one_alone (a_variant i q) h = go (slice_get alone i) refl h
     where
       go : (o : Option Alternative) → slice_get alone i ≡ o
-          → ReadsByOne reads.itself alone o v q → ByVariants rules reads parts alone v (a_variant i q)
+          → ReadsByOne reads.itself alone o v q
+          → ByVariants rules reads parts alone v (a_variant i q)
       go None at g = absurd g
       go (Some a) at g =
           by_one i a at q (by_kind a.kind a.content _ v q (reads.itself a.content v q) g)
@@ -271,7 +279,8 @@ module _ (rules : Rules) (reads : Inner) (parts : ListId) (alone : List Alternat
       asks k u e = rw e refl
 
       go : (o : Option Alternative) → slice_get alone i ≡ o
-          → ReadsByFallback reads.itself o v q → ByVariants rules reads parts alone v (a_variant i q)
+          → ReadsByFallback reads.itself o v q
+          → ByVariants rules reads parts alone v (a_variant i q)
       go None at g = absurd g
       go (Some a) at g = by_one i a at q (inr (asks a.kind a.content g.0, g.1))
 
@@ -413,7 +422,8 @@ module _ (m : Meaning) (reads : Inner) (n : ℕ) (t : Target) where
         names_unit i x None at h = absurd h
         names_unit i x (Some a) at h = has_named i a at
 
-        names_one : (i : ℕ) (w : Member) (r : Reading) (o : Option NamedVariant) → slice_get vs i ≡ o
+        names_one : (i : ℕ) (w : Member) (r : Reading) (o : Option NamedVariant)
+            → slice_get vs i ≡ o
             → ReadsNamed reads.within o w r → HasSide (m.rules.end_of id) (variant i)
         names_one i w r None at h = absurd h
         names_one i w r (Some a) at h = has_named i a at
@@ -489,18 +499,22 @@ module _ (m : Meaning) (reads : Inner) (n : ℕ) (t : Target) where
               (λ (y : (a.kind ≡ types.null_alone) × (q ≡ a_value)).
               are_same (a_variant i r) (a_variant i q)
               (ap (λ z. a_variant i z) (x.1 ∙ sym y.1)))
-              (λ (y : (asked_by_kind a.kind a.content ≡ a.content ∷ []) × reads.itself a.content v q).
+              (λ (y : (asked_by_kind a.kind a.content ≡ a.content ∷ [])
+              × reads.itself a.content v q).
               absurd (null_asks_none a.kind a.content x.0 y.0)) g)
-              (λ (x : (asked_by_kind a.kind a.content ≡ a.content ∷ []) × reads.itself a.content v r).
+              (λ (x : (asked_by_kind a.kind a.content ≡ a.content ∷ [])
+              × reads.itself a.content v r).
               ⊎_elim
               (λ (y : (a.kind ≡ types.null_alone) × (q ≡ a_value)).
               absurd (null_asks_none a.kind a.content y.0 x.0))
-              (λ (y : (asked_by_kind a.kind a.content ≡ a.content ∷ []) × reads.itself a.content v q).
+              (λ (y : (asked_by_kind a.kind a.content ≡ a.content ∷ [])
+              × reads.itself a.content v q).
               let number = asks x.0 in
               of_one a.content (asked_there x.0) number.0 number.1 number.2 i r q x.1 y.1) g) h
 
       -- two readings by variants that join
-      joined_objects : (v : Tree) (c e : Choice) → ReadsJoined m.rules reads.within parts v (an_object c)
+      joined_objects : (v : Tree) (c e : Choice)
+          → ReadsJoined m.rules reads.within parts v (an_object c)
           → ReadsJoined m.rules reads.within parts v (an_object e)
           → Both m reads n t v (an_object c) (an_object e)
       joined_objects (object ms) c e h k =
@@ -581,7 +595,8 @@ module _ (m : Meaning) (reads : Inner) (n : ℕ) (t : Target) where
 
   -- of the content of a variant
   content_tuples : (ss : List ℕ) (p : PlannedEnd) → IsPlannedContent m (as_tuple ss) p
-      → ShapesWithin m.rules t ss → (v : Tree) (r q : Reading) → ReadsPlainContent m.rules reads.within (as_tuple ss) v r
+      → ShapesWithin m.rules t ss → (v : Tree) (r q : Reading)
+      → ReadsPlainContent m.rules reads.within (as_tuple ss) v r
       → ReadsPlainContent m.rules reads.within (as_tuple ss) v q → Both m reads n t v r q
   content_tuples ss (planned.Tuple ns) numbers inside (list vs) (each_of rs) (each_of qs) h k =
       places ss ns.items (list vs) (items vs) rs qs numbers inside h.1 k.1
@@ -590,9 +605,11 @@ module _ (m : Meaning) (reads : Inner) (n : ℕ) (t : Target) where
   content_tuples ss p numbers inside v r q h k = absurd numbers
 
   content_objects : (id : ListId) (p : PlannedEnd) → IsPlannedContent m (as_object id) p
-      → list_of m.rules t ≡ Some id → (v : Tree) (r q : Reading) → ReadsPlainContent m.rules reads.within (as_object id) v r
+      → list_of m.rules t ≡ Some id → (v : Tree) (r q : Reading)
+      → ReadsPlainContent m.rules reads.within (as_object id) v r
       → ReadsPlainContent m.rules reads.within (as_object id) v q → Both m reads n t v r q
-  content_objects id (planned.Object o) numbered list_is (object ms) (an_object c) (an_object e) h k =
+  content_objects id (planned.Object o) numbered list_is (object ms) (an_object c)
+      (an_object e) h k =
       one_object (object ms) id list_is o numbered (members ms) c e h k
   content_objects id (planned.Object o) numbered list_is (object ms) (an_object c) q h k = absurd k
   content_objects id (planned.Object o) numbered list_is v r q h k = absurd h
@@ -629,7 +646,8 @@ pub both_readings : (m : Meaning) (reads : Inner) (n : ℕ) (t : Target) (p : Pl
 both_readings m reads n (of_shape id) p h below v r q x y =
     ends m reads n (of_shape id) id refl (m.rules.end_of id) refl p h below v r q x y
 both_readings m reads n (of_content id k) p h below v r q x y =
-    contents m reads n (of_content id k) (m.rules.content_of id k) (λ u a. a) (λ u a. a) refl below p h
+    contents m reads n (of_content id k) (m.rules.content_of id k) (λ u a. a)
+    (λ u a. a) refl below p h
     v r q x y
 both_readings m reads n (of_tag name) p h below v r q x y =
     tags m reads n (of_tag name) name v r q x y

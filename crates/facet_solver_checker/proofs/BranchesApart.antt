@@ -1,13 +1,17 @@
 -- Branches of a selection that read no object in common.
-use Rattle.std.proofs.Common.{◌≡◌, ◌∙◌, sym, ap, subst, refl, inl, inr, ⊎_elim, ◌⊎◌, ℕ, List, [], ◌∷◌, ◌++◌, Option, Some, None, Bool, true, false, slice_get, if◌then◌else◌, Bor, All, Vec, Global}
+use Rattle.std.proofs.Common.{◌≡◌, ◌∙◌, sym, ap, subst, refl, inl, inr, ⊎_elim, ◌⊎◌, ℕ, List, []}
+use Rattle.std.proofs.Common.{◌∷◌, ◌++◌, Option, Some, None, Bool, true, false, slice_get}
+use Rattle.std.proofs.Common.{if◌then◌else◌, Bor, All, Vec, Global}
 use Rattle.std.specs.List.{list_any}
 use Rattle.std.specs.Str.{bytes_eq}
 use Rattle.facet_solver_shape.specs.Names.{Name}
 use Rattle.facet_solver_reader.specs.declared.plan.Plan.{Plan}
 use Rattle.facet_solver_reader.specs.declared.plan.PlannedList.{PlannedList}
 use Rattle.facet_solver_reader.specs.Branches.{ReadsList, ReadsPart}
-use Rattle.facet_solver_reader.specs.Choices.{Choice, ChoiceAt, Item, member_of, catch_all_of, presence_of, presence, choosing}
-use Rattle.facet_solver_reader.specs.Known.{Chooses, ChoosesAt, HasKey, IsKnown, IsKnownIn, Key, named, rest}
+use Rattle.facet_solver_reader.specs.Choices.{Choice, ChoiceAt, Item, member_of, catch_all_of}
+use Rattle.facet_solver_reader.specs.Choices.{presence_of, presence, choosing}
+use Rattle.facet_solver_reader.specs.Known.{Chooses, ChoosesAt, HasKey, IsKnown, IsKnownIn, Key}
+use Rattle.facet_solver_reader.specs.Known.{named, rest}
 use Rattle.facet_solver_reader.specs.Objects.{Agrees, Has, HasNamed, Object, Reads, Touches}
 use Rattle.facet_solver_reader.specs.Parts.{ListId, Selection, a_selection}
 use Rattle.facet_solver_reader.specs.Plans.{IsNumberOfList, IsPlannedList, Meaning, has_key}
@@ -16,10 +20,13 @@ use Rattle.facet_solver_reader.proofs.Items.{Agrees-left, Agrees-right, HasKey-r
 use Rattle.facet_solver_reader.proofs.Pairs.{pair_of}
 use Rattle.facet_solver_reader.proofs.Quantifiers.{all_at}
 use Rattle.facet_solver_checker.specs.declared.apart.Apart.{Apart}
-use Rattle.facet_solver_checker.specs.BranchesMeet.{AgreesBy, AreApartIn, AreInnersApart, BothHave, BranchesMeet, BranchSides, IsMemberApart, ShareNone}
+use Rattle.facet_solver_checker.specs.BranchesMeet.{AgreesBy, AreApartIn, AreInnersApart, BothHave}
+use Rattle.facet_solver_checker.specs.BranchesMeet.{BranchesMeet, BranchSides, IsMemberApart}
+use Rattle.facet_solver_checker.specs.BranchesMeet.{ShareNone}
 use Rattle.facet_solver_checker.specs.Aparts.{LeavesAll}
 use Rattle.facet_solver_checker.specs.Inners.{AreInners, IsThrough, IsThroughSome}
-use Rattle.facet_solver_checker.specs.PlanMembers.{AreListsOf, AreTargetsAt, IsIn, IsReadAmong, targets_below}
+use Rattle.facet_solver_checker.specs.PlanMembers.{AreListsOf, AreTargetsAt, IsIn, IsReadAmong}
+use Rattle.facet_solver_checker.specs.PlanMembers.{targets_below}
 use Rattle.facet_solver_checker.specs.Requires.{AreRequired, HasRequired, IsRequiredBy, NameLists}
 use Rattle.facet_solver_checker.specs.Ways.{all_apart}
 use Rattle.facet_solver_checker.proofs.ListItems.{have_below, planned_at}
@@ -120,7 +127,8 @@ module _ (m : Meaning) (reads : Reads) (s : Selection) (object : Object) where
       (subst (Agrees m.rules reads object) r.chooses.items_are r.agrees))).0
 
 -- of two branches that read one object, both have a member that one of them requires
-module _ (m : Meaning) (reads : Reads) (s : Selection) (one other : ℕ) (sides : BranchSides m reads s one other) where
+module _ (m : Meaning) (reads : Reads) (s : Selection) (one other : ℕ)
+    (sides : BranchSides m reads s one other) where
   -- what a choice of each has is as the object has it
   abbrev first_by : AgreesBy m.rules reads sides.meet.object sides.first_through.id
   first_by =
@@ -250,7 +258,8 @@ inners_by_none m apart must one other is none leaves s d sides touch =
     sides.second_through.is both)
 
 -- the choice of a reading at a branch is one of its list
-branch_through : (m : Meaning) (reads : Reads) (object : Object) (s : Selection) (k : ℕ) (c : Choice)
+branch_through : (m : Meaning) (reads : Reads) (object : Object) (s : Selection) (k : ℕ)
+    (c : Choice)
     (id : ListId) (n : ℕ) → slice_get s.branches k ≡ Some id → IsNumberOfList m id n
     → (r : ReadsPart m.rules reads object (a_selection s) (choosing k c))
     → IsThrough m r.chooses.of_branch n
@@ -270,14 +279,16 @@ pub branches_are_apart : (m : Meaning) (must : Bool) (first second : ℕ) (ps qs
     → AreInners m first ps → AreInners m second qs
     → All (λ one. All (λ other. AreInnersApart m must one other) qs) ps
     → AreApartIn m must first second
-branches_are_apart m must first second ps qs firsts seconds all s a b is_a is_b d j k at_a at_b meet touch =
+branches_are_apart m must first second ps qs firsts seconds all s a b is_a is_b d j k at_a at_b meet
+    touch =
     let reads = ReadsDown m.rules d in
     let one = firsts meet.first_reads.chooses.of_branch
     (branch_through m reads meet.object s j meet.first_choice a first at_a is_a meet.first_reads) in
     let other = seconds meet.second_reads.chooses.of_branch
     (branch_through m reads meet.object s k meet.second_choice b second at_b is_b
     meet.second_reads) in
-    let here = all_at (λ (n : ℕ). All (λ o. AreInnersApart m must n o) qs) ps one.among.0 one.number all
+    let here = all_at (λ (n : ℕ). All (λ o. AreInnersApart m must n o) qs) ps one.among.0 one.number
+    all
     one.among.1 in
     all_at (λ (o : ℕ). AreInnersApart m must one.number o) qs other.among.0 other.number here
     other.among.1 s d
@@ -287,6 +298,22 @@ branches_are_apart m must first second ps qs firsts seconds all s a b is_a is_b 
       meet = meet;
       first_through = one.through;
       second_through = other.through;
+    }) touch
+
+-- branches are apart, where their lists are as a whole
+pub wholes_apart : (m : Meaning) (must : Bool) (first second : ℕ)
+    → AreInnersApart m must first second → AreApartIn m must first second
+wholes_apart m must first second none s a b is_a is_b d j k at_a at_b meet touch =
+    let reads = ReadsDown m.rules d in
+    none s d
+    (record {
+      first = j;
+      second = k;
+      meet = meet;
+      first_through = branch_through m reads meet.object s j meet.first_choice a first at_a is_a
+          meet.first_reads;
+      second_through = branch_through m reads meet.object s k meet.second_choice b second at_b is_b
+          meet.second_reads;
     }) touch
 
 -- lists share none, where the members of all names of the first are apart, and not both take the

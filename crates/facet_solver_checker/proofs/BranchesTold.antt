@@ -1,6 +1,7 @@
 -- Two branches of a selection that read no object in common, whatever the numbers of a plan stand
 -- for.
-use Rattle.std.proofs.Common.{◌≡◌, ◌∙◌, sym, ap, subst, refl, ℕ, Bool, true, false, Ok, Err, Result, Some, slice_get, ◌||◌, List}
+use Rattle.std.proofs.Common.{◌≡◌, ◌∙◌, sym, ap, subst, refl, ℕ, Bool, true, false, Ok, Err, Result}
+use Rattle.std.proofs.Common.{Some, slice_get, ◌||◌, List}
 use Rattle.std.specs.Result.{IfOk}
 use Rattle.std.specs.declared.alloc.AllocError.{AllocError}
 use Rattle.facet_solver_shape.specs.Names.{Name}
@@ -18,7 +19,8 @@ use Rattle.facet_solver_checker.specs.Aparts.{LeavesAll}
 use Rattle.facet_solver_checker.specs.Atoms.{IsPlanFor}
 use Rattle.facet_solver_checker.specs.BranchesMeet.{AreApartIn, IsMemberApart}
 use Rattle.facet_solver_checker.specs.Comes.{TouchesList}
-use Rattle.facet_solver_checker.specs.Forks.{AreBranchesApart, IsSelectionApart, ReadsNone, SelectionMeets}
+use Rattle.facet_solver_checker.specs.Forks.{AreBranchesApart, IsSelectionApart, ReadsNone}
+use Rattle.facet_solver_checker.specs.Forks.{SelectionMeets}
 use Rattle.facet_solver_checker.specs.PlanMembers.{AreListsOf}
 use Rattle.facet_solver_checker.specs.Requires.{AreRequired, IsRequiredBy, NameLists}
 use Rattle.facet_solver_checker.specs.Touched.{AreTouched, is_touched}
@@ -39,16 +41,15 @@ branches_told plan apart names n must branches required (Err e) f = tt
 
 -- so is what is told of a list
 pub none_told : (plan : Plan) (apart : Apart) (names : NameLists) (n : ℕ)
-    → AreNamesRequired plan names → (r : Result Bool AllocError)
+    → AreNamesRequired plan names → (b : Bool)
     → ((m : Meaning) → AreListsOf m plan → AreRequired m names
-    → IfOk r (λ b. b ≡ true → (x : Name) × IsRequiredBy m n x × IsMemberApart m apart n n x))
-    → IfOk r (λ b. b ≡ true → ReadsNone plan apart n)
-none_told plan apart names n required (Ok b) f = λ h m is leaves d object comes.
+    → b ≡ true → (x : Name) × IsRequiredBy m n x × IsMemberApart m apart n n x)
+    → b ≡ true → ReadsNone plan apart n
+none_told plan apart names n required b f = λ h m is leaves d object comes.
     let lists = is.meaning.lists in
     let w = f m lists (required m lists) h in
     none_read m apart n w.0 w.1 w.2 leaves comes.id comes.numbered d object comes.choice
     comes.is_read
-none_told plan apart names n required (Err e) f = tt
 
 -- where no object comes to a list, none is read by two branches
 pub none_comes : (plan : Plan) (apart : Apart) (n : ℕ) (must : Bool) (branches : ℕ × ℕ)
@@ -56,14 +57,6 @@ pub none_comes : (plan : Plan) (apart : Apart) (n : ℕ) (must : Bool) (branches
 none_comes plan apart n must branches none =
     λ m is leaves s x y at_x at_y d j k branch_x branch_y meet comes touch.
     none m is leaves d meet.object comes
-
--- the same of what is found
-pub none_found : (plan : Plan) (apart : Apart) (n : ℕ) (must : Bool) (branches : ℕ × ℕ)
-    (r : Result Bool AllocError) → IfOk r (λ b. b ≡ true → ReadsNone plan apart n)
-    → IfOk r (λ b. b ≡ true → AreBranchesApart plan apart n must branches)
-none_found plan apart n must branches (Ok b) f = λ h.
-    none_comes plan apart n must branches (f h)
-none_found plan apart n must branches (Err e) f = tt
 
 -- what is there is one thing
 some_is : {A : Type 0} {x y : A} → Some x ≡ Some y → x ≡ y

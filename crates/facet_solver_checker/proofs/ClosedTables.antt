@@ -1,5 +1,6 @@
 -- A table that bears itself out leaves closed pairs.
-use Rattle.std.proofs.Common.{◌≡◌, refl, ℕ, Bool, true, false, All, Some, slice_get, List}
+use Rattle.std.proofs.Common.{◌≡◌, ◌∙◌, ◌||◌, ap, refl, sym, ℕ, Bool, true, false, All, Some}
+use Rattle.std.proofs.Common.{slice_get, List}
 use Rattle.std.specs.List.{Contains}
 use Rattle.std.specs.Ordering.{nat_cmp}
 use Rattle.std.proofs.lemmas.Cmp.{nat_cmp_total, on_total, then_total}
@@ -10,9 +11,9 @@ use Rattle.facet_solver_checker.specs.declared.apart.Apart.{Apart}
 use Rattle.facet_solver_checker.specs.declared.atoms.Atom.{Atom}
 use Rattle.facet_solver_checker.specs.declared.atoms.Atoms.{Atoms}
 use Rattle.facet_solver_reader.specs.declared.plan.Plan.{Plan}
-use Rattle.facet_solver_checker.specs.Aparts.{is_apart, left}
+use Rattle.facet_solver_reader.specs.declared.plan.PlannedTarget.{PlannedTarget}
+use Rattle.facet_solver_checker.specs.Aparts.{LeavesDown, are_tags_apart, has_pair, is_apart, left}
 use Rattle.facet_solver_checker.specs.Apartness.{AreTargetsApart, AtomsApart, BearsOut}
-use Rattle.facet_solver_checker.specs.Aparts.{LeavesDown}
 use Rattle.facet_solver_checker.specs.Atoms.{HaveAtoms, IsPlanFor}
 use Rattle.facet_solver_reader.specs.Choices.{Reading}
 use Rattle.facet_solver_reader.specs.Documents.{Tree}
@@ -21,6 +22,7 @@ use Rattle.facet_solver_reader.specs.Parts.{Target}
 use Rattle.facet_solver_reader.specs.Plans.{IsNumberOf, Meaning}
 use Rattle.facet_solver_reader.specs.Values.{ReadsDown, ReadsWithin}
 use Rattle.facet_solver_checker.proofs.ReadByAtom.{IsReadByAtom, read_by_atom}
+use Rattle.facet_solver_checker.proofs.TagsApart.{tags_read_none}
 
 module _ (plan : Plan) (apart : Apart) (atoms : List Atoms) (have : HaveAtoms plan atoms)
     (m : Meaning) (is : IsPlanFor m plan)
@@ -37,19 +39,30 @@ module _ (plan : Plan) (apart : Apart) (atoms : List Atoms) (have : HaveAtoms pl
         (have j none.second b.atom none.second_is b.has) m is depth leaves v a.is_read b.is_read
 
     -- so a table that bears itself out leaves closed pairs
-    pub table_closed : BearsOut plan apart atoms → IsClosedDown m.rules (left m apart)
-    table_closed bears depth leaves steps more t u v r s h g i j is_i is_j =
+    pub table_closed : apart.targets.now ≡ plan.targets.items → BearsOut plan apart atoms
+        → IsClosedDown m.rules (left m apart)
+    table_closed same bears depth leaves steps more t u v r s h g i j is_i is_j =
         go (is_apart apart i j) refl
       where
+        first : IsReadByAtom m plan (ReadsDown m.rules depth) i v
+        first = read_by_atom m plan is (ReadsDown m.rules depth) steps t i is_i v r h
+
+        second : IsReadByAtom m plan (ReadsDown m.rules depth) j v
+        second = read_by_atom m plan is (ReadsDown m.rules depth) more u j is_j v s g
+
+        pick : (a : Bool) → are_tags_apart apart.targets.now i j ≡ a
+            → (a || has_pair apart i j) ≡ true → ⊥
+        pick true tags e =
+            tags_read_none m plan (ReadsDown m.rules depth) v i j
+            (ap (λ (ts : List PlannedTarget). are_tags_apart ts i j) (sym same) ∙ tags) first second
+        pick false tags e = none_read i j (bears i j e) depth leaves v first second
+
         go : (b : Bool) → is_apart apart i j ≡ b → b ≡ false
         go false e = refl
-        go true e =
-            absurd (none_read i j (bears i j e) depth leaves v
-            (read_by_atom m plan is (ReadsDown m.rules depth) steps t i is_i v r h)
-            (read_by_atom m plan is (ReadsDown m.rules depth) more u j is_j v s g))
+        go true e = absurd (pick (are_tags_apart apart.targets.now i j) refl e)
 
 -- a pair of the table is listed
-pub pair_listed : (apart : Apart) (i j : ℕ) → is_apart apart i j ≡ true
+pub pair_listed : (apart : Apart) (i j : ℕ) → has_pair apart i j ≡ true
     → Contains apart.pairs.keys (i, j)
 pair_listed apart i j e =
     (btree_set_contains_iff

@@ -1,6 +1,8 @@
 -- How ends that are no lists of parts read the member of a name, and what a list that requires the
 -- name reads in common with them.
-use Rattle.std.proofs.Common.{◌≡◌, ◌∙◌, sym, ap, subst, refl, inl, inr, ℕ, zero, suc, List, [], ◌∷◌, All, Any, Bool, true, false, IsTrue, Option, Some, None, slice_get, if◌then◌else◌, Vec, Global, Bor, length, get_or}
+use Rattle.std.proofs.Common.{◌≡◌, ◌∙◌, sym, ap, subst, refl, inl, inr, ℕ, zero, suc, List, [], ◌∷◌}
+use Rattle.std.proofs.Common.{All, Any, Bool, true, false, IsTrue, Option, Some, None, slice_get}
+use Rattle.std.proofs.Common.{if◌then◌else◌, Vec, Global, Bor, length, get_or}
 use Rattle.std.specs.List.{Contains}
 use Rattle.std.specs.Str.{bytes_eq}
 use Rattle.std.proofs.lemmas.Option.{slice_get-get_or}
@@ -11,7 +13,8 @@ use Rattle.facet_solver_reader.specs.declared.plan.PlannedEnd.{PlannedEnd}
 use Rattle.facet_solver_reader.specs.declared.plan.PlannedEnd.TheVariants as planned
 use Rattle.facet_solver_reader.specs.declared.plan.PlannedName.{PlannedName}
 use Rattle.facet_solver_reader.specs.Choices.{Choice}
-use Rattle.facet_solver_reader.specs.Documents.{Member, Members, Tree, member, members, no_members, object}
+use Rattle.facet_solver_reader.specs.Documents.{Member, Members, Tree, member, members, no_members}
+use Rattle.facet_solver_reader.specs.Documents.{object}
 use Rattle.facet_solver_reader.specs.Known.{Chooses}
 use Rattle.facet_solver_reader.specs.Objects.{HasNamed, Reads, find}
 use Rattle.facet_solver_reader.specs.Parts.{ListId}
@@ -24,8 +27,10 @@ use Rattle.facet_solver_checker.specs.declared.end_ways.MemberWays.{MemberWays}
 use Rattle.facet_solver_checker.specs.declared.ways.Ways.{Ways}
 use Rattle.facet_solver_checker.specs.Apartness.{AreNamesRequired, ObjectsApart}
 use Rattle.facet_solver_checker.specs.Aparts.{LeavesDown}
-use Rattle.facet_solver_checker.specs.Atoms.{IsPlanFor, NamesContent, ReadsAs, ReadsByList, ReadsNumber, ReadsValueOf}
-use Rattle.facet_solver_checker.specs.EndWays.{AreContentsAmong, AreEndWays, AreMemberWays, HasContent}
+use Rattle.facet_solver_checker.specs.Atoms.{IsPlanFor, NamesContent, ReadsAs, ReadsByList}
+use Rattle.facet_solver_checker.specs.Atoms.{ReadsNumber, ReadsValueOf}
+use Rattle.facet_solver_checker.specs.EndWays.{AreContentsAmong, AreEndWays, AreMemberWays}
+use Rattle.facet_solver_checker.specs.EndWays.{HasContent}
 use Rattle.facet_solver_checker.specs.ListsMeet.{MayRead, may_items}
 use Rattle.facet_solver_checker.specs.PlanMembers.{IsIn, IsReadAmong}
 use Rattle.facet_solver_checker.specs.Requires.{AreRequired, NameLists}

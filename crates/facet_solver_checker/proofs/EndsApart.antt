@@ -1,5 +1,7 @@
 -- What two targets come to reads no value in common.
-use Rattle.std.proofs.Common.{◌≡◌, ◌∙◌, sym, ap, subst, refl, ℕ, zero, suc, ◌<◌, List, [], ◌∷◌, All, Any, Bool, true, false, IsTrue, ◌&&◌, Option, Some, None, slice_get, length, get_or, arith, Vec, Global}
+use Rattle.std.proofs.Common.{◌≡◌, ◌∙◌, sym, ap, subst, refl, ℕ, zero, suc, ◌<◌, List, [], ◌∷◌, All}
+use Rattle.std.proofs.Common.{Any, Bool, true, false, IsTrue, ◌&&◌, Option, Some, None, slice_get}
+use Rattle.std.proofs.Common.{length, get_or, arith, Vec, Global}
 use Rattle.std.proofs.lemmas.Option.{get_or_from_slice_get, slice_get-get_or, slice_get_within}
 use Rattle.facet_solver_shape.specs.Names.{Name}
 use Rattle.facet_solver_checker.specs.declared.apart.Apart.{Apart}
@@ -11,10 +13,17 @@ use Rattle.facet_solver_reader.specs.declared.plan.PlannedEnd.TheVariants as pla
 use Rattle.facet_solver_reader.specs.declared.plan.PlannedName.{PlannedName}
 use Rattle.facet_solver_reader.specs.declared.plan.PlannedTarget.{PlannedTarget}
 use Rattle.facet_solver_checker.specs.Aparts.{is_apart}
-use Rattle.facet_solver_checker.specs.Apartness.{ArePlacesApart, AtomsApart, EndApart, EndsApart, HaveNoSimple, IsNoUnit, ListsApart, NameIsApart, NamesApart, ObjectsApart, PartsApart, PlaceIsApart, TextsApart, reads_list, reads_null, reads_number, reads_object, reads_text, reads_truth}
+use Rattle.facet_solver_checker.specs.Apartness.{ArePlacesApart, AtomsApart, EndApart, EndsApart}
+use Rattle.facet_solver_checker.specs.Apartness.{HaveNoSimple, IsNoUnit, ListsApart, NameIsApart}
+use Rattle.facet_solver_checker.specs.Apartness.{NamesApart, ObjectsApart, PartsApart, PlaceIsApart}
+use Rattle.facet_solver_checker.specs.Apartness.{TextsApart, reads_list, reads_null, reads_number}
+use Rattle.facet_solver_checker.specs.Apartness.{reads_object, reads_text, reads_truth}
 use Rattle.facet_solver_checker.specs.Aparts.{LeavesDown}
-use Rattle.facet_solver_checker.specs.Atoms.{IsPlanFor, NamesContent, NamesUnit, NamesVariant, ReadsAs, ReadsNumber, ReadsPlain}
-use Rattle.facet_solver_reader.specs.Documents.{Tree, null, truth, number, text, list, object, Items, Member, Members, member, no_members, items, members}
+use Rattle.facet_solver_checker.specs.Atoms.{IsPlanFor, NamesContent, NamesUnit, NamesVariant}
+use Rattle.facet_solver_checker.specs.Atoms.{ReadsAs, ReadsNumber, ReadsPlain}
+use Rattle.facet_solver_reader.specs.Documents.{Tree, null, truth, number, text, list, object}
+use Rattle.facet_solver_reader.specs.Documents.{Items, Member, Members, member, no_members, items}
+use Rattle.facet_solver_reader.specs.Documents.{members}
 use Rattle.facet_solver_reader.specs.Numbers.{Number}
 use Rattle.facet_solver_reader.specs.Objects.{Reads}
 use Rattle.facet_solver_reader.specs.Plans.{AreInPairs, Meaning}
@@ -274,7 +283,8 @@ pub plain_second : (plan : Plan) (apart : Apart) (e : PlannedEnd) (n : ℕ) (t :
     → slice_get plan.targets.items n ≡ Some t → EndsApart plan apart e t.end
     → EndApart plan apart e (Plain n)
 plain_second plan apart e n t there h m is depth leaves v a b =
-    let same : b.target ≡ t = let f : slice_get plan.targets.items n ≡ Some b.target = b.target_is in cc in
+    let same : b.target ≡ t =
+    let f : slice_get plan.targets.items n ≡ Some b.target = b.target_is in cc in
     h m is depth leaves v a
     (subst (λ (p : PlannedTarget). ReadsAs m (ReadsDown m.rules depth) p.end v) same b.is_read)
 
@@ -282,7 +292,8 @@ pub plain_first : (plan : Plan) (apart : Apart) (n : ℕ) (t : PlannedTarget) (b
     → slice_get plan.targets.items n ≡ Some t → EndApart plan apart t.end b
     → AtomsApart plan apart (Plain n) b
 plain_first plan apart n t b there h m is depth leaves v x y =
-    let same : x.target ≡ t = let f : slice_get plan.targets.items n ≡ Some x.target = x.target_is in cc in
+    let same : x.target ≡ t =
+    let f : slice_get plan.targets.items n ≡ Some x.target = x.target_is in cc in
     h m is depth leaves v
     (subst (λ (p : PlannedTarget). ReadsAs m (ReadsDown m.rules depth) p.end v) same x.is_read) y
 

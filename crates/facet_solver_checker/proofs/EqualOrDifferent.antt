@@ -1,5 +1,6 @@
 -- Two readings of one value as one target are the same, or they differ somewhere.
-use Rattle.std.proofs.Common.{◌≡◌, ◌⊎◌, inl, inr, refl, sym, ap, ◌∙◌, subst, ⊎_elim, ℕ, zero, suc, ◌<◌, ◌+◌, List, [], ◌∷◌, arith}
+use Rattle.std.proofs.Common.{◌≡◌, ◌⊎◌, inl, inr, refl, sym, ap, ◌∙◌, subst, ⊎_elim, ℕ, zero, suc}
+use Rattle.std.proofs.Common.{◌<◌, ◌+◌, List, [], ◌∷◌, arith}
 use Rattle.std.proofs.Common.{Option, Some, None, true, false}
 use Rattle.std.proofs.Math.Dec.{eqb}
 use Rattle.std.proofs.lemmas.Bool.Decides.{eqb_tells}
@@ -13,7 +14,8 @@ use Rattle.facet_solver_checker.specs.Differing.{Differ, DifferAt, DifferEach, D
 use Rattle.facet_solver_checker.specs.Differing.{DifferTaken, Difference, at_part, behind}
 use Rattle.facet_solver_checker.specs.Differing.{behind_passed, behind_taken, branch, by_alone}
 use Rattle.facet_solver_checker.specs.Differing.{by_branches, by_joined, by_variants, first_differ}
-use Rattle.facet_solver_checker.specs.Differing.{first_part, first_taken, here, in_branch, in_member}
+use Rattle.facet_solver_checker.specs.Differing.{first_part, first_taken, here, in_branch}
+use Rattle.facet_solver_checker.specs.Differing.{in_member}
 use Rattle.facet_solver_checker.specs.Differing.{in_object, in_taken, in_values, in_variant}
 use Rattle.facet_solver_checker.specs.Differing.{into_branch, into_member, into_taken, into_value}
 use Rattle.facet_solver_checker.specs.Differing.{into_variant, joined, later_differ, later_part}
@@ -29,8 +31,10 @@ use Rattle.facet_solver_reader.specs.Plans.{AreAskedFirst, AreInPairs, IsNumberO
 use Rattle.facet_solver_reader.specs.Plans.{IsPlannedPart, Meaning}
 use Rattle.facet_solver_reader.specs.Values.{ReadsDown, ReadsEach}
 use Rattle.facet_solver_checker.proofs.BothReadings.{AreNumbered, Both, IsNumbered, ReadsPair}
-use Rattle.facet_solver_checker.proofs.BothReadings.{are_same, ask, both_readings, of_alone, of_joined}
-use Rattle.facet_solver_checker.proofs.BothReadings.{of_member, of_objects, of_one, of_two, of_values}
+use Rattle.facet_solver_checker.proofs.BothReadings.{are_same, ask, both_readings, of_alone}
+use Rattle.facet_solver_checker.proofs.BothReadings.{of_joined}
+use Rattle.facet_solver_checker.proofs.BothReadings.{of_member, of_objects, of_one, of_two}
+use Rattle.facet_solver_checker.proofs.BothReadings.{of_values}
 use Rattle.facet_solver_reader.proofs.ChosenBranch.{can_be_present}
 use Rattle.facet_solver_reader.proofs.Distinct.{AreDistinct, distinct_parts}
 use Rattle.facet_solver_reader.proofs.Lists.{readings_of_list}
@@ -97,7 +101,8 @@ module _ (m : Meaning) (depth : ℕ) (o : Object) (listed : AreListed m)
   W = ReadsDown m.rules depth
 
   -- by one member
-  member_differs : (part : MemberPart) → IsNumbered m part.target → (r s : Reading) (v : Option Tree)
+  member_differs : (part : MemberPart) → IsNumbered m part.target
+      → (r s : Reading) (v : Option Tree)
       → ReadsMember W part v (Some r) → ReadsMember W part v (Some s)
       → PartEqualOrDiffer (having r) (having s)
   member_differs part number r s None a b = absurd a

@@ -1,5 +1,6 @@
 -- The choices of a list that is one selection are those of its branches.
-use Rattle.std.proofs.Common.{◌≡◌, ◌∙◌, sym, ap, subst, refl, ℕ, zero, suc, List, [], ◌∷◌, ◌++◌, Option, Some, None, Bool, true, false, slice_get, if◌then◌else◌}
+use Rattle.std.proofs.Common.{◌≡◌, ◌∙◌, sym, ap, subst, refl, ℕ, zero, suc, List, [], ◌∷◌, ◌++◌}
+use Rattle.std.proofs.Common.{Option, Some, None, Bool, true, false, slice_get, if◌then◌else◌}
 use Rattle.std.specs.Option.{option_map_or, unwrap_or}
 use Rattle.std.proofs.lemmas.List.{append-nil}
 use Rattle.facet_solver_reader.specs.declared.plan.Plan.{Plan}
@@ -7,11 +8,16 @@ use Rattle.facet_solver_reader.specs.declared.plan.PlannedList.{PlannedList}
 use Rattle.facet_solver_reader.specs.declared.plan.PlannedPart.{PlannedPart}
 use Rattle.facet_solver_reader.specs.declared.plan.PlannedPart.TheVariants as planned
 use Rattle.facet_solver_reader.specs.declared.plan.PlannedSelection.{PlannedSelection}
-use Rattle.facet_solver_reader.specs.Choices.{Choice, ChoiceAt, ChoosesPart, ChoosesParts, done, next, lacking, having, without, choosing, taking, Item, presence_of, presence}
+use Rattle.facet_solver_reader.specs.Choices.{Choice, ChoiceAt, ChoosesPart, ChoosesParts, done}
+use Rattle.facet_solver_reader.specs.Choices.{next, lacking, having, without, choosing, taking}
+use Rattle.facet_solver_reader.specs.Choices.{Item, presence_of, presence}
 use Rattle.facet_solver_reader.specs.Known.{Chooses}
-use Rattle.facet_solver_reader.specs.Parts.{ListId, Part, a_member, a_selection, a_catch_all, Selection}
-use Rattle.facet_solver_reader.specs.Plans.{AreInPairs, IsNumberOfList, IsPlannedPart, IsPlannedSelection, Meaning}
-use Rattle.facet_solver_checker.specs.Inners.{AreInners, IsThrough, IsThroughSome, all_inners, branches_of_only, inners_at}
+use Rattle.facet_solver_reader.specs.Parts.{ListId, Part, a_member, a_selection, a_catch_all}
+use Rattle.facet_solver_reader.specs.Parts.{Selection}
+use Rattle.facet_solver_reader.specs.Plans.{AreInPairs, IsNumberOfList, IsPlannedPart}
+use Rattle.facet_solver_reader.specs.Plans.{IsPlannedSelection, Meaning}
+use Rattle.facet_solver_checker.specs.Inners.{AreInners, IsThrough, IsThroughSome, all_inners}
+use Rattle.facet_solver_checker.specs.Inners.{branches_of_only, inners_at}
 use Rattle.facet_solver_checker.specs.PlanMembers.{AreListsOf, IsIn}
 use Rattle.facet_solver_checker.proofs.Among.{in_flat_map}
 use Rattle.facet_solver_checker.proofs.ListItems.{ListThere, list_there, number_of_branch}
@@ -58,7 +64,8 @@ module _ (m : Meaning) where
       }
 
   -- so is one of a list whose parts are so planned
-  through_parts : (n : ℕ) (ps : List Part) (qs : List PlannedPart) → AreInPairs (IsPlannedPart m) ps qs
+  through_parts : (n : ℕ) (ps : List Part) (qs : List PlannedPart)
+      → AreInPairs (IsPlannedPart m) ps qs
       → (c : Choice) (items : List Item) → ChoosesParts m.rules.lists c ps items
       → IsThrough m items n → IsThroughSome m items (unwrap_or (branches_of_only qs) (n ∷ []))
   through_parts n ps [] are c items h itself =

@@ -2,6 +2,7 @@ pub mod ClosedPairs
 pub mod PlainReads
 pub mod ReadByAtom
 pub mod AtomLists
+pub mod TagsApart
 pub mod ClosedTables
 pub mod EndsApart
 pub mod TextsApart
@@ -14,6 +15,7 @@ pub mod PlanMembers
 pub mod ListItems
 pub mod ReadNames
 pub mod WaysApart
+pub mod NamedApart
 pub mod ListWays
 pub mod Requires
 pub mod BranchesApart

@@ -1,17 +1,26 @@
 -- Each item of a choice of a list has its part in a list below it.
-use Rattle.std.proofs.Common.{◌≡◌, ◌∙◌, sym, ap, subst, refl, ℕ, zero, suc, ◌+◌, ◌<◌, List, [], ◌∷◌, ◌++◌, Option, Some, None, Bool, true, false, slice_get, All, IsTrue, if◌then◌else◌, length}
+use Rattle.std.proofs.Common.{◌≡◌, ◌∙◌, sym, ap, subst, refl, ℕ, zero, suc, ◌+◌, ◌<◌, List, [], ◌∷◌}
+use Rattle.std.proofs.Common.{◌++◌, Option, Some, None, Bool, true, false, slice_get, All, IsTrue}
+use Rattle.std.proofs.Common.{if◌then◌else◌, length}
 use Rattle.facet_solver_reader.specs.declared.plan.Plan.{Plan}
 use Rattle.facet_solver_reader.specs.declared.plan.PlannedList.{PlannedList}
 use Rattle.facet_solver_reader.specs.declared.plan.PlannedPart.{PlannedPart}
 use Rattle.facet_solver_reader.specs.declared.plan.PlannedPart.TheVariants as planned
 use Rattle.facet_solver_reader.specs.declared.plan.PlannedSelection.{PlannedSelection}
-use Rattle.facet_solver_reader.specs.Choices.{Choice, ChoiceAt, ChoosesPart, ChoosesParts, done, next, lacking, having, without, choosing, taking, Item, member_of, catch_all_of, presence_of, presence, Reading}
+use Rattle.facet_solver_reader.specs.Choices.{Choice, ChoiceAt, ChoosesPart, ChoosesParts, done}
+use Rattle.facet_solver_reader.specs.Choices.{next, lacking, having, without, choosing, taking}
+use Rattle.facet_solver_reader.specs.Choices.{Item, member_of, catch_all_of, presence_of, presence}
+use Rattle.facet_solver_reader.specs.Choices.{Reading}
 use Rattle.facet_solver_reader.specs.Known.{Chooses, HasChoice}
-use Rattle.facet_solver_reader.specs.Parts.{ListId, MemberPart, CatchAll, Part, a_member, a_selection, a_catch_all, Selection}
-use Rattle.facet_solver_reader.specs.Plans.{AreBelow, AreBranchesBefore, AreInPairs, AreThoseChosen, none_left, chosen, passed, IsNumberOfList, IsPlannedList, IsPlannedPart, Meaning}
+use Rattle.facet_solver_reader.specs.Parts.{ListId, MemberPart, CatchAll, Part, a_member}
+use Rattle.facet_solver_reader.specs.Parts.{a_selection, a_catch_all, Selection}
+use Rattle.facet_solver_reader.specs.Plans.{AreBelow, AreBranchesBefore, AreInPairs, AreThoseChosen}
+use Rattle.facet_solver_reader.specs.Plans.{none_left, chosen, passed, IsNumberOfList}
+use Rattle.facet_solver_reader.specs.Plans.{IsPlannedList, IsPlannedPart, Meaning}
 use Rattle.facet_solver_reader.proofs.Pairs.{pair_of}
 use Rattle.facet_solver_reader.proofs.Quantifiers.{all_at}
-use Rattle.facet_solver_checker.specs.PlanMembers.{AreClosed, AreListsOf, HasPart, HaveParts, IsIn, IsMeaningOf, IsPartOf}
+use Rattle.facet_solver_checker.specs.PlanMembers.{AreClosed, AreListsOf, HasPart, HaveParts, IsIn}
+use Rattle.facet_solver_checker.specs.PlanMembers.{IsMeaningOf, IsPartOf}
 use Rattle.facet_solver_checker.proofs.Among.{in_tail}
 
 -- a branch that has a choice has its number among those of a selection
@@ -63,7 +72,8 @@ module _ (m : Meaning) (lists : List PlannedList) (below : List ℕ) where
       let same : l.2.parts ≡ ps = cc in
       (l.0, l.1, subst (λ qs. AreInPairs (IsPlannedPart m) qs l.0.parts.items) same l.2.each)
 
-  module _ (each : AreInPairs (IsPlannedList m) m.lists lists) (closed : AreClosed lists below) where
+  module _ (each : AreInPairs (IsPlannedList m) m.lists lists)
+      (closed : AreClosed lists below) where
     -- the parts of a list of such a number
     abbrev AreOf : ℕ → List PlannedPart → Type 0
     AreOf n qs =
@@ -192,7 +202,8 @@ module _ (p : Plan) (index : ℕ) (below : List ℕ) (are : AreBelow p index bel
   own_below = (are.last.0, are.last.2)
 
 -- the list of a number is as it is planned
-module _ (m : Meaning) (p : Plan) (is : AreListsOf m p) (id : ListId) (n : ℕ) (l : PlannedList) (number : IsNumberOfList m id n) (at : slice_get p.lists.items n ≡ Some l) where
+module _ (m : Meaning) (p : Plan) (is : AreListsOf m p) (id : ListId) (n : ℕ) (l : PlannedList)
+    (number : IsNumberOfList m id n) (at : slice_get p.lists.items n ≡ Some l) where
   pub planned_at : IsPlannedList m id l
   planned_at =
       let x = pair_of (IsPlannedList m) m.lists p.lists.items n id is.each number in

@@ -1,12 +1,15 @@
 -- A list reads the member of a name in one of its ways.
-use Rattle.std.proofs.Common.{◌≡◌, ◌∙◌, sym, ap, subst, refl, inl, inr, ⊎_elim, ◌⊎◌, ℕ, List, Option, Some, None, Bool, true, false, not, ◌&&◌, ◌||◌, slice_get, if◌then◌else◌, All, Bor, Vec, Global}
+use Rattle.std.proofs.Common.{◌≡◌, ◌∙◌, sym, ap, subst, refl, inl, inr, ⊎_elim, ◌⊎◌, ℕ, List}
+use Rattle.std.proofs.Common.{Option, Some, None, Bool, true, false, not, ◌&&◌, ◌||◌, slice_get}
+use Rattle.std.proofs.Common.{if◌then◌else◌, All, Bor, Vec, Global}
 use Rattle.facet_solver_shape.specs.Names.{Name}
 use Rattle.facet_solver_reader.specs.declared.plan.Plan.{Plan}
 use Rattle.facet_solver_reader.specs.declared.plan.PlannedList.{PlannedList}
 use Rattle.facet_solver_reader.specs.Choices.{Choice, Item}
 use Rattle.facet_solver_reader.specs.Documents.{Member, Tree}
 use Rattle.facet_solver_reader.specs.Known.{Chooses, HasKey, IsKnown, Key, named, rest}
-use Rattle.facet_solver_reader.specs.Objects.{HasNamed, IsReading, Reads, ReadsAll, find, ignoring, taking}
+use Rattle.facet_solver_reader.specs.Objects.{HasNamed, IsReading, Reads, ReadsAll, find, ignoring}
+use Rattle.facet_solver_reader.specs.Objects.{taking}
 use Rattle.facet_solver_reader.specs.Parts.{ListId}
 use Rattle.facet_solver_reader.specs.Plans.{IsNumberOfList, IsPlannedList, Meaning, has_key}
 use Rattle.facet_solver_reader.specs.Values.{ReadsDown}
@@ -16,10 +19,15 @@ use Rattle.facet_solver_checker.specs.declared.apart.Apart.{Apart}
 use Rattle.facet_solver_checker.specs.declared.objects.Side.{Side}
 use Rattle.facet_solver_checker.specs.declared.ways.Ways.{Ways}
 use Rattle.facet_solver_checker.specs.Inners.{AreInners, IsThrough, IsThroughSome}
-use Rattle.facet_solver_checker.specs.ListsMeet.{AllOthersApart, AreListsApart, AreSidesApart, IsNameApart, ListsMeet, MayRead, SidesMeet, may_items}
-use Rattle.facet_solver_checker.specs.PlanMembers.{AreListsOf, HaveParts, IsIn, IsMeaningOf, IsReadAmong, targets_below}
-use Rattle.facet_solver_checker.specs.Requires.{AreRequired, HasRequired, IsRequiredBy, NameLists, Requires}
-use Rattle.facet_solver_checker.specs.Ways.{AreWays, AreWaysAt, IsReadIn, has_any_way, taken_below, takes_any_below, way_targets, ways_apart}
+use Rattle.facet_solver_checker.specs.ListsMeet.{AllOthersApart, AreListsApart, AreSidesApart}
+use Rattle.facet_solver_checker.specs.ListsMeet.{IsNameApart, ListsMeet, MayRead, SidesMeet}
+use Rattle.facet_solver_checker.specs.ListsMeet.{may_items}
+use Rattle.facet_solver_checker.specs.PlanMembers.{AreListsOf, HaveParts, IsIn, IsMeaningOf}
+use Rattle.facet_solver_checker.specs.PlanMembers.{IsReadAmong, targets_below}
+use Rattle.facet_solver_checker.specs.Requires.{AreRequired, HasRequired, IsRequiredBy, NameLists}
+use Rattle.facet_solver_checker.specs.Requires.{Requires}
+use Rattle.facet_solver_checker.specs.Ways.{AreWays, AreWaysAt, IsReadIn, has_any_way, taken_below}
+use Rattle.facet_solver_checker.specs.Ways.{takes_any_below, way_targets, ways_apart}
 use Rattle.facet_solver_checker.proofs.ListItems.{have_below}
 use Rattle.facet_solver_checker.proofs.ReadNames.{read_named, required_there, rest_read}
 use Rattle.facet_solver_checker.proofs.WaysApart.{ways_exclude}
@@ -29,7 +37,9 @@ or_second : (a b : Bool) → b ≡ true → (a || b) ≡ true
 or_second true b h = refl
 or_second false b h = h
 
-module _ (m : Meaning) (p : Plan) (is : IsMeaningOf m p) (reads : Reads) (id : ListId) (l : PlannedList) (planned : IsPlannedList m id l) (left : List ℕ) (members : List Member) (c : Choice) (x : Name) (v : Tree) (found : find members x ≡ Some v) where
+module _ (m : Meaning) (p : Plan) (is : IsMeaningOf m p) (reads : Reads) (id : ListId)
+    (l : PlannedList) (planned : IsPlannedList m id l) (left : List ℕ) (members : List Member)
+    (c : Choice) (x : Name) (v : Tree) (found : find members x ≡ Some v) where
   -- the items of a reading have their parts in lists that are left
   abbrev Have : MayRead m.rules reads id members c → Type 0
   Have may = HaveParts m p.lists.items left (may_items m.rules reads id members c may)

@@ -1,11 +1,12 @@
 -- Where two sides of a site have a value in common, a place of a settled list has them.
-use Rattle.std.proofs.Common.{◌≡◌, ◌⊎◌, inl, inr, refl, sym, ap, ◌∙◌, subst, ⊎_elim, ℕ, zero, suc, ◌<◌, arith}
+use Rattle.std.proofs.Common.{◌≡◌, ◌⊎◌, inl, inr, refl, sym, ap, ◌∙◌, subst, ⊎_elim, ℕ, zero, suc}
+use Rattle.std.proofs.Common.{◌<◌, arith}
 use Rattle.std.proofs.Common.{List, ◌∷◌, Some, Any, if◌then◌else◌, length, slice_get}
 use Rattle.std.proofs.lemmas.Bool.{le-ltb, lt-ltb}
 use Rattle.std.proofs.lemmas.Option.{slice_get_within}
 use Rattle.facet_solver_checker.specs.declared.apart.Apart.{Apart}
-use Rattle.facet_solver_checker.specs.declared.place.Fork.TheVariants as forks
-use Rattle.facet_solver_checker.specs.declared.place.Place.{Place}
+use Rattle.facet_solver_witnesses.specs.declared.place.Fork.TheVariants as forks
+use Rattle.facet_solver_witnesses.specs.declared.place.Place.{Place}
 use Rattle.facet_solver_reader.specs.declared.plan.Plan.{Plan}
 use Rattle.facet_solver_reader.specs.declared.plan.PlannedEnd.{PlannedEnd}
 use Rattle.facet_solver_reader.specs.declared.plan.PlannedEnd.TheVariants as planned
@@ -30,8 +31,10 @@ use Rattle.facet_solver_reader.specs.Choices.{Choice, choosing}
 use Rattle.facet_solver_reader.specs.Known.{Chooses, HasChoice}
 use Rattle.facet_solver_reader.specs.Objects.{Object, Reads}
 use Rattle.facet_solver_reader.specs.Parts.{ListId, Part, Selection, Target, a_selection, of_shape}
-use Rattle.facet_solver_reader.specs.Plans.{AreThoseChosen, IsNumberOf, IsNumberOfList, IsPlannedAlternative}
-use Rattle.facet_solver_reader.specs.Plans.{IsPlannedEnd, IsPlannedList, IsPlannedName, IsPlannedPart}
+use Rattle.facet_solver_reader.specs.Plans.{AreThoseChosen, IsNumberOf, IsNumberOfList}
+use Rattle.facet_solver_reader.specs.Plans.{IsPlannedAlternative}
+use Rattle.facet_solver_reader.specs.Plans.{IsPlannedEnd, IsPlannedList, IsPlannedName}
+use Rattle.facet_solver_reader.specs.Plans.{IsPlannedPart}
 use Rattle.facet_solver_reader.specs.Plans.{IsPlannedSelection, IsPlannedTarget, Meaning, chosen}
 use Rattle.facet_solver_reader.specs.Plans.{none_left, passed}
 use Rattle.facet_solver_reader.specs.Rules as types
@@ -273,10 +276,12 @@ module _ (m : Meaning) (plan : Plan) (apart : Apart) (places : List Place) (is :
         (λ (listed : IsListed places place). (
           listed_as
               (IsAt m plan (record { spot = spot; first = branch j; second = branch k })) places
-              place listed (at_selection h.first h.second (branch j) (branch k) (inl (first, second))),
+              place listed (at_selection h.first h.second (branch j) (branch k)
+              (inl (first, second))),
           listed_as
               (IsAt m plan (record { spot = spot; first = branch k; second = branch j })) places
-              place listed (at_selection h.first h.second (branch k) (branch j) (inr (first, second))),
+              place listed (at_selection h.first h.second (branch k) (branch j)
+              (inr (first, second))),
         ))
         (settled fork (length there.planned.branches.items)
         (there.list, there.list_is, (parts.Selection there.planned, there.planned_is, refl))
@@ -294,7 +299,8 @@ module _ (m : Meaning) (plan : Plan) (apart : Apart) (places : List Place) (is :
       go =
           ⊎_elim
           (λ (less : h.first < h.second).
-          (in_order h.number part h.selection h.there h.first h.second h.depth less h.meet h.comes).0)
+          (in_order h.number part h.selection h.there h.first h.second h.depth less h.meet
+          h.comes).0)
           (λ (less : h.second < h.first).
           (in_order h.number part h.selection h.there h.second h.first h.depth less
           (swapped m.rules (ReadsDown m.rules h.depth) h.selection h.first h.second h.meet)
@@ -333,9 +339,11 @@ module _ (m : Meaning) (plan : Plan) (apart : Apart) (places : List Place) (is :
         (λ (apart_here : IsApart plan apart place).
         absurd (apart_here m is t p d numbered p_is leaves there))
         (λ (listed : IsListed places place). (
-          listed_as (IsAt m plan (record { spot = spot; first = a; second = b })) places place listed
+          listed_as (IsAt m plan (record { spot = spot; first = a; second = b })) places place
+              listed
               (at_enum x y a b (inl (first, second))),
-          listed_as (IsAt m plan (record { spot = spot; first = b; second = a })) places place listed
+          listed_as (IsAt m plan (record { spot = spot; first = b; second = a })) places place
+              listed
               (at_enum x y b a (inr (first, second))),
         ))
         (settled fork (way_count p.end) (p, p_is, refl) x y less within)

@@ -1,6 +1,7 @@
 -- Where two readings of one object by one list differ, two branches of a selection read one object,
 -- or two values do.
-use Rattle.std.proofs.Common.{◌≡◌, ap, sym, ◌∙◌, subst, ℕ, zero, suc, ◌+◌, arith, List, [], ◌∷◌, Option, Some, None}
+use Rattle.std.proofs.Common.{◌≡◌, ap, sym, ◌∙◌, subst, ℕ, zero, suc, ◌+◌, arith, List, [], ◌∷◌}
+use Rattle.std.proofs.Common.{Option, Some, None}
 use Rattle.std.proofs.Common.{slice_get, refl}
 use Rattle.facet_solver_reader.specs.declared.plan.Plan.{Plan}
 use Rattle.facet_solver_reader.specs.declared.plan.PlannedCatchAll.TheVariants as caught
@@ -13,7 +14,8 @@ use Rattle.facet_solver_reader.specs.Choices.{Choice, ChoiceAt, Reading, Taken}
 use Rattle.facet_solver_reader.specs.Choices.{having}
 use Rattle.facet_solver_reader.specs.Choices.{next, taking}
 use Rattle.facet_solver_checker.specs.Differing.{Differ, DifferAt, DifferPart, DifferTaken}
-use Rattle.facet_solver_checker.specs.Differing.{Difference, behind_passed, behind_taken, by_branches}
+use Rattle.facet_solver_checker.specs.Differing.{Difference, behind_passed, behind_taken}
+use Rattle.facet_solver_checker.specs.Differing.{by_branches}
 use Rattle.facet_solver_checker.specs.Differing.{first_part, first_taken, in_branch, in_member}
 use Rattle.facet_solver_checker.specs.Differing.{in_taken, later_part}
 use Rattle.facet_solver_reader.specs.Documents.{Member, Tree}
@@ -24,9 +26,12 @@ use Rattle.facet_solver_reader.specs.Parts.{CatchAll, ListId, MemberPart, Part, 
 use Rattle.facet_solver_reader.specs.Parts.{a_catch_all, a_member, a_selection, of_anything, of_map}
 use Rattle.facet_solver_reader.specs.Parts.{of_shape}
 use Rattle.facet_solver_reader.specs.Plans.{AreInPairs, IsNumberOf, IsNumberOfList}
-use Rattle.facet_solver_reader.specs.Plans.{IsPlannedList, IsPlannedPart, IsPlannedSelection, Meaning}
-use Rattle.facet_solver_checker.specs.Differing.{at_part, behind, into_branch, into_member, into_taken}
-use Rattle.facet_solver_checker.specs.Leading.{LeadsOn, Spot, by_branch, by_member, by_part, by_rest}
+use Rattle.facet_solver_reader.specs.Plans.{IsPlannedList, IsPlannedPart, IsPlannedSelection}
+use Rattle.facet_solver_reader.specs.Plans.{Meaning}
+use Rattle.facet_solver_checker.specs.Differing.{at_part, behind, into_branch, into_member}
+use Rattle.facet_solver_checker.specs.Differing.{into_taken}
+use Rattle.facet_solver_checker.specs.Leading.{LeadsOn, Spot, by_branch, by_member, by_part}
+use Rattle.facet_solver_checker.specs.Leading.{by_rest}
 use Rattle.facet_solver_checker.specs.Leading.{is_part, part_of}
 use Rattle.facet_solver_checker.specs.Atoms.{IsPlanFor}
 use Rattle.facet_solver_checker.specs.Comes.{MustTouchList}
@@ -102,7 +107,8 @@ selection_at m plan is id n numbered all are part s there =
 
 -- what planned lists say
 abbrev pub AreListed : Meaning → Type 0
-AreListed m = (id : ListId) (n : ℕ) → IsNumberOfList m id n → (p : PlannedList) × IsPlannedList m id p
+AreListed m = (id : ListId) (n : ℕ) → IsNumberOfList m id n → (p : PlannedList)
+    × IsPlannedList m id p
 
 -- where two readings of a value as a target differ, there is a site
 abbrev pub HaveSites : Meaning → Plan → Reads → Type 0
@@ -146,8 +152,10 @@ site_of_part m plan id all are k p at d h =
 module _ (m : Meaning) (depth : ℕ) (o : Object) where
   -- a reading of several parts is one of the first and one of the others
   pub split_first : (p : Part) (ps : List Part) (a : ChoiceAt) (c : Choice)
-      → IsDistinct (ChoosesAll m.rules.lists (p ∷ ps)) → ReadsParts m.rules (ReadsDown m.rules depth) o (p ∷ ps) (next a c)
-      → ReadsPart m.rules (ReadsDown m.rules depth) o p a × ReadsParts m.rules (ReadsDown m.rules depth) o ps c
+      → IsDistinct (ChoosesAll m.rules.lists (p ∷ ps))
+      → ReadsParts m.rules (ReadsDown m.rules depth) o (p ∷ ps) (next a c)
+      → ReadsPart m.rules (ReadsDown m.rules depth) o p a
+      × ReadsParts m.rules (ReadsDown m.rules depth) o ps c
   split_first p ps a c distinct h =
       let j = (readings_join m.rules (ReadsDown m.rules depth) o p ps distinct).part (next a c) h in
       let e : next a c ≡ next j.first j.second = j.is_joined in
@@ -227,19 +235,25 @@ module _ (m : Meaning) (plan : Plan) (is_for : IsPlanFor m plan) (depth : ℕ) (
         → (ps : List Part) (pps : List PlannedPart) → AreInPairs (IsPlannedPart m) ps pps
         → AreDistinct m.rules.lists ps → StandFrom all from ps → ReadsParts m.rules W o ps c
         → ReadsParts m.rules W o ps e → SiteIn m plan id (from + i) d
-    parts_site _ _ _ _ (first_part a b c e d h) id n is come all are from [] pps each distinct stand x y =
+    parts_site _ _ _ _ (first_part a b c e d h) id n is come all are from [] pps each distinct stand
+        x y =
         absurd x.chooses
-    parts_site _ _ _ _ (later_part a b c e i d h) id n is come all are from [] pps each distinct stand x y =
+    parts_site _ _ _ _ (later_part a b c e i d h) id n is come all are from [] pps each distinct
+        stand x y =
         absurd x.chooses
-    parts_site _ _ _ _ (first_part a b c e d h) id n is come all are from (p ∷ ps) [] each distinct stand x y =
+    parts_site _ _ _ _ (first_part a b c e d h) id n is come all are from
+        (p ∷ ps) [] each distinct stand x y =
         absurd each
-    parts_site _ _ _ _ (later_part a b c e i d h) id n is come all are from (p ∷ ps) [] each distinct stand x y =
+    parts_site _ _ _ _ (later_part a b c e i d h) id n is come all are from
+        (p ∷ ps) [] each distinct stand x y =
         absurd each
-    parts_site _ _ _ _ (first_part a b c e d h) id n is come all are from (p ∷ ps) (pp ∷ pps) each distinct stand x y =
+    parts_site _ _ _ _ (first_part a b c e d h) id n is come all are from (p ∷ ps)
+        (pp ∷ pps) each distinct stand x y =
         part_site a b d h id n is come all are p pp each.0 (from + 0) (stand zero p refl)
         (split_first m depth o p ps a c distinct.0 x).0
         (split_first m depth o p ps b e distinct.0 y).0
-    parts_site _ _ _ _ (later_part a b c e i d h) id n is come all are from (p ∷ ps) (pp ∷ pps) each distinct stand x y =
+    parts_site _ _ _ _ (later_part a b c e i d h) id n is come all are from (p ∷ ps)
+        (pp ∷ pps) each distinct stand x y =
         let next : from + 1 + i ≡ from + (1 + i) = omega arith in
         subst (λ k. SiteIn m plan id k d) next
         (parts_site c e i d h id n is come all are (from + 1) ps pps each.1 distinct.1
@@ -251,9 +265,11 @@ module _ (m : Meaning) (plan : Plan) (is_for : IsPlanFor m plan) (depth : ℕ) (
     part_site : (a b : ChoiceAt) (d : Difference) → DifferPart a b d → (id : ListId) (n : ℕ)
         → IsNumberOfList m id n → Comes id n → (all : List Part) → m.rules.lists id ≡ Some all
         → (p : Part) (pp : PlannedPart) → IsPlannedPart m p pp
-        → (at : ℕ) → slice_get all at ≡ Some p → ReadsPart m.rules W o p a → ReadsPart m.rules W o p b
+        → (at : ℕ) → slice_get all at ≡ Some p → ReadsPart m.rules W o p a
+        → ReadsPart m.rules W o p b
         → SiteIn m plan id at d
-    part_site _ _ _ (by_branches j k c e ne) id n is come all are (a_selection s) pp part at there x y =
+    part_site _ _ _ (by_branches j k c e ne) id n is come all are
+        (a_selection s) pp part at there x y =
         record {
           spot = part_of id at;
           leads = is_part id at;
@@ -284,11 +300,14 @@ module _ (m : Meaning) (plan : Plan) (is_for : IsPlanFor m plan) (depth : ℕ) (
             };
           };
         }
-    part_site _ _ _ (by_branches j k c e ne) id n is come all are (a_member w) pp part at there x y =
+    part_site _ _ _ (by_branches j k c e ne) id n is come all are
+        (a_member w) pp part at there x y =
         absurd x.chooses
-    part_site _ _ _ (by_branches j k c e ne) id n is come all are (a_catch_all w) pp part at there x y =
+    part_site _ _ _ (by_branches j k c e ne) id n is come all are
+        (a_catch_all w) pp part at there x y =
         absurd x.chooses
-    part_site _ _ _ (in_branch k i c e d h) id n is come all are (a_selection s) pp part at there x y =
+    part_site _ _ _ (in_branch k i c e d h) id n is come all are
+        (a_selection s) pp part at there x y =
         let b = x.chooses.chooses in
         let first = list_reads m.rules W o s k b.list b.branch_is k c (refl, x) in
         let second = list_reads m.rules W o s k b.list b.branch_is k e (refl, y) in
@@ -300,18 +319,23 @@ module _ (m : Meaning) (plan : Plan) (is_for : IsPlanFor m plan) (depth : ℕ) (
         let l = (listed b.list number.0 number.1).1 in
         let zero_more : 0 + i ≡ i = omega arith in
         let site = subst (λ z. SiteIn m plan b.list z d) zero_more
-        (parts_site c e i d h b.list number.0 number.1 (c, first, below) l.parts l.parts_are 0 l.parts
+        (parts_site c e i d h b.list number.0 number.1
+        (c, first, below) l.parts l.parts_are 0 l.parts
         (listed b.list number.0 number.1).0.parts.items l.each
         (distinct_parts m.rules.lists b.list l.parts l.parts_are l.chosen l.distinct)
         (stand_all l.parts)
         ((readings_of_list m.rules W o b.list l.parts l.parts_are c).1 first)
         ((readings_of_list m.rules W o b.list l.parts l.parts_are e).1 second)) in
         site_of_part m plan id all are at (a_selection s) there
-        (behind (into_branch k) (behind (at_part i) d))
-        (site.spot, by_branch s k b.list (at_part i ∷ d.way) site.spot b.branch_is site.leads, site.site)
+        (behind (into_branch k) (behind (at_part i) d)) (
+          site.spot,
+          by_branch s k b.list (at_part i ∷ d.way) site.spot b.branch_is site.leads,
+          site.site,
+        )
     part_site _ _ _ (in_branch k i c e d h) id n is come all are (a_member w) pp part at there x y =
         absurd x.chooses
-    part_site _ _ _ (in_branch k i c e d h) id n is come all are (a_catch_all w) pp part at there x y =
+    part_site _ _ _ (in_branch k i c e d h) id n is come all are
+        (a_catch_all w) pp part at there x y =
         absurd x.chooses
     part_site _ _ _ (in_member r s d h) id n is come all are (a_member w) pp part at there x y =
         site_of_part m plan id all are at (a_member w) there (behind into_member d)
@@ -338,7 +362,8 @@ module _ (m : Meaning) (plan : Plan) (is_for : IsPlanFor m plan) (depth : ℕ) (
       let l = (listed id n is).1 in
       let zero_more : 0 + i ≡ i = omega arith in
       subst (λ z. SiteIn m plan id z d) zero_more
-      (parts_site c e i d h id n is (c, a, touch) l.parts l.parts_are 0 l.parts (listed id n is).0.parts.items
+      (parts_site c e i d h id n is (c, a, touch) l.parts l.parts_are 0 l.parts
+      (listed id n is).0.parts.items
       l.each (distinct_parts m.rules.lists id l.parts l.parts_are l.chosen l.distinct)
       (stand_all l.parts)
       ((readings_of_list m.rules W o id l.parts l.parts_are c).1 a)

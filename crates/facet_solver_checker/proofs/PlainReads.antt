@@ -1,22 +1,35 @@
 -- What a value is read by, by what a target comes to in a plan.
-use Rattle.std.proofs.Common.{◌≡◌, ◌∙◌, sym, ap, subst, refl, ℕ, zero, suc, List, [], ◌∷◌, All, Any, IsTrue, true, false, length, Option, Some, None, slice_get, zip, inl, inr, ⊎_elim}
+use Rattle.std.proofs.Common.{◌≡◌, ◌∙◌, sym, ap, subst, refl, ℕ, zero, suc, List, [], ◌∷◌, All, Any}
+use Rattle.std.proofs.Common.{IsTrue, true, false, length, Option, Some, None, slice_get, zip, inl}
+use Rattle.std.proofs.Common.{inr, ⊎_elim}
 use Rattle.std.specs.Prelude.{MatchOption}
 use Rattle.facet_solver_shape.specs.Names.{Name}
 use Rattle.facet_solver_reader.specs.declared.plan.PlannedEnd.{PlannedEnd}
 use Rattle.facet_solver_reader.specs.declared.plan.PlannedEnd.TheVariants as planned
 use Rattle.facet_solver_reader.specs.declared.plan.PlannedName.{PlannedName}
-use Rattle.facet_solver_checker.specs.Atoms.{NamesContent, NamesUnit, NamesVariant, ReadsAs, ReadsByList, ReadsNumber, ReadsValueOf}
-use Rattle.facet_solver_reader.specs.Choices.{Choice, Reading, a_value, each_of, an_object, a_variant, Readings, no_readings, reading}
-use Rattle.facet_solver_reader.specs.Documents.{Tree, null, truth, number, text, list, object, Member, Members, member, no_members, items, members}
+use Rattle.facet_solver_checker.specs.Atoms.{NamesContent, NamesUnit, NamesVariant, ReadsAs}
+use Rattle.facet_solver_checker.specs.Atoms.{ReadsByList, ReadsNumber, ReadsValueOf}
+use Rattle.facet_solver_reader.specs.Choices.{Choice, Reading, a_value, each_of, an_object}
+use Rattle.facet_solver_reader.specs.Choices.{a_variant, Readings, no_readings, reading}
+use Rattle.facet_solver_reader.specs.Documents.{Tree, null, truth, number, text, list, object}
+use Rattle.facet_solver_reader.specs.Documents.{Member, Members, member, no_members, items, members}
 use Rattle.facet_solver_reader.specs.Known.{Chooses, HasChoice}
 use Rattle.facet_solver_checker.specs.ListsMeet.{MayRead}
-use Rattle.facet_solver_reader.specs.Objects.{IsReading, Object, Reads, ReadsAll, ReadsIgnoring, ReadsObject}
+use Rattle.facet_solver_reader.specs.Objects.{IsReading, Object, Reads, ReadsAll, ReadsIgnoring}
+use Rattle.facet_solver_reader.specs.Objects.{ReadsObject}
 use Rattle.facet_solver_reader.specs.Parts.{ListId, Target, of_shape, of_content, of_tag}
-use Rattle.facet_solver_reader.specs.Plans.{AreInPairs, AreNumbersOfShapes, IsNumberIfChosen, IsNumberOf, IsPlannedContent, IsPlannedEnd, IsPlannedName, IsPlannedTag, Meaning}
+use Rattle.facet_solver_reader.specs.Plans.{AreInPairs, AreNumbersOfShapes, IsNumberIfChosen}
+use Rattle.facet_solver_reader.specs.Plans.{IsNumberOf, IsPlannedContent, IsPlannedEnd}
+use Rattle.facet_solver_reader.specs.Plans.{IsPlannedName, IsPlannedTag, Meaning}
 use Rattle.facet_solver_reader.specs.Rules as types
-use Rattle.facet_solver_reader.specs.Rules.{Rules, End, Content, NamedVariant, no_content, as_shape, as_tuple, as_object, an_option, a_truth, a_text, a_character, a_list, a_tuple, a_map, a_named_variant, an_untagged_variant, anything}
+use Rattle.facet_solver_reader.specs.Rules.{Rules, End, Content, NamedVariant, no_content, as_shape}
+use Rattle.facet_solver_reader.specs.Rules.{as_tuple, as_object, an_option, a_truth, a_text}
+use Rattle.facet_solver_reader.specs.Rules.{a_character, a_list, a_tuple, a_map, a_named_variant}
+use Rattle.facet_solver_reader.specs.Rules.{an_untagged_variant, anything}
 use Rattle.facet_solver_reader.specs.Values as values
-use Rattle.facet_solver_reader.specs.Values.{is_in, ReadsEach, ReadsEntry, ReadsNamed, ReadsNamedVariant, ReadsPlace, ReadsPlainContent, ReadsPlainEnd, ReadsTag, ReadsTuple}
+use Rattle.facet_solver_reader.specs.Values.{is_in, ReadsEach, ReadsEntry, ReadsNamed}
+use Rattle.facet_solver_reader.specs.Values.{ReadsNamedVariant, ReadsPlace, ReadsPlainContent}
+use Rattle.facet_solver_reader.specs.Values.{ReadsPlainEnd, ReadsTag, ReadsTuple}
 use Rattle.facet_solver_reader.proofs.Pairs.{pair_of}
 use Rattle.facet_solver_reader.proofs.Quantifiers.{all_of_more, all_of_none, any_at}
 

@@ -1,5 +1,7 @@
 -- What the choices of a list have is among the parts of the lists below it.
-use Rattle.std.proofs.Common.{◌≡◌, ◌∙◌, sym, ap, subst, refl, ⊎_elim, ℕ, zero, suc, ◌+◌, ◌<◌, List, [], ◌∷◌, ◌++◌, Option, Some, None, Bool, true, slice_get, All, IsTrue, if◌then◌else◌}
+use Rattle.std.proofs.Common.{◌≡◌, ◌∙◌, sym, ap, subst, refl, ⊎_elim, ℕ, zero, suc, ◌+◌, ◌<◌, List}
+use Rattle.std.proofs.Common.{[], ◌∷◌, ◌++◌, Option, Some, None, Bool, true, slice_get, All, IsTrue}
+use Rattle.std.proofs.Common.{if◌then◌else◌}
 use Rattle.std.specs.List.{filter_map}
 use Rattle.std.specs.Option.{option_map_or}
 use Rattle.std.specs.Str.{bytes_eq}
@@ -12,7 +14,8 @@ use Rattle.facet_solver_reader.specs.declared.plan.PlannedMember.{PlannedMember}
 use Rattle.facet_solver_reader.specs.Choices.{Item, member_of, Reading}
 use Rattle.facet_solver_reader.specs.Parts.{MemberPart}
 use Rattle.facet_solver_reader.specs.Plans.{IsNumberOf, Meaning}
-use Rattle.facet_solver_checker.specs.PlanMembers.{HasPart, IsIn, IsPartOf, target_named, targets_at, targets_below, targets_in}
+use Rattle.facet_solver_checker.specs.PlanMembers.{HasPart, IsIn, IsPartOf, target_named}
+use Rattle.facet_solver_checker.specs.PlanMembers.{targets_at, targets_below, targets_in}
 use Rattle.facet_solver_checker.proofs.Among.{in_filter_map, in_flat_map}
 
 -- the target of a member of the name

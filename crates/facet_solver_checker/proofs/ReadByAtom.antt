@@ -1,5 +1,7 @@
 -- A value that is read as a target is read by an atom of it.
-use Rattle.std.proofs.Common.{◌≡◌, ◌∙◌, sym, ap, subst, refl, ℕ, zero, suc, List, [], ◌∷◌, Any, Bool, true, false, IsTrue, Option, Some, None, slice_get, inl, inr, ⊎_elim}
+use Rattle.std.proofs.Common.{◌≡◌, ◌∙◌, sym, ap, subst, refl, ℕ, zero, suc, List, [], ◌∷◌, Any}
+use Rattle.std.proofs.Common.{Bool, true, false, IsTrue, Option, Some, None, slice_get, inl, inr}
+use Rattle.std.proofs.Common.{⊎_elim}
 use Rattle.std.specs.List.{list_any}
 use Rattle.std.proofs.lemmas.List.Folds.{list_any_at}
 use Rattle.std.proofs.lemmas.Option.{get_or_from_slice_get, slice_get_within}
@@ -12,16 +14,26 @@ use Rattle.facet_solver_reader.specs.declared.plan.PlannedEnd.TheVariants as pla
 use Rattle.facet_solver_reader.specs.declared.plan.PlannedKind.{PlannedKind}
 use Rattle.facet_solver_reader.specs.declared.plan.PlannedKind.TheVariants as kinds
 use Rattle.facet_solver_reader.specs.declared.plan.PlannedTarget.{PlannedTarget}
-use Rattle.facet_solver_checker.specs.Atoms.{AsksByAlternative, AsksNumber, AsksOnward, HasAtom, by_itself, as_asked, HasOwn, IsPlanFor, is_null_alone, is_null_kind, ReadsAs, ReadsAtom}
+use Rattle.facet_solver_checker.specs.Atoms.{AsksByAlternative, AsksNumber, AsksOnward, HasAtom}
+use Rattle.facet_solver_checker.specs.Atoms.{by_itself, as_asked, HasOwn, IsPlanFor, is_null_alone}
+use Rattle.facet_solver_checker.specs.Atoms.{is_null_kind, ReadsAs, ReadsAtom}
 use Rattle.facet_solver_shape.specs.Names.{Name}
 use Rattle.facet_solver_reader.specs.Choices.{Reading, a_value, an_object, a_variant}
 use Rattle.facet_solver_reader.specs.Documents.{Tree, null, object, Members}
 use Rattle.facet_solver_reader.specs.Objects.{Reads}
 use Rattle.facet_solver_reader.specs.Parts.{ListId, Target, of_shape, of_content, of_tag}
-use Rattle.facet_solver_reader.specs.Plans.{AreInPairs, IsNumberIfChosen, IsNumberOf, IsPlannedAlternative, IsPlannedAs, IsPlannedContent, IsPlannedEnd, IsPlannedKind, IsPlannedTag, IsPlannedTarget, Meaning}
+use Rattle.facet_solver_reader.specs.Plans.{AreInPairs, IsNumberIfChosen, IsNumberOf}
+use Rattle.facet_solver_reader.specs.Plans.{IsPlannedAlternative, IsPlannedAs, IsPlannedContent}
+use Rattle.facet_solver_reader.specs.Plans.{IsPlannedEnd, IsPlannedKind, IsPlannedTag}
+use Rattle.facet_solver_reader.specs.Plans.{IsPlannedTarget, Meaning}
 use Rattle.facet_solver_reader.specs.Rules as types
-use Rattle.facet_solver_reader.specs.Rules.{Alternative, AlternativeKind, End, Content, as_shape, an_option, an_untagged_variant, joins, a_fallback, other}
-use Rattle.facet_solver_reader.specs.Values.{Inner, OfVariant, ReadsAlone, ReadsByFallback, ReadsByKind, ReadsByOne, ReadsContent, ReadsDirectly, ReadsEnd, ReadsFallback, ReadsJoined, ReadsLast, ReadsTarget, ReadsWithin, is_whole_of}
+use Rattle.facet_solver_reader.specs.Rules.{Alternative, AlternativeKind, End, Content, as_shape}
+use Rattle.facet_solver_reader.specs.Rules.{an_option, an_untagged_variant, joins, a_fallback}
+use Rattle.facet_solver_reader.specs.Rules.{other}
+use Rattle.facet_solver_reader.specs.Values.{Inner, OfVariant, ReadsAlone, ReadsByFallback}
+use Rattle.facet_solver_reader.specs.Values.{ReadsByKind, ReadsByOne, ReadsContent, ReadsDirectly}
+use Rattle.facet_solver_reader.specs.Values.{ReadsEnd, ReadsFallback, ReadsJoined, ReadsLast}
+use Rattle.facet_solver_reader.specs.Values.{ReadsTarget, ReadsWithin, is_whole_of}
 use Rattle.facet_solver_reader.proofs.Pairs.{pair_of}
 use Rattle.facet_solver_checker.proofs.PlainReads.{by_list, content_read, end_read, tag_read}
 use Rattle.facet_solver_reader.proofs.Quantifiers.{any_at}

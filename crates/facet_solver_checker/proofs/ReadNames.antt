@@ -1,5 +1,7 @@
 -- How members of an object are read by the items of a choice.
-use Rattle.std.proofs.Common.{◌≡◌, ◌∙◌, sym, ap, subst, refl, inl, inr, ⊎_elim, ◌⊎◌, ℕ, zero, suc, List, [], ◌∷◌, Option, Some, None, Bool, true, false, ◌||◌, slice_get, IsTrue, if◌then◌else◌}
+use Rattle.std.proofs.Common.{◌≡◌, ◌∙◌, sym, ap, subst, refl, inl, inr, ⊎_elim, ◌⊎◌, ℕ, zero, suc}
+use Rattle.std.proofs.Common.{List, [], ◌∷◌, Option, Some, None, Bool, true, false, ◌||◌, slice_get}
+use Rattle.std.proofs.Common.{IsTrue, if◌then◌else◌}
 use Rattle.std.specs.List.{filter_map, list_any, list_all}
 use Rattle.std.specs.Option.{option_map_or}
 use Rattle.std.specs.Str.{bytes_eq}
@@ -11,17 +13,22 @@ use Rattle.facet_solver_reader.specs.declared.plan.PlannedCatchAll.TheVariants a
 use Rattle.facet_solver_reader.specs.declared.plan.PlannedList.{PlannedList}
 use Rattle.facet_solver_reader.specs.declared.plan.PlannedPart.{PlannedPart}
 use Rattle.facet_solver_reader.specs.declared.plan.PlannedPart.TheVariants as planned
-use Rattle.facet_solver_reader.specs.Choices.{Item, member_of, catch_all_of, presence_of, Reading, Taken, none_left, passing, taken}
+use Rattle.facet_solver_reader.specs.Choices.{Item, member_of, catch_all_of, presence_of, Reading}
+use Rattle.facet_solver_reader.specs.Choices.{Taken, none_left, passing, taken}
 use Rattle.facet_solver_reader.specs.Documents.{Member, Tree}
 use Rattle.facet_solver_reader.specs.Known.{Chooses, HasKey, IsKnown, Key, named, rest}
-use Rattle.facet_solver_reader.specs.Objects.{Agrees, HasNamed, IsUnknown, Object, Reads, ReadsMember, Takes, TakesRest, find}
+use Rattle.facet_solver_reader.specs.Objects.{Agrees, HasNamed, IsUnknown, Object, Reads}
+use Rattle.facet_solver_reader.specs.Objects.{ReadsMember, Takes, TakesRest, find}
 use Rattle.facet_solver_reader.specs.Parts.{CatchAll, of_map, of_anything, MemberPart, of_shape}
 use Rattle.facet_solver_reader.specs.Plans.{IsNumberOf, IsPlannedCatchAll, Meaning}
 use Rattle.facet_solver_reader.specs.Rules.{Rules}
 use Rattle.facet_solver_reader.specs.Types.{is_key}
-use Rattle.facet_solver_checker.specs.PlanMembers.{HasPart, HaveParts, IsIn, IsPartOf, IsReadAmong, targets_below}
+use Rattle.facet_solver_checker.specs.PlanMembers.{HasPart, HaveParts, IsIn, IsPartOf, IsReadAmong}
+use Rattle.facet_solver_checker.specs.PlanMembers.{targets_below}
 use Rattle.facet_solver_checker.specs.Requires.{HasRequired}
-use Rattle.facet_solver_checker.specs.Ways.{taken_at, taken_below, taken_in, takes_any, takes_any_at, takes_any_below, takes_any_in, target_taken}
+use Rattle.facet_solver_checker.specs.Ways.{taken_at, taken_below, taken_in, takes_any}
+use Rattle.facet_solver_checker.specs.Ways.{takes_any_at, takes_any_below, takes_any_in}
+use Rattle.facet_solver_checker.specs.Ways.{target_taken}
 use Rattle.facet_solver_checker.proofs.Among.{in_filter_map, in_flat_map}
 use Rattle.facet_solver_checker.proofs.PlanMembers.{target_among}
 
@@ -42,7 +49,8 @@ some_passes p x e (y ∷ xs) (suc k, at) = or_true (p y) (some_passes p x e xs (
     or_true true h = refl
     or_true false h = h
 
-module _ (m : Meaning) (lists : List PlannedList) (below : List ℕ) (reads : Reads) (object : Object) where
+module _ (m : Meaning) (lists : List PlannedList) (below : List ℕ) (reads : Reads)
+    (object : Object) where
   -- a member is read as a target of its name
   member_read : (x : Name) (v : Tree) → find object.members x ≡ Some v → (part : MemberPart)
       (r : Option Reading) → part.name ≡ x → HasPart m lists below (member_of part r)
@@ -113,7 +121,8 @@ takes_member rules object takes x v unknown [] (passing t) h e = absurd h
 takes_member rules object takes x v unknown [] (taken r t) h e = absurd h
 takes_member rules object takes x v unknown (n ∷ ms) none_left h e = absurd h
 takes_member rules object takes x v unknown (n ∷ ms) (passing t) h e =
-    go (bytes_eq n.name x) refl e (λ found. takes_member rules object takes x v unknown ms t h.1 found)
+    go (bytes_eq n.name x) refl e (λ found. takes_member rules object takes x v unknown ms t h.1
+    found)
   where
     go : (b : Bool) → bytes_eq n.name x ≡ b
         → (if b then Some n.value else find ms x) ≡ Some v
@@ -123,7 +132,8 @@ takes_member rules object takes x v unknown (n ∷ ms) (passing t) h e =
         ((bytes_eq-Decides n.name x).0 q) h.0))
     go false q found later = later found
 takes_member rules object takes x v unknown (n ∷ ms) (taken r t) h e =
-    go (bytes_eq n.name x) refl e (λ found. takes_member rules object takes x v unknown ms t h.2 found)
+    go (bytes_eq n.name x) refl e (λ found. takes_member rules object takes x v unknown ms t h.2
+    found)
   where
     go : (b : Bool) → bytes_eq n.name x ≡ b
         → (if b then Some n.value else find ms x) ≡ Some v
@@ -132,7 +142,9 @@ takes_member rules object takes x v unknown (n ∷ ms) (taken r t) h e =
         let same : n.value ≡ v = cc in (n, r, h.1, (bytes_eq-Decides n.name x).0 q, same)
     go false q found later = later found
 
-module _ (m : Meaning) (shapes : Catalogue) (keys : (key : ℕ) (x : Name) → is_key shapes key x ≡ m.rules.is_key key x) (lists : List PlannedList) (below : List ℕ) (reads : Reads) where
+module _ (m : Meaning) (shapes : Catalogue) (keys : (key : ℕ) (x : Name)
+    → is_key shapes key x ≡ m.rules.is_key key x) (lists : List PlannedList) (below : List ℕ)
+    (reads : Reads) where
   -- how the rest reads a value of the name
   abbrev RestReads : Name → Tree → Type 0
   RestReads x v =

@@ -1,5 +1,8 @@
 -- Names that choices of parts require.
-use Rattle.std.proofs.Common.{◌≡◌, ◌∙◌, sym, ap, subst, refl, inl, inr, ⊎_elim, ◌⊎◌, ℕ, zero, suc, ◌<◌, List, [], ◌∷◌, ◌++◌, Option, Some, None, Bool, true, false, slice_get, get_or, length, length-append, arith, ◌+◌, ◌||◌, Bor, Vec, Global}
+use Rattle.std.proofs.Common.{◌≡◌, ◌∙◌, sym, ap, subst, refl, inl, inr, ⊎_elim, ◌⊎◌, ℕ, zero, suc}
+use Rattle.std.proofs.Common.{◌<◌, List, [], ◌∷◌, ◌++◌, Option, Some, None, Bool, true, false}
+use Rattle.std.proofs.Common.{slice_get, get_or, length, length-append, arith, ◌+◌, ◌||◌, Bor, Vec}
+use Rattle.std.proofs.Common.{Global}
 use Rattle.std.specs.List.{list_any, list_all}
 use Rattle.std.specs.Option.{option_map_or}
 use Rattle.std.specs.Str.{bytes_eq}
@@ -11,13 +14,18 @@ use Rattle.facet_solver_reader.specs.declared.plan.PlannedList.{PlannedList}
 use Rattle.facet_solver_reader.specs.declared.plan.PlannedPart.{PlannedPart}
 use Rattle.facet_solver_reader.specs.declared.plan.PlannedPart.TheVariants as planned
 use Rattle.facet_solver_reader.specs.declared.plan.PlannedSelection.{PlannedSelection}
-use Rattle.facet_solver_reader.specs.Choices.{Choice, ChoiceAt, ChoosesParts, done, next, lacking, having, without, choosing, taking, Item, member_of, catch_all_of, presence_of, presence}
+use Rattle.facet_solver_reader.specs.Choices.{Choice, ChoiceAt, ChoosesParts, done, next, lacking}
+use Rattle.facet_solver_reader.specs.Choices.{having, without, choosing, taking, Item, member_of}
+use Rattle.facet_solver_reader.specs.Choices.{catch_all_of, presence_of, presence}
 use Rattle.facet_solver_reader.specs.Known.{Chooses, ChoosesAll, ChoosesAt, HasChoice}
-use Rattle.facet_solver_reader.specs.Parts.{ListId, Lists, MemberPart, CatchAll, Part, a_member, a_selection, a_catch_all, Selection}
-use Rattle.facet_solver_reader.specs.Plans.{IsNumberOfList, IsPlannedList, IsPlannedPart, IsPlannedSelection, Meaning}
+use Rattle.facet_solver_reader.specs.Parts.{ListId, Lists, MemberPart, CatchAll, Part, a_member}
+use Rattle.facet_solver_reader.specs.Parts.{a_selection, a_catch_all, Selection}
+use Rattle.facet_solver_reader.specs.Plans.{IsNumberOfList, IsPlannedList, IsPlannedPart}
+use Rattle.facet_solver_reader.specs.Plans.{IsPlannedSelection, Meaning}
 use Rattle.facet_solver_reader.proofs.Pairs.{pair_at}
 use Rattle.facet_solver_checker.specs.PlanMembers.{AreListsOf, IsIn}
-use Rattle.facet_solver_checker.specs.Requires.{AreRequired, HasRequired, NameLists, Requires, all_require, requires_at}
+use Rattle.facet_solver_checker.specs.Requires.{AreRequired, HasRequired, NameLists, Requires}
+use Rattle.facet_solver_checker.specs.Requires.{all_require, requires_at}
 use Rattle.facet_solver_checker.proofs.ListItems.{number_of_branch, planned_at}
 use Rattle.facet_solver_checker.proofs.WaysApart.{each_passes}
 
@@ -75,7 +83,8 @@ module _ (x : Name) where
     member_requires part name required (taking t) items h = absurd h
 
 -- a name that a test finds stands in the list
-pub found_name : (x : Name) (names : List (Bor Name)) → list_any (λ y. bytes_eq y.now x) names ≡ true
+pub found_name : (x : Name) (names : List (Bor Name))
+    → list_any (λ y. bytes_eq y.now x) names ≡ true
     → (y : Bor Name) × (y.now ≡ x) × IsIn y names
 found_name x [] e = absurd (cc)
 found_name x (y ∷ names) e = go (bytes_eq y.now x) refl (found_name x names) e
@@ -150,14 +159,16 @@ pub required_more : (m : Meaning) (p : Plan) (lists : List PlannedList) (i : ℕ
     → ((id : ListId) (x : Bor Name) → IsPlannedList m id l → IsIn x last.items
     → Requires (Chooses m.rules.lists id) x.now)
     → AreRequired m new
-required_more m p lists i l old new last is same within at count grown before added n names id x there number in' =
+required_more m p lists i l old new last is same within at count grown before added n names id x
+    there number in' =
     ⊎_elim (λ (h : slice_get old n ≡ Some names). before n names id x h number in')
     (λ (h : (n ≡ length old) × (last ≡ names)).
     let here : slice_get p.lists.items i ≡ Some l =
     ap (λ (ls : List PlannedList). slice_get ls i) (sym same)
     ∙ slice_get-get_or lists i l within ∙ ap Some (sym at) in
     let index : n ≡ i = h.0 ∙ count in
-    added id x (planned_at m p is id i l (subst (λ (k : ℕ). IsNumberOfList m id k) index number) here)
+    added id x (planned_at m p is id i l (subst (λ (k : ℕ). IsNumberOfList m id k) index number)
+    here)
     (subst (λ (v : Vec (Bor Name) Global). IsIn x v.items) (sym h.1) in'))
     (last_or_before old last names n
     (ap (λ (t : NameLists). slice_get t n) (sym grown) ∙ there))

@@ -1,9 +1,11 @@
--- How two readings can differ: none differs from itself, and two of one kind differ as that kind can.
+-- How two readings can differ: none differs from itself, and two of one kind differ as that kind
+-- can.
 use Rattle.std.proofs.Common.{◌≡◌, ◌⊎◌, ◌∙◌, ap, inl, inr, refl, subst, ℕ}
 use Rattle.facet_solver_reader.specs.Choices.{Choice, ChoiceAt, Reading, Readings, Taken, a_variant}
 use Rattle.facet_solver_reader.specs.Choices.{an_object, each_of}
 use Rattle.facet_solver_checker.specs.Differing.{Differ, DifferAt, DifferEach, DifferPart}
-use Rattle.facet_solver_checker.specs.Differing.{DifferTaken, Difference, behind_passed, behind_taken}
+use Rattle.facet_solver_checker.specs.Differing.{DifferTaken, Difference, behind_passed}
+use Rattle.facet_solver_checker.specs.Differing.{behind_taken}
 use Rattle.facet_solver_checker.specs.Differing.{by_alone, by_branches, by_joined, by_variants}
 use Rattle.facet_solver_checker.specs.Differing.{first_differ, first_part, first_taken, in_branch}
 use Rattle.facet_solver_checker.specs.Differing.{in_member, in_object, in_taken, in_values}

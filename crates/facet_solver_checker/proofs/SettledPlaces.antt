@@ -1,10 +1,11 @@
 -- Which places are settled: the two ways of each are told apart, or it is listed.
-use Rattle.std.proofs.Common.{◌≡◌, inl, inr, sym, ◌∙◌, subst, ⊎_elim, ℕ, ◌<◌, ◌+◌, Bool, true, List, Some, Result, Ok, Err, IfOk, OnOk, length, refl, slice_get}
+use Rattle.std.proofs.Common.{◌≡◌, inl, inr, sym, ◌∙◌, subst, ⊎_elim, ℕ, ◌<◌, ◌+◌, Bool, true, List}
+use Rattle.std.proofs.Common.{Some, Result, Ok, Err, IfOk, OnOk, length, refl, slice_get}
 use borrow.Author.Count.{below_more}
 use Rattle.facet_solver_checker.specs.declared.apart.Apart.{Apart}
-use Rattle.facet_solver_checker.specs.declared.place.Fork.{Fork}
-use Rattle.facet_solver_checker.specs.declared.place.Fork.TheVariants as forks
-use Rattle.facet_solver_checker.specs.declared.place.Place.{Place}
+use Rattle.facet_solver_witnesses.specs.declared.place.Fork.{Fork}
+use Rattle.facet_solver_witnesses.specs.declared.place.Fork.TheVariants as forks
+use Rattle.facet_solver_witnesses.specs.declared.place.Place.{Place}
 use Rattle.facet_solver_reader.specs.declared.plan.Plan.{Plan}
 use Rattle.facet_solver_reader.specs.declared.plan.PlannedList.{PlannedList}
 use Rattle.facet_solver_reader.specs.declared.plan.PlannedPart.{PlannedPart}
@@ -59,7 +60,8 @@ module _ (plan : Plan) (apart : Apart) (a b : List Place) (grows : Grows a b) wh
       → AreSettled plan apart b fork (second + 1)
   pairs_more fork second before here x y less below =
       below_more (λ z. (x : ℕ) → x < z → IsSettled plan apart b (place_at fork x z)) second
-      (λ z under w smaller. settled_on (place_at fork w z) (before w z smaller under)) here y below x
+      (λ z under w smaller. settled_on (place_at fork w z) (before w z smaller under)) here y below
+      x
       less
 
   -- so are the ways of the first selections of a list, and those of the next part
@@ -89,7 +91,8 @@ module _ (plan : Plan) (apart : Apart) (a b : List Place) (grows : Grows a b) wh
 
   -- and of enums
   pub enums_more : (i : ℕ)
-      → ((k n : ℕ) → k < i → IsFork plan (forks.Enum k) n → AreSettled plan apart a (forks.Enum k) n)
+      → ((k n : ℕ) → k < i → IsFork plan (forks.Enum k) n
+      → AreSettled plan apart a (forks.Enum k) n)
       → ((n : ℕ) → IsFork plan (forks.Enum i) n → AreSettled plan apart b (forks.Enum i) n)
       → (k n : ℕ) → k < i + 1 → IsFork plan (forks.Enum k) n
       → AreSettled plan apart b (forks.Enum k) n

@@ -1,5 +1,8 @@
 -- Two ways to read an enum read no value in common.
-use Rattle.std.proofs.Common.{◌≡◌, ◌∙◌, ◌⊎◌, inl, inr, ⊎_elim, sym, ap, subst, refl, ℕ, zero, suc, ◌+◌, ◌<◌, ◌≤◌, List, [], ◌∷◌, All, Bool, true, false, IsTrue, Option, Some, None, slice_get, length, arith, nat_lt, if◌then◌else◌, Vec, Global}
+use Rattle.std.proofs.Common.{◌≡◌, ◌∙◌, ◌⊎◌, inl, inr, ⊎_elim, sym, ap, subst, refl, ℕ, zero, suc}
+use Rattle.std.proofs.Common.{◌+◌, ◌<◌, ◌≤◌, List, [], ◌∷◌, All, Bool, true, false, IsTrue, Option}
+use Rattle.std.proofs.Common.{Some, None, slice_get, length, arith, nat_lt, if◌then◌else◌, Vec}
+use Rattle.std.proofs.Common.{Global}
 use Rattle.std.specs.List.{Contains, list_any}
 use Rattle.std.proofs.lemmas.List.Elements.{All-contains, All-head}
 use Rattle.std.proofs.lemmas.Bool.Decides.{nat_tests}
@@ -16,24 +19,42 @@ use Rattle.facet_solver_reader.specs.declared.plan.PlannedKind.TheVariants as ki
 use Rattle.facet_solver_reader.specs.declared.plan.PlannedName.{PlannedName}
 use Rattle.facet_solver_reader.specs.declared.plan.PlannedTarget.{PlannedTarget}
 use Rattle.facet_solver_reader.specs.Choices.{Choice, Reading, a_value, an_object, a_variant}
-use Rattle.facet_solver_reader.specs.Documents.{Tree, null, number, text, object, Members, member, no_members}
+use Rattle.facet_solver_reader.specs.Documents.{Tree, null, number, text, object, Members, member}
+use Rattle.facet_solver_reader.specs.Documents.{no_members}
 use Rattle.facet_solver_reader.specs.Objects.{Reads}
 use Rattle.facet_solver_reader.specs.Parts.{ListId, Target, of_shape, of_content, of_tag}
-use Rattle.facet_solver_reader.specs.Plans.{AreInPairs, IsNumberIfChosen, IsNumberOf, IsPlannedAlternative, IsPlannedAs, IsPlannedContent, IsPlannedEnd, IsPlannedKind, IsPlannedName, IsPlannedTarget, Meaning}
+use Rattle.facet_solver_reader.specs.Plans.{AreInPairs, IsNumberIfChosen, IsNumberOf}
+use Rattle.facet_solver_reader.specs.Plans.{IsPlannedAlternative, IsPlannedAs, IsPlannedContent}
+use Rattle.facet_solver_reader.specs.Plans.{IsPlannedEnd, IsPlannedKind, IsPlannedName}
+use Rattle.facet_solver_reader.specs.Plans.{IsPlannedTarget, Meaning}
 use Rattle.facet_solver_reader.specs.Rules as types
-use Rattle.facet_solver_reader.specs.Rules.{Alternative, AlternativeKind, End, Content, NamedVariant, an_untagged_variant, a_named_variant, joins, a_fallback, other}
+use Rattle.facet_solver_reader.specs.Rules.{Alternative, AlternativeKind, End, Content}
+use Rattle.facet_solver_reader.specs.Rules.{NamedVariant, an_untagged_variant, a_named_variant}
+use Rattle.facet_solver_reader.specs.Rules.{joins, a_fallback, other}
 use Rattle.facet_solver_reader.specs.Values as values
-use Rattle.facet_solver_reader.specs.Values.{Inner, ReadsAlone, ReadsByFallback, ReadsByKind, ReadsByOne, ReadsDirectly, ReadsDown, ReadsEnd, ReadsFallback, ReadsJoined, ReadsLast, ReadsNamed, ReadsNamedVariant, ReadsTarget, ReadsWithin, is_in_kind, is_whole_of}
+use Rattle.facet_solver_reader.specs.Values.{Inner, ReadsAlone, ReadsByFallback, ReadsByKind}
+use Rattle.facet_solver_reader.specs.Values.{ReadsByOne, ReadsDirectly, ReadsDown, ReadsEnd}
+use Rattle.facet_solver_reader.specs.Values.{ReadsFallback, ReadsJoined, ReadsLast, ReadsNamed}
+use Rattle.facet_solver_reader.specs.Values.{ReadsNamedVariant, ReadsTarget, ReadsWithin}
+use Rattle.facet_solver_reader.specs.Values.{is_in_kind, is_whole_of}
 use Rattle.facet_solver_checker.specs.declared.apart.Apart.{Apart}
 use Rattle.facet_solver_checker.specs.declared.atoms.Atom.{Atom}
 use Rattle.facet_solver_checker.specs.declared.atoms.Atom.TheVariants.{Null, Plain, Joined}
 use Rattle.facet_solver_checker.specs.declared.atoms.Atoms.{Atoms}
 use Rattle.facet_solver_checker.specs.Apartness.{AllApart, AtomsApart}
 use Rattle.facet_solver_checker.specs.Aparts.{LeavesDown}
-use Rattle.facet_solver_checker.specs.Atoms.{AsksOnward, HaveAtoms, IsPlanFor, ReadsAs, ReadsAtom, is_null_alone, is_null_kind}
+use Rattle.facet_solver_checker.specs.Atoms.{AsksOnward, HaveAtoms, IsPlanFor, ReadsAs, ReadsAtom}
+use Rattle.facet_solver_checker.specs.Atoms.{is_null_alone, is_null_kind}
 use Rattle.facet_solver_checker.specs.Differing.{Side, joined, variant}
 use Rattle.facet_solver_checker.specs.Sites.{Takes, VariantsMeet}
-use Rattle.facet_solver_checker.specs.VariantsApart.{AreAtomsOf, AreJoinedApart, AreNamesApart, AreOnesApart, AreSidesApart, AreTwoApart, AreVariantsApart, side_at, way_at, by_fallback, by_float, by_whole, by_atoms, IsListApart, IsReadByOne, as_null, as_content, IsFloatBeside, IsFloatKindBeside, IsWholeAtom, IsWholeIn, ReadsWholes, is_fallback, is_fallback_kind}
+use Rattle.facet_solver_checker.specs.VariantsApart.{AreAtomsOf, AreJoinedApart, AreNamesApart}
+use Rattle.facet_solver_checker.specs.VariantsApart.{AreOnesApart, AreSidesApart, AreTwoApart}
+use Rattle.facet_solver_checker.specs.VariantsApart.{AreVariantsApart, side_at, way_at, by_fallback}
+use Rattle.facet_solver_checker.specs.VariantsApart.{by_float, by_whole, by_atoms, IsListApart}
+use Rattle.facet_solver_checker.specs.VariantsApart.{IsReadByOne, as_null, as_content}
+use Rattle.facet_solver_checker.specs.VariantsApart.{IsFloatBeside, IsFloatKindBeside, IsWholeAtom}
+use Rattle.facet_solver_checker.specs.VariantsApart.{IsWholeIn, ReadsWholes, is_fallback}
+use Rattle.facet_solver_checker.specs.VariantsApart.{is_fallback_kind}
 use Rattle.facet_solver_checker.specs.Aparts.{LeavesAll}
 use Rattle.facet_solver_reader.proofs.Pairs.{pair_at, pair_of}
 use Rattle.facet_solver_checker.proofs.PlainReads.{by_list}
@@ -200,8 +221,8 @@ module _ (m : Meaning) (reads itself : Reads) (v : Tree) where
       (ps : List PlannedAlternative) (chosen : IsNumberIfChosen m list o)
       (are : AreInPairs (IsPlannedAlternative m) alone ps)
     where
-      -- an alternative reads the value, as a fallback or not; one of floats spares the whole numbers
-      -- that others read
+      -- an alternative reads the value, as a fallback or not; one of floats spares the whole
+      -- numbers that others read
       abbrev IsTaken : PlannedAlternative → Bool → Type 0
       IsTaken p b =
           (is_fallback p ≡ b) × IsReadByOne m itself p v
@@ -240,7 +261,8 @@ module _ (m : Meaning) (reads itself : Reads) (v : Tree) where
             (f.0, as_content f.1 a.content q p.2.content h.1, λ e. absurd (not_float p.0 f.0 e)),
           )
 
-      not_joined : (k : ℕ) (q : Reading) (w : Tree) → ReadsJoined m.rules reads list w (a_variant k q)
+      not_joined : (k : ℕ) (q : Reading) (w : Tree)
+          → ReadsJoined m.rules reads list w (a_variant k q)
           → ⊥
       not_joined k q (object ms) h = h
       not_joined k q w h = h

@@ -3,7 +3,7 @@ use Rattle.std.proofs.Common.{◌≡◌, ℕ, List, []}
 use Rattle.facet_solver_reader.specs.declared.plan.Plan.{Plan}
 use Rattle.facet_solver_reader.specs.Plans.{Meaning}
 use Rattle.facet_solver_checker.specs.declared.apart.Apart.{Apart}
-use Rattle.facet_solver_checker.specs.declared.place.Place.{Place}
+use Rattle.facet_solver_witnesses.specs.declared.place.Place.{Place}
 use Rattle.facet_solver_checker.specs.Ambiguity.{AreAllPlaces, IsCertain}
 use Rattle.facet_solver_checker.specs.Aparts.{left}
 use Rattle.facet_solver_checker.specs.Atoms.{AsksLower, IsPlanFor}

@@ -1,5 +1,6 @@
 -- Texts that two ends read in common.
-use Rattle.std.proofs.Common.{◌≡◌, ◌∙◌, sym, ap, subst, refl, ℕ, List, All, Any, Bool, true, false, IsTrue, not, length, nat_eq, Bor, Vec, Global}
+use Rattle.std.proofs.Common.{◌≡◌, ◌∙◌, sym, ap, subst, refl, ℕ, List, All, Any, Bool, true, false}
+use Rattle.std.proofs.Common.{IsTrue, not, length, nat_eq, Bor, Vec, Global}
 use Rattle.std.specs.Str.{chars}
 use Rattle.facet_solver_shape.specs.Names.{Name}
 use Rattle.facet_solver_reader.specs.declared.plan.PlannedEnd.{PlannedEnd}

@@ -1,6 +1,7 @@
 -- An object that comes to a list of parts has a member that the list knows, where the list reads no
 -- other objects.
-use Rattle.std.proofs.Common.{◌≡◌, ◌∙◌, sym, ap, subst, refl, ℕ, zero, suc, List, [], ◌∷◌, ◌++◌, All, Bool, true, false, Option, None, Some, arith, length, slice_get}
+use Rattle.std.proofs.Common.{◌≡◌, ◌∙◌, sym, ap, subst, refl, ℕ, zero, suc, List, [], ◌∷◌, ◌++◌}
+use Rattle.std.proofs.Common.{All, Bool, true, false, Option, None, Some, arith, length, slice_get}
 use Rattle.std.proofs.lemmas.List.{append-nil}
 use Rattle.facet_solver_reader.specs.declared.plan.Plan.{Plan}
 use Rattle.facet_solver_reader.specs.declared.plan.PlannedEnd.{PlannedEnd}
@@ -10,13 +11,19 @@ use Rattle.facet_solver_reader.specs.declared.plan.PlannedPart.{PlannedPart}
 use Rattle.facet_solver_reader.specs.declared.plan.PlannedPart.TheVariants as parts
 use Rattle.facet_solver_reader.specs.declared.plan.PlannedTarget.{PlannedTarget}
 use Rattle.facet_solver_reader.specs.Branches.{ReadsPart}
-use Rattle.facet_solver_reader.specs.Choices.{Choice, ChoiceAt, ChoosesParts, Item, choosing, done, next}
-use Rattle.facet_solver_reader.specs.Known.{Chooses, ChoosesAll, ChoosesAt, HasChoice, HasKey, IsKnown, Key}
+use Rattle.facet_solver_reader.specs.Choices.{Choice, ChoiceAt, ChoosesParts, Item, choosing, done}
+use Rattle.facet_solver_reader.specs.Choices.{next}
+use Rattle.facet_solver_reader.specs.Known.{Chooses, ChoosesAll, ChoosesAt, HasChoice, HasKey}
+use Rattle.facet_solver_reader.specs.Known.{IsKnown, Key}
 use Rattle.facet_solver_reader.specs.Objects.{Object, Reads, Touches}
-use Rattle.facet_solver_reader.specs.Parts.{ListId, Lists, Part, Selection, Target, a_selection, of_content, of_shape, of_tag}
-use Rattle.facet_solver_reader.specs.Plans.{IsNumberIfChosen, IsNumberOf, IsNumberOfList, IsPlannedAs, IsPlannedContent, IsPlannedEnd, IsPlannedList, IsPlannedPart, IsPlannedTarget, Meaning}
+use Rattle.facet_solver_reader.specs.Parts.{ListId, Lists, Part, Selection, Target, a_selection}
+use Rattle.facet_solver_reader.specs.Parts.{of_content, of_shape, of_tag}
+use Rattle.facet_solver_reader.specs.Plans.{IsNumberIfChosen, IsNumberOf, IsNumberOfList}
+use Rattle.facet_solver_reader.specs.Plans.{IsPlannedAs, IsPlannedContent, IsPlannedEnd}
+use Rattle.facet_solver_reader.specs.Plans.{IsPlannedList, IsPlannedPart, IsPlannedTarget, Meaning}
 use Rattle.facet_solver_reader.specs.Reached.{list_of, list_of_content, list_of_end}
-use Rattle.facet_solver_reader.specs.Rules.{Content, End, Rules, an_object, an_untagged_variant, as_object}
+use Rattle.facet_solver_reader.specs.Rules.{Content, End, Rules, an_object, an_untagged_variant}
+use Rattle.facet_solver_reader.specs.Rules.{as_object}
 use Rattle.facet_solver_reader.proofs.Lists.{known_of_list}
 use Rattle.facet_solver_reader.proofs.Pairs.{pair_of, pairs_length}
 use Rattle.facet_solver_reader.proofs.Quantifiers.{all_at}
@@ -25,7 +32,8 @@ use Rattle.facet_solver_checker.specs.Atoms.{IsPlanFor}
 use Rattle.facet_solver_checker.specs.Comes.{MustTouchList, TouchesList}
 use Rattle.facet_solver_checker.specs.Forks.{IsSelectionAt}
 use Rattle.facet_solver_checker.specs.PlanMembers.{IsIn}
-use Rattle.facet_solver_checker.specs.Touched.{AreTouched, BearsOutBranches, BearsOutEnd, is_touched, list_in}
+use Rattle.facet_solver_checker.specs.Touched.{AreTouched, BearsOutBranches, BearsOutEnd}
+use Rattle.facet_solver_checker.specs.Touched.{is_touched, list_in}
 use Rattle.facet_solver_checker.proofs.BranchesApart.{branch_has, known_of_branch, touches_of}
 
 -- what is there is one thing

@@ -1,10 +1,10 @@
--- A settled list of places has each at which two readings differ first; where it has none, no document
--- has two readings.
+-- A settled list of places has each at which two readings differ first; where it has none, no
+-- document has two readings.
 use Rattle.std.proofs.Common.{◌≡◌, ⊎_elim, sym, subst, ℕ, suc, List, [], Result, Ok, Err, IfOk, Any}
 use Rattle.facet_solver_shape.specs.Catalogues.{Catalogue}
 use Rattle.facet_solver_shape.specs.Names.{Name}
 use Rattle.facet_solver_checker.specs.declared.apart.Apart.{Apart}
-use Rattle.facet_solver_checker.specs.declared.place.Place.{Place}
+use Rattle.facet_solver_witnesses.specs.declared.place.Place.{Place}
 use Rattle.facet_solver_reader.specs.declared.plan.Plan.{Plan}
 use Rattle.facet_solver_checker.specs.Ambiguity.{AreAllPlaces, IsCertain, IsPlaceOf}
 use Rattle.facet_solver_checker.specs.Certain.{IsUnambiguous}
@@ -43,7 +43,8 @@ module _ (m : Meaning) (plan : Plan) (is : IsPlanFor m plan) where
       let pair = pair_of (IsPlannedList m) m.lists plan.lists.items n id is.meaning.lists.each at in
       (pair.0, pair.2)
 
-module _ (plan : Plan) (apart : Apart) (places : List Place) (settled : AllSettled plan apart places)
+module _ (plan : Plan) (apart : Apart) (places : List Place)
+    (settled : AllSettled plan apart places)
   where
     pub all_places_of : AreAllPlaces plan apart places
     unfolding ReadsValue

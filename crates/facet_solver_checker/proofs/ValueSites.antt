@@ -1,6 +1,7 @@
--- Where two readings of a value differ, two branches of a selection read one object, or two variants
--- of an enum read one value.
-use Rattle.std.proofs.Common.{◌≡◌, refl, sym, subst, ⊎_elim, ℕ, zero, suc, ◌<◌, List, [], ◌∷◌, Some, arith}
+-- Where two readings of a value differ, two branches of a selection read one object, or two
+-- variants of an enum read one value.
+use Rattle.std.proofs.Common.{◌≡◌, refl, sym, subst, ⊎_elim, ℕ, zero, suc, ◌<◌, List, [], ◌∷◌, Some}
+use Rattle.std.proofs.Common.{arith}
 use Rattle.facet_solver_reader.specs.declared.plan.Plan.{Plan}
 use Rattle.facet_solver_reader.specs.declared.plan.PlannedEnd.{PlannedEnd}
 use Rattle.facet_solver_reader.specs.Choices.{Reading, Readings, a_variant, an_object}
@@ -13,17 +14,20 @@ use Rattle.facet_solver_checker.specs.Leading.{IsWithin, Leads, by_asked, enum_o
 use Rattle.facet_solver_checker.specs.Leading.{into_content, into_item, into_object, is_enum}
 use Rattle.facet_solver_reader.specs.Objects.{Reads}
 use Rattle.facet_solver_reader.specs.Parts.{ListId, Target, of_shape}
-use Rattle.facet_solver_reader.specs.Plans.{AreAskedFirst, IsNumberOf, IsPlannedAs, IsPlannedTarget, Meaning}
+use Rattle.facet_solver_reader.specs.Plans.{AreAskedFirst, IsNumberOf, IsPlannedAs, IsPlannedTarget}
+use Rattle.facet_solver_reader.specs.Plans.{Meaning}
 use Rattle.facet_solver_checker.specs.Atoms.{IsPlanFor}
 use Rattle.facet_solver_reader.specs.Reached.{IsRanked, list_of}
 use Rattle.facet_solver_checker.specs.Sites.{HasSide, Takes}
 use Rattle.facet_solver_reader.specs.Values.{ReadsDown, ReadsEach}
-use Rattle.facet_solver_checker.proofs.BothReadings.{AreNumbered, AreWithin, Both, ReadsPair, are_same, ask}
+use Rattle.facet_solver_checker.proofs.BothReadings.{AreNumbered, AreWithin, Both, ReadsPair}
+use Rattle.facet_solver_checker.proofs.BothReadings.{are_same, ask}
 use Rattle.facet_solver_checker.proofs.BothReadings.{both_readings, of_alone, of_joined, of_member}
 use Rattle.facet_solver_checker.proofs.BothReadings.{of_objects, of_one, of_two, of_values}
 use Rattle.facet_solver_checker.proofs.ObjectSites.{HaveSites, list_site}
 use Rattle.facet_solver_checker.proofs.SelfDifferent.{alone_differ, joined_differ, not_same}
-use Rattle.facet_solver_checker.proofs.SelfDifferent.{objects_differ, values_differ, variants_differ}
+use Rattle.facet_solver_checker.proofs.SelfDifferent.{objects_differ, values_differ}
+use Rattle.facet_solver_checker.proofs.SelfDifferent.{variants_differ}
 use Rattle.facet_solver_checker.proofs.Sites.{SiteFrom, SiteIn}
 use Rattle.facet_solver_checker.proofs.TouchedLists.{list_number}
 use Rattle.facet_solver_reader.proofs.Pairs.{pair_of}
@@ -48,8 +52,10 @@ each_site : (m : Meaning) (plan : Plan) (reads : Reads) → HaveSites m plan rea
     → (rs ss : Readings) (k : ℕ) (d : Difference) → DifferEach rs ss k d
     → ReadsEach (ReadsPair reads) ps rs → ReadsEach (ReadsPair reads) ps ss
     → (j : ℕ) → SiteFrom m plan t (behind (into_value j) d)
-each_site m plan reads values t [] numbers inside _ _ _ _ (first_differ r s rs ss d h) x y j = absurd x
-each_site m plan reads values t [] numbers inside _ _ _ _ (later_differ r s rs ss k d h) x y j = absurd x
+each_site m plan reads values t [] numbers inside _ _ _ _ (first_differ r s rs ss d h) x y j =
+    absurd x
+each_site m plan reads values t [] numbers inside _ _ _ _ (later_differ r s rs ss k d h) x y j =
+    absurd x
 each_site m plan reads values t (p ∷ ps) numbers inside _ _ _ _ (first_differ r s rs ss d h) x y j =
     let site = values p.0 numbers.0.0 p.1 r s d numbers.0.1 x.0 y.0 h in
     record {
@@ -57,7 +63,8 @@ each_site m plan reads values t (p ∷ ps) numbers inside _ _ _ _ (first_differ 
       leads = into_item j t p.0 d.way site.spot inside.0 site.leads;
       site = site.site;
     }
-each_site m plan reads values t (p ∷ ps) numbers inside _ _ _ _ (later_differ r s rs ss k d h) x y j =
+each_site m plan reads values t (p ∷ ps) numbers inside _ _ _ _
+    (later_differ r s rs ss k d h) x y j =
     each_site m plan reads values t ps numbers.1 inside.1 rs ss k d h x.1 y.1 j
 
 module _ (m : Meaning) (plan : Plan) (is_for : IsPlanFor m plan) where
@@ -144,7 +151,8 @@ module _ (m : Meaning) (plan : Plan) (is_for : IsPlanFor m plan) where
         }
 
     -- on from another target of the same value
-    on_from : (u : Target) → Asks m.rules t u → (d : Difference) → SiteFrom m plan u d → SiteFrom m plan t d
+    on_from : (u : Target) → Asks m.rules t u → (d : Difference) → SiteFrom m plan u d
+        → SiteFrom m plan t d
     on_from u asks d h =
         record {
           spot = h.spot;
@@ -195,7 +203,8 @@ module _ (m : Meaning) (plan : Plan) (is_for : IsPlanFor m plan) where
         (record { choice = c; items = a.items; chooses = a.chooses }) o in
         subst (SiteFrom m plan t) (sym at.1.2)
         (into_list id list_is at.0 at.1.0
-        (list_site m plan is_for depth o deeper c e at.0 at.1.0 at.1.1 id l.number l.numbered l.touch
+        (list_site m plan is_for depth o deeper c e at.0 at.1.0 at.1.1 id l.number l.numbered
+        l.touch
         a b))
 
   -- two readings of a value that nests so deep
@@ -210,7 +219,8 @@ module _ (m : Meaning) (plan : Plan) (is_for : IsPlanFor m plan) where
       let p = pair_of (IsPlannedTarget m) m.targets plan.targets.items k u is_for.each_target is in
       site_of_both depth k deeper
       (λ w j below number. lower_sites depth deeper b j (omega arith) w number) u is v r s d x y
-      (both_readings m (inner_down m.rules depth) k u p.0.end p.2.end (λ w asks. first k u w is asks) v r s
+      (both_readings m (inner_down m.rules depth) k u p.0.end p.2.end
+      (λ w asks. first k u w is asks) v r s
       ((unrolled m.rules depth (suc k) u v ranked r).0 x)
       ((unrolled m.rules depth (suc k) u v ranked s).0 y)) h
 

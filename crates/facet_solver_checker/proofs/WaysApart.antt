@@ -1,5 +1,7 @@
 -- Two lists of ways that a table sets apart read no value in common.
-use Rattle.std.proofs.Common.{◌≡◌, ◌∙◌, sym, ap, subst, refl, inl, inr, ⊎_elim, ℕ, zero, suc, List, [], ◌∷◌, Option, Some, None, Bool, true, false, not, ◌&&◌, ◌||◌, slice_get}
+use Rattle.std.proofs.Common.{◌≡◌, ◌∙◌, sym, ap, subst, refl, inl, inr, ⊎_elim, ℕ, zero, suc, List}
+use Rattle.std.proofs.Common.{[], ◌∷◌, Option, Some, None, Bool, true, false, not, ◌&&◌, ◌||◌}
+use Rattle.std.proofs.Common.{slice_get}
 use Rattle.std.specs.List.{list_all}
 use Rattle.facet_solver_reader.specs.Documents.{Tree}
 use Rattle.facet_solver_reader.specs.Objects.{Reads}
@@ -9,7 +11,8 @@ use Rattle.facet_solver_checker.specs.declared.ways.Ways.{Ways}
 use Rattle.facet_solver_checker.specs.Aparts.{is_apart, left}
 use Rattle.facet_solver_checker.specs.Pairs.{AreAmong}
 use Rattle.facet_solver_checker.specs.PlanMembers.{IsIn, IsReadAmong}
-use Rattle.facet_solver_checker.specs.Ways.{IsReadIn, all_apart, has_no_way, is_apart_from, is_nil, ways_apart}
+use Rattle.facet_solver_checker.specs.Ways.{IsReadIn, all_apart, has_no_way, is_apart_from, is_nil}
+use Rattle.facet_solver_checker.specs.Ways.{ways_apart}
 
 -- both are true where their conjunction is
 pub and_first : (a b : Bool) → (a && b) ≡ true → a ≡ true
@@ -55,7 +58,8 @@ none_reads m reads w v none read =
     nil_has_none r.number w.targets.items
     (and_second (not w.any) (is_nil w.targets.items) none) r.among) read
 
-module _ (m : Meaning) (apart : Apart) (reads : Reads) (among : AreAmong (left m apart) reads reads) where
+module _ (m : Meaning) (apart : Apart) (reads : Reads)
+    (among : AreAmong (left m apart) reads reads) where
   -- targets that are all apart read no value in common
   pub targets_apart : (first second : List ℕ) (v : Tree) → all_apart apart first second ≡ true
       → IsReadAmong m reads first v → IsReadAmong m reads second v → ⊥

@@ -1,14 +1,15 @@
 -- At which place of a plan two readings differ, and what a list of places promises.
 use Rattle.std.specs.Prelude.{◌≡◌, ◌⊎◌, ℕ, List, [], Some, slice_get}
 use Rattle.facet_solver_checker.specs.declared.apart.Apart.{Apart}
-use Rattle.facet_solver_checker.specs.declared.place.Fork.{Fork}
-use Rattle.facet_solver_checker.specs.declared.place.Fork.TheVariants as forks
-use Rattle.facet_solver_checker.specs.declared.place.Place.{Place}
+use Rattle.facet_solver_witnesses.specs.declared.place.Fork.{Fork}
+use Rattle.facet_solver_witnesses.specs.declared.place.Fork.TheVariants as forks
+use Rattle.facet_solver_witnesses.specs.declared.place.Place.{Place}
 use Rattle.facet_solver_reader.specs.declared.plan.Plan.{Plan}
 use Rattle.facet_solver_reader.specs.declared.plan.PlannedTarget.{PlannedTarget}
 use Rattle.facet_solver_checker.specs.Certain.{IsUnambiguous, ListsAll}
 use Rattle.facet_solver_checker.specs.Differing.{Difference, Side}
-use Rattle.facet_solver_checker.specs.Forks.{IsBranchAt, IsPlanFor, IsSelectionAt, LeavesAll, side_at}
+use Rattle.facet_solver_checker.specs.Forks.{IsBranchAt, IsPlanFor, IsSelectionAt, LeavesAll}
+use Rattle.facet_solver_checker.specs.Forks.{side_at}
 use Rattle.facet_solver_checker.specs.Leading.{Leads, Spot, enum_of, part_of}
 use Rattle.facet_solver_reader.specs.Parts.{Selection, Target, of_shape}
 use Rattle.facet_solver_reader.specs.Plans.{IsNumberOf, Meaning}

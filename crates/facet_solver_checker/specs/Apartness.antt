@@ -1,5 +1,6 @@
 -- What reads no value in common with something else, given a table of targets that don't.
-use Rattle.std.specs.Prelude.{◌≡◌, ⊤, slice_get, ℕ, Bool, true, false, ◌&&◌, IsTrue, All, List, Option, Some, None}
+use Rattle.std.specs.Prelude.{◌≡◌, ⊤, slice_get, ℕ, Bool, true, false, ◌&&◌, IsTrue, All, List}
+use Rattle.std.specs.Prelude.{Option, Some, None}
 use Rattle.std.specs.Borrow.{Bor}
 use Rattle.facet_solver_shape.specs.Names.{Name}
 use Rattle.facet_solver_checker.specs.declared.apart.Apart.{Apart}
@@ -9,9 +10,10 @@ use Rattle.facet_solver_reader.specs.declared.plan.Plan.{Plan}
 use Rattle.facet_solver_reader.specs.declared.plan.PlannedEnd.{PlannedEnd}
 use Rattle.facet_solver_reader.specs.declared.plan.PlannedEnd.TheVariants as planned
 use Rattle.facet_solver_reader.specs.declared.plan.PlannedName.{PlannedName}
-use Rattle.facet_solver_checker.specs.Aparts.{LeavesDown, is_apart}
+use Rattle.facet_solver_checker.specs.Aparts.{LeavesDown, has_pair, is_apart}
 use Rattle.facet_solver_checker.specs.Atoms.{IsPlanFor, ReadsAs, ReadsAtom, ReadsByList}
-use Rattle.facet_solver_reader.specs.Documents.{Tree, null, truth, number, text, list, object, Items, Member, Members}
+use Rattle.facet_solver_reader.specs.Documents.{Tree, null, truth, number, text, list, object}
+use Rattle.facet_solver_reader.specs.Documents.{Items, Member, Members}
 use Rattle.facet_solver_reader.specs.Objects.{Reads}
 use Rattle.facet_solver_checker.specs.PlanMembers.{AreListsOf}
 use Rattle.facet_solver_checker.specs.Requires.{AreRequired, NameLists}
@@ -84,7 +86,7 @@ pub record AreTargetsApart (plan : Plan) (apart : Apart) (atoms : List Atoms) (i
 -- the atoms of each pair of a table read no value in common
 abbrev pub BearsOut : Plan → Apart → List Atoms → Type 0
 BearsOut plan apart atoms =
-    (i j : ℕ) → is_apart apart i j ≡ true → AreTargetsApart plan apart atoms i j
+    (i j : ℕ) → has_pair apart i j ≡ true → AreTargetsApart plan apart atoms i j
 
 -- no text: how the values within are read makes no difference
 abbrev pub TextsApart : PlannedEnd → PlannedEnd → Type 0

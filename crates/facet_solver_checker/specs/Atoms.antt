@@ -1,5 +1,6 @@
 -- What a target reads, by atoms: what asks nothing else of the value itself.
-use Rattle.std.specs.Prelude.{◌≡◌, ◌⊎◌, ◌<◌, ⊤, ℕ, Bool, true, false, IsTrue, List, [], ◌∷◌, All, Any, Option, Some, None, slice_get, length, nat_eq}
+use Rattle.std.specs.Prelude.{◌≡◌, ◌⊎◌, ◌<◌, ⊤, ℕ, Bool, true, false, IsTrue, List, [], ◌∷◌, All}
+use Rattle.std.specs.Prelude.{Any, Option, Some, None, slice_get, length, nat_eq}
 use Rattle.std.specs.List.{Contains, list_any}
 use Rattle.std.specs.Str.{chars}
 use Rattle.facet_solver_shape.specs.Names.{Name}
@@ -15,12 +16,14 @@ use Rattle.facet_solver_reader.specs.declared.plan.PlannedKind.TheVariants as ki
 use Rattle.facet_solver_reader.specs.declared.plan.PlannedName.{PlannedName}
 use Rattle.facet_solver_reader.specs.declared.plan.PlannedTarget.{PlannedTarget}
 use Rattle.facet_solver_reader.specs.Choices.{Choice, Reading}
-use Rattle.facet_solver_reader.specs.Documents.{Tree, null, truth, number, text, list, object, Member, member, no_members, items, members}
+use Rattle.facet_solver_reader.specs.Documents.{Tree, null, truth, number, text, list, object}
+use Rattle.facet_solver_reader.specs.Documents.{Member, member, no_members, items, members}
 use Rattle.facet_solver_checker.specs.ListsMeet.{MayRead}
 use Rattle.facet_solver_checker.specs.PlanMembers.{IsMeaningOf}
 use Rattle.facet_solver_reader.specs.Objects.{Reads}
 use Rattle.facet_solver_reader.specs.Parts.{ListId, Target}
-use Rattle.facet_solver_reader.specs.Plans.{AreAskedFirst, AreDistinct, AreInPairs, IsNumberOf, IsNumberOfList, IsPlannedTarget, Meaning}
+use Rattle.facet_solver_reader.specs.Plans.{AreAskedFirst, AreDistinct, AreInPairs, IsNumberOf}
+use Rattle.facet_solver_reader.specs.Plans.{IsNumberOfList, IsPlannedTarget, Meaning}
 use Rattle.facet_solver_reader.specs.Values.{is_in}
 
 -- a plan has what its numbers stand for

@@ -12,14 +12,6 @@ abbrev pub IsUnambiguous : Rules → Target → Type 0
 IsUnambiguous rules t =
     (v : Tree) (r s : Reading) → ReadsValue rules t v r → ReadsValue rules t v s → r ≡ s
 
--- a document has two readings as the target that differ
-pub record HasSeveral (rules : Rules) (t : Target) (v : Tree) : Type 0 where
-  pub first : Reading
-  pub second : Reading
-  pub first_reads : ReadsValue rules t v first
-  pub second_reads : ReadsValue rules t v second
-  pub differ : first ≡ second → ⊥
-
 -- wherever two readings of a document differ first, that is listed
 abbrev pub ListsAll : {A : Type 0} → Rules → Target → (A → Difference → Type 0) → List A → Type 0
 ListsAll rules t IsOf listed =

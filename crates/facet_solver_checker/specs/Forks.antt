@@ -2,9 +2,9 @@
 -- no value in common.
 use Rattle.std.specs.Prelude.{◌≡◌, ◌⊎◌, ◌+◌, ◌<◌, ℕ, Any, Bool, List, Some, length, slice_get}
 use Rattle.facet_solver_checker.specs.declared.apart.Apart.{Apart}
-use Rattle.facet_solver_checker.specs.declared.place.Fork.{Fork}
-use Rattle.facet_solver_checker.specs.declared.place.Fork.TheVariants as forks
-use Rattle.facet_solver_checker.specs.declared.place.Place.{Place}
+use Rattle.facet_solver_witnesses.specs.declared.place.Fork.{Fork}
+use Rattle.facet_solver_witnesses.specs.declared.place.Fork.TheVariants as forks
+use Rattle.facet_solver_witnesses.specs.declared.place.Place.{Place}
 use Rattle.facet_solver_reader.specs.declared.plan.Plan.{Plan}
 use Rattle.facet_solver_reader.specs.declared.plan.PlannedEnd.{PlannedEnd}
 use Rattle.facet_solver_reader.specs.declared.plan.PlannedEnd.TheVariants as planned

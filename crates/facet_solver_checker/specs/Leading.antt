@@ -1,8 +1,10 @@
 -- To which selection or enum a way leads from a target, as the steps of a difference do.
 use Rattle.std.specs.Prelude.{◌≡◌, ℕ, Any, List, [], ◌∷◌, Some, slice_get}
-use Rattle.facet_solver_checker.specs.Differing.{Step, at_part, into_branch, into_member, into_taken}
+use Rattle.facet_solver_checker.specs.Differing.{Step, at_part, into_branch, into_member}
+use Rattle.facet_solver_checker.specs.Differing.{into_taken}
 use Rattle.facet_solver_checker.specs.Differing.{into_value, into_variant}
-use Rattle.facet_solver_reader.specs.Parts.{ListId, MemberPart, Part, Selection, Target, a_catch_all}
+use Rattle.facet_solver_reader.specs.Parts.{ListId, MemberPart, Part, Selection, Target}
+use Rattle.facet_solver_reader.specs.Parts.{a_catch_all}
 use Rattle.facet_solver_reader.specs.Parts.{a_member, a_selection, of_map, of_shape}
 use Rattle.facet_solver_reader.specs.Reached.{asked, list_of, within}
 use Rattle.facet_solver_reader.specs.Rules.{Rules}

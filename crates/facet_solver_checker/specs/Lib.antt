@@ -4,6 +4,7 @@ pub mod PlanMembers
 pub mod Requires
 pub mod Touched
 pub mod Ways
+pub mod NamedApart
 pub mod ListsMeet
 pub mod BranchesMeet
 pub mod Inners

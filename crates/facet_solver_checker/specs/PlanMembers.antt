@@ -1,5 +1,6 @@
 -- The members of a name in lists of parts, as a plan has them.
-use Rattle.std.specs.Prelude.{◌≡◌, ◌+◌, ⊤, ℕ, Bool, true, List, [], ◌∷◌, Option, Some, None, if◌then◌else◌, slice_get}
+use Rattle.std.specs.Prelude.{◌≡◌, ◌+◌, ⊤, ℕ, Bool, true, List, [], ◌∷◌, Option, Some, None}
+use Rattle.std.specs.Prelude.{if◌then◌else◌, slice_get}
 use Rattle.std.specs.List.{filter_map, flat_map}
 use Rattle.std.specs.Option.{option_map_or}
 use Rattle.std.specs.Str.{bytes_eq}
@@ -13,7 +14,8 @@ use Rattle.facet_solver_reader.specs.Choices.{Item, member_of, catch_all_of, pre
 use Rattle.facet_solver_reader.specs.Documents.{Tree}
 use Rattle.facet_solver_reader.specs.Objects.{Reads}
 use Rattle.facet_solver_reader.specs.Parts.{MemberPart, Target}
-use Rattle.facet_solver_reader.specs.Plans.{AreBelow, AreInPairs, IsNumberOf, IsPlannedCatchAll, IsPlannedList, IsPlannedMember, Meaning}
+use Rattle.facet_solver_reader.specs.Plans.{AreBelow, AreInPairs, IsNumberOf, IsPlannedCatchAll}
+use Rattle.facet_solver_reader.specs.Plans.{IsPlannedList, IsPlannedMember, Meaning}
 use Rattle.facet_solver_reader.specs.Types.{is_key}
 
 -- an element stands in a list

@@ -7,7 +7,8 @@ use Rattle.std.specs.Str.{bytes_eq}
 use Rattle.std.specs.declared.alloc.Global.{Global}
 use Rattle.std.specs.declared.vec.Vec.{Vec}
 use Rattle.facet_solver_shape.specs.Names.{Name}
-use Rattle.facet_solver_reader.specs.Choices.{Choice, ChoiceAt, Choosing, Item, member_of, catch_all_of, presence_of}
+use Rattle.facet_solver_reader.specs.Choices.{Choice, ChoiceAt, Choosing, Item, member_of}
+use Rattle.facet_solver_reader.specs.Choices.{catch_all_of, presence_of}
 use Rattle.facet_solver_reader.specs.Known.{Chooses}
 use Rattle.facet_solver_reader.specs.Parts.{ListId}
 use Rattle.facet_solver_reader.specs.Plans.{IsNumberOfList, Meaning}

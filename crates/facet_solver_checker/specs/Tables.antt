@@ -1,7 +1,7 @@
 -- What the tables of a plan say.
 use Rattle.std.specs.Prelude.{◌≡◌, ℕ, List, length}
-use Rattle.facet_solver_checker.specs.declared.place.Fork.{Fork}
-use Rattle.facet_solver_checker.specs.declared.place.Place.{Place}
+use Rattle.facet_solver_witnesses.specs.declared.place.Fork.{Fork}
+use Rattle.facet_solver_witnesses.specs.declared.place.Place.{Place}
 use Rattle.facet_solver_checker.specs.declared.tables.Tables.{Tables}
 use Rattle.facet_solver_checker.specs.Apartness.{AreNamesRequired}
 use Rattle.facet_solver_checker.specs.Atoms.{HaveAtoms}

@@ -3,7 +3,7 @@ use Rattle.std.specs.Prelude.{◌≡◌, ℕ, List, []}
 use Rattle.facet_solver_reader.specs.declared.plan.Plan.{Plan}
 use Rattle.facet_solver_reader.specs.Parts.{Target}
 use Rattle.facet_solver_reader.specs.Plans.{IsNumberOf, Meaning}
-use Rattle.facet_solver_checker.specs.declared.place.Place.{Place}
+use Rattle.facet_solver_witnesses.specs.declared.place.Place.{Place}
 use Rattle.facet_solver_checker.specs.Ambiguity.{IsPlaceOf}
 use Rattle.facet_solver_checker.specs.Atoms.{IsPlanFor}
 use Rattle.facet_solver_checker.specs.Certain.{IsUnambiguous, ListsAll}

@@ -1,5 +1,6 @@
 -- Lists of parts that read only objects which have a member of theirs.
-use Rattle.std.specs.Prelude.{◌≡◌, ◌⊎◌, ⊤, ℕ, Bool, true, false, All, List, Option, Some, None, MatchOption, length, slice_get}
+use Rattle.std.specs.Prelude.{◌≡◌, ◌⊎◌, ⊤, ℕ, Bool, true, false, All, List, Option, Some, None}
+use Rattle.std.specs.Prelude.{MatchOption, length, slice_get}
 use Rattle.std.specs.Option.{option_map_or}
 use Rattle.facet_solver_reader.specs.declared.plan.Plan.{Plan}
 use Rattle.facet_solver_reader.specs.declared.plan.PlannedEnd.{PlannedEnd}

@@ -1,5 +1,6 @@
 -- Two variants of an enum that read no value in common.
-use Rattle.std.specs.Prelude.{◌≡◌, ◌⊎◌, ⊤, ℕ, Bool, true, false, IsTrue, List, Option, Some, None, length, nat_lt, if◌then◌else◌, slice_get, All}
+use Rattle.std.specs.Prelude.{◌≡◌, ◌⊎◌, ⊤, ℕ, Bool, true, false, IsTrue, List, Option, Some, None}
+use Rattle.std.specs.Prelude.{length, nat_lt, if◌then◌else◌, slice_get, All}
 use Rattle.std.specs.List.{Contains}
 use Rattle.facet_solver_shape.specs.declared.shape.range.WholeRange.{WholeRange}
 use Rattle.facet_solver_reader.specs.declared.plan.Plan.{Plan}
@@ -21,7 +22,8 @@ use Rattle.facet_solver_checker.specs.declared.atoms.Atom.{Atom}
 use Rattle.facet_solver_checker.specs.declared.atoms.Atom.TheVariants.{Null, Plain}
 use Rattle.facet_solver_checker.specs.declared.atoms.Atoms.{Atoms}
 use Rattle.facet_solver_checker.specs.Aparts.{LeavesAll, LeavesDown}
-use Rattle.facet_solver_checker.specs.Atoms.{AsksOnward, HasOnward, IsPlanFor, ReadsAs, is_null_alone}
+use Rattle.facet_solver_checker.specs.Atoms.{AsksOnward, HasOnward, IsPlanFor, ReadsAs}
+use Rattle.facet_solver_checker.specs.Atoms.{is_null_alone}
 use Rattle.facet_solver_checker.specs.Differing.{Side, joined, variant}
 use Rattle.facet_solver_checker.specs.Sites.{VariantsMeet}
 

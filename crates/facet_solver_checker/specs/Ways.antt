@@ -1,5 +1,6 @@
 -- In which ways lists of parts read the member of a name.
-use Rattle.std.specs.Prelude.{◌≡◌, ◌⊎◌, ℕ, Bool, true, false, not, ◌&&◌, ◌||◌, List, [], Option, Some, None, if◌then◌else◌, slice_get}
+use Rattle.std.specs.Prelude.{◌≡◌, ◌⊎◌, ℕ, Bool, true, false, not, ◌&&◌, ◌||◌, List, [], Option}
+use Rattle.std.specs.Prelude.{Some, None, if◌then◌else◌, slice_get}
 use Rattle.std.specs.List.{filter_map, flat_map, list_all, list_any}
 use Rattle.std.specs.Option.{option_map_or}
 use Rattle.facet_solver_shape.specs.Catalogues.{Catalogue}

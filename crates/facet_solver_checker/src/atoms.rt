@@ -2,7 +2,14 @@
 ghost use Rattle.std.specs.Prelude.{◌≡◌, [], All, IfOk, IsTrue, OnOk, ℕ, length};
 ghost use Rattle.std.specs.List.{Contains, list_any};
 ghost use Rattle.facet_solver_checker.specs.Atoms as spec;
-ghost use Rattle.facet_solver_checker.specs.Atoms.{AsksLower, AsksNumber, HasLower, HasOnward, HasOwn, HaveAtoms};
+ghost use Rattle.facet_solver_checker.specs.Atoms.{
+  AsksLower,
+  AsksNumber,
+  HasLower,
+  HasOnward,
+  HasOwn,
+  HaveAtoms,
+};
 
 use facet_solver_reader::{Plan, PlannedAlternative, PlannedEnd, PlannedKind};
 use std::alloc::{AllocError, Global};

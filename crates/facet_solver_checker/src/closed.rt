@@ -1,6 +1,13 @@
 //! That a table of targets which read no value in common bears itself out.
 ghost use Rattle.std.specs.Prelude.{◌≡◌, All, IfOk, IsTrue, ℕ};
-ghost use Rattle.facet_solver_checker.specs.Apartness.{AllApart, AreNamesRequired, AreTargetsApart, AtomsApart, EndApart, EndsApart};
+ghost use Rattle.facet_solver_checker.specs.Apartness.{
+  AllApart,
+  AreNamesRequired,
+  AreTargetsApart,
+  AtomsApart,
+  EndApart,
+  EndsApart,
+};
 ghost use Rattle.facet_solver_checker.specs.Atoms.{HaveAtoms, IsPlanFor};
 ghost use Rattle.facet_solver_checker.specs.Aparts.{left};
 ghost use Rattle.facet_solver_checker.specs.Pairs.{IsClosedDown};
@@ -170,6 +177,7 @@ pub(crate) fn is_closed(
 ) -> Result<bool, AllocError>
     requires required { AreNamesRequired plan.now required.now.names.items }
     requires atoms { HaveAtoms plan.now atoms.now }
+    requires targets { apart.now.targets.now ≡ plan.now.targets.items }
     ensures { IfOk result (λ b. IsTrue b → (m : Meaning) → IsPlanFor m plan.now
         → IsClosedDown m.rules (left m apart.now)) }
 {

@@ -4,7 +4,12 @@ ghost use Rattle.std.specs.List.{Contains};
 ghost use Rattle.facet_solver_reader.specs.Types.{is_key};
 ghost use Rattle.facet_solver_checker.specs.Apartness as spec;
 ghost use Rattle.facet_solver_checker.specs.Apartness.{AreNamesRequired};
-ghost use Rattle.facet_solver_checker.specs.EndWays.{AreContentsAmong, AreEndWays, AreMemberWays, HasContent};
+ghost use Rattle.facet_solver_checker.specs.EndWays.{
+  AreContentsAmong,
+  AreEndWays,
+  AreMemberWays,
+  HasContent,
+};
 
 use crate::apart::Apart;
 use crate::required::Required;
@@ -15,9 +20,9 @@ use std::alloc::{AllocError, Global};
 
 /// The ways in which a list of parts, and an end, read the member of a name.
 #[derive(Drop)]
-struct MemberWays {
-    list: Ways,
-    end: Ways,
+pub(crate) struct MemberWays {
+    pub(crate) list: Ways,
+    pub(crate) end: Ways,
 }
 
 /// Whether a list of parts reads no object in common with an end, by a name that the list requires.
@@ -73,7 +78,7 @@ pub(crate) fn end_apart_from(
 }
 
 /// How a list of parts, and an end, read the member of a name, if that is told.
-fn member_ways(
+pub(crate) fn member_ways(
     alloc: Global,
     plan: &Plan<'_>,
     list: usize,

@@ -10,10 +10,10 @@ ghost use Rattle.facet_solver_checker.specs.Tables.{AreTablesOf};
 ghost use Rattle.facet_solver_checker.specs.Touched.{is_touched};
 
 use crate::branches::{branches_apart, some_required_member_apart};
-use crate::place::{Fork, Place};
 use crate::tables::Tables;
 use crate::variants::variants_apart;
 use facet_solver_reader::{PlannedPart, PlannedSelection};
+use facet_solver_witnesses::{Fork, Place};
 use std::alloc::{AllocError, Global};
 
 /// Whether no value is read in both ways of a place.
@@ -88,14 +88,13 @@ fn parts_apart(
     if none {
         return Ok(true);
     }
-    reads_none(alloc, tables, list)
+    Ok(reads_none(tables, list))
 }
 
 /// Whether the list of a number reads no object, since it requires a member that has no value.
-fn reads_none(alloc: Global, tables: &Tables<'_, '_>, list: usize) -> Result<bool, AllocError>
+fn reads_none(tables: &Tables<'_, '_>, list: usize) -> bool
     requires { AreTablesOf tables.now }
-    ensures { IfOk result (λ b.
-        b ≡ true → ReadsNone tables.now.plan.now tables.now.apart.now list) }
+    ensures { result ≡ true → ReadsNone tables.now.plan.now tables.now.apart.now list }
 {
-    some_required_member_apart(alloc, tables, list, list, list)
+    some_required_member_apart(tables, list, list, list)
 }

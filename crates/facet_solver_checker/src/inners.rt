@@ -2,7 +2,12 @@
 ghost use Rattle.std.specs.Prelude.{◌≡◌, ◌++◌, ◌∷◌, [], IfOk, OnOk};
 ghost use Rattle.std.specs.Option.{unwrap_or};
 ghost use Rattle.facet_solver_reader.specs.Plans.{Meaning};
-ghost use Rattle.facet_solver_checker.specs.Inners.{AreInners, all_inners, branches_of_only, inners_at};
+ghost use Rattle.facet_solver_checker.specs.Inners.{
+  AreInners,
+  all_inners,
+  branches_of_only,
+  inners_at,
+};
 ghost use Rattle.facet_solver_checker.specs.PlanMembers.{AreListsOf};
 
 use facet_solver_reader::{Plan, PlannedList, PlannedPart};
@@ -27,12 +32,31 @@ pub(crate) fn inners_of(
     let mut inners = vec![in alloc; number]?;
     for _ in 0..LEVELS {
         let more = inners_of_all(alloc, &plan.lists, &inners)?;
-        if more.len() > MOST {
+        if more == inners || more.len() > MOST {
             return Ok(inners);
         }
         inners = more;
     }
     Ok(inners)
+}
+
+/// Whether a list is one selection, so that its branches stand for it.
+pub(crate) fn is_split(plan: &Plan<'_>, number: usize) -> bool {
+    match plan.lists.get(number) {
+        Some(list) => match list.parts.as_slice() {
+            [only] => is_present(only),
+            _ => false,
+        },
+        None => false,
+    }
+}
+
+/// Whether a part is a selection that is always present.
+fn is_present(part: &PlannedPart<'_>) -> bool {
+    match part {
+        PlannedPart::Selection(selection) => !selection.optional,
+        _ => false,
+    }
 }
 
 /// The branches of several lists, or they themselves.

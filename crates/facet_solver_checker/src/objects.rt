@@ -3,7 +3,12 @@ ghost use Rattle.std.specs.Prelude.{◌≡◌, All, IfOk, true};
 ghost use Rattle.std.specs.Borrow.{Bor};
 ghost use Rattle.facet_solver_shape.specs.Names.{Name};
 ghost use Rattle.facet_solver_reader.specs.Plans.{Meaning};
-ghost use Rattle.facet_solver_checker.specs.ListsMeet.{AllOthersApart, AreListsApart, AreSidesApart, IsNameApart};
+ghost use Rattle.facet_solver_checker.specs.ListsMeet.{
+  AllOthersApart,
+  AreListsApart,
+  AreSidesApart,
+  IsNameApart,
+};
 ghost use Rattle.facet_solver_checker.specs.PlanMembers.{IsIn, IsMeaningOf};
 ghost use Rattle.facet_solver_checker.specs.Requires.{AreRequired, IsRequiredBy};
 ghost use Rattle.facet_solver_checker.specs.Ways.{AreWaysAt};
@@ -22,6 +27,18 @@ pub(crate) struct Side {
     list: usize,
     /// That of the list within it.
     inner: usize,
+}
+
+impl Side {
+    /// A list, and one within it.
+    pub(crate) fn new(list: usize, inner: usize) -> Side {
+        Side { list, inner }
+    }
+
+    /// The number of the list within it.
+    pub(crate) fn inner(self) -> usize {
+        self.inner
+    }
 }
 
 /// Whether two lists read no object in common: as far as is seen, for each two of the lists within
@@ -79,7 +96,7 @@ fn all_others_apart(
 }
 
 /// Whether two sides read no object in common, as far as is seen by a name that one requires.
-fn sides_apart(
+pub(crate) fn sides_apart(
     alloc: Global,
     plan: &Plan<'_>,
     required: &Required<'_>,
@@ -158,7 +175,12 @@ fn name_apart(
 }
 
 /// In which ways a side reads the member of a name.
-fn ways_of_side(alloc: Global, plan: &Plan<'_>, side: Side, name: &str) -> Result<Ways, AllocError>
+pub(crate) fn ways_of_side(
+    alloc: Global,
+    plan: &Plan<'_>,
+    side: Side,
+    name: &str,
+) -> Result<Ways, AllocError>
     ensures { IfOk result (AreWaysAt plan.now side name.now) }
 {
     match (plan.lists.get(side.list), plan.lists.get(side.inner)) {

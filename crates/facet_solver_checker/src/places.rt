@@ -9,7 +9,7 @@ ghost use Rattle.facet_solver_checker.specs.Tables.{
   HasFork,
   IsSettledBy,
 };
-ghost use Rattle.facet_solver_checker.specs.declared.place.Fork.TheVariants as forks;
+ghost use Rattle.facet_solver_witnesses.specs.declared.place.Fork.TheVariants as forks;
 ghost use Rattle.facet_solver_checker.specs.Ambiguity.{AreAllPlaces, IsCertain};
 ghost use Rattle.facet_solver_checker.specs.Forks.{
   Grows,
@@ -22,22 +22,22 @@ ghost use Rattle.facet_solver_checker.specs.Forks.{
 use crate::apart::Apart;
 use crate::atoms::Atoms;
 use crate::forks::is_apart;
-use crate::place::{Fork, Place};
 use crate::required::Required;
 use crate::tables::Tables;
 use crate::touched::Touched;
 use facet_solver_reader::{Plan, PlannedEnd, PlannedPart};
+use facet_solver_witnesses::{Fork, Place};
 use std::alloc::{AllocError, Global};
 
 /// The places at which two readings of a document can differ first; none where no document has two.
 ///
 /// The table has to leave each pair of targets that read one value.
-pub(crate) fn all_places(
+pub(crate) fn all_places<'t>(
     alloc: Global,
-    plan: &Plan<'_>,
-    required: &Required<'_>,
-    atoms: &[Atoms],
-    apart: &Apart,
+    plan: &'t Plan<'t>,
+    required: &'t Required<'t>,
+    atoms: &'t [Atoms],
+    apart: &'t Apart<'t>,
 ) -> Result<Vec<Place>, AllocError>
     requires required { AreNamesRequired plan.now required.now.names.items }
     requires atoms { HaveAtoms plan.now atoms.now }

@@ -6,7 +6,12 @@ ghost use Rattle.facet_solver_reader.specs.Known.{Chooses, ChoosesAt};
 ghost use Rattle.facet_solver_reader.specs.Parts.{ListId, Part};
 ghost use Rattle.facet_solver_reader.specs.Plans.{IsPlannedList, IsPlannedPart, Meaning};
 ghost use Rattle.facet_solver_checker.specs.PlanMembers.{AreListsOf, IsIn};
-ghost use Rattle.facet_solver_checker.specs.Requires.{AreRequired, Requires, all_require, requires_at};
+ghost use Rattle.facet_solver_checker.specs.Requires.{
+  AreRequired,
+  Requires,
+  all_require,
+  requires_at,
+};
 
 use crate::ways::knows;
 use facet_solver_reader::{Plan, PlannedList, PlannedPart};

@@ -1,5 +1,5 @@
 //! The table of targets that read no value in common.
-ghost use Rattle.std.specs.Prelude.{IfOk};
+ghost use Rattle.std.specs.Prelude.{◌≡◌, IfOk, OnOk};
 ghost use Rattle.facet_solver_reader.specs.Plans.{Meaning};
 ghost use Rattle.facet_solver_checker.specs.Apartness.{AreNamesRequired};
 ghost use Rattle.facet_solver_checker.specs.Aparts.{left};
@@ -18,46 +18,50 @@ use std::alloc::{AllocError, Global};
 ///
 /// It begins with all of these. Those whose values may meet, by the table as it is, are left out,
 /// and so on, until the others bear one another out.
-pub(crate) fn apart_of(
+pub(crate) fn apart_of<'t>(
     alloc: Global,
-    plan: &Plan<'_>,
-    required: &Required<'_>,
-    atoms: &[Atoms],
-) -> Result<Apart, AllocError>
+    plan: &'t Plan<'t>,
+    required: &'t Required<'t>,
+    atoms: &'t [Atoms],
+) -> Result<Apart<'t>, AllocError>
     requires required { AreNamesRequired plan.now required.now.names.items }
     requires atoms { HaveAtoms plan.now atoms.now }
     ensures { IfOk result (λ apart. (m : Meaning) → IsPlanFor m plan.now
         → IsClosedDown m.rules (left m apart)) }
 {
-    let mut apart = candidates(alloc, plan)?;
+    let asked = candidates(alloc, plan, required, atoms)?;
+    let mut apart = Apart::of_tags(alloc, plan);
+    apart.add_all(&asked)?;
     // Each round but the last leaves a pair out.
-    for _ in 0..=apart.len() {
+    for _ in 0..=asked.len() {
         let is_last = is_closed(alloc, plan, required, atoms, &apart)?;
         if is_last {
             return Ok(apart);
         }
-        apart = borne_out(alloc, plan, required, atoms, &apart)?;
+        leave_out_met(alloc, plan, required, atoms, &asked, &mut apart)?;
     }
-    Ok(Apart::none(alloc))
+    Ok(Apart::of_tags(alloc, plan))
 }
 
-/// Those pairs of a table whose targets read no value in common, by the table.
-fn borne_out(
+/// Leaves the pairs out of a table whose targets may read a value in common, by the table as it is
+/// then: first those that were asked of last, since others come to them.
+fn leave_out_met(
     alloc: Global,
     plan: &Plan<'_>,
     required: &Required<'_>,
     atoms: &[Atoms],
-    apart: &Apart,
-) -> Result<Apart, AllocError>
+    asked: &[(usize, usize)],
+    apart: &mut Apart<'_>,
+) -> Result<(), AllocError>
     requires required { AreNamesRequired plan.now required.now.names.items }
     requires atoms { HaveAtoms plan.now atoms.now }
+    ensures { OnOk result (apart.new.targets ≡ apart.old.targets) }
 {
-    let mut left = Apart::none(alloc);
-    for pair in &apart.pairs(alloc)? {
-        let is_apart = targets_apart(alloc, plan, required, atoms, apart, *pair)?;
-        if is_apart {
-            left.add(pair.0, pair.1)?;
+    for pair in asked.iter().rev() {
+        let is_left = apart.has(pair.0, pair.1);
+        if is_left && !targets_apart(alloc, plan, required, atoms, apart, *pair)? {
+            apart.leave_out(pair.0, pair.1);
         }
     }
-    Ok(left)
+    Ok(())
 }

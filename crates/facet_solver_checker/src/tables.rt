@@ -17,5 +17,5 @@ pub(crate) struct Tables<'t, 'c> {
     /// The atoms of its targets.
     pub(crate) atoms: &'t [Atoms],
     /// The pairs of targets that read no value in common.
-    pub(crate) apart: &'t Apart,
+    pub(crate) apart: &'t Apart<'t>,
 }

@@ -88,6 +88,7 @@ impl Touched {
         }
     }
 
+    /// Leaves the branches of a part out, if it is a selection that is always present.
     fn leave_out_branches_of(&mut self, part: &PlannedPart<'_>) {
         match part {
             PlannedPart::Selection(selection) if !selection.optional => {
@@ -111,6 +112,7 @@ impl Touched {
         true
     }
 
+    /// Whether the list by which what a target comes to is read as an object is none.
     fn target_bears_out(&self, end: &PlannedEnd<'_>) -> bool
         ensures { IsTrue result → BearsOutEnd self.now.flags.items end.now }
     {
@@ -134,6 +136,8 @@ impl Touched {
         true
     }
 
+    /// Whether a list that is one is one part alone, and another has no branch that is one in parts
+    /// that are always present.
     fn list_bears_out(&self, number: usize, parts: &[PlannedPart<'_>]) -> bool
         ensures { IsTrue result → BearsOutList self.now.flags.items number parts.now }
     {
@@ -156,6 +160,7 @@ impl Touched {
         true
     }
 
+    /// Whether a part that is always present has no branch that is one.
     fn part_bears_out(&self, part: &PlannedPart<'_>) -> bool
         ensures { IsTrue result → BearsOutBranches self.now.flags.items part.now }
     {

@@ -2,7 +2,17 @@
 ghost use Rattle.std.specs.Prelude.{◌≡◌, All, IfOk, IsTrue};
 ghost use Rattle.facet_solver_checker.specs.Tables.{AreTablesOf};
 ghost use Rattle.facet_solver_checker.specs.VariantsApart as spec;
-ghost use Rattle.facet_solver_checker.specs.VariantsApart.{AreAtomsOf, AreJoinedApart, AreNamesApart, AreSidesApart, AreTwoApart, AreVariantsApart, IsFloatKindBeside, IsWholeAtom, side_at};
+ghost use Rattle.facet_solver_checker.specs.VariantsApart.{
+  AreAtomsOf,
+  AreJoinedApart,
+  AreNamesApart,
+  AreSidesApart,
+  AreTwoApart,
+  AreVariantsApart,
+  IsFloatKindBeside,
+  IsWholeAtom,
+  side_at,
+};
 
 use crate::atoms::{Atom, Atoms, is_null_alone};
 use crate::closed::all_apart;

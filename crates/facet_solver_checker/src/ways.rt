@@ -3,7 +3,20 @@ ghost use Rattle.std.specs.Prelude.{◌≡◌, ◌++◌, IfOk, OnOk};
 ghost use Rattle.std.specs.List.{list_any, filter_map};
 ghost use Rattle.std.specs.Option.{option_to_list};
 ghost use Rattle.std.specs.Str.{bytes_eq};
-ghost use Rattle.facet_solver_checker.specs.Ways.{AreWays, all_apart, has_no_way, is_apart_from, taken_at, taken_below, takes_any, takes_any_at, takes_any_below, takes_any_in, target_taken, ways_apart};
+ghost use Rattle.facet_solver_checker.specs.Ways.{
+  AreWays,
+  all_apart,
+  has_no_way,
+  is_apart_from,
+  taken_at,
+  taken_below,
+  takes_any,
+  takes_any_at,
+  takes_any_below,
+  takes_any_in,
+  target_taken,
+  ways_apart,
+};
 
 use crate::apart::Apart;
 use crate::members::targets_of;
@@ -59,6 +72,11 @@ impl Ways {
             targets: Vec::new(alloc),
             any: true,
         }
+    }
+
+    /// The targets.
+    pub(crate) fn targets(&self) -> &[usize] {
+        &self.targets
     }
 
     /// Whether no value is read in one of these ways and in one of others.

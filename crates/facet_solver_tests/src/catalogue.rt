@@ -1,5 +1,6 @@
 //! Calls that are about types alone.
 
+use crate::ambiguities::of_declared;
 use crate::answer::{Answer, BAR};
 use crate::declarations::{of_catalogue, of_text};
 use crate::documents::{of_json, of_readings};
@@ -42,6 +43,8 @@ impl<'c> Catalogue<'c> {
             "json" => of_json(answer),
             "readings" => of_readings(*self, Unknown::Ignored, answer),
             "strict_readings" => of_readings(*self, Unknown::Refused, answer),
+            "ambiguities" => of_declared(Unknown::Ignored, answer),
+            "strict_ambiguities" => of_declared(Unknown::Refused, answer),
             BAR => answer.add_error(),
             _ => answer.unread(),
         }

@@ -5,6 +5,7 @@
 //! refused is made again, and before that what was to change is compared with what it was.
 #![tactic(auto)]
 
+mod ambiguities;
 mod answer;
 mod by_hand;
 mod calling;

@@ -1,20 +1,10 @@
 -- The lines of a catalogue's shapes.
-use Rattle.std.proofs.Common.{◌≡◌, ℕ, zero, suc, ◌+◌, ◌<◌, List, [], ◌∷◌, ◌++◌, codes, length, get_or, take, add-one, append_assoc, append-nil, ap, sym, ◌∙◌, arith}
-use Rattle.std.proofs.lemmas.List.{flat_map_more, take_more}
+use Rattle.std.proofs.Common.{◌≡◌, ℕ, zero, suc, ◌+◌, ◌<◌, [], ◌∷◌, ◌++◌, codes, length, take, add-one, append_assoc, append-nil, ap, sym, ◌∙◌, arith}
 use Rattle.std.specs.List.{flat_map}
 use Rattle.facet_solver_shape.specs.Catalogues.{Catalogue}
-use Rattle.facet_solver_shape.specs.Names.{Name}
 use Rattle.facet_solver_tool.specs.SeparatedTexts.{behind}
 use Rattle.facet_solver_tool.specs.ShapeText.{line, line_at, lines}
 use Rattle.facet_solver_tool.proofs.ElementLines as each
-
--- behind the pieces so far comes that of the next element
-pub piece_more : {A : Type 0} (piece : A → Name) (xs : List A) (i : ℕ) (x : A) → i < length xs → x ≡ get_or xs i x
-    → flat_map piece (take i xs) ++ piece x ≡ flat_map piece (take (i + 1) xs)
-piece_more piece xs i x within is =
-    flat_map_more piece [] (take i xs) x
-    ∙ ap (λ y. flat_map piece (take i xs ++ y ∷ [])) is
-    ∙ ap (flat_map piece) (sym (take_more xs i x within))
 
 -- behind the lines so far comes that of the shape at the next index
 pub line_at_more : (shapes : Catalogue) (i : ℕ) → i < length shapes → lines (take i shapes) ++ line_at shapes i ≡ lines (take (i + 1) shapes)

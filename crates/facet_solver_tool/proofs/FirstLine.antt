@@ -2,7 +2,7 @@
 use Rattle.std.proofs.Common.{◌≡◌, ◌==◌, ◌&&◌, ◌-◌, ◌<◌, ◌∙◌, Bool, true, false, ℕ, List, [], ◌∷◌, length, ap, cond, nat_lt, refl, slice_index, sym, take, arith}
 use Rattle.std.proofs.lemmas.Bool.{lt-ltb}
 use Rattle.std.specs.Io.BufRead.{drop_through, first_piece, strip_last, take_through}
-use Rattle.facet_solver_tool.specs.Lines.{before_first, lines_of}
+use Rattle.facet_solver_tool.specs.InputLines.{before_first, lines_of}
 
 -- bytes without what stands from an index on, if the byte there is this
 abbrev strip_at : ℕ → ℕ → List ℕ → List ℕ

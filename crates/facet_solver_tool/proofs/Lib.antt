@@ -1,3 +1,9 @@
+pub mod Pieces
+pub mod Verdicts
+pub mod Documents
+pub mod FindingViews
+pub mod CutLines
+pub mod Ends
 pub mod ElementLines
 pub mod CatalogueLines
 pub mod Words

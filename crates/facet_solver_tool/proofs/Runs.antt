@@ -4,13 +4,14 @@ use Rattle.std.proofs.lemmas.Result.{IfOk-weaker}
 use Rattle.std.specs.declared.alloc.AllocError.{AllocError}
 use Rattle.facet_solver_shape.specs.Names.{Name}
 use Rattle.facet_solver_tool.specs.declared.answer.Answer as answer
+use Rattle.facet_solver_tool.specs.declared.question.Task.{Task}
 use Rattle.facet_solver_tool.specs.declared.status.Status.TheVariants.{Misused}
-use Rattle.facet_solver_tool.specs.Answer.{Answer, answer_view, refused, says}
+use Rattle.facet_solver_tool.specs.Answer.{Answer, answer_view, refused}
 use Rattle.facet_solver_tool.specs.Answers.{IsAnswer}
 use Rattle.facet_solver_tool.specs.Misuses.{TellsMisuse}
 use Rattle.facet_solver_tool.specs.Questions.{Question}
 use Rattle.facet_solver_tool.specs.Requests.{IsMisuse, Misuse, Outcome, ask_lines, requested}
-use Rattle.facet_solver_tool.specs.Runs.{AnswersFile, AnswersOutcome, AnswersWords, EndsLines, EndsRun, EndsWords, IsRun, document_of}
+use Rattle.facet_solver_tool.specs.Runs.{AnswersFile, AnswersOutcome, AnswersWords, EndsLines, EndsRun, EndsWords, IsRun, IsGiven, document_of}
 use Rattle.facet_solver_tool.specs.Streams.{Ran}
 
 -- what tells a misuse answers words that ask nothing
@@ -19,22 +20,30 @@ pub answers_misuse : (outcome : Outcome) (misuse : Option Misuse) (input : Optio
 answers_misuse outcome None input a is told = absurd told
 answers_misuse outcome (Some misuse) input a is told = subst (λ o. AnswersOutcome o input a) (sym is) told
 
--- the answer about a document is one about what an input has
-pub about_document : (q : Question) (types : List ℕ) (input : Option (List ℕ)) (document : List ℕ) (a : Answer)
-    → IfSome input (λ d. document ≡ d) → IsAnswer q types document a → IfSome input (λ d. IsAnswer q types d a)
-about_document q types None document a is answer = tt
-about_document q types (Some d) document a is answer = subst (λ d. IsAnswer q types d a) is answer
-
--- the answer about what was read as a document is one to the question
+-- the answer about what was read beside the types is one to the question
 pub answers_file : {B E : Type 0} (q : Question) (types : List ℕ) (input : Option (List ℕ)) (items : B → List ℕ)
     → (read : Result B E) (made : Result answer.Answer AllocError)
-    → IfOk read (λ d. IfSome (document_of q.task input) (λ document. items d ≡ document))
+    → IfOk read (λ d. IsGiven q.task q.accepted input (items d))
     → IfOk read (λ d. IfOk made (λ a. IsAnswer q types (items d) (answer_view a)))
     → IfErr read (λ e. IfOk made (λ a. a.status ≡ Misused))
     → IfOk made (λ a. AnswersFile q types input (answer_view a))
-answers_file q types input items (Ok d) made same answered unread =
-    IfOk-weaker made _ _ (λ a said. inr (about_document q types (document_of q.task input) (items d) (answer_view a) same said)) answered
-answers_file q types input items (Err e) made same answered unread = IfOk-weaker made _ _ (λ a status. inl status) unread
+answers_file q types input items (Ok d) made is answered unread =
+    IfOk-weaker made _ _ (λ a said. inr (items d, is, said)) answered
+answers_file q types input items (Err e) made is answered unread = IfOk-weaker made _ _ (λ a status. inl status) unread
+
+-- what a file has is given, where one is named
+pub given_named : {B E : Type 0} (task : Task) (accepted : Option Name) (path : Name) (input : Option (List ℕ))
+    → (items : B → List ℕ) (read : Result B E) → accepted ≡ Some path → IfOk read (λ d. IsGiven task accepted input (items d))
+given_named task accepted path input items (Ok d) is = subst (λ o. IsGiven task o input (items d)) (sym is) tt
+given_named task accepted path input items (Err e) is = tt
+
+-- the document is given, where none is
+pub given_read : {B E : Type 0} (task : Task) (accepted : Option Name) (input : Option (List ℕ))
+    → (items : B → List ℕ) (read : Result B E) → accepted ≡ None
+    → IfOk read (λ d. IfSome (document_of task input) (λ document. items d ≡ document))
+    → IfOk read (λ d. IsGiven task accepted input (items d))
+given_read task accepted input items read is found =
+    subst (λ o. IfOk read (λ d. IsGiven task o input (items d))) (sym is) found
 
 -- that the file of types cannot be read answers words which ask about each line
 unread_words : (words : List Name) (q : Question) (input : Option (List ℕ)) (a : Answer)

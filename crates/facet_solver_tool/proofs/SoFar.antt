@@ -5,7 +5,8 @@ use Rattle.std.specs.Io.BufRead.{DropsThrough, drop_through, first_piece}
 use Rattle.std.specs.Io.Iter.{YieldsKnownPiece}
 use Rattle.std.specs.Io.KnownBytes.{IsAtEnd}
 use Rattle.facet_solver_tool.specs.Answer.{Answer, refused}
-use Rattle.facet_solver_tool.specs.Lines.{AnswersAll, AnswersEach, AnswersFirst, lines_of}
+use Rattle.facet_solver_tool.specs.InputLines.{lines_of}
+use Rattle.facet_solver_tool.specs.Lines.{AnswersAll, AnswersEach, AnswersFirst}
 use Rattle.facet_solver_tool.proofs.EachLine.{AnswersEach-more}
 use Rattle.facet_solver_tool.proofs.FirstLine.{lines_begin}
 

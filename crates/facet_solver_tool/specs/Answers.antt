@@ -1,6 +1,5 @@
 -- What is answered to a question.
 use Rattle.std.specs.Prelude.{◌≡◌, ℕ, List, Ok, IsUtf8}
-use Rattle.facet_solver_shape.specs.Names.{Name}
 use Rattle.facet_solver_types.specs.declared.error.TypesError.{TypesError}
 use Rattle.facet_solver_types.specs.LocatedTexts.{located_text}
 use Rattle.facet_solver_types.specs.ParsedTexts.{IsExplained, types}

@@ -18,6 +18,10 @@ pub mod FieldText
 pub mod VariantText
 pub mod ShapeText
 pub mod CatalogueText
+pub mod InputLines
+pub mod AmbiguityKeys
+pub mod Checks
+pub mod Findings
 pub mod RootAnswers
 pub mod Answers
 pub mod Streams

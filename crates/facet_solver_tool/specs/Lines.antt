@@ -1,5 +1,5 @@
 -- What is answered about each line of an input.
-use Rattle.std.specs.Prelude.{◌≡◌, ◌⊎◌, ◌==◌, ◌++◌, ⊤, Bool, false, ℕ, List, [], ◌∷◌, Option, IfSome, codes, flat_map, if◌then◌else◌}
+use Rattle.std.specs.Prelude.{◌≡◌, ◌⊎◌, ◌++◌, ⊤, Bool, false, ℕ, List, [], ◌∷◌, Option, IfSome, codes, flat_map}
 use Rattle.std.specs.Fmt.{decimal}
 use Rattle.std.specs.Io.KnownBytes.{Appends}
 use Rattle.facet_solver_tool.specs.declared.count.Count.{Count}
@@ -7,20 +7,10 @@ use Rattle.facet_solver_tool.specs.declared.status.Status.{Status}
 use Rattle.facet_solver_tool.specs.declared.status.Status.TheVariants.{Answered, Misused}
 use Rattle.facet_solver_tool.specs.Answer.{Answer, refused}
 use Rattle.facet_solver_tool.specs.Counts.{Counts, count_text, worst}
+use Rattle.facet_solver_tool.specs.InputLines.{lines_of}
 use Rattle.facet_solver_tool.specs.QuotedText.{quoted}
 use Rattle.facet_solver_tool.specs.Status.{code}
 use Rattle.facet_solver_tool.specs.Streams.{Ran, Streams, EndsWith}
-
--- lines with a byte before the first, or the byte alone where there are none
-abbrev pub before_first : ℕ → List (List ℕ) → List (List ℕ)
-before_first byte [] = (byte ∷ []) ∷ []
-before_first byte (line ∷ lines) = (byte ∷ line) ∷ lines
-
--- the lines of bytes, each without its line feed, which the last may lack
-abbrev pub lines_of : List ℕ → List (List ℕ)
-lines_of [] = []
-lines_of (byte ∷ bytes) =
-    if byte == 10 then [] ∷ lines_of bytes else before_first byte (lines_of bytes)
 
 -- the line of JSON for a status and a text: the reading, or the status and why there is none
 abbrev pub line_of : Status → List ℕ → List ℕ

@@ -1,7 +1,8 @@
 -- What the words of a command line ask.
-use Rattle.std.specs.Prelude.{◌≡◌, ◌==◌, ◌&&◌, ⊤, Bool, List, [], ◌∷◌, Option, Some, None, Result, Ok, Err, codes, filter, find, not, option_map, slice_index, if◌then◌else◌}
+use Rattle.std.specs.Prelude.{◌≡◌, ◌==◌, ◌&&◌, ◌++◌, ◌+◌, ⊤, Bool, ℕ, List, [], ◌∷◌, Option, Some, None, Result, Ok, Err, codes, drop, filter, find, not, option_map, position, slice_get, slice_index, take, if◌then◌else◌}
 use Rattle.std.specs.Borrow.{Bor}
 use Rattle.std.specs.List.{list_any}
+use Rattle.std.specs.Option.{option_map_or}
 use Rattle.facet_solver_shape.specs.Names.{Name, name_eq}
 use Rattle.facet_solver_reader.specs.declared.reader.Unknown.{Unknown}
 use Rattle.facet_solver_reader.specs.declared.reader.Unknown.TheVariants.{Ignored, Refused}
@@ -38,6 +39,7 @@ pub data Misuse : Type 0 where
   no_such_option : Name → Misuse
   no_types : Misuse
   too_many : Name → Misuse
+  no_accepted : Misuse
 
 -- what words ask, or why they ask nothing
 abbrev pub Outcome : Type 0
@@ -59,6 +61,14 @@ is_json word = name_eq word (codes "--json")
 abbrev pub is_lines : Name → Bool
 is_lines word = name_eq word (codes "--lines")
 
+-- whether a word names the file of accepted ambiguities by the next one
+abbrev pub is_accept : Name → Bool
+is_accept word = name_eq word (codes "--accept")
+
+-- whether a word behind 'check' doesn't say how a check is answered
+abbrev pub is_operand_of_check : Name → Bool
+is_operand_of_check word = not (is_strict word) && not (is_json word)
+
 -- whether a word behind 'read' doesn't say how documents are read
 abbrev pub is_operand : Name → Bool
 is_operand word = (not (is_strict word) && not (is_json word)) && not (is_lines word)
@@ -79,9 +89,10 @@ unless_option (Some word) subject = Err (no_such_option word)
 abbrev pub subject : List Name → Result Subject Misuse
 subject words = unless_option (find is_option words) (named words)
 
--- the question of a task about a subject
-abbrev pub about : Task → Subject → Question
-about task s = record { task = task; types = s.types; root = s.root }
+-- the question of a task about a subject, with the file of accepted ambiguities, if one is named
+abbrev pub about : Task → Option Name → Subject → Question
+about task accepted s =
+    record { task = task; types = s.types; root = s.root; accepted = accepted }
 
 -- what is asked about a subject, if there is one
 abbrev pub asked : (Subject → Request) → Result Subject Misuse → Outcome
@@ -89,8 +100,8 @@ asked request (Ok s) = Ok (request s)
 asked request (Err misuse) = Err misuse
 
 -- the question of a task about what words name
-abbrev pub question : Task → List Name → Outcome
-question task words = asked (λ s. ask (about task s)) (subject words)
+abbrev pub question : Task → Option Name → List Name → Outcome
+question task accepted words = asked (λ s. ask (about task accepted s)) (subject words)
 
 -- how a document of a line is read
 abbrev pub of_line : Unknown → Task
@@ -99,7 +110,7 @@ of_line unknown = Read (record { unknown = unknown; form = Json })
 -- the question about each line, and about what words name
 abbrev pub question_of_lines : Unknown → List Name → Outcome
 question_of_lines unknown words =
-    asked (λ s. ask_lines (about (of_line unknown) s)) (subject words)
+    asked (λ s. ask_lines (about (of_line unknown) None s)) (subject words)
 
 -- what is done with unknown members
 abbrev pub unknown : List Name → Unknown
@@ -117,11 +128,28 @@ manner words = record { unknown = unknown words; form = form words }
 abbrev pub read_operands : List Name → List Name → Outcome
 read_operands words operands =
     if list_any is_lines words then question_of_lines (unknown words) operands
-    else question (Read (manner words)) operands
+    else question (Read (manner words)) None operands
 
 -- what the words behind 'read' ask
 abbrev pub read : List Name → Outcome
 read words = read_operands words (filter is_operand words)
+
+-- what the words behind 'check' ask, without those that name the file of accepted ambiguities
+abbrev pub check_accepting : Option Name → List Name → Outcome
+check_accepting accepted words =
+    question (Check (manner words)) accepted (filter is_operand_of_check words)
+
+-- the same, where the word of an index says that the next one names that file
+abbrev pub check_accepting_at : List Name → ℕ → Outcome
+check_accepting_at words at =
+    option_map_or (λ file. check_accepting (Some file) (take at words ++ drop (at + 2) words))
+    (slice_get words (at + 1)) (Err no_accepted)
+
+-- what the words behind 'check' ask: the first '--accept' counts
+abbrev pub check : List Name → Outcome
+check words =
+    option_map_or (check_accepting_at words) (position is_accept words)
+    (check_accepting None words)
 
 -- a request that has no other words
 abbrev pub alone : Request → List Name → Outcome
@@ -134,8 +162,8 @@ command word words =
     if name_eq word (codes "--help") then alone help words
     else if name_eq word (codes "--version") then alone version words
     else if name_eq word (codes "read") then read words
-    else if name_eq word (codes "check") then question Check words
-    else if name_eq word (codes "catalogue") then question Catalogue words
+    else if name_eq word (codes "check") then check words
+    else if name_eq word (codes "catalogue") then question Catalogue None words
     else Err (no_such_command word)
 
 -- what the words behind the program's name ask
@@ -157,6 +185,7 @@ misuse_of (misuses.NoSuchCommand word) = no_such_command word.now
 misuse_of (misuses.NoSuchOption word) = no_such_option word.now
 misuse_of misuses.NoTypes = no_types
 misuse_of (misuses.TooMany word) = too_many word.now
+misuse_of misuses.NoAccepted = no_accepted
 
 -- what is seen of an error: a misuse, unless memory was refused
 abbrev pub misuse_view : ArgumentError → Option Misuse

@@ -9,11 +9,15 @@ use Rattle.facet_solver_shape.specs.Catalogues.{Catalogue}
 use Rattle.facet_solver_shape.specs.Names.{Name}
 use Rattle.facet_solver_types.specs.ShapeViews.{shapes_view}
 use Rattle.facet_solver_types.specs.TypesViews.{Types, denies_unknown}
+use Rattle.facet_solver_checker.specs.declared.report.Report.{Report}
+use Rattle.facet_solver_tool.specs.declared.question.Manner.{Manner}
 use Rattle.facet_solver_tool.specs.declared.question.Task.{Task}
 use Rattle.facet_solver_tool.specs.declared.question.Task.TheVariants.{Read, Check, Catalogue as AsCatalogue}
 use Rattle.facet_solver_tool.specs.declared.status.Status.TheVariants.{Answered, BadTypes}
 use Rattle.facet_solver_tool.specs.Answer.{Answer, says}
 use Rattle.facet_solver_tool.specs.CatalogueText.{catalogue}
+use Rattle.facet_solver_tool.specs.Checks.{BeginsAs, IsReportOf, SaysOfDocuments, status_of}
+use Rattle.facet_solver_tool.specs.InputLines.{lines_of}
 use Rattle.facet_solver_tool.specs.ReadAnswers.{AnswersBytes}
 use Rattle.facet_solver_tool.specs.Representations.{enum_lines}
 use Rattle.facet_solver_tool.specs.ShapeNames.{name_at}
@@ -60,20 +64,24 @@ pub data AnswersRead (r : Root) (unknown : Unknown) (document : List ℕ) (a : A
   by_reader : (shapes : Catalogue) → shapes_view shapes ≡ r.types.shapes
       → AnswersBytes (reader_of r shapes unknown) document a → AnswersRead r unknown document a
 
--- the text of a checked root: its name, how each enum is written, the types that are declared once
--- more, and those that refuse unknown members where the root does not
+-- what the text of a checked root begins with: its name, how each enum is written, the types that
+-- are declared once more, and those that refuse unknown members where the root does not
 abbrev pub check_text : Catalogue → Types → ℕ → List ℕ
 check_text shapes types id =
     codes "root: " ++ (name_at (shapes_view shapes) id
     ++ (enum_lines shapes
     ++ (conditional_lines types ++ unserved_lines (unserved types id))))
 
--- the answer that checks a root
-pub data AnswersCheck (r : Root) (a : Answer) : Type 0 where
+-- the answer that checks a root, and has the bytes of the file of accepted ambiguities
+pub data AnswersCheck (r : Root) (manner : Manner) (given : List ℕ) (a : Answer) : Type 0 where
   is_refused : (shapes : Catalogue) → shapes_view shapes ≡ r.types.shapes
-      → Refuses r shapes a → AnswersCheck r a
-  is_checked : (shapes : Catalogue) → shapes_view shapes ≡ r.types.shapes
-      → a ≡ says Answered (check_text shapes r.types r.id) → AnswersCheck r a
+      → Refuses r shapes a → AnswersCheck r manner given a
+  is_checked : (shapes : Catalogue) → shapes_view shapes ≡ r.types.shapes → (report : Report)
+      → IsReportOf (reader_of r shapes manner.unknown) report
+      → a.status ≡ status_of (lines_of given) report.ambiguities.items
+      → SaysOfDocuments (reader_of r shapes manner.unknown) given a.status
+      → BeginsAs manner.form (check_text shapes r.types r.id) a.text
+      → AnswersCheck r manner given a
 
 -- the answer that has the catalogue
 pub record AnswersCatalogue (types : Types) (id : ℕ) (a : Answer) : Type 0 where
@@ -84,5 +92,5 @@ pub record AnswersCatalogue (types : Types) (id : ℕ) (a : Answer) : Type 0 whe
 -- the answer about a root to what is asked
 abbrev pub AnswersRoot : Root → Task → List ℕ → Answer → Type 0
 AnswersRoot r (Read manner) document a = AnswersRead r manner.unknown document a
-AnswersRoot r Check document a = AnswersCheck r a
+AnswersRoot r (Check manner) given a = AnswersCheck r manner given a
 AnswersRoot r AsCatalogue document a = AnswersCatalogue r.types r.id a

@@ -1,5 +1,5 @@
 -- How a run ends, and what it writes.
-use Rattle.std.specs.Prelude.{◌≡◌, ◌⊎◌, Bool, ℕ, List, [], Option, Some, Ok, Err, IfSome}
+use Rattle.std.specs.Prelude.{◌≡◌, ◌⊎◌, ⊤, Bool, ℕ, List, [], Option, Some, None, Ok, Err, IfSome}
 use Rattle.facet_solver_shape.specs.Names.{Name}
 use Rattle.facet_solver_tool.specs.declared.question.Task.{Task}
 use Rattle.facet_solver_tool.specs.declared.question.Task.TheVariants.{Read, Check, Catalogue}
@@ -15,15 +15,21 @@ use Rattle.facet_solver_tool.specs.Streams.{Ran, EndsWith}
 -- the document of a question: what an input has left, where it is to be read, and else nothing
 abbrev pub document_of : Task → Option (List ℕ) → Option (List ℕ)
 document_of (Read manner) input = input
-document_of Check input = Some []
+document_of (Check manner) input = Some []
 document_of Catalogue input = Some []
 
--- the answer to a question about the types that bytes declare: the document cannot be read, or it
--- is about the document, where the input tells it
+-- what is read beside the types of a question: the bytes of the file of accepted ambiguities, where
+-- one is named, and else the document
+abbrev pub IsGiven : Task → Option Name → Option (List ℕ) → List ℕ → Type 0
+IsGiven task (Some accepted) input given = ⊤
+IsGiven task None input given = IfSome (document_of task input) (λ document. given ≡ document)
+
+-- the answer to a question about the types that bytes declare: what is read beside them cannot be
+-- read, or it is about that
 abbrev pub AnswersFile : Question → List ℕ → Option (List ℕ) → Answer → Type 0
 AnswersFile q types input a =
     (a.status ≡ Misused)
-    ⊎ IfSome (document_of q.task input) (λ document. IsAnswer q types document a)
+    ⊎ ((given : List ℕ) × IsGiven q.task q.accepted input given × IsAnswer q types given a)
 
 -- the answer to a question: the file cannot be read, or it is about the types in it
 abbrev pub AnswersQuestion : Question → Option (List ℕ) → Answer → Type 0

@@ -4,7 +4,7 @@ use Rattle.std.specs.Io.KnownBytes.{Appends}
 use Rattle.std.specs.declared.alloc.AllocError.{AllocError}
 use Rattle.facet_solver_tool.specs.declared.answer.Answer as answer
 use Rattle.facet_solver_tool.specs.declared.status.Status.{Status}
-use Rattle.facet_solver_tool.specs.declared.status.Status.TheVariants.{Answered}
+use Rattle.facet_solver_tool.specs.declared.status.Status.TheVariants.{Answered, Ambiguous, MaybeAmbiguous, Outdated}
 use Rattle.facet_solver_tool.specs.Answer.{Answer, answer_view, refused}
 
 -- what an output and the errors hold, where they tell it
@@ -16,10 +16,18 @@ pub record Streams : Type 0 where
 abbrev pub streams : Option (List ℕ) → Option (List ℕ) → Streams
 streams output errors = record { output = output; errors = errors }
 
--- a line is all that is written: to the output by an answer to what was asked, else to the errors
-abbrev pub WritesLine : Status → Streams → Streams → List ℕ → Type 0
-WritesLine Answered before after line =
+-- a line is all that is written to the output
+abbrev pub WritesOutput : Streams → Streams → List ℕ → Type 0
+WritesOutput before after line =
     Appends before.output after.output line × (after.errors ≡ before.errors)
+
+-- a line is all that is written: to the output by an answer to what was asked, as by a check
+-- whatever it finds, else to the errors
+abbrev pub WritesLine : Status → Streams → Streams → List ℕ → Type 0
+WritesLine Answered before after line = WritesOutput before after line
+WritesLine Ambiguous before after line = WritesOutput before after line
+WritesLine MaybeAmbiguous before after line = WritesOutput before after line
+WritesLine Outdated before after line = WritesOutput before after line
 WritesLine status before after line =
     Appends before.errors after.errors line × (after.output ≡ before.output)
 

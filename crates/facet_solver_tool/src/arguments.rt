@@ -1,5 +1,5 @@
 //! What the words of a command line ask.
-ghost use Rattle.std.specs.Prelude.{◌≡◌, IfOk, Some, filter, find};
+ghost use Rattle.std.specs.Prelude.{◌≡◌, ◌++◌, ◌+◌, ◌<◌, IfOk, Some, drop, filter, find, length, option_map, position, take};
 ghost use Rattle.std.specs.List.{list_any};
 ghost use Rattle.facet_solver_shape.specs.Names.{names_of};
 ghost use Rattle.facet_solver_tool.specs.Requests as requests;
@@ -18,6 +18,8 @@ const STRICT: &str = "--strict";
 const JSON: &str = "--json";
 /// The word that has each line of the input read as a document.
 const LINES: &str = "--lines";
+/// The word behind which the file of accepted ambiguities is named.
+const ACCEPT: &str = "--accept";
 
 /// What is asked for.
 #[derive(Clone, Copy, Debug, Drop, PartialEq, Eq)]
@@ -48,6 +50,8 @@ pub enum Misuse<'w> {
     NoTypes,
     /// There is a word too many.
     TooMany(&'w str),
+    /// Behind `--accept` no file is named.
+    NoAccepted,
 }
 
 impl fmt::Display for Misuse<'_> {
@@ -60,6 +64,7 @@ impl fmt::Display for Misuse<'_> {
             Misuse::NoSuchOption(word) => write!(f, "no option '{word}' here"),
             Misuse::NoTypes => write!(f, "no file of types is named"),
             Misuse::TooMany(word) => write!(f, "'{word}' is a word too many"),
+            Misuse::NoAccepted => write!(f, "no FILE stands behind --accept"),
         }
     }
 }
@@ -108,8 +113,8 @@ pub fn requested<'w>(alloc: Global, words: &[&'w str]) -> Result<Request<'w>, Ar
         "--help" => Ok(alone(Request::Help, others)?),
         "--version" => Ok(alone(Request::Version, others)?),
         "read" => read(alloc, others),
-        "check" => Ok(question(Task::Check, others)?),
-        "catalogue" => Ok(question(Task::Catalogue, others)?),
+        "check" => check(alloc, others),
+        "catalogue" => Ok(question(Task::Catalogue, others, None)?),
         word => Err(ArgumentError::Misuse(Misuse::NoSuchCommand(word))),
     }
 }
@@ -143,7 +148,7 @@ fn read_operands<'w>(words: &[&'w str], operands: &[&'w str]) -> Result<Request<
     if has_lines(words) {
         lines(manner.unknown, operands)
     } else {
-        question(Task::Read(manner), operands)
+        question(Task::Read(manner), operands, None)
     }
 }
 
@@ -219,12 +224,92 @@ fn has_json(words: &[&str]) -> bool
     words.iter().any(|word| *word == JSON)
 }
 
+/// What is asked by the words behind `check`.
+fn check<'w>(alloc: Global, words: &[&'w str]) -> Result<Request<'w>, ArgumentError<'w>>
+    ensures { Asks (requests.check (names_of words.now)) result }
+{
+    match accept_at(words) {
+        None => check_accepting(alloc, words, None),
+        Some(at) => {
+            let Some(accepted) = words.get(at + 1) else {
+                return Err(ArgumentError::Misuse(Misuse::NoAccepted));
+            };
+            let words = without_two(alloc, words, at)?;
+            check_accepting(alloc, &words, Some(accepted))
+        }
+    }
+}
+
+/// Where the first word stands behind which the file of accepted ambiguities is named.
+fn accept_at(words: &[&str]) -> Option<usize>
+    ensures { result ≡ position (λ word. requests.is_accept word.now) words.now }
+{
+    words.iter().position(|word| *word == ACCEPT)
+}
+
+/// The words without two, of which the first has this index.
+fn without_two<'w>(alloc: Global, words: &[&'w str], at: usize) -> Result<Vec<&'w str>, AllocError>
+    requires { at + 1 < length words.now }
+    ensures { IfOk result (λ left. left.items ≡ take at words.now ++ drop (at + 2) words.now) }
+{
+    let mut left = Vec::new(alloc);
+    left.extend_from_slice(&words[..at])?;
+    left.extend_from_slice(&words[at + 2..])?;
+    Ok(left)
+}
+
+/// What is asked by the words behind `check` but for those that name the file of accepted
+/// ambiguities.
+fn check_accepting<'w>(
+    alloc: Global,
+    words: &[&'w str],
+    accepted: Option<&'w str>,
+) -> Result<Request<'w>, ArgumentError<'w>>
+    ensures { Asks (requests.check_accepting (option_map (λ file. file.now) accepted.entry)
+        (names_of words.now)) result }
+{
+    let operands = operands_of_check(alloc, words)?;
+    match question(Task::Check(manner(words)), &operands, accepted) {
+        Ok(request) => Ok(request),
+        Err(misuse) => Err(ArgumentError::Misuse(misuse)),
+    }
+}
+
+/// The words that don't say how a check is answered.
+fn operands_of_check<'w>(alloc: Global, words: &[&'w str]) -> Result<Vec<&'w str>, AllocError>
+    ensures { IfOk result (λ operands. operands.items
+        ≡ filter (λ word. requests.is_operand_of_check word.now) words.now) }
+{
+    words
+        .iter()
+        .copied()
+        .filter(|word| is_operand_of_check(word))
+        .collect(alloc)
+}
+
+/// Whether a word doesn't say how a check is answered.
+fn is_operand_of_check(word: &str) -> bool
+    ensures { result ≡ requests.is_operand_of_check word.now }
+{
+    word != STRICT && word != JSON
+}
+
 /// The question of a task, about the types and the root that words name.
-fn question<'w>(task: Task, words: &[&'w str]) -> Result<Request<'w>, Misuse<'w>>
-    ensures { IsAsked (requests.question task (names_of words.now)) result }
+fn question<'w>(
+    task: Task,
+    words: &[&'w str],
+    accepted: Option<&'w str>,
+) -> Result<Request<'w>, Misuse<'w>>
+    ensures { IsAsked (requests.question task (option_map (λ file. file.now) accepted.entry)
+        (names_of words.now)) result }
 {
     let (types, root) = subject(words)?;
-    Ok(Request::Ask(Question { task, types, root }))
+    Ok(Request::Ask(Question {
+        task,
+        types,
+        root,
+        accepted,
+    }))
 }
 
 /// The question about each line, and about the types and the root that words name.

@@ -42,11 +42,18 @@ impl Count {
         match status {
             Status::Answered => self.read = self.read.saturating_add(1),
             Status::NoReading => self.no_reading = self.no_reading.saturating_add(1),
-            Status::SeveralReadings => self.several = self.several.saturating_add(1),
+            // A document has only the first of these two ends.
+            Status::SeveralReadings | Status::Ambiguous => {
+                self.several = self.several.saturating_add(1)
+            }
             Status::BadDocument => self.at_fault = self.at_fault.saturating_add(1),
             Status::OutOfMemory => self.out_of_memory = self.out_of_memory.saturating_add(1),
             // A document has none of these ends.
-            Status::BadTypes | Status::Misused | Status::Unwritten => {}
+            Status::BadTypes
+            | Status::Misused
+            | Status::Unwritten
+            | Status::MaybeAmbiguous
+            | Status::Outdated => {}
         }
     }
 

@@ -2,21 +2,21 @@
 
 use facet_solver_reader::Unknown;
 
-/// How a reading is written.
+/// How an answer is written.
 #[derive(Clone, Copy, Debug, Drop, PartialEq, Eq)]
 pub enum Form {
-    /// As an indented text.
+    /// As a text.
     Text,
-    /// As JSON, in one line.
+    /// As JSON: a reading in one line, and a check with a line for each thing that is told.
     Json,
 }
 
-/// How a document is read.
+/// How documents are read, and how the answer is written.
 #[derive(Clone, Copy, Debug, Drop, PartialEq, Eq)]
 pub struct Manner {
     /// What is done with unknown members.
     pub unknown: Unknown,
-    /// How the reading is written.
+    /// How the answer is written.
     pub form: Form,
 }
 
@@ -25,8 +25,9 @@ pub struct Manner {
 pub enum Task {
     /// The reading of a document.
     Read(Manner),
-    /// Whether documents can be read as the root, and how each enum is written.
-    Check,
+    /// Whether documents can be read as the root, how each enum is written, and which variants
+    /// documents do not tell apart.
+    Check(Manner),
     /// The types as a catalogue.
     Catalogue,
 }
@@ -40,6 +41,8 @@ pub struct Question<'w> {
     pub types: &'w str,
     /// The root, which is any type. Without it the root is the one type that no other mentions.
     pub root: Option<&'w str>,
+    /// The path of the file that has accepted ambiguities, for a check.
+    pub accepted: Option<&'w str>,
 }
 
 /// A question about each document of an input that has a document a line. The readings are answered

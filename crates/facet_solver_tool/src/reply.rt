@@ -28,8 +28,9 @@ pub fn tell<O: Write, E: Write>(
     }
 }
 
-/// Writes a text and a line feed, to the output if it answers the question, and else to the errors.
-/// It gives how the run ends: as was to be told, unless a write fails.
+/// Writes a text and a line feed, to the output if it answers the question, as a check does with
+/// what it tells of the type, and else to the errors. It gives how the run ends: as was to be told,
+/// unless a write fails.
 fn reply<O: Write, E: Write>(output: &mut O, errors: &mut E, status: Status, text: &str) -> Status
     ensures { result ≢ Unwritten → (result ≡ status) × WritesLine status
         (streams (O.contents output.old) (E.contents errors.old))
@@ -37,7 +38,9 @@ fn reply<O: Write, E: Write>(output: &mut O, errors: &mut E, status: Status, tex
         (text.now ++ 10 ∷ []) }
 {
     let written = match status {
-        Status::Answered => write_line(output, text),
+        Status::Answered | Status::Ambiguous | Status::MaybeAmbiguous | Status::Outdated => {
+            write_line(output, text)
+        }
         _ => write_line(errors, text),
     };
     match written {

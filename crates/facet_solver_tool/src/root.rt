@@ -15,7 +15,8 @@ use facet_solver_shape::ShapeId;
 use facet_solver_types::Types;
 use std::alloc::{AllocError, Global};
 
-/// The answer about a root to what is asked. The types come from the file at a path.
+/// The answer about a root to what is asked. The types come from the file at a path. Given are the
+/// bytes of the document that is to be read, or of the file that has accepted ambiguities.
 ///
 /// The only error is out of memory.
 pub fn answer(
@@ -24,14 +25,14 @@ pub fn answer(
     types: &Types,
     id: ShapeId,
     task: Task,
-    document: &[u8],
+    given: &[u8],
 ) -> Result<Answer, AllocError>
     ensures { IfOk result (λ a.
-        AnswersRoot (root_at path.now types.now id) task document.now (answer_view a)) }
+        AnswersRoot (root_at path.now types.now id) task given.now (answer_view a)) }
 {
     match task {
-        Task::Read(manner) => read::answer(alloc, path, types, id, manner, document),
-        Task::Check => check::answer(alloc, path, types, id),
+        Task::Read(manner) => read::answer(alloc, path, types, id, manner, given),
+        Task::Check(manner) => check::answer(alloc, path, types, id, manner, given),
         Task::Catalogue => answer_catalogue(alloc, types, id),
     }
 }

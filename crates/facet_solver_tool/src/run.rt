@@ -1,5 +1,5 @@
 //! A run of the program.
-ghost use Rattle.std.specs.Prelude.{◌≡◌, ◌≢◌, IfErr, IfOk, IfSome};
+ghost use Rattle.std.specs.Prelude.{◌≡◌, ◌≢◌, IfErr, IfOk, IfSome, option_map};
 ghost use Rattle.facet_solver_shape.specs.Names.{names_of};
 ghost use Rattle.facet_solver_tool.specs.declared.status.Status.TheVariants.{Misused, Unwritten};
 ghost use Rattle.facet_solver_tool.specs.Answer.{answer_view};
@@ -7,7 +7,7 @@ ghost use Rattle.facet_solver_tool.specs.Answers.{IsAnswer};
 ghost use Rattle.facet_solver_tool.specs.Misuses.{TellsMisuse};
 ghost use Rattle.facet_solver_tool.specs.Questions.{lines_view, question_view};
 ghost use Rattle.facet_solver_tool.specs.Requests.{misuse_view};
-ghost use Rattle.facet_solver_tool.specs.Runs.{AnswersFile, AnswersQuestion, EndsLines, EndsRun, EndsWords, document_of};
+ghost use Rattle.facet_solver_tool.specs.Runs.{AnswersFile, AnswersQuestion, EndsLines, EndsRun, EndsWords, IsGiven, document_of};
 ghost use Rattle.facet_solver_tool.specs.Streams.{ran, streams};
 
 use crate::answer::{Answer, unread};
@@ -142,14 +142,14 @@ fn answer_question<R: Files + AllocGlobal, I: Read>(
         (I.remaining input.old) (answer_view a)) }
 {
     match fs::read(rt, question.types) {
-        Ok(types) => answer_file(rt.alloc(), input, question, &types),
+        Ok(types) => answer_file(rt, input, question, &types),
         Err(error) => unread(rt.alloc(), question.types, error),
     }
 }
 
 /// The answer to a question about the types that the bytes of a file declare.
-fn answer_file<I: Read>(
-    alloc: Global,
+fn answer_file<R: Files + AllocGlobal, I: Read>(
+    rt: &R,
     input: &mut I,
     question: &Question<'_>,
     types: &[u8],
@@ -157,24 +157,44 @@ fn answer_file<I: Read>(
     ensures { IfOk result (λ a. AnswersFile (question_view question.now) types.now
         (I.remaining input.old) (answer_view a)) }
 {
-    let document = document(alloc, input, question.task);
-    answer_read(alloc, question, types, document)
+    let given = given(rt, input, question);
+    answer_read(rt.alloc(), question, types, given)
 }
 
-/// The answer about what was read as the document of a question, or that it cannot be read.
+/// The answer about what was read beside the types of a question, or that it cannot be read.
 fn answer_read(
     alloc: Global,
     question: &Question<'_>,
     types: &[u8],
-    document: io::Result<Vec<u8>>,
+    given: io::Result<Vec<u8>>,
 ) -> Result<Answer, AllocError>
-    ensures read { IfOk document (λ document. IfOk result (λ a.
-        IsAnswer (question_view question.now) types.now document.items (answer_view a))) }
-    ensures unread { IfErr document (λ _. IfOk result (λ a. a.status ≡ Misused)) }
+    ensures read { IfOk given (λ given. IfOk result (λ a.
+        IsAnswer (question_view question.now) types.now given.items (answer_view a))) }
+    ensures unread { IfErr given (λ _. IfOk result (λ a. a.status ≡ Misused)) }
 {
-    match document {
-        Ok(document) => types::answer(alloc, question, types, &document),
-        Err(error) => unread(alloc, "standard input", error),
+    match given {
+        Ok(given) => types::answer(alloc, question, types, &given),
+        Err(error) => {
+            let name = question.accepted.unwrap_or("standard input");
+            unread(alloc, name, error)
+        }
+    }
+}
+
+/// What is read beside the types of a question: the file of accepted ambiguities, where one is
+/// named, and else the document.
+fn given<R: Files + AllocGlobal, I: Read>(
+    rt: &R,
+    input: &mut I,
+    question: &Question<'_>,
+) -> io::Result<Vec<u8>>
+    ensures { IfOk result (λ given. IsGiven question.now.task
+        (option_map (λ path. path.now) question.now.accepted) (I.remaining input.old)
+        given.items) }
+{
+    match question.accepted {
+        Some(path) => fs::read(rt, path),
+        None => document(rt.alloc(), input, question.task),
     }
 }
 
@@ -189,6 +209,6 @@ fn document<I: Read>(alloc: Global, input: &mut I, task: Task) -> io::Result<Vec
             input.read_to_end(&mut document)?;
             Ok(document)
         }
-        Task::Check | Task::Catalogue => Ok(document),
+        Task::Check(_) | Task::Catalogue => Ok(document),
     }
 }

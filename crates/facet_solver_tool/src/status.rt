@@ -21,6 +21,12 @@ pub enum Status {
     Misused,
     /// A write failed.
     Unwritten,
+    /// The check tells variants that a document does not tell apart.
+    Ambiguous,
+    /// The check tells such only as may be.
+    MaybeAmbiguous,
+    /// The check tells none, and that an accepted ambiguity is none any more.
+    Outdated,
 }
 
 impl Status {
@@ -37,6 +43,9 @@ impl Status {
             Status::OutOfMemory => 5,
             Status::Misused => 64,
             Status::Unwritten => 74,
+            Status::Ambiguous => 2,
+            Status::MaybeAmbiguous => 6,
+            Status::Outdated => 7,
         }
     }
 }

@@ -15,20 +15,21 @@ use facet_solver_types::{Located, Types, TypesError};
 use std::alloc::{AllocError, Global};
 use std::str;
 
-/// The answer to a question about the types that bytes declare, and about the bytes of a document.
+/// The answer to a question about the types that bytes declare, and about the bytes of what is read
+/// beside them: a document, or a file of accepted ambiguities.
 ///
 /// The only error is out of memory.
 pub fn answer(
     alloc: Global,
     question: &Question<'_>,
     types: &[u8],
-    document: &[u8],
+    given: &[u8],
 ) -> Result<Answer, AllocError>
     ensures { IfOk result (λ a.
-        IsAnswer (question_view question.now) types.now document.now (answer_view a)) }
+        IsAnswer (question_view question.now) types.now given.now (answer_view a)) }
 {
     match str::from_utf8(types) {
-        Ok(text) => answer_text(alloc, question, text, document),
+        Ok(text) => answer_text(alloc, question, text, given),
         Err(error) => utf8::answer(alloc, Status::BadTypes, question.types, types, error),
     }
 }
@@ -38,13 +39,13 @@ fn answer_text(
     alloc: Global,
     question: &Question<'_>,
     text: &str,
-    document: &[u8],
+    given: &[u8],
 ) -> Result<Answer, AllocError>
     ensures { IfOk result (λ a.
-        AnswersText (question_view question.now) text.now document.now (answer_view a)) }
+        AnswersText (question_view question.now) text.now given.now (answer_view a)) }
 {
     match Types::parse(alloc, text, question.root) {
-        Ok(types) => answer_types(alloc, question, &types, document),
+        Ok(types) => answer_types(alloc, question, &types, given),
         Err(error) => no_types(alloc, question.types, &error),
     }
 }
@@ -76,11 +77,11 @@ fn answer_types(
     alloc: Global,
     question: &Question<'_>,
     types: &Types,
-    document: &[u8],
+    given: &[u8],
 ) -> Result<Answer, AllocError>
     ensures { IfOk result (λ a.
-        AnswersTypes (question_view question.now) types.now document.now (answer_view a)) }
+        AnswersTypes (question_view question.now) types.now given.now (answer_view a)) }
 {
     let id = types.root();
-    root::answer(alloc, question.types, types, id, question.task, document)
+    root::answer(alloc, question.types, types, id, question.task, given)
 }

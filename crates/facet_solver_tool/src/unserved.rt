@@ -4,7 +4,7 @@ ghost use Rattle.std.specs.String.{string_bytes};
 ghost use Rattle.facet_solver_shape.specs.Names.{names_of};
 ghost use Rattle.facet_solver_tool.specs.UnservedTypes.{conditional_lines, unserved, unserved_lines};
 
-use crate::notes::note_lines;
+use crate::notes::{note_lines, note_objects};
 use facet_solver_shape::ShapeId;
 use facet_solver_types::Types;
 use std::alloc::{AllocError, Global};
@@ -46,4 +46,20 @@ pub fn conditional_text(alloc: Global, types: &Types) -> Result<String, AllocErr
 {
     let names = types.conditional(alloc)?;
     note_lines(alloc, CONDITIONAL, &names)
+}
+
+/// The objects of JSON for the types whose `deny_unknown_fields` a reader of a root passes over.
+///
+/// The only error is out of memory.
+pub fn unserved_data(alloc: Global, types: &Types, id: ShapeId) -> Result<String, AllocError> {
+    let names = unserved(alloc, types, id)?;
+    note_objects(alloc, UNSERVED, &names)
+}
+
+/// The objects of JSON for the types that are declared once more under another `cfg`.
+///
+/// The only error is out of memory.
+pub fn conditional_data(alloc: Global, types: &Types) -> Result<String, AllocError> {
+    let names = types.conditional(alloc)?;
+    note_objects(alloc, CONDITIONAL, &names)
 }

@@ -32,8 +32,8 @@ pub(super) enum Stop {
     Unwritten,
 }
 
-/// Answers each line by a reader, before the next is read, and counts them by their ends. Where that
-/// is to be shown, the errors show how many are answered.
+/// Answers each line by a reader, before the next is read, and counts them by their ends. Where
+/// that is to be shown, the errors show how many are answered.
 pub(super) fn answer_each<I: Read, O: Write, E: Write>(
     alloc: Global,
     input: &mut I,

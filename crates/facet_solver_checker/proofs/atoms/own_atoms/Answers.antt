@@ -14,7 +14,8 @@ returns c = go
 
     go : (a : Atom) → HasOwn c.args.number c.args.end.now a → Contains last a
     go Null h =
-        All-contains (Contains last) c.add_if-2.new.self.each.items Null c.in_ok-add_joined.ensures.kept
+        All-contains (Contains last) c.add_if-2.new.self.each.items Null
+        c.in_ok-add_joined.ensures.kept
         (All-contains (Contains c.add_if-2.new.self.each.items) c.add_if.new.self.each.items Null
         c.in_ok-add_if-2.ensures.kept (c.in_ok-add_if.ensures.added (c.has_null.ensures ∙ h)))
     go (Plain n) h =

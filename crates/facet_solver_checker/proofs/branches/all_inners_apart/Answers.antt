@@ -9,7 +9,7 @@ loop-other-preserved c = λ m is required leaves.
     All-more (λ (o : ℕ). AreInnersApart m c.args.must_touch c.args.one o) c.args.others.now
     c.loop-other.other-index 0 c.loop-other-test.true
     (c.loop-other.invariant m is required leaves)
-    (c.in_ok-none.ensures m is required leaves c.if-not-none.false)
+    (c.inners_apart-none.ensures m is required leaves c.if-not-none.false)
 
 pub returns : goal.returns
 returns c = λ m is required leaves e.

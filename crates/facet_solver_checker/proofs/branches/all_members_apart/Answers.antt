@@ -11,7 +11,7 @@ pub loop-name-preserved : goal.loop-name-preserved
 loop-name-preserved c = λ m is.
     All-more (λ (x : Bor Name). IsMemberApart m c.args.apart.now c.args.first c.args.second x.now)
     c.args.names.now c.loop-name.name-index no_name c.loop-name-test.true
-    (c.loop-name.invariant m is) (c.in_ok-none.ensures m is c.if-not-none.false)
+    (c.loop-name.invariant m is) (c.member_apart-none.ensures m is c.if-not-none.false)
 
 pub returns : goal.returns
 returns c = λ m is e.

@@ -3,8 +3,13 @@ use Rattle.std.proofs.lemmas.List.Elements.{All-more}
 use Rattle.facet_solver_reader.proofs.Pairs.{take_past}
 use Rattle.facet_solver_checker.specs.BranchesMeet.{AreInnersApart}
 use Rattle.facet_solver_checker.specs.Inners.{AreInners}
-use Rattle.facet_solver_checker.proofs.BranchesApart.{branches_are_apart}
+use Rattle.facet_solver_checker.proofs.BranchesApart.{branches_are_apart, wholes_apart}
 use Rattle.facet_solver_checker.proofs.branches.branches_apart.Goals as goal
+
+pub returns-then-none : goal.returns-then-none
+returns-then-none c = λ m is required leaves e.
+    wholes_apart m c.args.must_touch c.args.first c.args.second
+    (c.inners_apart-none.ensures m is required leaves c.if-none.true)
 
 pub loop-one-preserved : goal.loop-one-preserved
 loop-one-preserved c = λ m is required leaves.
@@ -18,7 +23,7 @@ loop-one-preserved c = λ m is required leaves.
     (λ (ns : List ℕ).
     All (λ (o : ℕ). AreInnersApart m c.args.must_touch (get_or firsts c.loop-one.one-index 0) o)
     ns)
-    c.deref.ensures.value (c.in_ok-all.ensures m is required leaves c.if-not-all.false))
+    c.deref.ensures.value (c.all_inners_apart-all.ensures m is required leaves c.if-not-all.false))
 
 pub returns : goal.returns
 returns c = λ m is required leaves e.

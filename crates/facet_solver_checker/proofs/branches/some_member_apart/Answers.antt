@@ -9,5 +9,5 @@ returns-then-none c = λ m is e.
     let i = c.loop-name.name-index in (
       get_or names i no_name,
       (i, slice_get-get_or names i no_name c.loop-name-test.true),
-      c.in_ok-none.ensures m is c.if-none.true,
+      c.member_apart-none.ensures m is c.if-none.true,
     )

@@ -52,4 +52,5 @@ returns-in-Joined c =
     IfOk-weaker c.ends_apart-in-Joined.result
     (λ b. IsTrue b → EndsApart plan apart e (planned.Object (Some c.in-Joined.list)))
     (λ b. IsTrue b → EndApart plan apart e c.args.second)
-    (λ b f h. subst (EndApart plan apart e) (sym c.in-Joined.is) (f h)) c.ends_apart-in-Joined.ensures
+    (λ b f h. subst (EndApart plan apart e) (sym c.in-Joined.is) (f h))
+    c.ends_apart-in-Joined.ensures

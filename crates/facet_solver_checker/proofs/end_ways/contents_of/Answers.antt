@@ -14,7 +14,8 @@ loop-variant-preserved c =
     All-more (HasContent x new) c.args.names.now c.loop-variant.variant-index _
     c.loop-variant-test.true
     (All-weaker (HasContent x old) (HasContent x new)
-    (λ (p : PlannedName) h e. All-contains (Contains new) old p.content c.in_ok-push_content.ensures.kept (h e))
+    (λ (p : PlannedName) h e. All-contains (Contains new) old p.content
+    c.in_ok-push_content.ensures.kept (h e))
     (take c.loop-variant.variant-index c.args.names.now) c.loop-variant.invariant)
     c.in_ok-push_content.ensures.added
 

@@ -1,4 +1,5 @@
-use Rattle.std.proofs.Common.{◌≡◌, ◌∙◌, Bor, Global, List, Some, Vec, get_or, length, refl, slice_get, subst, sym}
+use Rattle.std.proofs.Common.{◌≡◌, ◌∙◌, Bor, Global, List, Some, Vec, get_or, length, refl}
+use Rattle.std.proofs.Common.{slice_get, subst, sym}
 use Rattle.std.proofs.lemmas.Option.{slice_get-get_or, slice_get_read}
 use Rattle.facet_solver_shape.specs.Names.{Name}
 use Rattle.facet_solver_checker.specs.EndWays.{AreMemberWays}
@@ -25,5 +26,6 @@ returns-then-are_apart c = λ e.
     (i, slice_get-get_or xs i no_name c.loop-name-test.true) in
     let ways : AreMemberWays c.args.plan.now n c.args.end.now x.now c.in-Some-2.ways =
     rw c.in-Some-2.is at c.in_ok-ways.ensures in
-    list_and_end c.args.plan.now c.args.apart.now table c.requires.required n c.args.end.now names found x
+    list_and_end c.args.plan.now c.args.apart.now table c.requires.required n c.args.end.now names
+    found x
     is_in c.in-Some-2.ways ways (sym c.are_apart.ensures ∙ c.if-are_apart.true)

@@ -1,5 +1,5 @@
 use Rattle.std.proofs.Common.{Ok}
-use Rattle.facet_solver_checker.proofs.BranchesTold.{branches_told, none_found}
+use Rattle.facet_solver_checker.proofs.BranchesTold.{branches_told, none_comes}
 use Rattle.facet_solver_checker.proofs.forks.parts_apart.Goals as goal
 
 pub returns-then-none : goal.returns-then-none
@@ -10,7 +10,7 @@ returns-then-none c = λ e.
     c.in_ok-none.ensures c.if-none.true
 
 pub returns : goal.returns
-returns c =
+returns c = λ e.
     let tables = c.args.tables.now in
-    none_found tables.plan.now tables.apart.now c.args.list c.args.must_touch c.args.branches
-    c.reads_none.result c.reads_none.ensures
+    none_comes tables.plan.now tables.apart.now c.args.list c.args.must_touch c.args.branches
+    (c.reads_none.ensures e)

@@ -5,7 +5,8 @@ use Rattle.facet_solver_checker.proofs.InnerLists.{inners_begin, inners_more}
 use Rattle.facet_solver_checker.proofs.inners.inners_of.Goals as goal
 
 pub loop-init : goal.loop-init
-loop-init c = λ m is. inners_begin m c.args.number c.in_ok-inners.inners.items c.in_ok-inners.ensures.items
+loop-init c = λ m is. inners_begin m c.args.number c.in_ok-inners.inners.items
+    c.in_ok-inners.ensures.items
 
 pub loop-preserved : goal.loop-preserved
 loop-preserved c = λ m is.

@@ -12,7 +12,8 @@ returns-in-Object c =
     let apart = c.args.apart.now in
     IfOk-weaker c.between_parts.result
     (λ b. IsTrue b
-    → ObjectsApart plan apart (planned.Object (Some c.in-Some.list)) (planned.Object c.in-Object.other))
+    → ObjectsApart plan apart (planned.Object (Some c.in-Some.list))
+    (planned.Object c.in-Object.other))
     (λ b. IsTrue b → ObjectsApart plan apart (planned.Object c.args.list) c.args.end.now)
     (λ b f h.
     subst (λ (l : Option ℕ). ObjectsApart plan apart (planned.Object l) c.args.end.now)

@@ -21,5 +21,6 @@ returns-in-Some c = λ m is required.
     × IsNameApart m apart c.args.first c.args.second x)
     (λ b f e.
     required_apart m apart c.args.first c.args.second c.args.number c.args.required.now.names.items
-    c.in-Some.names.now c.deref-in-Some.result.now there c.deref-in-Some.ensures.value required (f e))
+    c.in-Some.names.now c.deref-in-Some.result.now there c.deref-in-Some.ensures.value required
+    (f e))
     (c.some_name_apart.ensures m is)

@@ -7,6 +7,7 @@ loop-first-preserved c =
     let after = c.add_place.new.places.items in
     let grows = c.in_ok-add_place.ensures.grows in (
       grows_on c.args.places.now.items before after c.loop-first.invariant.0 grows,
-      before_more c.args.tables.now.plan.now c.args.tables.now.apart.now before after grows c.args.fork c.args.second
+      before_more c.args.tables.now.plan.now c.args.tables.now.apart.now before after grows
+          c.args.fork c.args.second
           c.loop-first.first c.loop-first.invariant.1 c.in_ok-add_place.ensures.settled,
     )

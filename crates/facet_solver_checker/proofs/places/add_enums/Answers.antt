@@ -1,6 +1,6 @@
 use Rattle.std.proofs.Common.{◌∙◌, ◌<◌, arith, length, refl, subst}
 use Rattle.std.proofs.lemmas.Option.{slice_get_read, slice_get_within}
-use Rattle.facet_solver_checker.specs.declared.place.Fork.TheVariants as forks
+use Rattle.facet_solver_witnesses.specs.declared.place.Fork.TheVariants as forks
 use Rattle.facet_solver_checker.specs.Forks.{AreSettled}
 use Rattle.facet_solver_checker.proofs.SettledPlaces.{enum_ways, enums_more, grows_on}
 use Rattle.facet_solver_checker.proofs.places.add_enums.Goals as goal

@@ -1,5 +1,5 @@
 use Rattle.std.proofs.Common.{ℕ, ◌<◌}
-use Rattle.facet_solver_checker.specs.declared.place.Fork.TheVariants as forks
+use Rattle.facet_solver_witnesses.specs.declared.place.Fork.TheVariants as forks
 use Rattle.facet_solver_checker.specs.Forks.{AreSettled, Grows, IsFork}
 use Rattle.facet_solver_checker.proofs.places.add_enums.Given as goal
 

@@ -14,7 +14,8 @@ loop-part-preserved c =
     let there = slice_get_read ps (length ps) i p refl c.loop-part-test.true
     c.index-parts-part.is in (
       grows_on c.args.places.now.items before after c.loop-part.invariant.0 grows,
-      parts_more c.args.tables.now.plan.now c.args.tables.now.apart.now before after grows ps c.args.list i
+      parts_more c.args.tables.now.plan.now c.args.tables.now.apart.now before after grows ps
+          c.args.list i
           c.loop-part.invariant.1
           (λ n is. c.in_ok-add_part.ensures.settled n (ways_of_part ps i n p there is)),
     )

@@ -1,5 +1,5 @@
 use Rattle.facet_solver_checker.proofs.SettledPlaces.{all_settled, pairs_on}
-use Rattle.facet_solver_checker.specs.declared.place.Fork.TheVariants as forks
+use Rattle.facet_solver_witnesses.specs.declared.place.Fork.TheVariants as forks
 use Rattle.facet_solver_checker.proofs.places.places_left.Goals as goal
 
 pub returns : goal.returns

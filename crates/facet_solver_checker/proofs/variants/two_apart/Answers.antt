@@ -2,7 +2,8 @@ use Rattle.std.proofs.Common.{IsTrue, List, subst}
 use Rattle.std.proofs.lemmas.Result.{IfOk-weaker}
 use Rattle.facet_solver_checker.specs.declared.atoms.Atom.{Atom}
 use Rattle.facet_solver_checker.specs.Apartness.{AllApart}
-use Rattle.facet_solver_checker.specs.VariantsApart.{AreTwoApart, by_atoms, by_float, by_whole, IsFloatKindBeside}
+use Rattle.facet_solver_checker.specs.VariantsApart.{AreTwoApart, by_atoms, by_float, by_whole}
+use Rattle.facet_solver_checker.specs.VariantsApart.{IsFloatKindBeside}
 use Rattle.facet_solver_checker.proofs.SidesApart.{float_beside, ones_apart}
 use Rattle.facet_solver_checker.proofs.variants.two_apart.Goals as goal
 
@@ -13,7 +14,8 @@ returns-then-is_float_beside c = λ h.
     let b = c.args.other.now in
     let ys = c.in_ok-second.second.each.items in
     by_float
-    (float_beside plan c.args.tables.now.atoms.now c.requires.atoms c.requires.len a b ys c.in_ok-second.ensures
+    (float_beside plan c.args.tables.now.atoms.now c.requires.atoms c.requires.len a b ys
+    c.in_ok-second.ensures
     (subst (λ (xs : List Atom). IsFloatKindBeside plan a.kind b.kind xs) c.deref.ensures.value
     (c.is_float_beside.ensures c.if-is_float_beside.true)))
 
@@ -24,7 +26,8 @@ returns-then-is_float_beside-2 c = λ h.
     let b = c.args.other.now in
     let xs = c.in_ok-first.first.each.items in
     by_whole
-    (float_beside plan c.args.tables.now.atoms.now c.requires.atoms c.requires.len b a xs c.in_ok-first.ensures
+    (float_beside plan c.args.tables.now.atoms.now c.requires.atoms c.requires.len b a xs
+    c.in_ok-first.ensures
     (subst (λ (ys : List Atom). IsFloatKindBeside plan b.kind a.kind ys) c.deref-2.ensures.value
     (c.is_float_beside-2.ensures c.if-is_float_beside-2.true)))
 

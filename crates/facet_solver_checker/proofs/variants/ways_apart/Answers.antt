@@ -3,13 +3,16 @@ use Rattle.std.proofs.lemmas.Option.{slice_get_read}
 use Rattle.std.proofs.lemmas.Result.{IfOk-weaker}
 use Rattle.facet_solver_reader.specs.declared.plan.PlannedAlternative.{PlannedAlternative}
 use Rattle.facet_solver_reader.specs.declared.plan.PlannedName.{PlannedName}
-use Rattle.facet_solver_checker.specs.VariantsApart.{AreJoinedApart, AreNamesApart, AreSidesApart, AreTwoApart, side_at}
-use Rattle.facet_solver_checker.proofs.SidesApart.{joined_first, joined_second, named_ways, two_ways}
+use Rattle.facet_solver_checker.specs.VariantsApart.{AreJoinedApart, AreNamesApart, AreSidesApart}
+use Rattle.facet_solver_checker.specs.VariantsApart.{AreTwoApart, side_at}
+use Rattle.facet_solver_checker.proofs.SidesApart.{joined_first, joined_second, named_ways}
+use Rattle.facet_solver_checker.proofs.SidesApart.{two_ways}
 use Rattle.facet_solver_checker.proofs.variants.ways_apart.Goals as goal
 
 pub returns-in-Named : goal.returns-in-Named
 returns-in-Named c = λ h.
-    named_ways c.args.tables.now.plan.now c.args.tables.now.apart.now c.in-Named.names c.args.end.now c.args.ways.0
+    named_ways c.args.tables.now.plan.now c.args.tables.now.apart.now c.in-Named.names
+    c.args.end.now c.args.ways.0
     c.args.ways.1 c.in-Named.is
     (subst (λ (ps : List PlannedName). AreNamesApart ps c.args.ways.0 c.args.ways.1)
     c.deref.ensures.value (c.names_differ.ensures h))

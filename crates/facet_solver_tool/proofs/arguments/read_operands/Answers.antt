@@ -1,4 +1,4 @@
-use Rattle.std.proofs.Common.{◌≡◌, ◌∙◌, true, false, cond, subst, sym}
+use Rattle.std.proofs.Common.{◌≡◌, ◌∙◌, None, true, false, cond, subst, sym}
 use Rattle.std.specs.List.{list_any}
 use Rattle.facet_solver_shape.specs.Names.{names_of}
 use Rattle.facet_solver_tool.specs.declared.question.Task.TheVariants.{Read}
@@ -13,7 +13,7 @@ returns-then-has_lines c =
     let operands = names_of c.args.operands.now in
     let by_line : list_any is_lines names ≡ true =
     sym (any_said is_lines (λ w. w.now) words) ∙ sym c.has_lines.ensures ∙ c.if-has_lines.true in
-    subst (λ b. IsAsked (cond b (question_of_lines (manner names).unknown operands) (question (Read (manner names)) operands)) c.lines.result)
+    subst (λ b. IsAsked (cond b (question_of_lines (manner names).unknown operands) (question (Read (manner names)) None operands)) c.lines.result)
     (sym by_line)
     (subst (λ m. IsAsked (question_of_lines m.unknown operands) c.lines.result) c.manner-manner.ensures c.lines.ensures)
 
@@ -24,6 +24,6 @@ returns-else-has_lines c =
     let operands = names_of c.args.operands.now in
     let whole : list_any is_lines names ≡ false =
     sym (any_said is_lines (λ w. w.now) words) ∙ sym c.has_lines.ensures ∙ c.if-has_lines.false in
-    subst (λ b. IsAsked (cond b (question_of_lines (manner names).unknown operands) (question (Read (manner names)) operands)) c.question.result)
+    subst (λ b. IsAsked (cond b (question_of_lines (manner names).unknown operands) (question (Read (manner names)) None operands)) c.question.result)
     (sym whole)
-    (subst (λ m. IsAsked (question (Read m) operands) c.question.result) c.manner-manner.ensures c.question.ensures)
+    (subst (λ m. IsAsked (question (Read m) None operands) c.question.result) c.manner-manner.ensures c.question.ensures)

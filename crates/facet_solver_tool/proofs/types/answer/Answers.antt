@@ -10,7 +10,7 @@ returns-in-Ok c =
     let read = c.in-Ok.ensures.cases in
     IfOk-weaker c.answer_text.result _ _
     (λ a said.
-    is_utf8 read.1 (subst (λ t. AnswersText (question_view c.args.question.now) t c.args.document.now (answer_view a)) read.0 said))
+    is_utf8 read.1 (subst (λ t. AnswersText (question_view c.args.question.now) t c.args.given.now (answer_view a)) read.0 said))
     c.answer_text.ensures
 
 pub returns-in-Err : goal.returns-in-Err

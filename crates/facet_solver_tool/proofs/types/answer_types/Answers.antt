@@ -9,5 +9,5 @@ returns c =
     let question = c.args.question.now in
     IfOk-weaker c.answer.result _ _
     (λ a said.
-    subst (λ id. AnswersRoot (root_at question.types.now c.args.types.now id) question.task c.args.document.now (answer_view a)) c.root-id.ensures said)
+    subst (λ id. AnswersRoot (root_at question.types.now c.args.types.now id) question.task c.args.given.now (answer_view a)) c.root-id.ensures said)
     c.answer.ensures

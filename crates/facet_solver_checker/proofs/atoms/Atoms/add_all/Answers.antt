@@ -29,6 +29,8 @@ loop-atom-preserved c =
 
 pub returns-clause-added : goal.returns-clause-added
 returns-clause-added c =
-    let past : length c.args.atoms.now ≤ c.loop-atom.atom-index = omega (arith, c.loop-atom-test.false) in
-    subst (All (Contains c.loop-atom.self.each.items)) (take_past c.loop-atom.atom-index c.args.atoms.now past)
+    let past : length c.args.atoms.now ≤ c.loop-atom.atom-index =
+    omega (arith, c.loop-atom-test.false) in
+    subst (All (Contains c.loop-atom.self.each.items))
+    (take_past c.loop-atom.atom-index c.args.atoms.now past)
     c.loop-atom.invariant.added

@@ -19,7 +19,8 @@ loop-alternative-preserved c =
     record {
       kept = in_more c.args.self.now.each.items old new c.loop-alternative.invariant.kept
           c.in_ok-add_alternative.ensures.kept;
-      added = onward_next c.args.lower.now old new c.args.alone.now c.loop-alternative.alternative-index
+      added = onward_next c.args.lower.now old new c.args.alone.now
+          c.loop-alternative.alternative-index
           _ c.loop-alternative-test.true c.in_ok-add_alternative.ensures.kept
           c.loop-alternative.invariant.added c.in_ok-add_alternative.ensures.added;
     }

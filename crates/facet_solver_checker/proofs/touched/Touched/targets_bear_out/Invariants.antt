@@ -6,4 +6,5 @@ use Rattle.facet_solver_checker.proofs.touched.Touched.targets_bear_out.Given as
 -- those before this one bear out
 abbrev pub invariant-loop-target : goal.invariant-loop-target
 invariant-loop-target l =
-    All (λ (t : PlannedTarget). BearsOutEnd l.self.flags.items t.end) (take l.target-index l.targets)
+    All (λ (t : PlannedTarget). BearsOutEnd l.self.flags.items t.end)
+    (take l.target-index l.targets)

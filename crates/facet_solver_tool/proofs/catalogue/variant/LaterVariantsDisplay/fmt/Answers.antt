@@ -2,7 +2,7 @@ use Rattle.std.proofs.Common.{codes, refl, true}
 use Rattle.std.proofs.Output.{has_written_of_eq, has_written_append}
 use Rattle.facet_solver_tool.specs.VariantText.{variant}
 use Rattle.facet_solver_tool.specs.SeparatedTexts.{behind}
-use Rattle.facet_solver_tool.proofs.CatalogueLines.{piece_more}
+use Rattle.facet_solver_tool.proofs.Pieces.{piece_more}
 use Rattle.facet_solver_tool.proofs.catalogue.variant.LaterVariantsDisplay.fmt.Goals as goal
 
 -- one variant more

@@ -1,0 +1,5 @@
+pub mod WayNames
+pub mod Several
+pub mod Trees
+pub mod Shown
+pub mod Covered
