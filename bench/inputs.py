@@ -308,6 +308,31 @@ def alternatives():
 TEXT = {"id": "String", "kind": "scalar", "scalar": "string"}
 
 
+def tagged_types():
+    """1,000 variants that the text of a tag tells, and a member of each alone."""
+    variants = "".join(f"    V{n} {{ a{n}: u8, x: u8 }},\n" for n in range(1_000))
+    return f'#[serde(tag = "t")]\nenum Way {{\n{variants}}}\n'
+
+
+def equal_types():
+    """300 variants of the same fields, which no document tells apart."""
+    variants = "".join(f"    V{n} {{ a: u8, x: u8 }},\n" for n in range(300))
+    return f"#[serde(untagged)]\nenum Way {{\n{variants}}}\n"
+
+
+def selections_types():
+    """Two structs of 30 selections each, of the same names."""
+    lines = []
+    for side in ("First", "Second"):
+        for n in range(30):
+            variants = f"{side}{n}A {{ n{n}a: u8 }}, {side}{n}B {{ n{n}b: String }}"
+            lines.append(f"#[serde(untagged)]\nenum {side}{n} {{ {variants} }}\n")
+        fields = "".join(f"    #[serde(flatten)]\n    f{n}: {side}{n},\n" for n in range(30))
+        lines.append(f"struct {side} {{\n{fields}}}\n")
+    lines.append("#[serde(untagged)]\nenum Way { A(First), B(Second) }\n")
+    return "".join(lines)
+
+
 def of_program(shapes, document, build="flattened"):
     """An input of the program, whose root is the last shape."""
     root = len(shapes) - 1
@@ -470,6 +495,9 @@ RECIPES = {
     "fields.json": fields,
     "alternatives.rs": alternatives_types,
     "alternatives.json": alternatives,
+    "tagged.rs": tagged_types,
+    "equal.rs": equal_types,
+    "selections.rs": selections_types,
     "build_and_solve.json": build_and_solve,
     "build_and_solve_external.json": build_and_solve_external,
     "no_key_none_fits.json": no_key_none_fits,
