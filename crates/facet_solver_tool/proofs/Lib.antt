@@ -4,6 +4,7 @@ pub mod Documents
 pub mod FindingViews
 pub mod CutLines
 pub mod Ends
+pub mod TypesAlone
 pub mod ElementLines
 pub mod CatalogueLines
 pub mod Words

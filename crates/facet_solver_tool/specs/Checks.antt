@@ -64,10 +64,12 @@ status_of lines ambiguities =
     else if list_any (is_outdated ambiguities) lines then Outdated
     else Answered
 
--- a check as a text begins with one; a check as JSON may begin otherwise
-abbrev pub BeginsAs : Form → List ℕ → List ℕ → Type 0
-BeginsAs Text begin text = (more : List ℕ) × (text ≡ begin ++ more)
-BeginsAs Json begin text = ⊤
+-- a check as a text begins with what is told of the types, and is that alone where a proposition
+-- holds; a check as JSON may be otherwise
+abbrev pub TellsTypes : Form → Type 0 → List ℕ → List ℕ → Type 0
+TellsTypes Text none types text =
+    ((more : List ℕ) × (text ≡ types ++ more)) × (none → text ≡ types)
+TellsTypes Json none types text = ⊤
 
 -- what a reader of a root is of, with what is done with unknown members
 abbrev pub read_by : Catalogue → ℕ → Unknown → ReaderView

@@ -1,5 +1,5 @@
 -- What is answered about a root.
-use Rattle.std.specs.Prelude.{◌≡◌, ◌++◌, ℕ, List, codes, if◌then◌else◌}
+use Rattle.std.specs.Prelude.{◌≡◌, ◌++◌, ℕ, List, [], codes, if◌then◌else◌}
 use Rattle.facet_solver_reader.specs.declared.reader.Unknown.{Unknown}
 use Rattle.facet_solver_reader.specs.declared.reader.Unknown.TheVariants.{Refused}
 use Rattle.facet_solver_reader.specs.declared.reader.error.TypeError.{TypeError}
@@ -16,7 +16,7 @@ use Rattle.facet_solver_tool.specs.declared.question.Task.TheVariants.{Read, Che
 use Rattle.facet_solver_tool.specs.declared.status.Status.TheVariants.{Answered, BadTypes}
 use Rattle.facet_solver_tool.specs.Answer.{Answer, says}
 use Rattle.facet_solver_tool.specs.CatalogueText.{catalogue}
-use Rattle.facet_solver_tool.specs.Checks.{BeginsAs, IsReportOf, SaysOfDocuments, status_of}
+use Rattle.facet_solver_tool.specs.Checks.{IsReportOf, SaysOfDocuments, TellsTypes, status_of}
 use Rattle.facet_solver_tool.specs.InputLines.{lines_of}
 use Rattle.facet_solver_tool.specs.ReadAnswers.{AnswersBytes}
 use Rattle.facet_solver_tool.specs.Representations.{enum_lines}
@@ -80,7 +80,8 @@ pub data AnswersCheck (r : Root) (manner : Manner) (given : List ℕ) (a : Answe
       → IsReportOf (reader_of r shapes manner.unknown) report
       → a.status ≡ status_of (lines_of given) report.ambiguities.items
       → SaysOfDocuments (reader_of r shapes manner.unknown) given a.status
-      → BeginsAs manner.form (check_text shapes r.types r.id) a.text
+      → TellsTypes manner.form ((given ≡ []) × (report.ambiguities.items ≡ []))
+      (check_text shapes r.types r.id) a.text
       → AnswersCheck r manner given a
 
 -- the answer that has the catalogue

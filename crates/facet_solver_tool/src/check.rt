@@ -1,8 +1,8 @@
 //! The check of a root.
-ghost use Rattle.std.specs.Prelude.{◌≡◌, IfOk, string_bytes};
+ghost use Rattle.std.specs.Prelude.{◌≡◌, [], IfOk, string_bytes};
 ghost use Rattle.facet_solver_tool.specs.Answer.{answer_view};
 ghost use Rattle.facet_solver_tool.specs.Checks as checks;
-ghost use Rattle.facet_solver_tool.specs.Checks.{BeginsAs, lines_view};
+ghost use Rattle.facet_solver_tool.specs.Checks.{TellsTypes, lines_view};
 ghost use Rattle.facet_solver_tool.specs.InputLines.{lines_of};
 ghost use Rattle.facet_solver_tool.specs.RootAnswers.{AnswersCheck, check_text, root_at};
 
@@ -80,7 +80,8 @@ fn answer_reports(
 ) -> Result<Answer, AllocError>
     ensures { IfOk result (λ a.
         (a.status ≡ checks.status_of (lines_of given.now) reports.now.asked.ambiguities.items)
-        × BeginsAs form (check_text checked.now.shapes.now checked.now.types.now checked.now.id)
+        × TellsTypes form ((given.now ≡ []) × (reports.now.asked.ambiguities.items ≡ []))
+        (check_text checked.now.shapes.now checked.now.types.now checked.now.id)
         (string_bytes a.text)) }
 {
     let lines = lines_of(alloc, given)?;
@@ -97,7 +98,8 @@ fn answer_lines(
 ) -> Result<Answer, AllocError>
     ensures { IfOk result (λ a.
         (a.status ≡ checks.status_of (lines_view lines.now) reports.now.asked.ambiguities.items)
-        × BeginsAs form (check_text checked.now.shapes.now checked.now.types.now checked.now.id)
+        × TellsTypes form ((lines.now ≡ []) × (reports.now.asked.ambiguities.items ≡ []))
+        (check_text checked.now.shapes.now checked.now.types.now checked.now.id)
         (string_bytes a.text)) }
 {
     let findings = findings_of(alloc, checked, reports, lines)?;
@@ -117,7 +119,7 @@ fn written(
     findings: &[Finding<'_, '_>],
     outdated: &[&[u8]],
 ) -> Result<String, AllocError>
-    ensures { IfOk result (λ text. BeginsAs form
+    ensures { IfOk result (λ text. TellsTypes form ((findings.now ≡ []) × (outdated.now ≡ []))
         (check_text checked.now.shapes.now checked.now.types.now checked.now.id)
         (string_bytes text)) }
 {

@@ -1,7 +1,7 @@
 //! What a check finds, as a text.
-ghost use Rattle.std.specs.Prelude.{◌≡◌, IfOk, string_bytes};
+ghost use Rattle.std.specs.Prelude.{◌≡◌, [], IfOk, string_bytes};
 ghost use Rattle.facet_solver_tool.specs.declared.question.Form.TheVariants.{Text};
-ghost use Rattle.facet_solver_tool.specs.Checks.{BeginsAs};
+ghost use Rattle.facet_solver_tool.specs.Checks.{TellsTypes};
 ghost use Rattle.facet_solver_tool.specs.RootAnswers.{check_text};
 
 use super::Checked;
@@ -21,11 +21,14 @@ pub fn text_of(
     findings: &[Finding<'_, '_>],
     outdated: &[&[u8]],
 ) -> Result<String, AllocError>
-    ensures { IfOk result (λ text. BeginsAs Text
+    ensures { IfOk result (λ text. TellsTypes Text ((findings.now ≡ []) × (outdated.now ≡ []))
         (check_text checked.now.shapes.now checked.now.types.now checked.now.id)
         (string_bytes text)) }
 {
     let text = text_of_types(alloc, checked)?;
+    if findings.is_empty() && outdated.is_empty() {
+        return Ok(text);
+    }
     let findings = finding_lines(alloc, findings)?;
     let outdated = outdated_lines(alloc, outdated)?;
     format!(in alloc; "{text}{findings}{outdated}")

@@ -1,6 +1,6 @@
 use Rattle.std.specs.Prelude.{⊤}
-use Rattle.std.proofs.Common.{IfOk, Result, Ok, Err, string_bytes, subst, sym}
-use Rattle.facet_solver_tool.specs.Checks.{BeginsAs}
+use Rattle.std.proofs.Common.{◌≡◌, [], IfOk, Result, Ok, Err, string_bytes, subst, sym}
+use Rattle.facet_solver_tool.specs.Checks.{TellsTypes}
 use Rattle.facet_solver_tool.specs.RootAnswers.{check_text}
 use Rattle.facet_solver_tool.proofs.check.written.Goals as goal
 
@@ -12,7 +12,7 @@ pub returns-in-Text : goal.returns-in-Text
 returns-in-Text c =
     let checked = c.args.checked.now in
     subst
-    (λ form. IfOk c.text_of.result (λ text. BeginsAs form (check_text checked.shapes.now checked.types.now checked.id) (string_bytes text)))
+    (λ form. IfOk c.text_of.result (λ text. TellsTypes form ((c.args.findings.now ≡ []) × (c.args.outdated.now ≡ [])) (check_text checked.shapes.now checked.types.now checked.id) (string_bytes text)))
     (sym c.in-Text.is)
     c.text_of.ensures
 
@@ -20,6 +20,6 @@ pub returns-in-Json : goal.returns-in-Json
 returns-in-Json c =
     let checked = c.args.checked.now in
     subst
-    (λ form. IfOk c.data_of.result (λ text. BeginsAs form (check_text checked.shapes.now checked.types.now checked.id) (string_bytes text)))
+    (λ form. IfOk c.data_of.result (λ text. TellsTypes form ((c.args.findings.now ≡ []) × (c.args.outdated.now ≡ [])) (check_text checked.shapes.now checked.types.now checked.id) (string_bytes text)))
     (sym c.in-Json.is)
     (any_ok c.data_of.result)
