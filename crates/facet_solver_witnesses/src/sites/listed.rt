@@ -1,4 +1,5 @@
 //! The pairs of ways that are asked about.
+use super::alike::Alike;
 use crate::growing::push;
 use crate::model::Model;
 use crate::place::{Fork, Place};
@@ -12,7 +13,8 @@ pub(crate) struct Pair {
     pub(crate) second: usize,
 }
 
-/// The pairs of ways that are asked about, of each fork. Forks that are one enum are one.
+/// The pairs of ways that are asked about, of each fork. Forks that are one enum are one, and so are
+/// those of lists that one list stands for.
 #[derive(Drop)]
 pub(crate) struct Listed {
     numbers: BTreeMap<Fork, usize>,
@@ -24,6 +26,7 @@ impl Listed {
     pub(crate) fn new(
         alloc: Global,
         model: &Model<'_, '_>,
+        alike: &Alike,
         places: &[Place],
     ) -> Result<Listed, AllocError> {
         let mut listed = Listed {
@@ -35,7 +38,8 @@ impl Listed {
                 first: place.first,
                 second: place.second,
             };
-            listed.add(alloc, model.same_fork(place.fork), pair)?;
+            let fork = model.same_fork(alike.fork_of(place.fork));
+            listed.add(alloc, fork, pair)?;
         }
         Ok(listed)
     }

@@ -1,0 +1,19 @@
+use Rattle.std.proofs.Common.{All, arith, subst}
+use Rattle.std.proofs.lemmas.List.Elements.{All-more}
+use Rattle.facet_solver_checker.specs.Touched.{BearsOutPart}
+use Rattle.facet_solver_checker.proofs.Loops.{all_done}
+use Rattle.facet_solver_checker.proofs.touched.Touched.list_bears_out.Goals as goal
+
+pub loop-part-preserved : goal.loop-part-preserved
+loop-part-preserved c =
+    let P = BearsOutPart c.args.self.now.flags.items c.args.number c.args.list.now in
+    All-more P c.deref-part-items.result.now c.loop-part.part-index c.part-item.result
+    c.loop-part-test.true c.loop-part.invariant
+    (subst P c.part-item.is (c.part_bears_out.ensures c.if-not-part_bears_out.false))
+
+pub returns : goal.returns
+returns c = λ h.
+    let P = BearsOutPart c.args.self.now.flags.items c.args.number c.args.list.now in
+    subst (All P) c.deref-part-items.ensures.value
+    (all_done P c.deref-part-items.result.now c.loop-part.part-index
+    (omega (arith, c.loop-part-test.false)) c.loop-part.invariant)
