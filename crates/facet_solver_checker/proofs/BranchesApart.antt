@@ -53,7 +53,7 @@ key_of_required x (catch_all_of k t ∷ items) h = inr (key_of_required x items 
 key_of_required x (presence_of s ∷ items) h = key_of_required x items h
 
 -- a member that a choice of a list has is read as a target of the name
-pub member_among : (m : Meaning) (p : Plan) (is : AreListsOf m p) (reads : Reads) (object : Object)
+member_among : (m : Meaning) (p : Plan) (is : AreListsOf m p) (reads : Reads) (object : Object)
     (a : ListId) (n : ℕ) (x : Name) (ts : List ℕ) → AreTargetsAt p n x ts → IsNumberOfList m a n
     → (has : HasNamed object.members x) (by : AgreesBy m.rules reads object a)
     → HasKey by.items (named x) → IsReadAmong m reads ts has.value
@@ -130,43 +130,30 @@ module _ (m : Meaning) (reads : Reads) (s : Selection) (object : Object) where
 module _ (m : Meaning) (reads : Reads) (s : Selection) (one other : ℕ)
     (sides : BranchSides m reads s one other) where
   -- what a choice of each has is as the object has it
-  abbrev pub first_by : AgreesBy m.rules reads sides.meet.object sides.first_through.id
+  abbrev first_by : AgreesBy m.rules reads sides.meet.object sides.first_through.id
   first_by =
       agrees_by m reads s sides.meet.object sides.first sides.meet.first_choice one
       sides.meet.first_reads sides.first_through
 
-  abbrev pub second_by : AgreesBy m.rules reads sides.meet.object sides.second_through.id
+  abbrev second_by : AgreesBy m.rules reads sides.meet.object sides.second_through.id
   second_by =
       agrees_by m reads s sides.meet.object sides.second sides.meet.second_choice other
       sides.meet.second_reads sides.second_through
 
   -- both have a key that the selection knows
-  pub first_has : (x : Key) → Has m.rules sides.meet.object x
+  first_has : (x : Key) → Has m.rules sides.meet.object x
       → IsKnown (ChoosesAt m.rules.lists (a_selection s)) x
       → HasKey sides.meet.first_reads.chooses.of_branch x
   first_has x has known =
       branch_has m reads s sides.meet.object sides.first sides.meet.first_choice
       sides.meet.first_reads x has known
 
-  pub second_has : (x : Key) → Has m.rules sides.meet.object x
+  second_has : (x : Key) → Has m.rules sides.meet.object x
       → IsKnown (ChoosesAt m.rules.lists (a_selection s)) x
       → HasKey sides.meet.second_reads.chooses.of_branch x
   second_has x has known =
       branch_has m reads s sides.meet.object sides.second sides.meet.second_choice
       sides.meet.second_reads x has known
-
-  -- which knows each that one of them has
-  pub key_known_first : (x : Key) → HasKey sides.meet.first_reads.chooses.of_branch x
-      → IsKnown (ChoosesAt m.rules.lists (a_selection s)) x
-  key_known_first x has =
-      known_by m reads s sides.meet.object sides.first sides.meet.first_choice
-      sides.meet.first_reads x has
-
-  pub key_known_second : (x : Key) → HasKey sides.meet.second_reads.chooses.of_branch x
-      → IsKnown (ChoosesAt m.rules.lists (a_selection s)) x
-  key_known_second x has =
-      known_by m reads s sides.meet.object sides.second sides.meet.second_choice
-      sides.meet.second_reads x has
 
   -- so both have a member of such a name
   both_have : (x : Name) → HasNamed sides.meet.object.members x

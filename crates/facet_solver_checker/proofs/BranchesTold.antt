@@ -1,6 +1,7 @@
 -- Two branches of a selection that read no object in common, whatever the numbers of a plan stand
 -- for.
-use Rattle.std.proofs.Common.{◌≡◌, ◌∙◌, sym, ap, subst, refl, ℕ, Bool, true, false, Ok, Err, Result, Some, slice_get, ◌&&◌, ◌||◌, List}
+use Rattle.std.proofs.Common.{◌≡◌, ◌∙◌, sym, ap, subst, refl, ℕ, Bool, true, false, Ok, Err, Result}
+use Rattle.std.proofs.Common.{Some, slice_get, ◌||◌, List}
 use Rattle.std.specs.Result.{IfOk}
 use Rattle.std.specs.declared.alloc.AllocError.{AllocError}
 use Rattle.facet_solver_shape.specs.Names.{Name}
@@ -18,13 +19,13 @@ use Rattle.facet_solver_checker.specs.Aparts.{LeavesAll}
 use Rattle.facet_solver_checker.specs.Atoms.{IsPlanFor}
 use Rattle.facet_solver_checker.specs.BranchesMeet.{AreApartIn, IsMemberApart}
 use Rattle.facet_solver_checker.specs.Comes.{TouchesList}
-use Rattle.facet_solver_checker.specs.Forks.{AreBranchesApart, IsSelectionApart, ReadsNone, SelectionMeets}
+use Rattle.facet_solver_checker.specs.Forks.{AreBranchesApart, IsSelectionApart, ReadsNone}
+use Rattle.facet_solver_checker.specs.Forks.{SelectionMeets}
 use Rattle.facet_solver_checker.specs.PlanMembers.{AreListsOf}
 use Rattle.facet_solver_checker.specs.Requires.{AreRequired, IsRequiredBy, NameLists}
-use Rattle.facet_solver_checker.specs.Touched.{AreTouched, covers, is_touched}
+use Rattle.facet_solver_checker.specs.Touched.{AreTouched, is_touched}
 use Rattle.facet_solver_checker.proofs.BranchesApart.{none_read, touches_of}
-use Rattle.facet_solver_checker.proofs.TouchedLists.{touches_covered}
-use Rattle.facet_solver_checker.proofs.WaysApart.{and_first, and_second}
+use Rattle.facet_solver_checker.proofs.TouchedLists.{only_selection, touches_only}
 
 -- what is told of two branches for one meaning is so for each
 pub branches_told : (plan : Plan) (apart : Apart) (names : NameLists) (n : ℕ) (must : Bool)
@@ -93,11 +94,11 @@ module _ (plan : Plan) (apart : Apart) (at ways : ℕ × ℕ) (l : PlannedList) 
 
     -- an object that comes to it has a member that it knows, where that is told
     must_touch : IsPlanFor m plan → (flags : List Bool) → AreTouched plan flags
-        → (p.optional || (is_touched flags at.0 && covers l p)) ≡ true
+        → (p.optional || is_touched flags at.0) ≡ true
         → Touches m.rules w.meet.object w.selection
     must_touch is flags are = go p.optional refl
       where
-        go : (o : Bool) → p.optional ≡ o → (o || (is_touched flags at.0 && covers l p)) ≡ true
+        go : (o : Bool) → p.optional ≡ o → (o || is_touched flags at.0) ≡ true
             → Touches m.rules w.meet.object w.selection
         go true optional e =
             let same : w.selection.optional ≡ p.optional =
@@ -108,19 +109,14 @@ module _ (plan : Plan) (apart : Apart) (at ways : ℕ × ℕ) (l : PlannedList) 
         go false optional e =
             let id_same : w.comes.id ≡ w.there.id =
             some_is (sym w.comes.numbered ∙ w.there.numbered) in
-            let list_same : l ≡ w.there.list = some_is (sym list_is ∙ w.there.list_is) in
-            let covered : covers w.there.list w.there.planned ≡ true =
-            subst (λ (z : PlannedList). covers z w.there.planned ≡ true) list_same
-            (subst (λ (z : PlannedSelection). covers l z ≡ true) planned_same
-            (and_second (is_touched flags at.0) (covers l p) e)) in
-            touches_covered m plan at.0 at.1 w.selection w.there is w.meet.object covered
+            touches_only m.rules w.meet.object w.there.id w.selection
+            (only_selection m plan at.0 at.1 w.selection w.there is flags are e)
             (subst (λ i. TouchesList m.rules w.meet.object i) id_same
-            (w.comes.touched flags are
-            (and_first (is_touched flags at.0) (covers l p) e)))
+            (w.comes.touched flags are e))
 
   -- the branches that stand at a place
   pub selection_told : (must : Bool) (flags : List Bool) → AreTouched plan flags
-      → must ≡ (p.optional || (is_touched flags at.0 && covers l p))
+      → must ≡ (p.optional || is_touched flags at.0)
       → AreBranchesApart plan apart at.0 must (a, b) → IsSelectionApart plan apart at ways
   selection_told must flags are must_is h = λ m is leaves d w.
       let reads = ReadsDown m.rules d in

@@ -73,7 +73,7 @@ is_found (a ∷ ms) x v e = go (bytes_eq a.name x) refl (is_found ms x v) e
         }
 
 -- the choice by which an object is read is one of the list
-pub may_chooses : (m : Meaning) (reads : Reads) (id : ListId) (ms : List Member) (c : Choice)
+may_chooses : (m : Meaning) (reads : Reads) (id : ListId) (ms : List Member) (c : Choice)
     (may : MayRead m.rules reads id ms c)
     → Chooses m.rules.lists id c (may_items m.rules reads id ms c may)
 may_chooses m reads id ms c (inl a) = a.reading.chooses
@@ -84,7 +84,7 @@ stands : {X : Type 0} (xs : List X) (x : X) → Contains xs x → IsIn x xs
 stands xs x c = (c.0, slice_get-get_or xs c.0 x c.1 ∙ ap Some c.2)
 
 -- a value that is read as a number is read in ways that have it
-pub read_in : (m : Meaning) (reads : Reads) (w : Ways) (n : ℕ) (v : Tree) → IsIn n w.targets.items
+read_in : (m : Meaning) (reads : Reads) (w : Ways) (n : ℕ) (v : Tree) → IsIn n w.targets.items
     → ReadsNumber m reads n v → IsReadIn m reads w v
 read_in m reads w n v among r =
     inr (record {

@@ -19,12 +19,9 @@ pub mod NamedApart
 pub mod ListWays
 pub mod Requires
 pub mod BranchesApart
-pub mod Within
-pub mod NeededMembers
 pub mod InnerLists
 pub mod PartsApart
 pub mod EndWays
-pub mod NameEnds
 pub mod BothReadings
 pub mod SelfDifferent
 pub mod Sites

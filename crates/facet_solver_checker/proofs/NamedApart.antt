@@ -61,7 +61,7 @@ module _ (apart : Apart) (lists : List PlannedList) (x : Name) where
           (λ part. refl) l.parts.items
 
   -- and those of several lists
-  pub target_apart : (second : List ℕ) (t : ℕ)
+  target_apart : (second : List ℕ) (t : ℕ)
       → is_apart_from apart (targets_below lists x second) t
       ≡ is_target_apart apart lists x second t
   target_apart second t =

@@ -1,9 +1,10 @@
 -- What the choices of a list have is among the parts of the lists below it.
-use Rattle.std.proofs.Common.{◌≡◌, ◌∙◌, sym, ap, subst, refl, ⊎_elim, ℕ, zero, suc, ◌+◌, ◌<◌, List, [], ◌∷◌, ◌++◌, Option, Some, None, Bool, true, slice_get, All, IsTrue, if◌then◌else◌}
-use Rattle.std.specs.List.{Contains, filter_map}
+use Rattle.std.proofs.Common.{◌≡◌, ◌∙◌, sym, ap, subst, refl, ⊎_elim, ℕ, zero, suc, ◌+◌, ◌<◌, List}
+use Rattle.std.proofs.Common.{[], ◌∷◌, ◌++◌, Option, Some, None, Bool, true, slice_get, All, IsTrue}
+use Rattle.std.proofs.Common.{if◌then◌else◌}
+use Rattle.std.specs.List.{filter_map}
 use Rattle.std.specs.Option.{option_map_or}
 use Rattle.std.specs.Str.{bytes_eq}
-use Rattle.std.proofs.lemmas.Option.{slice_get-get_or}
 use Rattle.std.proofs.lemmas.Slice.Eq.{bytes_eq-Decides}
 use Rattle.facet_solver_shape.specs.Names.{Name}
 use Rattle.facet_solver_reader.specs.declared.plan.PlannedList.{PlannedList}
@@ -13,7 +14,8 @@ use Rattle.facet_solver_reader.specs.declared.plan.PlannedMember.{PlannedMember}
 use Rattle.facet_solver_reader.specs.Choices.{Item, member_of, Reading}
 use Rattle.facet_solver_reader.specs.Parts.{MemberPart}
 use Rattle.facet_solver_reader.specs.Plans.{IsNumberOf, Meaning}
-use Rattle.facet_solver_checker.specs.PlanMembers.{HasPart, IsIn, IsPartOf, target_named, targets_at, targets_below, targets_in}
+use Rattle.facet_solver_checker.specs.PlanMembers.{HasPart, IsIn, IsPartOf, target_named}
+use Rattle.facet_solver_checker.specs.PlanMembers.{targets_at, targets_below, targets_in}
 use Rattle.facet_solver_checker.proofs.Among.{in_filter_map, in_flat_map}
 
 -- the target of a member of the name
@@ -43,24 +45,3 @@ module _ (m : Meaning) (lists : List PlannedList) (below : List ℕ) where
       )
       go (parts.Selection s) at is = absurd is
       go (parts.CatchAll k) at is = absurd is
-
--- it is among those in lists of which its own is one
-pub target_through : (m : Meaning) (lists : List PlannedList) (below : List ℕ) (x : Name)
-    (part : MemberPart) (r : Option Reading) → (h : HasPart m lists below (member_of part r))
-    → part.name ≡ x → (left : List ℕ) → Contains left h.number
-    → (n : ℕ) × IsNumberOf m part.target n × IsIn n (targets_below lists x left)
-target_through m lists below x part r h e left within =
-    target_among m lists left x part r
-    (record {
-      number = h.number;
-      among = contained left h.number within;
-      list = h.list;
-      is_list = h.is_list;
-      part = h.part;
-      is_part = h.is_part;
-      is = h.is;
-    })
-    e
-  where
-    contained : (xs : List ℕ) (k : ℕ) → Contains xs k → IsIn k xs
-    contained xs k (i, less, at) = (i, slice_get-get_or xs i k less ∙ ap (λ z. Some z) at)

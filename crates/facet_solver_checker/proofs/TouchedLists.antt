@@ -1,11 +1,8 @@
 -- An object that comes to a list of parts has a member that the list knows, where the list reads no
 -- other objects.
-use Rattle.std.proofs.Common.{◌≡◌, ◌∙◌, ◌⊎◌, inl, inr, ⊎_elim, sym, ap, subst, refl, ℕ, zero, suc, List, [], ◌∷◌, ◌++◌, ◌&&◌, ◌==◌, All, Bool, true, false, not, Bor, Option, None, Some, arith, length, slice_get}
-use Rattle.std.specs.List.{list_any}
-use Rattle.std.specs.Str.{bytes_eq}
-use Rattle.std.proofs.lemmas.Bool.{eqb-true, or_cases}
+use Rattle.std.proofs.Common.{◌≡◌, ◌∙◌, sym, ap, subst, refl, ℕ, zero, suc, List, [], ◌∷◌, ◌++◌}
+use Rattle.std.proofs.Common.{All, Bool, true, false, Option, None, Some, arith, length, slice_get}
 use Rattle.std.proofs.lemmas.List.{append-nil}
-use Rattle.facet_solver_shape.specs.Names.{Name}
 use Rattle.facet_solver_reader.specs.declared.plan.Plan.{Plan}
 use Rattle.facet_solver_reader.specs.declared.plan.PlannedEnd.{PlannedEnd}
 use Rattle.facet_solver_reader.specs.declared.plan.PlannedEnd.TheVariants as planned
@@ -14,13 +11,19 @@ use Rattle.facet_solver_reader.specs.declared.plan.PlannedPart.{PlannedPart}
 use Rattle.facet_solver_reader.specs.declared.plan.PlannedPart.TheVariants as parts
 use Rattle.facet_solver_reader.specs.declared.plan.PlannedTarget.{PlannedTarget}
 use Rattle.facet_solver_reader.specs.Branches.{ReadsPart}
-use Rattle.facet_solver_reader.specs.Choices.{Choice, ChoiceAt, ChoosesParts, Item, choosing, done, next}
-use Rattle.facet_solver_reader.specs.Known.{Chooses, ChoosesAll, ChoosesAt, HasChoice, HasKey, IsKnown, IsKnownIn, Key, named, rest}
+use Rattle.facet_solver_reader.specs.Choices.{Choice, ChoiceAt, ChoosesParts, Item, choosing, done}
+use Rattle.facet_solver_reader.specs.Choices.{next}
+use Rattle.facet_solver_reader.specs.Known.{Chooses, ChoosesAll, ChoosesAt, HasChoice, HasKey}
+use Rattle.facet_solver_reader.specs.Known.{IsKnown, Key}
 use Rattle.facet_solver_reader.specs.Objects.{Object, Reads, Touches}
-use Rattle.facet_solver_reader.specs.Parts.{ListId, Lists, Part, Selection, Target, a_selection, of_content, of_shape, of_tag}
-use Rattle.facet_solver_reader.specs.Plans.{IsNumberIfChosen, IsNumberOf, IsNumberOfList, IsPlannedAs, IsPlannedContent, IsPlannedEnd, IsPlannedList, IsPlannedPart, IsPlannedTarget, Meaning}
+use Rattle.facet_solver_reader.specs.Parts.{ListId, Lists, Part, Selection, Target, a_selection}
+use Rattle.facet_solver_reader.specs.Parts.{of_content, of_shape, of_tag}
+use Rattle.facet_solver_reader.specs.Plans.{IsNumberIfChosen, IsNumberOf, IsNumberOfList}
+use Rattle.facet_solver_reader.specs.Plans.{IsPlannedAs, IsPlannedContent, IsPlannedEnd}
+use Rattle.facet_solver_reader.specs.Plans.{IsPlannedList, IsPlannedPart, IsPlannedTarget, Meaning}
 use Rattle.facet_solver_reader.specs.Reached.{list_of, list_of_content, list_of_end}
-use Rattle.facet_solver_reader.specs.Rules.{Content, End, Rules, an_object, an_untagged_variant, as_object}
+use Rattle.facet_solver_reader.specs.Rules.{Content, End, Rules, an_object, an_untagged_variant}
+use Rattle.facet_solver_reader.specs.Rules.{as_object}
 use Rattle.facet_solver_reader.proofs.Lists.{known_of_list}
 use Rattle.facet_solver_reader.proofs.Pairs.{pair_of, pairs_length}
 use Rattle.facet_solver_reader.proofs.Quantifiers.{all_at}
@@ -29,11 +32,9 @@ use Rattle.facet_solver_checker.specs.Atoms.{IsPlanFor}
 use Rattle.facet_solver_checker.specs.Comes.{MustTouchList, TouchesList}
 use Rattle.facet_solver_checker.specs.Forks.{IsSelectionAt}
 use Rattle.facet_solver_checker.specs.PlanMembers.{IsIn}
-use Rattle.facet_solver_checker.specs.Touched.{AreTouched, BearsOutEnd, BearsOutPart, covers, has_names, is_touched, list_in}
+use Rattle.facet_solver_checker.specs.Touched.{AreTouched, BearsOutBranches, BearsOutEnd}
+use Rattle.facet_solver_checker.specs.Touched.{is_touched, list_in}
 use Rattle.facet_solver_checker.proofs.BranchesApart.{branch_has, known_of_branch, touches_of}
-use Rattle.facet_solver_checker.proofs.ListItems.{planned_at}
-use Rattle.facet_solver_checker.proofs.Requires.{found_name}
-use Rattle.facet_solver_checker.proofs.WaysApart.{and_first, and_second, each_passes, not_true}
 
 -- what is there is one thing
 some_is : {A : Type 0} {x y : A} → Some x ≡ Some y → x ≡ y
@@ -111,53 +112,16 @@ all_length m plan n part s q is =
     ap length all ∙ pairs_length (IsPlannedPart m) l.2.parts l.0.parts.items l.2.each
     ∙ ap (λ (z : PlannedList). length z.parts.items) same
 
-module _ (m : Meaning) (plan : Plan) (n part : ℕ) (s : Selection)
-    (q : IsSelectionAt m plan (n, part) s) (is : IsPlanFor m plan)
-  where
-    -- the parts of a list that is planned with one are the selection that is one of them
-    only_selection : length q.list.parts.items ≡ 1 → m.rules.lists q.id ≡ Some (a_selection s ∷ [])
-    only_selection one =
-        q.all_are
-        ∙ ap (λ z. Some z)
-        (only_one q.all part (a_selection s) q.selection_is (all_length m plan n part s q is ∙ one))
-
-    -- whether the selection has all the names that the list has, which takes no rest
-    abbrev has_all : Bool
-    has_all = not q.list.takes_rest && has_names q.planned.names.items q.list.names.items
-
-    -- then it knows what the list knows
-    known_by_names : has_all ≡ true → (x : Key) → IsKnown (Chooses m.rules.lists q.id) x
-        → IsKnownIn m.rules.lists s x
-    known_by_names e (named x) known =
-        let list = planned_at m plan is.meaning.lists q.id n q.list q.numbered q.list_is in
-        let told : list_any (λ y. bytes_eq y.now x) q.list.names.items ≡ true =
-        (list.known (named x)).1 known in
-        let y = found_name x q.list.names.items told in
-        let all = and_second (not q.list.takes_rest)
-        (has_names q.planned.names.items q.list.names.items) e in
-        let there = each_passes
-        (λ (z : Bor Name). list_any (λ k. bytes_eq k.now z.now) q.planned.names.items) y.0
-        q.list.names.items all y.2 in
-        subst (λ (z : Name). IsKnownIn m.rules.lists s (named z)) y.1
-        ((q.is_planned.known y.0.now).0 there)
-    known_by_names e rest known =
-        let list = planned_at m plan is.meaning.lists q.id n q.list q.numbered q.list_is in
-        absurd (not_true q.list.takes_rest
-        (and_first (not q.list.takes_rest)
-        (has_names q.planned.names.items q.list.names.items) e)
-        ((list.known rest).1 known))
-
-    -- a member that a list knows, a selection of it knows that covers it
-    pub touches_covered : (object : Object) → covers q.list q.planned ≡ true
-        → TouchesList m.rules object q.id → Touches m.rules object s
-    touches_covered object e t =
-        elim (or_cases (length q.list.parts.items == 1) has_all e) [
-          | inl one ↦
-              touches_only m.rules object q.id s
-              (only_selection (eqb-true (length q.list.parts.items) 1 one)) t
-          | inr all ↦
-              record { key = t.key; has = t.has; known = known_by_names all t.key t.known }
-        ]
+-- the parts of a list that is told to read only such objects are one selection alone
+pub only_selection : (m : Meaning) (plan : Plan) (n part : ℕ) (s : Selection)
+    → (q : IsSelectionAt m plan (n, part) s) → IsPlanFor m plan → (flags : List Bool)
+    → AreTouched plan flags → is_touched flags n ≡ true
+    → m.rules.lists q.id ≡ Some (a_selection s ∷ [])
+only_selection m plan n part s q is flags are e =
+    q.all_are
+    ∙ ap (λ z. Some z)
+    (only_one q.all part (a_selection s) q.selection_is
+    (all_length m plan n part s q is ∙ (are.lists n q.list q.list_is).alone e))
 
 module _ (m : Meaning) (plan : Plan) (n part : ℕ) (s : Selection)
     (q : IsSelectionAt m plan (n, part) s) (is : IsPlanFor m plan) (reads : Reads)
@@ -167,27 +131,26 @@ module _ (m : Meaning) (plan : Plan) (n part : ℕ) (s : Selection)
   touches_selection : (k b : ℕ) (c : Choice) → IsIn b q.planned.branches.items
       → ReadsPart m.rules reads object (a_selection s) (choosing k c) → (flags : List Bool)
       → AreTouched plan flags → is_touched flags b ≡ true → Touches m.rules object s
-  touches_selection k b c among r flags are e =
-      of_part q.planned.optional refl
-      (all_at (BearsOutPart flags n q.list) q.list.parts.items part (parts.Selection q.planned)
-      (are.lists n q.list q.list_is) q.planned_is)
+  touches_selection k b c among r flags are e = of_list (is_touched flags n) refl
     where
       of_part : (o : Bool) → q.planned.optional ≡ o
-          → BearsOutPart flags n q.list (parts.Selection q.planned) → Touches m.rules object s
+          → BearsOutBranches flags (parts.Selection q.planned) → Touches m.rules object s
       of_part true optional bears =
           touches_of m reads s object k c (sym q.is_planned.optional ∙ optional) r
       of_part false optional bears =
-          ⊎_elim
-          (λ (h : (is_touched flags n && covers q.list q.planned) ≡ true).
-          touches_covered m plan n part s q is object
-          (and_second (is_touched flags n) (covers q.list q.planned) h)
-          (touch flags are (and_first (is_touched flags n) (covers q.list q.planned) h)))
-          (λ (h : All (λ i. is_touched flags i ≡ false) q.planned.branches.items).
           let no : is_touched flags b ≡ false =
-          all_at (λ (i : ℕ). is_touched flags i ≡ false) q.planned.branches.items among.0 b h
-          among.1 in
-          absurd (cc))
-          (bears optional)
+          all_at (λ (i : ℕ). is_touched flags i ≡ false) q.planned.branches.items among.0 b
+          (bears optional) among.1 in
+          absurd (cc)
+
+      of_list : (o : Bool) → is_touched flags n ≡ o → Touches m.rules object s
+      of_list true told =
+          touches_only m.rules object q.id s (only_selection m plan n part s q is flags are told)
+          (touch flags are told)
+      of_list false told =
+          of_part q.planned.optional refl
+          (all_at (BearsOutBranches flags) q.list.parts.items part (parts.Selection q.planned)
+          ((are.lists n q.list q.list_is).branches told) q.planned_is)
 
   -- so the branch knows one
   pub touches_below : (k b : ℕ) (c : Choice) → IsIn b q.planned.branches.items

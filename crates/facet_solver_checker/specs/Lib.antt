@@ -7,12 +7,10 @@ pub mod Ways
 pub mod NamedApart
 pub mod ListsMeet
 pub mod BranchesMeet
-pub mod Needs
 pub mod Inners
 pub mod Atoms
 pub mod Apartness
 pub mod EndWays
-pub mod NameEnds
 pub mod Differing
 pub mod Certain
 pub mod Leading

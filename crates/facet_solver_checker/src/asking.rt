@@ -3,7 +3,7 @@
 mod values;
 
 use crate::asked::Asked;
-use crate::branches::{branches_apart, have_selections, inners_apart};
+use crate::branches::{branches_apart, inners_apart};
 use crate::inners::inners_of;
 use crate::tables::Tables;
 use facet_solver_reader::PlannedPart;
@@ -34,38 +34,6 @@ impl<'t, 'c> Asking<'t, 'c> {
         for one in &firsts {
             for other in &seconds {
                 self.inners(must_touch, *one, *other, asked)?;
-            }
-        }
-        if have_selections(self.tables.plan, first, second) {
-            self.needed(first, second, asked)?;
-            self.needed(second, first, asked)?;
-        }
-        Ok(())
-    }
-
-    /// Asks of the members that the lists below one require, with those of their names in another.
-    fn needed(&self, number: usize, other: usize, asked: &mut Asked) -> Result<(), AllocError> {
-        for below in self.below(number) {
-            if let Some(list) = self.tables.plan.lists.get(*below) {
-                self.needed_in(&list.parts, other, asked)?;
-            }
-        }
-        Ok(())
-    }
-
-    /// The same of parts.
-    fn needed_in(
-        &self,
-        parts: &[PlannedPart<'_>],
-        other: usize,
-        asked: &mut Asked,
-    ) -> Result<(), AllocError> {
-        for part in parts {
-            match part {
-                PlannedPart::Member(member) if member.required => {
-                    self.target(member.target, other, member.name, asked)?;
-                }
-                _ => {}
             }
         }
         Ok(())

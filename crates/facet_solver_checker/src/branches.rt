@@ -1,5 +1,5 @@
 //! Whether two branches of a selection read no object in common.
-ghost use Rattle.std.specs.Prelude.{◌≡◌, All, Bool, IfOk, true};
+ghost use Rattle.std.specs.Prelude.{◌≡◌, All, IfOk, true};
 ghost use Rattle.std.specs.Borrow.{Bor};
 ghost use Rattle.facet_solver_shape.specs.Names.{Name};
 ghost use Rattle.facet_solver_reader.specs.Plans.{Meaning};
@@ -16,7 +16,6 @@ ghost use Rattle.facet_solver_checker.specs.Requires.{AreRequired, IsRequiredBy}
 use crate::apart::Apart;
 use crate::inners::{inners_of, is_split};
 use crate::named_apart::are_named_apart;
-use crate::needs::{has_number, needing};
 use crate::tables::Tables;
 use facet_solver_reader::Plan;
 use std::alloc::{AllocError, Global};
@@ -40,10 +39,6 @@ pub(crate) fn branches_apart(
     if none {
         return Ok(true);
     }
-    let needs = one_needs(alloc, tables, first, second)?;
-    if needs {
-        return Ok(true);
-    }
     if !is_split(tables.plan, first) && !is_split(tables.plan, second) {
         return Ok(false);
     }
@@ -56,45 +51,6 @@ pub(crate) fn branches_apart(
         }
     }
     Ok(true)
-}
-
-/// Whether no choice of one of two branches goes through its list where the other reads the same
-/// object. The lists below one that its choices do not go through are left out for the other.
-fn one_needs(
-    alloc: Global,
-    tables: &Tables<'_, '_>,
-    first: usize,
-    second: usize,
-) -> Result<bool, AllocError>
-    ensures { (m : Meaning) → AreListsOf m tables.now.plan.now
-        → LeavesAll m tables.now.apart.now
-        → IfOk result (λ b. b ≡ true → (must : Bool) → AreInnersApart m must first second) }
-{
-    if !have_selections(tables.plan, first, second) {
-        return Ok(false);
-    }
-    let firsts = needing(alloc, tables.plan, tables.apart, first, second, &[])?;
-    let by_first = has_number(&firsts, first);
-    if by_first {
-        return Ok(true);
-    }
-    let seconds = needing(alloc, tables.plan, tables.apart, second, first, &firsts)?;
-    let by_second = has_number(&seconds, second);
-    if by_second {
-        return Ok(true);
-    }
-    let again = needing(alloc, tables.plan, tables.apart, first, second, &seconds)?;
-    let by_again = has_number(&again, first);
-    Ok(by_again)
-}
-
-/// Whether there are lists below one of two lists: of others the names that they require tell as
-/// much.
-pub(crate) fn have_selections(plan: &Plan<'_>, first: usize, second: usize) -> bool {
-    match (plan.lists.get(first), plan.lists.get(second)) {
-        (Some(one), Some(other)) => one.below.len() > 1 || other.below.len() > 1,
-        _ => false,
-    }
 }
 
 /// Whether a list within one branch reads no object in common with each of several lists within

@@ -5,7 +5,6 @@ use crate::apart::Apart;
 use crate::asked::Asked;
 use crate::asking::Asking;
 use crate::atoms::{Atom, Atoms};
-use crate::forks::must_touch;
 use crate::index::{Index, are_alike};
 use crate::required::Required;
 use crate::tables::Tables;
@@ -44,7 +43,7 @@ fn ask_lists(alloc: Global, asking: &Asking<'_, '_>, asked: &mut Asked) -> Resul
     for (number, list) in asking.tables.plan.lists.iter().enumerate() {
         for part in &list.parts {
             if let PlannedPart::Selection(selection) = part {
-                let must_touch = must_touch(&asking.tables, number, list, selection);
+                let must_touch = selection.optional || asking.tables.touched.has(number);
                 ask_selection(alloc, asking, must_touch, &selection.branches, asked)?;
                 ask_beside(&list.parts, asked)?;
             }

@@ -1,5 +1,5 @@
 //! Whether two ways to read the same have a value in common.
-ghost use Rattle.std.specs.Prelude.{◌≡◌, ◌&&◌, ◌||◌, IfOk, true};
+ghost use Rattle.std.specs.Prelude.{◌≡◌, ◌||◌, IfOk, true};
 ghost use Rattle.facet_solver_checker.specs.Forks.{
   AreBranchesApart,
   IsApart,
@@ -7,13 +7,12 @@ ghost use Rattle.facet_solver_checker.specs.Forks.{
   ReadsNone,
 };
 ghost use Rattle.facet_solver_checker.specs.Tables.{AreTablesOf};
-ghost use Rattle.facet_solver_checker.specs.Touched.{covers, is_touched};
+ghost use Rattle.facet_solver_checker.specs.Touched.{is_touched};
 
 use crate::branches::{branches_apart, some_required_member_apart};
 use crate::tables::Tables;
-use crate::touched::covers;
 use crate::variants::variants_apart;
-use facet_solver_reader::{PlannedList, PlannedPart, PlannedSelection};
+use facet_solver_reader::{PlannedPart, PlannedSelection};
 use facet_solver_witnesses::{Fork, Place};
 use std::alloc::{AllocError, Global};
 
@@ -58,23 +57,17 @@ fn selection_apart(
     let Some(second) = selection.branches.get(ways.1) else {
         return Ok(false);
     };
-    let must_touch = must_touch(tables, at.0, list, selection);
+    let must_touch = must_touch(tables, selection, at.0);
     parts_apart(alloc, tables, at.0, must_touch, (*first, *second))
 }
 
 /// Whether each object that comes to a selection, a part of the list of a number, has a member that
 /// the selection knows, as far as is seen.
-pub(crate) fn must_touch(
-    tables: &Tables<'_, '_>,
-    number: usize,
-    list: &PlannedList<'_>,
-    selection: &PlannedSelection<'_>,
-) -> bool
+fn must_touch(tables: &Tables<'_, '_>, selection: &PlannedSelection<'_>, list: usize) -> bool
     ensures { result ≡ (selection.now.optional
-        || (is_touched tables.now.touched.now.flags.items number
-        && covers list.now selection.now)) }
+        || is_touched tables.now.touched.now.flags.items list) }
 {
-    selection.optional || (tables.touched.has(number) && covers(list, selection))
+    selection.optional || tables.touched.has(list)
 }
 
 /// Whether no object that the list of a number reads is read by two branches, by the numbers of

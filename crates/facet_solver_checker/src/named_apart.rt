@@ -69,7 +69,7 @@ fn is_part_apart(
 }
 
 /// The same of a target and the second.
-pub(crate) fn is_target_apart(
+fn is_target_apart(
     apart: &Apart,
     lists: &[PlannedList<'_>],
     name: &str,

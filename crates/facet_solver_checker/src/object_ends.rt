@@ -7,7 +7,6 @@ ghost use Rattle.facet_solver_reader.specs.declared.plan.Plan as declared;
 use crate::apart::Apart;
 use crate::end_ways::{end_apart_from, list_apart_from};
 use crate::kinds::reads_object;
-use crate::name_ends::names_apart_from;
 use crate::objects::objects_apart;
 use crate::required::Required;
 use facet_solver_reader::{Plan, PlannedEnd, PlannedName};
@@ -75,35 +74,13 @@ fn to_parts(
     ensures { IfOk result (λ b. IsTrue b
         → spec.ObjectsApart plan.now apart.now end.now (PlannedEnd.Object list)) }
 {
-    match list {
-        Some(list) => to_list(alloc, plan, required, apart, end, list),
-        None => Ok(true),
-    }
-}
-
-/// The same of a list that is there.
-fn to_list(
-    alloc: Global,
-    plan: &Plan<'_>,
-    required: &Required<'_>,
-    apart: &Apart,
-    end: &PlannedEnd<'_>,
-    list: usize,
-) -> Result<bool, AllocError>
-    requires required { AreNamesRequired plan.now required.now.names.items }
-    ensures { IfOk result (λ b. IsTrue b
-        → spec.ObjectsApart plan.now apart.now end.now (PlannedEnd.Object (Some list))) }
-{
-    if !reads_object(end) {
+    let Some(list) = list else {
         return Ok(true);
-    }
-    let none = end_apart_from(alloc, plan, required, apart, end, list)?;
-    if none {
-        return Ok(true);
-    }
-    match end {
-        PlannedEnd::Named(names) => names_apart_from(alloc, plan, required, apart, names, list),
-        _ => Ok(false),
+    };
+    if reads_object(end) {
+        end_apart_from(alloc, plan, required, apart, end, list)
+    } else {
+        Ok(true)
     }
 }
 
@@ -132,33 +109,11 @@ fn from_parts(
     };
     match end {
         PlannedEnd::Object(other) => between_parts(alloc, plan, required, apart, list, *other),
-        _ => from_list(alloc, plan, required, apart, list, end),
-    }
-}
-
-/// The same of a list that is there, and an end that is no list of parts.
-fn from_list(
-    alloc: Global,
-    plan: &Plan<'_>,
-    required: &Required<'_>,
-    apart: &Apart,
-    list: usize,
-    end: &PlannedEnd<'_>,
-) -> Result<bool, AllocError>
-    requires required { AreNamesRequired plan.now required.now.names.items }
-    ensures { IfOk result (λ b. IsTrue b
-        → spec.ObjectsApart plan.now apart.now (PlannedEnd.Object (Some list)) end.now) }
-{
-    if !reads_object(end) {
-        return Ok(true);
-    }
-    let none = list_apart_from(alloc, plan, required, apart, list, end)?;
-    if none {
-        return Ok(true);
-    }
-    match end {
-        PlannedEnd::Named(names) => names_apart_from(alloc, plan, required, apart, names, list),
-        _ => Ok(false),
+        _ => if reads_object(end) {
+            list_apart_from(alloc, plan, required, apart, list, end)
+        } else {
+            Ok(true)
+        },
     }
 }
 

@@ -4,20 +4,17 @@ ghost use Rattle.facet_solver_reader.specs.declared.plan.PlannedList.{PlannedLis
 ghost use Rattle.facet_solver_checker.specs.Touched as spec;
 ghost use Rattle.facet_solver_checker.specs.Touched.{
   AreTouched,
+  BearsOutBranches,
   BearsOutEnd,
   BearsOutList,
-  BearsOutPart,
 };
 
-use crate::ways::knows;
-use facet_solver_reader::{
-    Plan, PlannedEnd, PlannedList, PlannedPart, PlannedSelection, PlannedTarget,
-};
+use facet_solver_reader::{Plan, PlannedEnd, PlannedList, PlannedPart, PlannedTarget};
 use std::alloc::{AllocError, Global};
 
-/// The lists of parts, by their numbers, that read only objects which have a member of theirs: no
-/// value is read by one as an object, and it is a branch of selections that may be absent, or that
-/// know all that such a list knows of which they are parts.
+/// The lists of parts, by their numbers, that read only objects which have a member of theirs: each
+/// is one selection alone, no value is read by it as an object, and it is a branch of selections
+/// that may be absent, or of such lists.
 #[derive(Drop)]
 pub(crate) struct Touched {
     flags: Vec<bool>,
@@ -28,7 +25,7 @@ impl Touched {
     pub(crate) fn new(alloc: Global, plan: &Plan<'_>) -> Result<Touched, AllocError>
         ensures { IfOk result (λ t. AreTouched plan.now t.flags.items) }
     {
-        let mut touched = Touched::all(alloc, plan)?;
+        let mut touched = Touched::selections(alloc, plan)?;
         touched.leave_out_objects(plan);
         touched.leave_out_branches(plan);
         if touched.targets_bear_out(&plan.targets) && touched.lists_bear_out(&plan.lists) {
@@ -50,11 +47,17 @@ impl Touched {
         }
     }
 
-    /// All lists.
-    fn all(alloc: Global, plan: &Plan<'_>) -> Result<Touched, AllocError> {
-        Ok(Touched {
-            flags: vec![in alloc; true; plan.lists.len()]?,
-        })
+    /// The lists that are one selection alone.
+    fn selections(alloc: Global, plan: &Plan<'_>) -> Result<Touched, AllocError> {
+        let mut flags = Vec::with_capacity(alloc, plan.lists.len())?;
+        for list in &plan.lists {
+            let is_selection = match list.parts.as_slice() {
+                [PlannedPart::Selection(_)] => true,
+                _ => false,
+            };
+            flags.push(is_selection)?;
+        }
+        Ok(Touched { flags })
     }
 
     /// Leaves the list of a number out.
@@ -73,25 +76,27 @@ impl Touched {
         }
     }
 
-    /// Leaves the branches out of each selection that is always present, unless it knows all that
-    /// the list knows that has it, and this is left: the number of a list is above those of its
-    /// branches, so that one pass from the last does.
+    /// Leaves the branches out of each selection that is always present and that another list has:
+    /// the number of a list is above those of its branches, so that one pass from the last does.
     fn leave_out_branches(&mut self, plan: &Plan<'_>) {
         for number in (0..plan.lists.len()).rev() {
-            let list = &plan.lists[number];
-            for part in &list.parts {
-                if !self.part_bears_out(number, list, part) {
+            if !self.has(number) {
+                for part in &plan.lists[number].parts {
                     self.leave_out_branches_of(part);
                 }
             }
         }
     }
 
+    /// Leaves the branches of a part out, if it is a selection that is always present.
     fn leave_out_branches_of(&mut self, part: &PlannedPart<'_>) {
-        if let PlannedPart::Selection(selection) = part {
-            for branch in &selection.branches {
-                self.leave_out(*branch);
+        match part {
+            PlannedPart::Selection(selection) if !selection.optional => {
+                for branch in &selection.branches {
+                    self.leave_out(*branch);
+                }
             }
+            _ => {}
         }
     }
 
@@ -107,6 +112,7 @@ impl Touched {
         true
     }
 
+    /// Whether the list by which what a target comes to is read as an object is none.
     fn target_bears_out(&self, end: &PlannedEnd<'_>) -> bool
         ensures { IsTrue result → BearsOutEnd self.now.flags.items end.now }
     {
@@ -116,41 +122,51 @@ impl Touched {
         }
     }
 
-    /// Whether each is a branch only of selections that may be absent, or that know all that such a
-    /// list knows of which they are parts.
+    /// Whether each is one part alone, and a branch only of selections that may be absent, or that
+    /// are a part of another.
     fn lists_bear_out(&self, lists: &[PlannedList<'_>]) -> bool
         ensures { IsTrue result → (n : ℕ) (l : PlannedList) → slice_get lists.now n ≡ Some l
-            → BearsOutList self.now.flags.items n l }
+            → BearsOutList self.now.flags.items n l.parts.items }
     {
         for number in 0..lists.len() {
-            if !self.list_bears_out(number, &lists[number]) {
+            if !self.list_bears_out(number, &lists[number].parts) {
                 return false;
             }
         }
         true
     }
 
-    /// Whether so are the branches of a list.
-    fn list_bears_out(&self, number: usize, list: &PlannedList<'_>) -> bool
-        ensures { IsTrue result → BearsOutList self.now.flags.items number list.now }
+    /// Whether a list that is one is one part alone, and another has no branch that is one in parts
+    /// that are always present.
+    fn list_bears_out(&self, number: usize, parts: &[PlannedPart<'_>]) -> bool
+        ensures { IsTrue result → BearsOutList self.now.flags.items number parts.now }
     {
-        for part in &list.parts {
-            if !self.part_bears_out(number, list, part) {
+        if self.has(number) {
+            parts.len() == 1
+        } else {
+            self.parts_bear_out(parts)
+        }
+    }
+
+    /// Whether none is a branch of parts that are always present.
+    fn parts_bear_out(&self, parts: &[PlannedPart<'_>]) -> bool
+        ensures { IsTrue result → All (BearsOutBranches self.now.flags.items) parts.now }
+    {
+        for part in parts {
+            if !self.part_bears_out(part) {
                 return false;
             }
         }
         true
     }
 
-    fn part_bears_out(&self, number: usize, list: &PlannedList<'_>, part: &PlannedPart<'_>) -> bool
-        ensures { IsTrue result
-            → BearsOutPart self.now.flags.items number list.now part.now }
+    /// Whether a part that is always present has no branch that is one.
+    fn part_bears_out(&self, part: &PlannedPart<'_>) -> bool
+        ensures { IsTrue result → BearsOutBranches self.now.flags.items part.now }
     {
         match part {
             PlannedPart::Selection(selection) => {
-                selection.optional
-                    || (self.has(number) && covers(list, selection))
-                    || self.has_none_of(&selection.branches)
+                selection.optional || self.has_none_of(&selection.branches)
             }
             _ => true,
         }
@@ -168,21 +184,6 @@ impl Touched {
         }
         true
     }
-}
-
-/// Whether a selection that is a part of a list knows all that the list knows: it is its only part, or
-/// it has all the names, and no choice of the list has a catch-all.
-pub(crate) fn covers(list: &PlannedList<'_>, selection: &PlannedSelection<'_>) -> bool
-    ensures { result ≡ spec.covers list.now selection.now }
-{
-    list.parts.len() == 1 || (!list.takes_rest && has_names(&selection.names, &list.names))
-}
-
-/// Whether names are among others.
-fn has_names(names: &[&str], wanted: &[&str]) -> bool
-    ensures { result ≡ spec.has_names names.now wanted.now }
-{
-    wanted.iter().all(|name| knows(names, name))
 }
 
 /// The list of parts by which a value is read as an object.

@@ -11,7 +11,6 @@ use crate::ambiguity::{Ambiguity, Cause, Evidence};
 use crate::growing::push;
 use crate::names::{field_of, forks_like, owner_of, way_names};
 use crate::place::{Fork, Place};
-use crate::sites::alike::Alike;
 use facet_solver_reader::{Plan, TypeName};
 use std::alloc::{AllocError, Global};
 
@@ -19,7 +18,6 @@ use std::alloc::{AllocError, Global};
 pub(crate) fn add_unconfirmed<'c>(
     alloc: Global,
     plan: &Plan<'c>,
-    alike: &Alike,
     places: &[Place],
     found: &mut Vec<Ambiguity<'c>>,
 ) -> Result<(), AllocError>
@@ -28,7 +26,7 @@ pub(crate) fn add_unconfirmed<'c>(
         ((r : ReaderView) → AreShown r found.old.items → AreShown r found.new.items) }
 {
     for place in places {
-        add_place(alloc, plan, alike, *place, found)?;
+        add_place(alloc, plan, *place, found)?;
     }
     Ok(())
 }
@@ -37,7 +35,6 @@ pub(crate) fn add_unconfirmed<'c>(
 fn add_place<'c>(
     alloc: Global,
     plan: &Plan<'c>,
-    alike: &Alike,
     place: Place,
     found: &mut Vec<Ambiguity<'c>>,
 ) -> Result<(), AllocError>
@@ -48,7 +45,7 @@ fn add_place<'c>(
         ((r : ReaderView) → AreShown r found.old.items → AreShown r found.new.items) }
 {
     if !is_covered(found, place) {
-        let ambiguity = unconfirmed(alloc, plan, alike, place)?;
+        let ambiguity = unconfirmed(alloc, plan, place)?;
         push(found, ambiguity)?;
     }
     Ok(())
@@ -101,18 +98,16 @@ fn has_way(ways: &[usize], way: usize) -> bool
 fn unconfirmed<'c>(
     alloc: Global,
     plan: &Plan<'c>,
-    alike: &Alike,
     place: Place,
 ) -> Result<Ambiguity<'c>, AllocError>
     ensures covers { IfOk result (λ ambiguity. Covers ambiguity place) }
     ensures evidence { IfOk result (λ ambiguity. ambiguity.evidence ≡ MayBe Unconfirmed) }
 {
-    let shown = alike.fork_of(place.fork);
     Ok(Ambiguity {
-        forks: forks_like(alloc, plan, alike, place.fork)?,
+        forks: forks_like(alloc, plan, place.fork)?,
         ways: vec![in alloc; place.first, place.second]?,
-        owner: owner_of(plan, shown),
-        field: field_of(plan, shown),
+        owner: owner_of(plan, place.fork),
+        field: field_of(plan, place.fork),
         variants: names_of_both(alloc, plan, place)?,
         evidence: Evidence::MayBe(Cause::Unconfirmed),
     })

@@ -8,7 +8,6 @@ use crate::covering::add_unconfirmed;
 use crate::model::Model;
 use crate::place::Place;
 use crate::questions::Questions;
-use crate::sites::alike::Alike;
 use crate::sites::listed::Listed;
 use crate::sites::required::Required;
 use crate::sites::visits::Visits;
@@ -39,57 +38,37 @@ pub fn ambiguities<'c>(
     ensures shown { IfOk result (λ found. AreShown reader.now found.items) }
     ensures covered { IfOk result (λ found. AreCovered found.items places.now) }
 {
-    if places.is_empty() {
-        return Ok(Vec::new(alloc));
-    }
-    let model = Model::new(alloc, plan)?;
-    let visits = Visits::new(alloc, &model)?;
-    let alike = Alike::new(alloc, &model, &visits)?;
-    let around = Around {
-        model: &model,
-        visits: &visits,
-        alike: &alike,
-    };
-    let mut found = searched(alloc, reader, around, places, budget)?;
-    add_unconfirmed(alloc, plan, &alike, places, &mut found)?;
+    let mut found = searched(alloc, reader, plan, places, budget)?;
+    add_unconfirmed(alloc, plan, places, &mut found)?;
     Ok(found)
-}
-
-/// Where a document can come to.
-#[derive(Clone, Copy)]
-struct Around<'r, 'c> {
-    model: &'r Model<'r, 'c>,
-    visits: &'r Visits,
-    alike: &'r Alike,
 }
 
 /// What the search finds for places. A place is left out where no document comes to it, or where
 /// none is read in both ways.
-fn searched<'r, 'c>(
+fn searched<'c>(
     alloc: Global,
-    reader: &'r Reader<'c>,
-    around: Around<'r, 'c>,
+    reader: &Reader<'c>,
+    plan: &Plan<'c>,
     places: &[Place],
     budget: usize,
 ) -> Result<Vec<Ambiguity<'c>>, AllocError>
     ensures { IfOk result (λ found. AreShown reader.now found.items) }
 {
     let mut found = Vec::new(alloc);
-    let Around {
-        model,
-        visits,
-        alike,
-    } = around;
-    let required = Required::new(alloc, model)?;
-    let listed = Listed::new(alloc, model, alike, places)?;
+    if places.is_empty() {
+        return Ok(found);
+    }
+    let model = Model::new(alloc, plan)?;
+    let visits = Visits::new(alloc, &model)?;
+    let required = Required::new(alloc, &model)?;
+    let listed = Listed::new(alloc, &model, places)?;
     let mut questions = Questions::new(alloc);
     let teller = Teller {
         alloc,
         reader,
-        model,
-        visits,
+        model: &model,
+        visits: &visits,
         required: &required,
-        alike,
         listed: &listed,
         budget,
     };

@@ -5,7 +5,6 @@ ghost use Rattle.facet_solver_witnesses.specs.WayNames as spec;
 ghost use Rattle.facet_solver_witnesses.specs.WayNames.{names_at};
 
 use crate::place::Fork;
-use crate::sites::alike::Alike;
 use facet_solver_reader::{
     Plan, PlannedEnd, PlannedPart, PlannedSelection, PlannedTarget, TypeName,
 };
@@ -65,52 +64,25 @@ fn enum_name<'c>(target: &PlannedTarget<'c>) -> TypeName<'c> {
     }
 }
 
-/// A fork, and before it the other targets that are the same enum, or the same part of the other
-/// lists that one list stands for.
+/// A fork, and before it the other targets that are the same enum.
 pub(crate) fn forks_like(
     alloc: Global,
     plan: &Plan<'_>,
-    alike: &Alike,
     fork: Fork,
 ) -> Result<Vec<Fork>, AllocError>
     ensures { IfOk result (λ forks. Contains forks.items fork) }
 {
-    let mut forks = others_like(alloc, plan, alike, fork)?;
+    let mut forks = enums_like(alloc, plan, fork)?;
     forks.push(fork)?;
     Ok(forks)
 }
 
-/// The others.
-fn others_like(
-    alloc: Global,
-    plan: &Plan<'_>,
-    alike: &Alike,
-    fork: Fork,
-) -> Result<Vec<Fork>, AllocError> {
-    match fork {
-        Fork::Selection(list, part) => parts_like(alloc, alike, list, part),
-        Fork::Enum(target) => enums_like(alloc, plan, target),
-    }
-}
-
-/// The same part of the other lists that one list stands for.
-fn parts_like(
-    alloc: Global,
-    alike: &Alike,
-    list: usize,
-    part: usize,
-) -> Result<Vec<Fork>, AllocError> {
+/// The other targets that are the same enum as a fork, as by a pointer.
+fn enums_like(alloc: Global, plan: &Plan<'_>, fork: Fork) -> Result<Vec<Fork>, AllocError> {
     let mut forks = Vec::new(alloc);
-    for other in &alike.others(alloc, list)? {
-        forks.push(Fork::Selection(*other, part))?;
-    }
-    Ok(forks)
-}
-
-/// The other targets that are the same enum as a target, as by a pointer.
-fn enums_like(alloc: Global, plan: &Plan<'_>, target: usize) -> Result<Vec<Fork>, AllocError> {
-    let mut forks = Vec::new(alloc);
-    if let Some((content, _)) = content_at(plan, target) {
+    if let Fork::Enum(target) = fork
+        && let Some((content, _)) = content_at(plan, target)
+    {
         for other in 0..plan.targets.len() {
             if other != target && content_at(plan, other).is_some_and(|(it, _)| it == content) {
                 forks.push(Fork::Enum(other))?;

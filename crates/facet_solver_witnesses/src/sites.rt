@@ -1,5 +1,4 @@
 //! Where two readings may differ first, and a document comes to.
-pub(crate) mod alike;
 pub(crate) mod apart;
 pub(crate) mod listed;
 pub(crate) mod required;

@@ -15,7 +15,6 @@ use crate::growing::push;
 use crate::model::Model;
 use crate::names::{field_of, forks_like, owner_of};
 use crate::questions::{Answer, Questions};
-use crate::sites::alike::Alike;
 use crate::sites::listed::{Listed, Pair};
 use crate::sites::required::Required;
 use crate::sites::visits::Visits;
@@ -35,8 +34,6 @@ pub(crate) struct Teller<'r, 'c> {
     pub(crate) visits: &'r Visits,
     /// The names that all choices of each list require.
     pub(crate) required: &'r Required<'c>,
-    /// What stands for lists that no document comes to.
-    pub(crate) alike: &'r Alike,
     /// The pairs of ways that are asked about.
     pub(crate) listed: &'r Listed,
     /// How many steps the search for an object may take.
@@ -152,7 +149,7 @@ impl<'r, 'c> Teller<'r, 'c> {
         let fork = variants.site.fork();
         let plan = self.model.plan;
         Ok(Ambiguity {
-            forks: forks_like(self.alloc, plan, self.alike, fork)?,
+            forks: forks_like(self.alloc, plan, fork)?,
             ways: variants.ways_of(self.alloc, group)?,
             owner: owner_of(plan, fork),
             field: field_of(plan, fork),

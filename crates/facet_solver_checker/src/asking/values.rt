@@ -124,25 +124,6 @@ impl<'t, 'c> Asking<'t, 'c> {
                 asked.ask_each(ways.list.targets(), ways.end.targets())?;
             }
         }
-        self.names(alloc, list, end, asked)
-    }
-
-    /// Asks what tells the variants that a document names, if an end has them, from a list of parts.
-    fn names(
-        &self,
-        alloc: Global,
-        list: usize,
-        end: &PlannedEnd<'_>,
-        asked: &mut Asked,
-    ) -> Result<(), AllocError> {
-        let PlannedEnd::Named(names) = end else {
-            return Ok(());
-        };
-        for name in names {
-            if let Some(ways) = member_ways(alloc, self.tables.plan, list, end, name.text)? {
-                asked.ask_each(ways.list.targets(), ways.end.targets())?;
-            }
-        }
         Ok(())
     }
 
@@ -162,7 +143,7 @@ impl<'t, 'c> Asking<'t, 'c> {
                 asked.ask_each(ways.end.targets(), ways.list.targets())?;
             }
         }
-        self.names(alloc, list, end, asked)
+        Ok(())
     }
 
     /// The same of two ends, of which the first is no list of parts.

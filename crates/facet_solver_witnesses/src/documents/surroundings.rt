@@ -304,8 +304,12 @@ fn push_optional<'c>(
             continue;
         }
         let is_there = match part {
-            PlannedPart::Selection(selection) => push_branch(builder, selection, known, members)?,
-            _ => push_of_part(builder, part, known, members)?,
+            PlannedPart::Member(member) => {
+                model.sizes.of_target(member.target).is_some()
+                    && builder.push_member(member.name, member.target, members, MOST_LEVELS)?
+            }
+            PlannedPart::CatchAll(catch_all) => { push_taken(builder, *catch_all, known, members)? }
+            PlannedPart::Selection(selection) => push_branch(builder, selection, members)?,
         };
         if is_there {
             return Ok(());
@@ -335,62 +339,26 @@ fn push_taken<'c>(
     }
 }
 
-/// Adds a member of a branch of a selection, or of a list that its choices go through, with what
-/// this requires, if there is one.
+/// Adds a member of a branch of a selection, with what the branch requires, if there is one.
 fn push_branch<'c>(
     builder: &mut Builder<'_, 'c>,
     selection: &PlannedSelection<'c>,
-    known: &[&'c str],
     members: &mut Members,
 ) -> Result<bool, AllocError> {
     let model = builder.model;
     for branch in &selection.branches {
-        // The outer ones come last.
-        for list in model.list(*branch).below.iter().rev() {
-            if push_of_list(builder, *list, known, members)? {
-                return Ok(true);
+        match model.sizes.of_members(*branch) {
+            None => continue,
+            Some(0) => {}
+            Some(_) => return builder.push_smallest(*branch, None, members, MOST_LEVELS),
+        }
+        for part in &model.list(*branch).parts {
+            if let PlannedPart::Member(member) = part
+                && model.sizes.of_target(member.target).is_some()
+            {
+                return builder.push_member(member.name, member.target, members, MOST_LEVELS);
             }
         }
     }
     Ok(false)
-}
-
-/// Adds the members that a list requires, or else one that it may have, if there is one.
-fn push_of_list<'c>(
-    builder: &mut Builder<'_, 'c>,
-    list: usize,
-    known: &[&'c str],
-    members: &mut Members,
-) -> Result<bool, AllocError> {
-    let model = builder.model;
-    match model.sizes.of_members(list) {
-        None => return Ok(false),
-        Some(0) => {}
-        Some(_) => return builder.push_smallest(list, None, members, MOST_LEVELS),
-    }
-    for part in &model.list(list).parts {
-        if push_of_part(builder, part, known, members)? {
-            return Ok(true);
-        }
-    }
-    Ok(false)
-}
-
-/// Adds a member that a part is, or that it takes, if it is no selection and there is one.
-fn push_of_part<'c>(
-    builder: &mut Builder<'_, 'c>,
-    part: &PlannedPart<'c>,
-    known: &[&'c str],
-    members: &mut Members,
-) -> Result<bool, AllocError> {
-    match part {
-        PlannedPart::Member(member) => {
-            Ok(
-                builder.model.sizes.of_target(member.target).is_some()
-                    && builder.push_member(member.name, member.target, members, MOST_LEVELS)?,
-            )
-        }
-        PlannedPart::CatchAll(catch_all) => push_taken(builder, *catch_all, known, members),
-        PlannedPart::Selection(_) => Ok(false),
-    }
 }

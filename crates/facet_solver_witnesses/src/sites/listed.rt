@@ -1,5 +1,4 @@
 //! The pairs of ways that are asked about.
-use super::alike::Alike;
 use crate::growing::push;
 use crate::model::Model;
 use crate::place::{Fork, Place};
@@ -13,8 +12,7 @@ pub(crate) struct Pair {
     pub(crate) second: usize,
 }
 
-/// The pairs of ways that are asked about, of each fork. Forks that are one enum are one, and so are
-/// those of lists that one list stands for.
+/// The pairs of ways that are asked about, of each fork. Forks that are one enum are one.
 #[derive(Drop)]
 pub(crate) struct Listed {
     numbers: BTreeMap<Fork, usize>,
@@ -26,7 +24,6 @@ impl Listed {
     pub(crate) fn new(
         alloc: Global,
         model: &Model<'_, '_>,
-        alike: &Alike,
         places: &[Place],
     ) -> Result<Listed, AllocError> {
         let mut listed = Listed {
@@ -38,8 +35,7 @@ impl Listed {
                 first: place.first,
                 second: place.second,
             };
-            let fork = model.same_fork(alike.fork_of(place.fork));
-            listed.add(alloc, fork, pair)?;
+            listed.add(alloc, model.same_fork(place.fork), pair)?;
         }
         Ok(listed)
     }

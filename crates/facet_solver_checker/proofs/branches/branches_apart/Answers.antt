@@ -11,11 +11,6 @@ returns-then-none c = λ m is required leaves e.
     wholes_apart m c.args.must_touch c.args.first c.args.second
     (c.inners_apart-none.ensures m is required leaves c.if-none.true)
 
-pub returns-then-needs : goal.returns-then-needs
-returns-then-needs c = λ m is required leaves e.
-    wholes_apart m c.args.must_touch c.args.first c.args.second
-    (c.in_ok-needs.ensures m is leaves c.if-needs.true c.args.must_touch)
-
 pub loop-one-preserved : goal.loop-one-preserved
 loop-one-preserved c = λ m is required leaves.
     let firsts = c.deref-one-items.result.now in

@@ -1,9 +1,9 @@
 use Rattle.std.proofs.Common.{List, refl, subst}
 use Rattle.facet_solver_reader.specs.Parts.{of_shape}
 use Rattle.facet_solver_reader.specs.Types.{rules_of}
-use Rattle.facet_solver_checker.proofs.Unambiguous.{plan_is_for, root_told}
-use Rattle.facet_solver_witnesses.specs.declared.place.Place.{Place}
 use Rattle.facet_solver_witnesses.specs.Covered.{AreCovered}
+use Rattle.facet_solver_witnesses.specs.declared.place.Place.{Place}
+use Rattle.facet_solver_checker.proofs.Unambiguous.{plan_is_for, root_told}
 use Rattle.facet_solver_checker.proofs.checking.check.Goals as goal
 
 pub places_of-requires : goal.places_of-requires
@@ -22,5 +22,5 @@ returns-clause-unambiguous c =
 
 pub returns-clause-covered : goal.returns-clause-covered
 returns-clause-covered c =
-    subst (λ (ps : List Place). AreCovered c.in_ok-ambiguities.ambiguities.items ps)
+    subst (λ (places : List Place). AreCovered c.in_ok-ambiguities.ambiguities.items places)
     c.deref.ensures.value c.in_ok-ambiguities.ensures.covered

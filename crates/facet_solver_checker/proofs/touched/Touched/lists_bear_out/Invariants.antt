@@ -7,4 +7,4 @@ use Rattle.facet_solver_checker.proofs.touched.Touched.lists_bear_out.Given as g
 abbrev pub invariant-loop-number : goal.invariant-loop-number
 invariant-loop-number l =
     (k : ℕ) → k < l.number → (x : PlannedList) → slice_get l.lists k ≡ Some x
-    → BearsOutList l.self.flags.items k x
+    → BearsOutList l.self.flags.items k x.parts.items
